@@ -1,0 +1,5 @@
+pub mod State
+pub mod Members
+pub mod Boxes
+pub mod Sets
+pub mod Hull
