@@ -1,0 +1,43 @@
+-- What an event promises: a function on the states of its capacities, and whether it keeps their order.
+use Rattle.std.specs.Prelude.{◌≡◌, ℕ, List, Option, MatchOption, refl}
+use Rattle.std.proofs.Common.{sym, subst}
+use Rattle.psi_state.specs.State.{IsBelow, box}
+use Rattle.psi_state.specs.Boxes.{IsBetween, In-box, In-of_box, below-itself, below-through}
+use Rattle.psi_state.specs.Sets.{image, In-image, In-of_image}
+use Rattle.psi_state.specs.Hull.{IsTight, corners, corners-from_tight}
+
+-- the function makes states of states
+pub record IsClosed (caps : List ℕ) (f : List ℕ → List ℕ) : Type 0 where
+  pub each : (x : List ℕ) → IsBelow x caps → IsBelow (f x) caps
+
+-- the function keeps the componentwise order of states (Propp and Wilson 1996)
+pub record IsMonotone (caps : List ℕ) (f : List ℕ → List ℕ) : Type 0 where
+  pub each : (x y : List ℕ) → IsBelow y caps → IsBelow x y → IsBelow (f x) (f y)
+
+-- two states whose order the function doesn't keep
+pub record IsUpset (caps : List ℕ) (f : List ℕ → List ℕ) (x y : List ℕ) : Type 0 where
+  pub within : IsBelow y caps
+  pub ordered : IsBelow x y
+  pub upset : IsBelow (f x) (f y) → ⊥
+
+-- no pair where the function is monotone, and otherwise a pair that shows that it isn't
+abbrev pub ShowsUpset : List ℕ → (List ℕ → List ℕ) → Option (List ℕ × List ℕ) → Type 0
+ShowsUpset caps f pair = MatchOption pair (IsMonotone caps f) (λ p. IsUpset caps f p.0 p.1)
+
+-- where the function is monotone, the tight box around the image of a box goes from the image of its lower corner to that of its upper corner
+pub monotone-tight : (caps : List ℕ) (f : List ℕ → List ℕ) (l h : List ℕ) → IsMonotone caps f → IsBelow l h → IsBelow h caps
+  → IsTight (image f (box l h)) (f l) (f h)
+monotone-tight caps f l h mono ordered within = record {
+    inside = λ z member. (let from = In-of_image f z (box l h) member in
+        let between : IsBetween l h from.0 = In-of_box l h from.0 from.1 in
+        subst (λ (y : List ℕ). IsBetween (f l) (f h) y) (sym from.2) (record {
+            low = mono.each l from.0 (below-through from.0 h caps between.high within) between.low;
+            high = mono.each from.0 h within between.high }));
+    low = λ i small. (f l, In-image f l (box l h) (In-box l h l (below-itself l) ordered), refl);
+    high = λ i small. (f h, In-image f h (box l h) (In-box l h h ordered (below-itself h)), refl) }
+
+-- a tight box around the image of a box is the hull of that image
+pub tight-corners : (f : List ℕ → List ℕ) (l h u w : List ℕ) → IsBelow l h → IsTight (image f (box l h)) u w
+  → corners (image f (box l h)) ≡ record { lo = u; hi = w }
+tight-corners f l h u w ordered tight =
+    corners-from_tight (f l) (image f (box l h)) u w (In-image f l (box l h) (In-box l h l (below-itself l) ordered)) tight
