@@ -1,0 +1,4 @@
+pub mod Rates
+pub mod Powers
+pub mod Composition
+pub mod Doubling
