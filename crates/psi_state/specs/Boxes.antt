@@ -10,8 +10,9 @@ below-head x xs y ys h = h.each 0 (omega arith)
 
 pub below-tail : (x : ℕ) (xs : List ℕ) (y : ℕ) (ys : List ℕ) → IsBelow (x ∷ xs) (y ∷ ys) → IsBelow xs ys
 below-tail x xs y ys h = record {
-    same_length = (let e : suc (length xs) ≡ suc (length ys) = h.same_length in omega arith);
-    each = λ i small. h.each (suc i) (omega arith) }
+  same_length = (let e : suc (length xs) ≡ suc (length ys) = h.same_length in omega arith);
+  each = λ i small. h.each (suc i) (omega arith);
+}
 
 pub below-cons : (x : ℕ) (xs : List ℕ) (y : ℕ) (ys : List ℕ) → x ≤ y → IsBelow xs ys → IsBelow (x ∷ xs) (y ∷ ys)
 below-cons x xs y ys first rest = record { same_length = ap suc rest.same_length; each = each }
@@ -25,10 +26,11 @@ below-itself x = record { same_length = refl; each = λ i small. omega arith }
 
 pub below-through : (x y z : List ℕ) → IsBelow x y → IsBelow y z → IsBelow x z
 below-through x y z low high = record {
-    same_length = low.same_length ∙ high.same_length;
-    each = λ i small. (let first : slice_index x i ≤ slice_index y i = low.each i small in
-        let within : i < length y = omega (arith, low.same_length) in
-        let second : slice_index y i ≤ slice_index z i = high.each i within in omega arith) }
+  same_length = low.same_length ∙ high.same_length;
+  each = λ i small. (let first : slice_index x i ≤ slice_index y i = low.each i small in
+      let within : i < length y = omega (arith, low.same_length) in
+      let second : slice_index y i ≤ slice_index z i = high.each i within in omega arith);
+}
 
 pub same-from_below : (x y : List ℕ) → IsBelow x y → IsBelow y x → x ≡ y
 same-from_below [] [] low high = refl
@@ -54,7 +56,7 @@ In-box (j ∷ l) (k ∷ h) (v ∷ x) low high =
     let last : v ≤ k = below-head v x k h high in
     let rest = In-box l h x (below-tail j l v x low) (below-tail v x k h high) in
     In-flat_map (λ w. map (λ (y : List ℕ). w ∷ y) (box l h)) v (v ∷ x) (numbers_from j (suc k - j))
-        (In-numbers_from v j (suc k - j) first (omega arith)) (In-map (λ (y : List ℕ). v ∷ y) x (box l h) rest)
+    (In-numbers_from v j (suc k - j) first (omega arith)) (In-map (λ (y : List ℕ). v ∷ y) x (box l h) rest)
 
 -- what a box lists is between its corners
 pub record IsBetween (l h x : List ℕ) : Type 0 where
@@ -74,14 +76,15 @@ In-of_box (j ∷ l) (k ∷ h) x member =
     let above : found.0 < j + (suc k - j) = number.1 in
     let last : found.0 ≤ k = omega arith in
     subst (λ (y : List ℕ). IsBetween (j ∷ l) (k ∷ h) y) (sym tail.2)
-        (record { low = below-cons j l found.0 tail.0 first rest.low; high = below-cons found.0 tail.0 k h last rest.high })
+    (record { low = below-cons j l found.0 tail.0 first rest.low; high = below-cons found.0 tail.0 k h last rest.high })
 
 pub zeros-below : (caps x : List ℕ) → length x ≡ length caps → IsBelow (zeros caps) x
 zeros-below caps x same = record {
-    same_length = length-replicate {A = ℕ} (length caps) 0 ∙ sym same;
-    each = λ i small. (let count : length (zeros caps) ≡ length caps = length-replicate {A = ℕ} (length caps) 0 in
-        let within : i < length caps = omega arith in
-        let e : slice_index (zeros caps) i ≡ 0 = get_or-replicate {A = ℕ} (length caps) i 0 0 within in omega arith) }
+  same_length = length-replicate {A = ℕ} (length caps) 0 ∙ sym same;
+  each = λ i small. (let count : length (zeros caps) ≡ length caps = length-replicate {A = ℕ} (length caps) 0 in
+      let within : i < length caps = omega arith in
+      let e : slice_index (zeros caps) i ≡ 0 = get_or-replicate {A = ℕ} (length caps) i 0 0 within in omega arith);
+}
 
 pub In-all_states : (caps x : List ℕ) → IsBelow x caps → In x (all_states caps)
 In-all_states caps x within = In-box (zeros caps) caps x (zeros-below caps x within.same_length) within
