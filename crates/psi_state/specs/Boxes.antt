@@ -3,7 +3,7 @@ use Rattle.std.specs.Prelude.{◌≡◌, ℕ, zero, suc, ◌+◌, ◌-◌, ◌<�
 use Rattle.std.proofs.Common.{inl, inr, ap, sym, ◌∙◌, subst, arith}
 use Rattle.std.proofs.lemmas.List.{length-replicate, get_or-replicate}
 use Rattle.psi_state.specs.State.{IsBelow, numbers_from, box, zeros, all_states}
-use Rattle.psi_state.specs.Members.{In, In-map, In-of_map, In-flat_map, In-of_flat_map, In-numbers_from, In-of_numbers_from}
+use Rattle.psi_state.specs.Members.{In, AreAmong, In-map, In-of_map, In-flat_map, In-of_flat_map, In-numbers_from, In-of_numbers_from}
 
 pub below-head : (x : ℕ) (xs : List ℕ) (y : ℕ) (ys : List ℕ) → IsBelow (x ∷ xs) (y ∷ ys) → x ≤ y
 below-head x xs y ys h = h.each 0 (omega arith)
@@ -91,3 +91,28 @@ In-all_states caps x within = In-box (zeros caps) caps x (zeros-below caps x wit
 
 pub In-of_all_states : (caps x : List ℕ) → In x (all_states caps) → IsBelow x caps
 In-of_all_states caps x member = (In-of_box (zeros caps) caps x member).high
+
+-- both corners of a box are in it
+pub In-low : (l h : List ℕ) → IsBelow l h → In l (box l h)
+In-low l h ordered = In-box l h l (below-itself l) ordered
+
+pub In-high : (l h : List ℕ) → IsBelow l h → In h (box l h)
+In-high l h ordered = In-box l h h ordered (below-itself h)
+
+-- a box lies in another where its corners do
+pub AreAmong-box : (l h m k : List ℕ) → IsBelow m l → IsBelow h k → AreAmong (box l h) (box m k)
+AreAmong-box l h m k low high = record {
+  each = λ x member. (let between = In-of_box l h x member in
+      In-box m k x (below-through m l x low between.low) (below-through x h k between.high high));
+}
+
+-- and only there
+pub below-low : (l h m k : List ℕ) → IsBelow l h → AreAmong (box l h) (box m k) → IsBelow m l
+below-low l h m k ordered among = (In-of_box m k l (among.each l (In-low l h ordered))).low
+
+pub below-high : (l h m k : List ℕ) → IsBelow l h → AreAmong (box l h) (box m k) → IsBelow h k
+below-high l h m k ordered among = (In-of_box m k h (among.each h (In-high l h ordered))).high
+
+-- each state of a box has the length of its corners
+pub length-In_box : (l h x : List ℕ) → In x (box l h) → length x ≡ length l
+length-In_box l h x member = sym ((In-of_box l h x member).low.same_length)

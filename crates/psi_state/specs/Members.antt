@@ -10,6 +10,10 @@ abbrev pub In : {A : Type 0} → A → List A → Type 0
 In x [] = ⊥
 In x (y ∷ ys) = (x ≡ y) ⊎ In x ys
 
+-- each member of the first list is one of the second
+pub record AreAmong {A : Type 0} (xs ys : List A) : Type 0 where
+  pub each : (x : A) → In x xs → In x ys
+
 pub In-append_left : {A : Type 0} (x : A) (xs ys : List A) → In x xs → In x (xs ++ ys)
 In-append_left x [] ys h = absurd h
 In-append_left x (z ∷ xs) ys h = elim h [ inl e ↦ inl e | inr t ↦ inr (In-append_left x xs ys t) ]

@@ -5,8 +5,10 @@
 //! componentwise order (Propp and Wilson 1996; Bušić, Gaujal and Vincent 2008 for boxes of states).
 #![tactic(auto)]
 
+mod ending;
+mod interval;
 mod vector;
-mod verdict;
 
+pub use ending::{Outcome, Step};
+pub use interval::Bounds;
 pub use vector::State;
-pub use verdict::{Outcome, Step};
