@@ -3,15 +3,16 @@ use Rattle.std.specs.Prelude.{◌≡◌, ℕ, zero, suc, ◌+◌, ◌-◌, ◌<�
 use Rattle.std.proofs.Common.{inl, inr, ap, sym, ◌∙◌, subst, arith}
 use Rattle.std.proofs.lemmas.List.{length-replicate, get_or-replicate}
 use Rattle.psi_state.specs.State.{IsBelow, numbers_from, box, zeros, all_states}
-use Rattle.psi_state.specs.Members.{In, In-map, In-of_map, In-flat_map, In-of_flat_map, In-numbers_from, In-of_numbers_from}
+use Rattle.psi_state.specs.Members.{In, AreAmong, In-map, In-of_map, In-flat_map, In-of_flat_map, In-numbers_from, In-of_numbers_from}
 
 pub below-head : (x : ℕ) (xs : List ℕ) (y : ℕ) (ys : List ℕ) → IsBelow (x ∷ xs) (y ∷ ys) → x ≤ y
 below-head x xs y ys h = h.each 0 (omega arith)
 
 pub below-tail : (x : ℕ) (xs : List ℕ) (y : ℕ) (ys : List ℕ) → IsBelow (x ∷ xs) (y ∷ ys) → IsBelow xs ys
 below-tail x xs y ys h = record {
-    same_length = (let e : suc (length xs) ≡ suc (length ys) = h.same_length in omega arith);
-    each = λ i small. h.each (suc i) (omega arith) }
+  same_length = (let e : suc (length xs) ≡ suc (length ys) = h.same_length in omega arith);
+  each = λ i small. h.each (suc i) (omega arith);
+}
 
 pub below-cons : (x : ℕ) (xs : List ℕ) (y : ℕ) (ys : List ℕ) → x ≤ y → IsBelow xs ys → IsBelow (x ∷ xs) (y ∷ ys)
 below-cons x xs y ys first rest = record { same_length = ap suc rest.same_length; each = each }
@@ -25,10 +26,11 @@ below-itself x = record { same_length = refl; each = λ i small. omega arith }
 
 pub below-through : (x y z : List ℕ) → IsBelow x y → IsBelow y z → IsBelow x z
 below-through x y z low high = record {
-    same_length = low.same_length ∙ high.same_length;
-    each = λ i small. (let first : slice_index x i ≤ slice_index y i = low.each i small in
-        let within : i < length y = omega (arith, low.same_length) in
-        let second : slice_index y i ≤ slice_index z i = high.each i within in omega arith) }
+  same_length = low.same_length ∙ high.same_length;
+  each = λ i small. (let first : slice_index x i ≤ slice_index y i = low.each i small in
+      let within : i < length y = omega (arith, low.same_length) in
+      let second : slice_index y i ≤ slice_index z i = high.each i within in omega arith);
+}
 
 pub same-from_below : (x y : List ℕ) → IsBelow x y → IsBelow y x → x ≡ y
 same-from_below [] [] low high = refl
@@ -54,7 +56,7 @@ In-box (j ∷ l) (k ∷ h) (v ∷ x) low high =
     let last : v ≤ k = below-head v x k h high in
     let rest = In-box l h x (below-tail j l v x low) (below-tail v x k h high) in
     In-flat_map (λ w. map (λ (y : List ℕ). w ∷ y) (box l h)) v (v ∷ x) (numbers_from j (suc k - j))
-        (In-numbers_from v j (suc k - j) first (omega arith)) (In-map (λ (y : List ℕ). v ∷ y) x (box l h) rest)
+    (In-numbers_from v j (suc k - j) first (omega arith)) (In-map (λ (y : List ℕ). v ∷ y) x (box l h) rest)
 
 -- what a box lists is between its corners
 pub record IsBetween (l h x : List ℕ) : Type 0 where
@@ -74,17 +76,43 @@ In-of_box (j ∷ l) (k ∷ h) x member =
     let above : found.0 < j + (suc k - j) = number.1 in
     let last : found.0 ≤ k = omega arith in
     subst (λ (y : List ℕ). IsBetween (j ∷ l) (k ∷ h) y) (sym tail.2)
-        (record { low = below-cons j l found.0 tail.0 first rest.low; high = below-cons found.0 tail.0 k h last rest.high })
+    (record { low = below-cons j l found.0 tail.0 first rest.low; high = below-cons found.0 tail.0 k h last rest.high })
 
 pub zeros-below : (caps x : List ℕ) → length x ≡ length caps → IsBelow (zeros caps) x
 zeros-below caps x same = record {
-    same_length = length-replicate {A = ℕ} (length caps) 0 ∙ sym same;
-    each = λ i small. (let count : length (zeros caps) ≡ length caps = length-replicate {A = ℕ} (length caps) 0 in
-        let within : i < length caps = omega arith in
-        let e : slice_index (zeros caps) i ≡ 0 = get_or-replicate {A = ℕ} (length caps) i 0 0 within in omega arith) }
+  same_length = length-replicate {A = ℕ} (length caps) 0 ∙ sym same;
+  each = λ i small. (let count : length (zeros caps) ≡ length caps = length-replicate {A = ℕ} (length caps) 0 in
+      let within : i < length caps = omega arith in
+      let e : slice_index (zeros caps) i ≡ 0 = get_or-replicate {A = ℕ} (length caps) i 0 0 within in omega arith);
+}
 
 pub In-all_states : (caps x : List ℕ) → IsBelow x caps → In x (all_states caps)
 In-all_states caps x within = In-box (zeros caps) caps x (zeros-below caps x within.same_length) within
 
 pub In-of_all_states : (caps x : List ℕ) → In x (all_states caps) → IsBelow x caps
 In-of_all_states caps x member = (In-of_box (zeros caps) caps x member).high
+
+-- both corners of a box are in it
+pub In-low : (l h : List ℕ) → IsBelow l h → In l (box l h)
+In-low l h ordered = In-box l h l (below-itself l) ordered
+
+pub In-high : (l h : List ℕ) → IsBelow l h → In h (box l h)
+In-high l h ordered = In-box l h h ordered (below-itself h)
+
+-- a box lies in another where its corners do
+pub AreAmong-box : (l h m k : List ℕ) → IsBelow m l → IsBelow h k → AreAmong (box l h) (box m k)
+AreAmong-box l h m k low high = record {
+  each = λ x member. (let between = In-of_box l h x member in
+      In-box m k x (below-through m l x low between.low) (below-through x h k between.high high));
+}
+
+-- and only there
+pub below-low : (l h m k : List ℕ) → IsBelow l h → AreAmong (box l h) (box m k) → IsBelow m l
+below-low l h m k ordered among = (In-of_box m k l (among.each l (In-low l h ordered))).low
+
+pub below-high : (l h m k : List ℕ) → IsBelow l h → AreAmong (box l h) (box m k) → IsBelow h k
+below-high l h m k ordered among = (In-of_box m k h (among.each h (In-high l h ordered))).high
+
+-- each state of a box has the length of its corners
+pub length-In_box : (l h x : List ℕ) → In x (box l h) → length x ≡ length l
+length-In_box l h x member = sym ((In-of_box l h x member).low.same_length)

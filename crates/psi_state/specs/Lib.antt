@@ -3,3 +3,4 @@ pub mod Members
 pub mod Boxes
 pub mod Sets
 pub mod Hull
+pub mod Inverse

@@ -37,7 +37,7 @@ pub same-from_cmp : (x y : List ℕ) → state_cmp x y ≡ Equal → x ≡ y
 same-from_cmp x y tied = slice_cmp-IsAntisymmetric nat_cmp-IsAntisymmetric x y tied
 
 In-match : (z x y : List ℕ) (ys more : List (List ℕ)) (o : Ordering) → (o ≡ Equal → x ≡ y)
-  → ((z ≡ x) ⊎ In z ys → In z more) → (z ≡ x) ⊎ In z (y ∷ ys) → In z (match_ordering o (x ∷ y ∷ ys) (y ∷ ys) (y ∷ more))
+    → ((z ≡ x) ⊎ In z ys → In z more) → (z ≡ x) ⊎ In z (y ∷ ys) → In z (match_ordering o (x ∷ y ∷ ys) (y ∷ ys) (y ∷ more))
 In-match z x y ys more Less tied rest member = member
 In-match z x y ys more Equal tied rest member = elim member [ inl e ↦ inl (e ∙ tied refl) | inr m ↦ m ]
 In-match z x y ys more Greater tied rest member =
@@ -49,7 +49,7 @@ In-insert_state z x (y ∷ ys) member =
     In-match z x y ys (insert_state x ys) (state_cmp x y) (same-from_cmp x y) (In-insert_state z x ys) member
 
 In-of_match : (z x y : List ℕ) (ys more : List (List ℕ)) (o : Ordering)
-  → (In z more → (z ≡ x) ⊎ In z ys) → In z (match_ordering o (x ∷ y ∷ ys) (y ∷ ys) (y ∷ more)) → (z ≡ x) ⊎ In z (y ∷ ys)
+    → (In z more → (z ≡ x) ⊎ In z ys) → In z (match_ordering o (x ∷ y ∷ ys) (y ∷ ys) (y ∷ more)) → (z ≡ x) ⊎ In z (y ∷ ys)
 In-of_match z x y ys more Less rest member = member
 In-of_match z x y ys more Equal rest member = inr member
 In-of_match z x y ys more Greater rest member =
@@ -100,7 +100,7 @@ pub single-image : (f : List ℕ → List ℕ) (s x : List ℕ) (xs : List (List
 single-image f s x [] member each = absurd member
 single-image f s x (y ∷ ys) member each =
     ap (λ (ws : List (List ℕ)). single ws) (ascending-same s (f y) (map f ys) (λ z found.
-        (let from = In-of_map f z (y ∷ ys) found in from.2 ∙ each from.0 from.1)))
+    (let from = In-of_map f z (y ∷ ys) found in from.2 ∙ each from.0 from.1)))
 
 pub image-single : (f : List ℕ → List ℕ) (s x : List ℕ) (xs : List (List ℕ)) → single (image f xs) ≡ Some s → In x xs → f x ≡ s
 image-single f s x xs one member = single-each (image f xs) s (f x) one (In-image f x xs member)

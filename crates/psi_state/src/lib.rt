@@ -1,1 +1,14 @@
+//! States of a queueing network, boxes of states between two corners, and the lists of both.
+//!
+//! A state says how many customers each queue holds. States are compared componentwise by `State::leq`
+//! and lexicographically by `Ord`; a box is the set of the states between two corners, in the
+//! componentwise order (Propp and Wilson 1996; Bušić, Gaujal and Vincent 2008 for boxes of states).
 #![tactic(auto)]
+
+mod ending;
+mod interval;
+mod vector;
+
+pub use ending::{Outcome, Step};
+pub use interval::Bounds;
+pub use vector::State;

@@ -1,0 +1,143 @@
+//! A state: how many customers each queue holds.
+
+ghost use Rattle.std.specs.Prelude.{◌≡◌, ◌==◌, ◌≤◌, ◌<◌, ◌↔◌, IsTrue, length, replicate, slice_index, slice_set};
+ghost use Rattle.std.proofs.Common.{rules};
+ghost use Rattle.std.specs.Cmp.{partial_order_from_own_ties};
+ghost use Rattle.std.specs.Cmp.Rules.{comparing};
+ghost use Rattle.std.specs.Cmp.Lexicographic.{pointwise, slice_cmp};
+ghost use Rattle.std.specs.Ordering.{nat_cmp, as_partial_cmp};
+ghost use Rattle.psi_state.specs.State.{IsVector, IsBelow};
+
+use std::cmp::Ordering;
+use std::fmt;
+use std::marker::Model;
+
+/// How many customers each queue of a network holds: 1 to 32 numbers of 16 bits, one for each queue.
+///
+/// It is seen as the list of these numbers. `Eq` and `Ord` are those of the list, so the order is the
+/// lexicographic one; the componentwise order is `leq`.
+#[derive(Clone, Copy)]
+pub struct State {
+    values: [u16; 32],
+    len: u8,
+}
+
+impl Model for State {
+    ghost use Rattle.std.specs.Prelude.{◌≡◌, ℕ, ◌-◌, ◌<◌, ◌≤◌, ◌^◌, ◌++◌, List, length, take, drop, replicate, slice_index};
+
+    ghost Value = { List ℕ };
+
+    ghost view = { λ s. take s.len s.values };
+
+    ghost invariant = { λ s. (1 ≤ s.len) × (s.len ≤ 32) × (length s.values ≡ 32) × (drop s.len s.values ≡ replicate (32 - s.len) 0) × ((i : ℕ) → slice_index s.values i < 2 ^ 16) };
+
+    ghost inverse = { λ xs. record { values = xs ++ replicate (32 - length xs) 0; len = length xs } };
+
+    ghost use Rattle.psi_state.specs.Inverse.{padded};
+
+    ghost inverse_ok = { λ a h. padded a.values a.len h.1 h.2 h.3 };
+}
+
+impl State {
+    /// The state of `len` queues that hold no customer.
+    pub fn zero(len: u8) -> State
+        requires some { 1 ≤ len }
+        requires few { len ≤ 32 }
+        ensures { result ≡ replicate len 0 }
+    {
+        State {
+            values: [0; 32],
+            len,
+        }
+    }
+
+    /// The number of queues, 1 to 32.
+    ///
+    /// Its second clause is how a caller learns what every `State` keeps: the range of its length and
+    /// of its numbers.
+    pub fn len(&self) -> u8
+        ensures value { result ≡ length self.now }
+        ensures vector { IsVector self.now }
+    {
+        self.len
+    }
+
+    /// The number of customers in queue `i`; queues are counted from 0.
+    pub fn get(&self, i: u8) -> u16
+        requires { i < length self.now }
+        ensures { result ≡ slice_index self.now i }
+    {
+        self.values[i as usize]
+    }
+
+    /// Lets queue `i` hold `v` customers, and leaves the other queues as they are.
+    pub fn set(&mut self, i: u8, v: u16)
+        requires { i < length self.old }
+        ensures { self.new ≡ slice_set self.old i v }
+    {
+        self.values[i as usize] = v;
+    }
+
+    /// Whether each queue holds at most as many customers here as it does in `other`: the
+    /// componentwise order of states.
+    pub fn leq(&self, other: &State) -> bool
+        requires { length self.now ≡ length other.now }
+        ensures { IsTrue result ↔ IsBelow self.now other.now }
+    {
+        self.as_slice()
+            .iter()
+            .zip(other.as_slice())
+            .all(|(own, most)| own <= most)
+    }
+
+    // The numbers, one for each queue.
+    fn as_slice(&self) -> &[u16]
+        ensures { result.now ≡ self.now }
+    {
+        &self.values[..self.len as usize]
+    }
+}
+
+impl PartialEq for State {
+    ghost eq = { pointwise ◌==◌ };
+
+    ghost laws = { Prim.search (comparing, rules) };
+
+    fn eq(&self, other: &State) -> bool {
+        self.as_slice() == other.as_slice()
+    }
+}
+
+impl Eq for State {
+    ghost laws = { Prim.search (comparing, rules) };
+}
+
+impl PartialOrd for State {
+    ghost partial_cmp = { as_partial_cmp (slice_cmp nat_cmp) };
+
+    ghost laws = { partial_order_from_own_ties (Prim.search (comparing, rules)) (Prim.search (comparing, rules)) };
+
+    fn partial_cmp(&self, other: &State) -> Option<Ordering> {
+        Some(self.cmp(other))
+    }
+}
+
+impl Ord for State {
+    ghost cmp = { slice_cmp nat_cmp };
+
+    ghost total = { Prim.search (comparing, rules) };
+
+    ghost matches_partial_cmp = { Prim.search (comparing, rules) };
+
+    ghost matches_eq = { Prim.search (comparing, rules) };
+
+    fn cmp(&self, other: &State) -> Ordering {
+        self.as_slice().cmp(other.as_slice())
+    }
+}
+
+impl fmt::Debug for State {
+    fn fmt<W: fmt::Write>(&self, f: &mut fmt::Formatter<W>) -> fmt::Result {
+        self.as_slice().fmt(f)
+    }
+}
