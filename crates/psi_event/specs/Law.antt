@@ -26,18 +26,20 @@ ShowsUpset caps f pair = MatchOption pair (IsMonotone caps f) (λ p. IsUpset cap
 
 -- where the function is monotone, the tight box around the image of a box goes from the image of its lower corner to that of its upper corner
 pub monotone-tight : (caps : List ℕ) (f : List ℕ → List ℕ) (l h : List ℕ) → IsMonotone caps f → IsBelow l h → IsBelow h caps
-  → IsTight (image f (box l h)) (f l) (f h)
+    → IsTight (image f (box l h)) (f l) (f h)
 monotone-tight caps f l h mono ordered within = record {
-    inside = λ z member. (let from = In-of_image f z (box l h) member in
-        let between : IsBetween l h from.0 = In-of_box l h from.0 from.1 in
-        subst (λ (y : List ℕ). IsBetween (f l) (f h) y) (sym from.2) (record {
-            low = mono.each l from.0 (below-through from.0 h caps between.high within) between.low;
-            high = mono.each from.0 h within between.high }));
-    low = λ i small. (f l, In-image f l (box l h) (In-box l h l (below-itself l) ordered), refl);
-    high = λ i small. (f h, In-image f h (box l h) (In-box l h h ordered (below-itself h)), refl) }
+  inside = λ z member. (let from = In-of_image f z (box l h) member in
+      let between : IsBetween l h from.0 = In-of_box l h from.0 from.1 in
+      subst (λ (y : List ℕ). IsBetween (f l) (f h) y) (sym from.2) (record {
+        low = mono.each l from.0 (below-through from.0 h caps between.high within) between.low;
+        high = mono.each from.0 h within between.high;
+      }));
+  low = λ i small. (f l, In-image f l (box l h) (In-box l h l (below-itself l) ordered), refl);
+  high = λ i small. (f h, In-image f h (box l h) (In-box l h h ordered (below-itself h)), refl);
+}
 
 -- a tight box around the image of a box is the hull of that image
 pub tight-corners : (f : List ℕ → List ℕ) (l h u w : List ℕ) → IsBelow l h → IsTight (image f (box l h)) u w
-  → corners (image f (box l h)) ≡ record { lo = u; hi = w }
+    → corners (image f (box l h)) ≡ record { lo = u; hi = w }
 tight-corners f l h u w ordered tight =
     corners-from_tight (f l) (image f (box l h)) u w (In-image f l (box l h) (In-box l h l (below-itself l) ordered)) tight

@@ -1,2 +1,4 @@
 pub mod Law
+pub mod Idle
 pub mod Single
+pub mod Change

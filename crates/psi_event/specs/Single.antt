@@ -18,41 +18,47 @@ left queue k x = if nat_le k (slice_index x queue) then slice_set x queue (slice
 -- a state with another number at one place is below another where it was and that number is
 set-below : (x y : List ℕ) (q v : ℕ) → IsBelow x y → q < length x → v ≤ slice_index y q → IsBelow (slice_set x q v) y
 set-below x y q v below place small = record {
-    same_length = length-set {A = ℕ} x q v ∙ below.same_length;
-    each = λ i within. (let count : length (slice_set x q v) ≡ length x = length-set {A = ℕ} x q v in
-        let old : slice_index x i ≤ slice_index y i = below.each i (omega arith) in
-        elim (cases_eq i q) [
-          inl e ↦ (let is : slice_index (slice_set x q v) q ≡ v = get_or-set_same {A = ℕ} x q v 0 place in
-              let moved : slice_index (slice_set x q v) i ≡ slice_index (slice_set x q v) q = ap (λ j. slice_index (slice_set x q v) j) e in
-              let there : slice_index y i ≡ slice_index y q = ap (λ j. slice_index y j) e in omega arith)
-        | inr ne ↦ (let is : slice_index (slice_set x q v) i ≡ slice_index x i = get_or-set_other {A = ℕ} x q i v 0 ne in omega arith) ]) }
+  same_length = length-set {A = ℕ} x q v ∙ below.same_length;
+  each = λ i within. (let count : length (slice_set x q v) ≡ length x = length-set {A = ℕ} x q v in
+      let old : slice_index x i ≤ slice_index y i = below.each i (omega arith) in
+      elim (cases_eq i q) [
+        | inl e ↦ (let is : slice_index (slice_set x q v) q ≡ v = get_or-set_same {A = ℕ} x q v 0 place in
+            let moved : slice_index (slice_set x q v) i ≡ slice_index (slice_set x q v) q = ap (λ j. slice_index (slice_set x q v) j) e in
+            let there : slice_index y i ≡ slice_index y q = ap (λ j. slice_index y j) e in omega arith)
+        | inr ne ↦ (let is : slice_index (slice_set x q v) i ≡ slice_index x i = get_or-set_other {A = ℕ} x q i v 0 ne in omega arith)
+      ]);
+}
 
 below-set : (x y : List ℕ) (q w : ℕ) → IsBelow x y → q < length y → slice_index x q ≤ w → IsBelow x (slice_set y q w)
 below-set x y q w below place small = record {
-    same_length = below.same_length ∙ sym (length-set {A = ℕ} y q w);
-    each = λ i within. (let old : slice_index x i ≤ slice_index y i = below.each i within in
-        elim (cases_eq i q) [
-          inl e ↦ (let is : slice_index (slice_set y q w) q ≡ w = get_or-set_same {A = ℕ} y q w 0 place in
-              let moved : slice_index (slice_set y q w) i ≡ slice_index (slice_set y q w) q = ap (λ j. slice_index (slice_set y q w) j) e in
-              let there : slice_index x i ≡ slice_index x q = ap (λ j. slice_index x j) e in omega arith)
-        | inr ne ↦ (let is : slice_index (slice_set y q w) i ≡ slice_index y i = get_or-set_other {A = ℕ} y q i w 0 ne in omega arith) ]) }
+  same_length = below.same_length ∙ sym (length-set {A = ℕ} y q w);
+  each = λ i within. (let old : slice_index x i ≤ slice_index y i = below.each i within in
+      elim (cases_eq i q) [
+        | inl e ↦ (let is : slice_index (slice_set y q w) q ≡ w = get_or-set_same {A = ℕ} y q w 0 place in
+            let moved : slice_index (slice_set y q w) i ≡ slice_index (slice_set y q w) q = ap (λ j. slice_index (slice_set y q w) j) e in
+            let there : slice_index x i ≡ slice_index x q = ap (λ j. slice_index x j) e in omega arith)
+        | inr ne ↦ (let is : slice_index (slice_set y q w) i ≡ slice_index y i = get_or-set_other {A = ℕ} y q i w 0 ne in omega arith)
+      ]);
+}
 
 sets-below : (x y : List ℕ) (q v w : ℕ) → IsBelow x y → q < length x → v ≤ w → IsBelow (slice_set x q v) (slice_set y q w)
 sets-below x y q v w below place small = record {
-    same_length = length-set {A = ℕ} x q v ∙ (below.same_length ∙ sym (length-set {A = ℕ} y q w));
-    each = λ i within. (let count : length (slice_set x q v) ≡ length x = length-set {A = ℕ} x q v in
-        let old : slice_index x i ≤ slice_index y i = below.each i (omega arith) in
-        let there : q < length y = omega (arith, below.same_length) in
-        elim (cases_eq i q) [
-          inl e ↦ (let first : slice_index (slice_set x q v) q ≡ v = get_or-set_same {A = ℕ} x q v 0 place in
-              let second : slice_index (slice_set y q w) q ≡ w = get_or-set_same {A = ℕ} y q w 0 there in
-              let moved : slice_index (slice_set x q v) i ≡ slice_index (slice_set x q v) q = ap (λ j. slice_index (slice_set x q v) j) e in
-              let others : slice_index (slice_set y q w) i ≡ slice_index (slice_set y q w) q = ap (λ j. slice_index (slice_set y q w) j) e in omega arith)
+  same_length = length-set {A = ℕ} x q v ∙ (below.same_length ∙ sym (length-set {A = ℕ} y q w));
+  each = λ i within. (let count : length (slice_set x q v) ≡ length x = length-set {A = ℕ} x q v in
+      let old : slice_index x i ≤ slice_index y i = below.each i (omega arith) in
+      let there : q < length y = omega (arith, below.same_length) in
+      elim (cases_eq i q) [
+        | inl e ↦ (let first : slice_index (slice_set x q v) q ≡ v = get_or-set_same {A = ℕ} x q v 0 place in
+            let second : slice_index (slice_set y q w) q ≡ w = get_or-set_same {A = ℕ} y q w 0 there in
+            let moved : slice_index (slice_set x q v) i ≡ slice_index (slice_set x q v) q = ap (λ j. slice_index (slice_set x q v) j) e in
+            let others : slice_index (slice_set y q w) i ≡ slice_index (slice_set y q w) q = ap (λ j. slice_index (slice_set y q w) j) e in omega arith)
         | inr ne ↦ (let first : slice_index (slice_set x q v) i ≡ slice_index x i = get_or-set_other {A = ℕ} x q i v 0 ne in
-              let second : slice_index (slice_set y q w) i ≡ slice_index y i = get_or-set_other {A = ℕ} y q i w 0 ne in omega arith) ]) }
+            let second : slice_index (slice_set y q w) i ≡ slice_index y i = get_or-set_other {A = ℕ} y q i w 0 ne in omega arith)
+      ]);
+}
 
 pub joined-room : (caps : List ℕ) (queue : ℕ) (x : List ℕ) → slice_index x queue < slice_index caps queue
-  → joined caps queue x ≡ slice_set x queue (slice_index x queue + 1)
+    → joined caps queue x ≡ slice_set x queue (slice_index x queue + 1)
 unfolding joined
 joined-room caps queue x room = rw (lt-ltb (slice_index x queue) (slice_index caps queue) room) refl
 
@@ -69,52 +75,69 @@ unfolding left
 left-idle queue k x idle = rw (lt-leb k (slice_index x queue) idle) refl
 
 pub joined-closed : (caps : List ℕ) (queue : ℕ) → IsClosed caps (joined caps queue)
-joined-closed caps queue = record { each = λ x below.
-    elim (cases_lt (slice_index x queue) (slice_index caps queue)) [
-      inl room ↦ subst (λ (y : List ℕ). IsBelow y caps) (sym (joined-room caps queue x room))
-          (elim (cases_lt queue (length x)) [
-            inl place ↦ set-below x caps queue (slice_index x queue + 1) below place (omega arith)
-          | inr past ↦ subst (λ (y : List ℕ). IsBelow y caps) (sym (set_past {X = ℕ} x queue (slice_index x queue + 1) past)) below ])
-    | inr full ↦ subst (λ (y : List ℕ). IsBelow y caps) (sym (joined-full caps queue x full)) below ] }
+joined-closed caps queue = record {
+  each = λ x below.
+      elim (cases_lt (slice_index x queue) (slice_index caps queue)) [
+        | inl room ↦ subst (λ (y : List ℕ). IsBelow y caps) (sym (joined-room caps queue x room))
+            (elim (cases_lt queue (length x)) [
+              | inl place ↦ set-below x caps queue (slice_index x queue + 1) below place (omega arith)
+              | inr past ↦ subst (λ (y : List ℕ). IsBelow y caps) (sym (set_past {X = ℕ} x queue (slice_index x queue + 1) past)) below
+            ])
+        | inr full ↦ subst (λ (y : List ℕ). IsBelow y caps) (sym (joined-full caps queue x full)) below
+      ];
+}
 
 pub left-closed : (caps : List ℕ) (queue k : ℕ) → IsClosed caps (left queue k)
-left-closed caps queue k = record { each = λ x below.
-    elim (cases_lt (slice_index x queue) k) [
-      inl idle ↦ subst (λ (y : List ℕ). IsBelow y caps) (sym (left-idle queue k x idle)) below
-    | inr serves ↦ subst (λ (y : List ℕ). IsBelow y caps) (sym (left-serves queue k x serves))
-          (elim (cases_lt queue (length x)) [
-            inl place ↦ (let old : slice_index x queue ≤ slice_index caps queue = below.each queue place in
-                set-below x caps queue (slice_index x queue - 1) below place (omega arith))
-          | inr past ↦ subst (λ (y : List ℕ). IsBelow y caps) (sym (set_past {X = ℕ} x queue (slice_index x queue - 1) past)) below ]) ] }
+left-closed caps queue k = record {
+  each = λ x below.
+      elim (cases_lt (slice_index x queue) k) [
+        | inl idle ↦ subst (λ (y : List ℕ). IsBelow y caps) (sym (left-idle queue k x idle)) below
+        | inr serves ↦ subst (λ (y : List ℕ). IsBelow y caps) (sym (left-serves queue k x serves))
+            (elim (cases_lt queue (length x)) [
+              | inl place ↦ (let old : slice_index x queue ≤ slice_index caps queue = below.each queue place in
+                  set-below x caps queue (slice_index x queue - 1) below place (omega arith))
+              | inr past ↦ subst (λ (y : List ℕ). IsBelow y caps) (sym (set_past {X = ℕ} x queue (slice_index x queue - 1) past)) below
+            ])
+      ];
+}
 
 pub joined-monotone : (caps : List ℕ) (queue : ℕ) → queue < length caps → IsMonotone caps (joined caps queue)
-joined-monotone caps queue place = record { each = λ x y within below.
-    (let here : queue < length y = omega (arith, within.same_length) in
-    let there : queue < length x = omega (arith, below.same_length, within.same_length) in
-    let old : slice_index x queue ≤ slice_index y queue = below.each queue there in
-    elim (cases_lt (slice_index x queue) (slice_index caps queue)) [
-      inl room ↦ subst (λ (z : List ℕ). IsBelow z (joined caps queue y)) (sym (joined-room caps queue x room))
-          (elim (cases_lt (slice_index y queue) (slice_index caps queue)) [
-            inl more ↦ subst (λ (z : List ℕ). IsBelow (slice_set x queue (slice_index x queue + 1)) z) (sym (joined-room caps queue y more))
-                (sets-below x y queue (slice_index x queue + 1) (slice_index y queue + 1) below there (omega arith))
-          | inr full ↦ subst (λ (z : List ℕ). IsBelow (slice_set x queue (slice_index x queue + 1)) z) (sym (joined-full caps queue y full))
-                (set-below x y queue (slice_index x queue + 1) below there (omega arith)) ])
-    | inr full ↦ subst (λ (z : List ℕ). IsBelow z (joined caps queue y)) (sym (joined-full caps queue x full))
-          (elim (cases_lt (slice_index y queue) (slice_index caps queue)) [
-            inl more ↦ absurd (omega arith)
-          | inr whole ↦ subst (λ (z : List ℕ). IsBelow x z) (sym (joined-full caps queue y whole)) below ]) ]) }
+joined-monotone caps queue place = record {
+  each = λ x y within below.
+      (let here : queue < length y = omega (arith, within.same_length) in
+      let there : queue < length x = omega (arith, below.same_length, within.same_length) in
+      let old : slice_index x queue ≤ slice_index y queue = below.each queue there in
+      elim (cases_lt (slice_index x queue) (slice_index caps queue)) [
+        | inl room ↦ subst (λ (z : List ℕ). IsBelow z (joined caps queue y)) (sym (joined-room caps queue x room))
+            (elim (cases_lt (slice_index y queue) (slice_index caps queue)) [
+              | inl more ↦ subst (λ (z : List ℕ). IsBelow (slice_set x queue (slice_index x queue + 1)) z) (sym (joined-room caps queue y more))
+                  (sets-below x y queue (slice_index x queue + 1) (slice_index y queue + 1) below there (omega arith))
+              | inr full ↦ subst (λ (z : List ℕ). IsBelow (slice_set x queue (slice_index x queue + 1)) z) (sym (joined-full caps queue y full))
+                  (set-below x y queue (slice_index x queue + 1) below there (omega arith))
+            ])
+        | inr full ↦ subst (λ (z : List ℕ). IsBelow z (joined caps queue y)) (sym (joined-full caps queue x full))
+            (elim (cases_lt (slice_index y queue) (slice_index caps queue)) [
+              | inl more ↦ absurd (omega arith)
+              | inr whole ↦ subst (λ (z : List ℕ). IsBelow x z) (sym (joined-full caps queue y whole)) below
+            ])
+      ]);
+}
 
 pub left-monotone : (caps : List ℕ) (queue k : ℕ) → queue < length caps → IsMonotone caps (left queue k)
-left-monotone caps queue k place = record { each = λ x y within below.
-    (let here : queue < length y = omega (arith, within.same_length) in
-    let there : queue < length x = omega (arith, below.same_length, within.same_length) in
-    let old : slice_index x queue ≤ slice_index y queue = below.each queue there in
-    elim (cases_lt (slice_index x queue) k) [
-      inl idle ↦ subst (λ (z : List ℕ). IsBelow z (left queue k y)) (sym (left-idle queue k x idle))
-          (elim (cases_lt (slice_index y queue) k) [
-            inl less ↦ subst (λ (z : List ℕ). IsBelow x z) (sym (left-idle queue k y less)) below
-          | inr serves ↦ subst (λ (z : List ℕ). IsBelow x z) (sym (left-serves queue k y serves))
-                (below-set x y queue (slice_index y queue - 1) below here (omega arith)) ])
-    | inr serves ↦ subst (λ (z : List ℕ). IsBelow z (left queue k y)) (sym (left-serves queue k x serves))
-          (subst (λ (z : List ℕ). IsBelow (slice_set x queue (slice_index x queue - 1)) z) (sym (left-serves queue k y (omega arith)))
-              (sets-below x y queue (slice_index x queue - 1) (slice_index y queue - 1) below there (omega arith))) ]) }
+left-monotone caps queue k place = record {
+  each = λ x y within below.
+      (let here : queue < length y = omega (arith, within.same_length) in
+      let there : queue < length x = omega (arith, below.same_length, within.same_length) in
+      let old : slice_index x queue ≤ slice_index y queue = below.each queue there in
+      elim (cases_lt (slice_index x queue) k) [
+        | inl idle ↦ subst (λ (z : List ℕ). IsBelow z (left queue k y)) (sym (left-idle queue k x idle))
+            (elim (cases_lt (slice_index y queue) k) [
+              | inl less ↦ subst (λ (z : List ℕ). IsBelow x z) (sym (left-idle queue k y less)) below
+              | inr serves ↦ subst (λ (z : List ℕ). IsBelow x z) (sym (left-serves queue k y serves))
+                  (below-set x y queue (slice_index y queue - 1) below here (omega arith))
+            ])
+        | inr serves ↦ subst (λ (z : List ℕ). IsBelow z (left queue k y)) (sym (left-serves queue k x serves))
+            (subst (λ (z : List ℕ). IsBelow (slice_set x queue (slice_index x queue - 1)) z) (sym (left-serves queue k y (omega arith)))
+            (sets-below x y queue (slice_index x queue - 1) (slice_index y queue - 1) below there (omega arith)))
+      ]);
+}

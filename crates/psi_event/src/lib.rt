@@ -1,1 +1,14 @@
+//! What an event of a queueing network is: a function on states, with its envelope and its mark.
+//!
+//! `EventLaw` is the contract that each kind of event keeps; the layers above know no other. Monotone
+//! events are those of Propp and Wilson (1996); the envelopes of events that aren't are those of
+//! Bušić, Gaujal and Vincent (2008).
 #![tactic(auto)]
+
+mod idleness;
+mod law;
+mod one_customer;
+
+pub use idleness::Idle;
+pub use law::EventLaw;
+pub use one_customer::Single;
