@@ -55,13 +55,13 @@ compose-closed caps f closed zero x within = within
 compose-closed caps f closed (suc t) x within = compose-closed caps f closed t (f (suc t) x) ((closed.each (suc t)).each x within)
 
 pub compose-monotone : (caps : List ℕ) (f : ℕ → List ℕ → List ℕ) → AreClosed caps f → AreMonotone caps f
-  → (t : ℕ) (x y : List ℕ) → IsBelow y caps → IsBelow x y → IsBelow (compose f t x) (compose f t y)
+    → (t : ℕ) (x y : List ℕ) → IsBelow y caps → IsBelow x y → IsBelow (compose f t x) (compose f t y)
 compose-monotone caps f closed mono zero x y within below = below
 compose-monotone caps f closed mono (suc t) x y within below =
     compose-monotone caps f closed mono t (f (suc t) x) (f (suc t) y) ((closed.each (suc t)).each y within) ((mono.each (suc t)).each x y within below)
 
 compose-more : (caps : List ℕ) (f : ℕ → List ℕ → List ℕ) (t : ℕ) (s : List ℕ) → AreClosed caps f
-  → ((x : List ℕ) → IsBelow x caps → compose f t x ≡ s) → (d : ℕ) (x : List ℕ) → IsBelow x caps → compose f (d + t) x ≡ s
+    → ((x : List ℕ) → IsBelow x caps → compose f t x ≡ s) → (d : ℕ) (x : List ℕ) → IsBelow x caps → compose f (d + t) x ≡ s
 compose-more caps f t s closed met zero x within = (let e : 0 + t ≡ t = omega arith in ap (λ n. compose f n x) e ∙ met x within)
 compose-more caps f t s closed met (suc d) x within =
     let e : suc d + t ≡ suc (d + t) = omega arith in
@@ -69,13 +69,15 @@ compose-more caps f t s closed met (suc d) x within =
 
 -- where all states meet at a horizon, they meet in the same state at every longer one
 pub reached-later : (caps : List ℕ) (f : ℕ → List ℕ → List ℕ) (t : ℕ) (s : List ℕ) → AreClosed caps f
-  → ((x : List ℕ) → IsBelow x caps → compose f t x ≡ s) → IsReached f caps t s
-reached-later caps f t s closed met = record { each = λ x earlier within later.
-    (let e : (earlier - t) + t ≡ earlier = omega arith in
-     ap (λ n. compose f n x) (sym e) ∙ compose-more caps f t s closed met (earlier - t) x within) }
+    → ((x : List ℕ) → IsBelow x caps → compose f t x ≡ s) → IsReached f caps t s
+reached-later caps f t s closed met = record {
+  each = λ x earlier within later.
+      (let e : (earlier - t) + t ≡ earlier = omega arith in
+      ap (λ n. compose f n x) (sym e) ∙ compose-more caps f t s closed met (earlier - t) x within);
+}
 
 pub image_at-reached : (caps : List ℕ) (f : ℕ → List ℕ → List ℕ) (t : ℕ) (s : List ℕ) → AreClosed caps f
-  → single (image_at f caps t) ≡ Some s → IsReached f caps t s
+    → single (image_at f caps t) ≡ Some s → IsReached f caps t s
 image_at-reached caps f t s closed one = reached-later caps f t s closed
     (λ x within. image-single (compose f t) s x (all_states caps) one (In-all_states caps x within))
 
@@ -87,16 +89,16 @@ zeros-caps caps = zeros-below caps caps refl
 
 -- under monotone events all states have met where the least and the greatest have
 pub corners-meet : (caps : List ℕ) (f : ℕ → List ℕ → List ℕ) (t : ℕ) (s : List ℕ) → AreClosed caps f → AreMonotone caps f
-  → compose f t (zeros caps) ≡ s → compose f t caps ≡ s → single (image_at f caps t) ≡ Some s
+    → compose f t (zeros caps) ≡ s → compose f t caps ≡ s → single (image_at f caps t) ≡ Some s
 corners-meet caps f t s closed mono low high = single-image (compose f t) s caps (all_states caps) (caps-all_states caps)
     (λ x member. (let within = In-of_all_states caps x member in
-        let above : IsBelow (compose f t (zeros caps)) (compose f t x) = compose-monotone caps f closed mono t (zeros caps) x within (zeros-below caps x within.same_length) in
-        let below : IsBelow (compose f t x) (compose f t caps) = compose-monotone caps f closed mono t x caps (below-itself caps) within in
-        same-from_below (compose f t x) s (subst (λ (y : List ℕ). IsBelow (compose f t x) y) high below) (subst (λ (y : List ℕ). IsBelow y (compose f t x)) low above)))
+    let above : IsBelow (compose f t (zeros caps)) (compose f t x) = compose-monotone caps f closed mono t (zeros caps) x within (zeros-below caps x within.same_length) in
+    let below : IsBelow (compose f t x) (compose f t caps) = compose-monotone caps f closed mono t x caps (below-itself caps) within in
+    same-from_below (compose f t x) s (subst (λ (y : List ℕ). IsBelow (compose f t x) y) high below) (subst (λ (y : List ℕ). IsBelow y (compose f t x)) low above)))
 
 -- and they haven't where those two are apart
 pub corners-apart : (caps : List ℕ) (f : ℕ → List ℕ → List ℕ) (t : ℕ)
-  → (compose f t (zeros caps) ≡ compose f t caps → ⊥) → single (image_at f caps t) ≡ None
+    → (compose f t (zeros caps) ≡ compose f t caps → ⊥) → single (image_at f caps t) ≡ None
 corners-apart caps f t apart = single-apart (image_at f caps t) (compose f t (zeros caps)) (compose f t caps)
     (In-image (compose f t) (zeros caps) (all_states caps) (In-all_states caps (zeros caps) (zeros-caps caps)))
     (In-image (compose f t) caps (all_states caps) (caps-all_states caps)) apart

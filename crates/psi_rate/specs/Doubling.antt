@@ -32,13 +32,16 @@ pub record IsFirst {A : Type 0} (run : ℕ → Option A) (limit t : ℕ) (a : A)
   pub earlier : HasNone run exponent
 
 has_none-next : {A : Type 0} (run : ℕ → Option A) (k t : ℕ) → t ≡ 2 ^ k → run t ≡ None → HasNone run k → HasNone run (suc k)
-has_none-next run k t power none before = record { each = λ j small. elim (cases_lt j k) [
-      inl less ↦ before.each j less
+has_none-next run k t power none before = record {
+  each = λ j small. elim (cases_lt j k) [
+    | inl less ↦ before.each j less
     | inr more ↦ (let same : j ≡ k = omega arith in
-        let at : 2 ^ j ≡ t = ap (λ i. 2 ^ i) same ∙ sym power in ap run at ∙ none) ] }
+        let at : 2 ^ j ≡ t = ap (λ i. 2 ^ i) same ∙ sym power in ap run at ∙ none)
+  ];
+}
 
 first_from-found : {A : Type 0} (run : ℕ → Option A) (more k t e : ℕ) (a : A) → t ≡ 2 ^ k → HasNone run k → k ≤ e → e ≤ k + more
-  → run (2 ^ e) ≡ Some a → HasNone run e → first_from run more t ≡ Some (2 ^ e, a)
+    → run (2 ^ e) ≡ Some a → HasNone run e → first_from run more t ≡ Some (2 ^ e, a)
 first_from-found run zero k t e a power before low high found earlier =
     let same : e ≡ k = omega arith in
     let at : 2 ^ e ≡ t = ap (λ i. 2 ^ i) same ∙ sym power in
@@ -46,13 +49,14 @@ first_from-found run zero k t e a power before low high found earlier =
     ap (λ o. answer_or o t None) is ∙ ap (λ n. Some (n, a)) (sym at)
 first_from-found run (suc more) k t e a power before low high found earlier =
     elim (cases_eq e k) [
-      inl same ↦ (let at : 2 ^ e ≡ t = ap (λ i. 2 ^ i) same ∙ sym power in
-        let is : run t ≡ Some a = ap run (sym at) ∙ found in
-        ap (λ o. answer_or o t (first_from run more (2 * t))) is ∙ ap (λ n. Some (n, a)) (sym at))
-    | inr ne ↦ (let none : run t ≡ None = ap run power ∙ earlier.each k (omega arith) in
-        let next : 2 * t ≡ 2 ^ suc k = (let d = pow-double k in omega arith) in
-        ap (λ o. answer_or o t (first_from run more (2 * t))) none
-        ∙ first_from-found run more (suc k) (2 * t) e a next (has_none-next run k t power none before) (omega arith) (omega arith) found earlier) ]
+      | inl same ↦ (let at : 2 ^ e ≡ t = ap (λ i. 2 ^ i) same ∙ sym power in
+          let is : run t ≡ Some a = ap run (sym at) ∙ found in
+          ap (λ o. answer_or o t (first_from run more (2 * t))) is ∙ ap (λ n. Some (n, a)) (sym at))
+      | inr ne ↦ (let none : run t ≡ None = ap run power ∙ earlier.each k (omega arith) in
+          let next : 2 * t ≡ 2 ^ suc k = (let d = pow-double k in omega arith) in
+          ap (λ o. answer_or o t (first_from run more (2 * t))) none
+          ∙ first_from-found run more (suc k) (2 * t) e a next (has_none-next run k t power none before) (omega arith) (omega arith) found earlier)
+    ]
 
 first_from-none : {A : Type 0} (run : ℕ → Option A) (more k t : ℕ) → t ≡ 2 ^ k → HasNone run (suc (k + more)) → first_from run more t ≡ None
 first_from-none run zero k t power none =
@@ -69,7 +73,7 @@ pub first_answer-found : {A : Type 0} (run : ℕ → Option A) (limit t : ℕ) (
 unfolding first_answer
 first_answer-found run limit t a is =
     first_from-found run limit 0 1 is.exponent a refl (record { each = λ k small. absurd (omega arith) }) (omega arith) (let w = is.within in omega arith)
-        (ap run (sym is.power) ∙ is.answer) is.earlier
+    (ap run (sym is.power) ∙ is.answer) is.earlier
     ∙ ap (λ n. Some (n, a)) (sym is.power)
 
 -- where no power of two has an answer, there is no first

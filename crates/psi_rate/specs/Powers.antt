@@ -11,18 +11,25 @@ pub pow-double : (k : ℕ) → 2 ^ suc k ≡ 2 * 2 ^ k
 pow-double k = (let e = pow-suc 2 k in omega arith)
 
 pub pow-order : (j k : ℕ) → j ≤ k → 2 ^ j ≤ 2 ^ k
-pow-order j k small = elim (cases_eq j k) [ inl e ↦ (let same : 2 ^ j ≡ 2 ^ k = ap (λ i. 2 ^ i) e in omega arith)
-    | inr ne ↦ (let less : 2 ^ j < 2 ^ k = pow-lt {i = j} {j = k} (omega arith) in omega arith) ]
+pow-order j k small = elim (cases_eq j k) [
+  | inl e ↦ (let same : 2 ^ j ≡ 2 ^ k = ap (λ i. 2 ^ i) e in omega arith)
+  | inr ne ↦ (let less : 2 ^ j < 2 ^ k = pow-lt {i = j} {j = k} (omega arith) in omega arith)
+]
 
 pub below-pow : (n : ℕ) → n < 2 ^ n
 below-pow zero = omega arith
 below-pow (suc n) = (let rest = below-pow n in let e = pow-double n in omega arith)
 
 power_from-stops : (n p k : ℕ) → p ≡ 2 ^ k → ((j : ℕ) → j < k → 2 ^ j < n) → n ≤ p → IsLeastPower n p
-power_from-stops n p k is below enough = record { exponent = k; power = is; enough = enough;
-    least = λ j reaches. elim (cases_lt j k) [
-      inl less ↦ (let small : 2 ^ j < n = below j less in absurd (omega arith))
-    | inr more ↦ (let order : 2 ^ k ≤ 2 ^ j = pow-order k j more in omega arith) ] }
+power_from-stops n p k is below enough = record {
+  exponent = k;
+  power = is;
+  enough = enough;
+  least = λ j reaches. elim (cases_lt j k) [
+    | inl less ↦ (let small : 2 ^ j < n = below j less in absurd (omega arith))
+    | inr more ↦ (let order : 2 ^ k ≤ 2 ^ j = pow-order k j more in omega arith)
+  ];
+}
 
 power_from-is : (more n p k : ℕ) → p ≡ 2 ^ k → ((j : ℕ) → j < k → 2 ^ j < n) → n ≤ 2 ^ (more + k) → IsLeastPower n (power_from more n p)
 power_from-is zero n p k is below enough =
@@ -31,15 +38,18 @@ power_from-is zero n p k is below enough =
     power_from-stops n p k is below (omega arith)
 power_from-is (suc more) n p k is below enough =
     elim (cases_lt p n) [
-      inl less ↦ (let step : power_from more n (2 * p) ≡ power_from (suc more) n p = rw (lt-leb n p less) refl in
-        let next : 2 * p ≡ 2 ^ suc k = (let d = pow-double k in omega arith) in
-        let e : suc more + k ≡ more + suc k = omega arith in
-        let last : 2 ^ (suc more + k) ≡ 2 ^ (more + suc k) = ap (λ i. 2 ^ i) e in
-        subst (λ m. IsLeastPower n m) step (power_from-is more n (2 * p) (suc k) next
-            (λ j small. elim (cases_lt j k) [ inl h ↦ below j h
-              | inr h ↦ (let same : j ≡ k = omega arith in let s : 2 ^ j ≡ 2 ^ k = ap (λ i. 2 ^ i) same in omega arith) ]) (omega arith)))
-    | inr done ↦ (let stop : p ≡ power_from (suc more) n p = rw (le-leb n p done) refl in
-        subst (λ m. IsLeastPower n m) stop (power_from-stops n p k is below done)) ]
+      | inl less ↦ (let step : power_from more n (2 * p) ≡ power_from (suc more) n p = rw (lt-leb n p less) refl in
+          let next : 2 * p ≡ 2 ^ suc k = (let d = pow-double k in omega arith) in
+          let e : suc more + k ≡ more + suc k = omega arith in
+          let last : 2 ^ (suc more + k) ≡ 2 ^ (more + suc k) = ap (λ i. 2 ^ i) e in
+          subst (λ m. IsLeastPower n m) step (power_from-is more n (2 * p) (suc k) next
+          (λ j small. elim (cases_lt j k) [
+            | inl h ↦ below j h
+            | inr h ↦ (let same : j ≡ k = omega arith in let s : 2 ^ j ≡ 2 ^ k = ap (λ i. 2 ^ i) same in omega arith)
+          ]) (omega arith)))
+      | inr done ↦ (let stop : p ≡ power_from (suc more) n p = rw (le-leb n p done) refl in
+          subst (λ m. IsLeastPower n m) stop (power_from-stops n p k is below done))
+    ]
 
 pub least_power-is : (n : ℕ) → IsLeastPower n (least_power n)
 unfolding least_power
@@ -63,8 +73,13 @@ least_power-only n m is =
 
 -- what std's `next_power_of_two` says of its answer, for a number that isn't 0
 pub least_power-next : (n m : ℕ) → 1 ≤ n → IsPowerOfTwo m → n ≤ m → m / 2 < n → IsLeastPower n m
-least_power-next n m some power enough half = record { exponent = power.0; power = power.1; enough = enough;
-    least = λ j reaches. elim (cases_lt j power.0) [
-      inl less ↦ (let next : 2 ^ suc j ≤ 2 ^ power.0 = pow-order (suc j) power.0 (omega arith) in
+least_power-next n m some power enough half = record {
+  exponent = power.0;
+  power = power.1;
+  enough = enough;
+  least = λ j reaches. elim (cases_lt j power.0) [
+    | inl less ↦ (let next : 2 ^ suc j ≤ 2 ^ power.0 = pow-order (suc j) power.0 (omega arith) in
         let d = pow-double j in let is = power.1 in absurd (omega arith))
-    | inr more ↦ (let order : 2 ^ power.0 ≤ 2 ^ j = pow-order power.0 j more in let is = power.1 in omega arith) ] }
+    | inr more ↦ (let order : 2 ^ power.0 ≤ 2 ^ j = pow-order power.0 j more in let is = power.1 in omega arith)
+  ];
+}

@@ -9,8 +9,8 @@ total [] = 0
 total (rate ∷ rates) = rate + total rates
 
 -- the greatest total that a network may have
-abbrev pub MOST_TOTAL : ℕ
-MOST_TOTAL = 16777216
+abbrev pub greatest_total : ℕ
+greatest_total = 16777216
 
 -- rates that a wheel is made of: 1 to 1,024 of them, each from 1 to 1,048,576, with a total of at most 16,777,216
 pub record AreRates (rates : List ℕ) : Type 0 where
@@ -18,7 +18,7 @@ pub record AreRates (rates : List ℕ) : Type 0 where
   pub few : length rates ≤ 1024
   pub least : (i : ℕ) → i < length rates → 1 ≤ slice_index rates i
   pub most : (i : ℕ) → i < length rates → slice_index rates i ≤ 1048576
-  pub bounded : total rates ≤ MOST_TOTAL
+  pub bounded : total rates ≤ greatest_total
 
 -- m is the least power of two that isn't below n
 pub record IsLeastPower (n m : ℕ) : Type 0 where
@@ -54,29 +54,32 @@ pub record HasNumber (rates : List ℕ) (r e : ℕ) : Type 0 where
 -- the running total passes the greatest one at this place, and at none before
 pub record PassesAt (rates : List ℕ) (at : ℕ) : Type 0 where
   pub place : at < length rates
-  pub before : total (take at rates) ≤ MOST_TOTAL
-  pub past : MOST_TOTAL < total (take (suc at) rates)
+  pub before : total (take at rates) ≤ greatest_total
+  pub past : greatest_total < total (take (suc at) rates)
 
 pub event_at-below : (rates : List ℕ) (r : ℕ) → event_at rates r ≤ length rates
 event_at-below [] r = omega arith
 event_at-below (rate ∷ rates) r =
     elim (cases_lt r rate) [
-      inl less ↦ (let e : event_at (rate ∷ rates) r ≡ 0 = rw (lt-ltb r rate less) refl in omega arith)
-    | inr more ↦ (let e : event_at (rate ∷ rates) r ≡ suc (event_at rates (r - rate)) = rw (le-ltb r rate more) refl in
-        let rest = event_at-below rates (r - rate) in omega arith) ]
+      | inl less ↦ (let e : event_at (rate ∷ rates) r ≡ 0 = rw (lt-ltb r rate less) refl in omega arith)
+      | inr more ↦ (let e : event_at (rate ∷ rates) r ≡ suc (event_at rates (r - rate)) = rw (le-ltb r rate more) refl in
+          let rest = event_at-below rates (r - rate) in omega arith)
+    ]
 
 pub event_at-has_number : (rates : List ℕ) (r : ℕ) → HasNumber rates r (event_at rates r)
 event_at-has_number [] r = record { place = omega arith; before = omega arith; own = λ small. absurd (omega arith) }
 event_at-has_number (rate ∷ rates) r =
     elim (cases_lt r rate) [
-      inl less ↦ (let e : 0 ≡ event_at (rate ∷ rates) r = rw (lt-ltb r rate less) refl in
-        subst (λ (n : ℕ). HasNumber (rate ∷ rates) r n) e (record { place = omega arith; before = omega arith; own = λ small. omega arith }))
-    | inr more ↦ (let e : suc (event_at rates (r - rate)) ≡ event_at (rate ∷ rates) r = rw (le-ltb r rate more) refl in
-        let rest = event_at-has_number rates (r - rate) in
-        subst (λ (n : ℕ). HasNumber (rate ∷ rates) r n) e (record {
-          place = (let p = rest.place in omega arith);
-          before = (let b : total (take (event_at rates (r - rate)) rates) ≤ r - rate = rest.before in omega arith);
-          own = λ small. (let o : r - rate < total (take (suc (event_at rates (r - rate))) rates) = rest.own (omega arith) in omega arith) })) ]
+      | inl less ↦ (let e : 0 ≡ event_at (rate ∷ rates) r = rw (lt-ltb r rate less) refl in
+          subst (λ (n : ℕ). HasNumber (rate ∷ rates) r n) e (record { place = omega arith; before = omega arith; own = λ small. omega arith }))
+      | inr more ↦ (let e : suc (event_at rates (r - rate)) ≡ event_at (rate ∷ rates) r = rw (le-ltb r rate more) refl in
+          let rest = event_at-has_number rates (r - rate) in
+          subst (λ (n : ℕ). HasNumber (rate ∷ rates) r n) e (record {
+            place = (let p = rest.place in omega arith);
+            before = (let b : total (take (event_at rates (r - rate)) rates) ≤ r - rate = rest.before in omega arith);
+            own = λ small. (let o : r - rate < total (take (suc (event_at rates (r - rate))) rates) = rest.own (omega arith) in omega arith);
+          }))
+    ]
 
 -- the numbers of two events are apart, so a number has one event
 pub has_number-event_at : (rates : List ℕ) (r e : ℕ) → HasNumber rates r e → e ≡ event_at rates r
@@ -87,7 +90,8 @@ has_number-event_at (rate ∷ rates) r (suc e) has =
     let before : rate + total (take e rates) ≤ r = has.before in
     let large : rate ≤ r = omega arith in
     let rest : HasNumber rates (r - rate) e = record {
-        place = (let p = has.place in omega arith);
-        before = omega arith;
-        own = λ small. (let o : r < rate + total (take (suc e) rates) = has.own (omega arith) in omega arith) } in
+      place = (let p = has.place in omega arith);
+      before = omega arith;
+      own = λ small. (let o : r < rate + total (take (suc e) rates) = has.own (omega arith) in omega arith);
+    } in
     rw (le-ltb r rate large) (ap suc (has_number-event_at rates (r - rate) e rest))
