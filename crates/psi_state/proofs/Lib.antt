@@ -1,1 +1,3 @@
+mod Arrays
+mod Counting
 mod Tests

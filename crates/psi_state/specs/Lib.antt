@@ -3,4 +3,5 @@ pub mod Members
 pub mod Boxes
 pub mod Sets
 pub mod Hull
+pub mod Volume
 pub mod Inverse

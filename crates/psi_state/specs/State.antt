@@ -8,6 +8,11 @@ pub record IsVector (x : List ℕ) : Type 0 where
   pub few : length x ≤ 32
   pub each : (i : ℕ) → slice_index x i < 2 ^ 16
 
+-- what a `Queues` holds: at most 32 numbers, each of 8 bits
+pub record AreQueueNumbers (q : List ℕ) : Type 0 where
+  pub few : length q ≤ 32
+  pub each : (i : ℕ) → slice_index q i < 2 ^ 8
+
 -- capacities: 1 to 32 queues, each with room for 1 to 65,535 customers
 pub record AreCapacities (caps : List ℕ) : Type 0 where
   pub some : 1 ≤ length caps

@@ -1,6 +1,6 @@
 //! A box of states: all states between two corners.
 
-ghost use Rattle.std.specs.Prelude.{◌≡◌, ◌↔◌, IsTrue, length};
+ghost use Rattle.std.specs.Prelude.{◌≡◌, ◌+◌, ◌-◌, ◌<◌, ◌≤◌, ◌↔◌, suc, IsTrue, MatchOption, length, slice_get, slice_index};
 ghost use Rattle.psi_state.specs.State.{IsBelow, box, zeros};
 ghost use Rattle.psi_state.specs.Members.{In, AreAmong};
 
@@ -78,5 +78,82 @@ impl Bounds {
         ensures { IsTrue result ↔ AreAmong (box self.now.lo self.now.hi) (box other.now.lo other.now.hi) }
     {
         other.lo.leq(&self.lo) && self.hi.leq(&other.hi)
+    }
+
+    /// The number of states of the box where it is at most `most`, and `None` exactly where it is above.
+    ///
+    /// It gives up as soon as the number is known to be above `most`, and lists no state.
+    pub fn volume_at_most(&self, most: u32) -> Option<u32>
+        ensures { MatchOption result (most < length (box self.now.lo self.now.hi)) (λ count. (count ≡ length (box self.now.lo self.now.hi)) × (count ≤ most)) }
+    {
+        let mut count: u64 = 1;
+        for place in 0..self.len() {
+            count *= self.width(place) as u64;
+            if count > most as u64 {
+                return None;
+            }
+        }
+        Some(count as u32)
+    }
+
+    /// The place of `x` in the lexicographic list of the states of the box; places are counted from 0.
+    pub fn rank(&self, x: &State) -> u32
+        requires few { length (box self.now.lo self.now.hi) ≤ 65536 }
+        requires member { In x.now (box self.now.lo self.now.hi) }
+        ensures within { result < length (box self.now.lo self.now.hi) }
+        ensures place { slice_get (box self.now.lo self.now.hi) result ≡ Some x.now }
+    {
+        let mut rank: u32 = 0;
+        for place in 0..self.len() {
+            rank = rank * self.width(place) + self.offset(x, place);
+        }
+        rank
+    }
+
+    /// The state at place `r` of the lexicographic list of the states of the box; places are counted
+    /// from 0.
+    pub fn unrank(&self, r: u32) -> State
+        requires { r < length (box self.now.lo self.now.hi) }
+        ensures { slice_get (box self.now.lo self.now.hi) r ≡ Some result }
+    {
+        let lo = self.lo();
+        let mut x = lo;
+        let mut left = r;
+        for place in (0..self.len()).rev() {
+            let width = self.width(place);
+            x.set(place, lo.get(place) + (left % width) as u16);
+            left /= width;
+        }
+        x
+    }
+
+    // The number of queues.
+    fn len(&self) -> u8
+        ensures value { result ≡ length self.now.lo }
+        ensures few { length self.now.lo ≤ 32 }
+        ensures some { 1 ≤ length self.now.lo }
+        ensures ordered { IsBelow self.now.lo self.now.hi }
+    {
+        self.lo().len()
+    }
+
+    // How far `x` is above the lower corner at a place.
+    fn offset(&self, x: &State, place: u8) -> u32
+        requires within { place < length self.now.lo }
+        requires member { In x.now (box self.now.lo self.now.hi) }
+        ensures { result ≡ slice_index x.now place - slice_index self.now.lo place }
+    {
+        (x.get(place) - self.lo().get(place)) as u32
+    }
+
+    // How many numbers of customers a queue can hold in the box.
+    fn width(&self, place: u8) -> u32
+        requires { place < length self.now.lo }
+        ensures value { result ≡ suc (slice_index self.now.hi place) - slice_index self.now.lo place }
+        ensures some { 1 ≤ result }
+        ensures few { result ≤ 65536 }
+        ensures most { slice_index self.now.hi place < 65536 }
+    {
+        (self.hi().get(place) - self.lo().get(place)) as u32 + 1
     }
 }

@@ -7,8 +7,10 @@
 
 mod ending;
 mod interval;
+mod numbers;
 mod vector;
 
 pub use ending::{Outcome, Step};
 pub use interval::Bounds;
+pub use numbers::Queues;
 pub use vector::State;

@@ -1,0 +1,31 @@
+-- Arrays of a fixed length whose front holds a list, with zeros behind it.
+use Rattle.std.specs.Prelude.{◌≡◌, ℕ, zero, suc, ◌+◌, ◌-◌, ◌<◌, List, length, replicate, drop, slice_index, slice_set, refl}
+use Rattle.std.proofs.Common.{inl, inr, ap, ◌∙◌, sym, arith}
+use Rattle.std.proofs.lemmas.Bool.{cases_eq}
+use Rattle.std.proofs.lemmas.List.{drop-set-lt, drop-drop, drop-replicate, get_or-set_same, get_or-set_other}
+
+-- a list of zeros has no other number, and 0 stands for what is past its end
+pub slice_index-zeros : (n i : ℕ) → slice_index (replicate n 0) i ≡ 0
+slice_index-zeros zero i = refl
+slice_index-zeros (suc n) zero = refl
+slice_index-zeros (suc n) (suc i) = slice_index-zeros n i
+
+-- one place more is taken, and zeros are left behind it
+pub drop-push : (xs : List ℕ) (n v : ℕ) → n < 32 → drop n xs ≡ replicate (32 - n) 0 → drop (n + 1) (slice_set xs n v) ≡ replicate (32 - (n + 1)) 0
+drop-push xs n v small rest =
+    let away : drop (n + 1) (slice_set xs n v) ≡ drop (n + 1) xs = drop-set-lt (n + 1) xs n v (omega arith) in
+    let left : 32 - n - 1 ≡ 32 - (n + 1) = omega arith in
+    away ∙ (sym (drop-drop 1 n xs)
+    ∙ (ap (λ (ys : List ℕ). drop 1 ys) rest
+    ∙ (drop-replicate 1 (32 - n) 0
+    ∙ ap (λ k. replicate k 0) left)))
+
+-- a number that fits is put among numbers that fit
+pub slice_set-small : (xs : List ℕ) (n v bound : ℕ) → n < length xs → v < bound → ((i : ℕ) → slice_index xs i < bound)
+    → (i : ℕ) → slice_index (slice_set xs n v) i < bound
+slice_set-small xs n v bound within fits each i =
+    elim (cases_eq i n) [
+      | inl e ↦ (let same : slice_index (slice_set xs n v) n ≡ v = get_or-set_same xs n v 0 within in
+          let at : slice_index (slice_set xs n v) i ≡ slice_index (slice_set xs n v) n = ap (λ k. slice_index (slice_set xs n v) k) e in omega arith)
+      | inr ne ↦ (let same : slice_index (slice_set xs n v) i ≡ slice_index xs i = get_or-set_other xs n i v 0 ne in omega (arith, each i))
+    ]

@@ -1,0 +1,203 @@
+-- The steps of the loops that count the states of a box, and that turn states into places and back.
+use Rattle.std.specs.Prelude.{◌≡◌, ℕ, suc, ◌+◌, ◌-◌, ◌*◌, ◌/◌, ◌%◌, ◌<◌, ◌≤◌, List, length, Some, slice_get, slice_index, slice_set, drop, refl}
+use Rattle.std.proofs.Common.{inl, inr, ap, sym, ◌∙◌, subst, arith}
+use Rattle.std.proofs.Math.Nat.{mul_assoc, zero-mul, le-mul_of_pos_right}
+use Rattle.std.proofs.lemmas.Bool.{cases_eq}
+use Rattle.std.proofs.lemmas.List.{drop-set-lt, get_or-set_same, get_or-set_other, length-set}
+use Rattle.psi_state.specs.State.{IsBelow, box}
+use Rattle.psi_state.specs.Members.{In}
+use Rattle.psi_state.specs.Boxes.{IsBetween, In-of_box, below-itself}
+use Rattle.psi_state.specs.Volume.{volume, volume-drop, volume-drop-some, volume-drop-all, place_in, place_in-drop, place_in-drop-all, place_in-small, length-box, slice_get-box}
+
+-- so many states in what was passed, times those in what is left, are all
+pub record IsCounting (l h : List ℕ) (i count : ℕ) : Type 0 where
+  pub all : count * volume (drop i l) (drop i h) ≡ volume l h
+
+pub counting-first : (l h : List ℕ) → IsCounting l h 0 1
+counting-first l h = record { all = omega arith }
+
+pub counting-next : (l h : List ℕ) (i count width : ℕ) → IsBelow l h → i < length l → width ≡ suc (slice_index h i) - slice_index l i
+    → IsCounting l h i count → IsCounting l h (i + 1) (count * width)
+counting-next l h i count width ordered small is so_far = record {
+  all = (let next : i + 1 ≡ suc i = omega arith in
+      ap (λ k. count * width * volume (drop k l) (drop k h)) next
+      ∙ (mul_assoc count width (volume (drop (suc i) l) (drop (suc i) h))
+      ∙ (ap (λ w. count * (w * volume (drop (suc i) l) (drop (suc i) h))) is
+      ∙ (ap (λ n. count * n) (sym (volume-drop l h i ordered small)) ∙ so_far.all))));
+}
+
+-- what was passed has no more states than the box
+pub counting-most : (l h : List ℕ) (i count : ℕ) → IsBelow l h → IsCounting l h i count → count ≤ length (box l h)
+counting-most l h i count ordered so_far =
+    let some : 1 ≤ volume (drop i l) (drop i h) = volume-drop-some l h i ordered in
+    let more : count ≤ count * volume (drop i l) (drop i h) = le-mul_of_pos_right count some in
+    omega (arith, so_far.all, length-box l h)
+
+pub counting-last : (l h : List ℕ) (i count : ℕ) → IsBelow l h → i ≡ length l → IsCounting l h i count → count ≡ length (box l h)
+counting-last l h i count ordered end so_far =
+    let one : volume (drop i l) (drop i h) ≡ 1 = ap (λ k. volume (drop k l) (drop k h)) end ∙ volume-drop-all l h ordered.same_length in
+    let all : count * 1 ≡ volume l h = ap (λ n. count * n) (sym one) ∙ so_far.all in
+    omega (arith, length-box l h)
+
+-- the place of what was passed, in steps of what is left, and the place of what is left, are the whole place
+pub record IsRanking (l h x : List ℕ) (i rank : ℕ) : Type 0 where
+  pub all : rank * volume (drop i l) (drop i h) + place_in (drop i l) (drop i h) (drop i x) ≡ place_in l h x
+
+pub ranking-first : (l h x : List ℕ) → IsRanking l h x 0 0
+ranking-first l h x = record { all = omega (arith, zero-mul (volume l h)) }
+
+-- one digit more in a place value system
+horner : (rank width value rest place : ℕ) → rank * (width * rest) + (value * rest + place) ≡ (rank * width + value) * rest + place
+horner rank width value rest place = omega arith
+
+-- a state of a box has as many places as its corners, and is between them at each
+pub record IsPlace (l h x : List ℕ) (i : ℕ) : Type 0 where
+  pub same_length : length x ≡ length l
+  pub low : slice_index l i ≤ slice_index x i
+  pub high : slice_index x i ≤ slice_index h i
+
+pub place-between : (l h x : List ℕ) (i : ℕ) → In x (box l h) → i < length l → IsPlace l h x i
+place-between l h x i member small =
+    let between = In-of_box l h x member in
+    let same : length l ≡ length x = between.low.same_length in
+    record { same_length = sym same; low = between.low.each i small; high = between.high.each i (omega arith) }
+
+pub ranking-next : (l h x : List ℕ) (i rank width : ℕ) → IsBelow l h → length x ≡ length l → i < length l
+    → width ≡ suc (slice_index h i) - slice_index l i → IsRanking l h x i rank
+    → IsRanking l h x (i + 1) (rank * width + (slice_index x i - slice_index l i))
+ranking-next l h x i rank width ordered same small is so_far = record {
+  all = (let next : i + 1 ≡ suc i = omega arith in
+      let value = slice_index x i - slice_index l i in
+      let rest = volume (drop (suc i) l) (drop (suc i) h) in
+      let place = place_in (drop (suc i) l) (drop (suc i) h) (drop (suc i) x) in
+      let volumes : volume (drop i l) (drop i h) ≡ width * volume (drop (suc i) l) (drop (suc i) h) =
+      volume-drop l h i ordered small ∙ ap (λ w. w * volume (drop (suc i) l) (drop (suc i) h)) (sym is) in
+      let places = place_in-drop l h x i ordered same small in
+      ap (λ k. (rank * width + (slice_index x i - slice_index l i)) * volume (drop k l) (drop k h) + place_in (drop k l) (drop k h) (drop k x)) next
+      ∙ (sym (horner rank width (slice_index x i - slice_index l i) (volume (drop (suc i) l) (drop (suc i) h)) (place_in (drop (suc i) l) (drop (suc i) h) (drop (suc i) x)))
+      ∙ (ap (λ n. rank * n + ((slice_index x i - slice_index l i) * volume (drop (suc i) l) (drop (suc i) h) + place_in (drop (suc i) l) (drop (suc i) h) (drop (suc i) x))) (sym volumes)
+      ∙ (ap (λ n. rank * volume (drop i l) (drop i h) + n) (sym places) ∙ so_far.all))));
+}
+
+-- what was passed doesn't rank above the whole state
+pub ranking-most : (l h x : List ℕ) (i rank : ℕ) → IsBelow l h → In x (box l h) → IsRanking l h x i rank → rank < length (box l h)
+ranking-most l h x i rank ordered member so_far =
+    let some : 1 ≤ volume (drop i l) (drop i h) = volume-drop-some l h i ordered in
+    let more : rank ≤ rank * volume (drop i l) (drop i h) = le-mul_of_pos_right rank some in
+    let small : place_in l h x < volume l h = place_in-small l h x (In-of_box l h x member) in
+    omega (arith, so_far.all, length-box l h)
+
+-- one place more leaves a rank of a state of the box
+pub ranking-step : (l h x : List ℕ) (i rank width offset : ℕ) → IsBelow l h → In x (box l h) → i < length l
+    → width ≡ suc (slice_index h i) - slice_index l i → offset ≡ slice_index x i - slice_index l i → IsRanking l h x i rank
+    → IsRanking l h x (i + 1) (rank * width + offset) × (rank * width + offset < length (box l h))
+ranking-step l h x i rank width offset ordered member small wide is so_far =
+    let place = place-between l h x i member small in
+    let next = subst (λ n. IsRanking l h x (i + 1) (rank * width + n)) (sym is)
+    (ranking-next l h x i rank width ordered place.same_length small wide so_far) in
+    (next, ranking-most l h x (i + 1) (rank * width + offset) ordered member next)
+
+pub ranking-last : (l h x : List ℕ) (i rank : ℕ) → IsBelow l h → In x (box l h) → i ≡ length l → IsRanking l h x i rank
+    → slice_get (box l h) rank ≡ Some x
+ranking-last l h x i rank ordered member end so_far =
+    let between = In-of_box l h x member in
+    let one : volume (drop i l) (drop i h) ≡ 1 = ap (λ k. volume (drop k l) (drop k h)) end ∙ volume-drop-all l h ordered.same_length in
+    let none : place_in (drop i l) (drop i h) (drop i x) ≡ 0 =
+    ap (λ k. place_in (drop k l) (drop k h) (drop k x)) end ∙ place_in-drop-all l h x ordered.same_length (sym (between.low.same_length)) in
+    let all : rank * 1 + 0 ≡ place_in l h x = ap (λ n. rank * n + 0) (sym one) ∙ (ap (λ n. rank * volume (drop i l) (drop i h) + n) (sym none) ∙ so_far.all) in
+    let place : rank ≡ place_in l h x = omega arith in
+    ap (λ k. slice_get (box l h) k) place ∙ slice_get-box l h x between
+
+-- what is left to be placed, in steps of the places that are set, and the place of these, are the whole place
+pub record IsUnranking (l h x : List ℕ) (i left r : ℕ) : Type 0 where
+  pub between : IsBetween l h x
+  pub all : left * volume (drop i l) (drop i h) + place_in (drop i l) (drop i h) (drop i x) ≡ r
+
+pub unranking-first : (l h : List ℕ) (i r : ℕ) → IsBelow l h → i ≡ length l → IsUnranking l h l i r r
+unranking-first l h i r ordered end =
+    let one : volume (drop i l) (drop i h) ≡ 1 = ap (λ k. volume (drop k l) (drop k h)) end ∙ volume-drop-all l h ordered.same_length in
+    let none : place_in (drop i l) (drop i h) (drop i l) ≡ 0 = ap (λ k. place_in (drop k l) (drop k h) (drop k l)) end ∙ place_in-drop-all l h l ordered.same_length refl in
+    record {
+      between = record { low = below-itself l; high = ordered };
+      all = ap (λ n. r * n + place_in (drop i l) (drop i h) (drop i l)) one ∙ (ap (λ n. r * 1 + n) none ∙ omega arith);
+    }
+
+set-between : (l h x : List ℕ) (i v : ℕ) → IsBetween l h x → i < length l → slice_index l i ≤ v → v ≤ slice_index h i → IsBetween l h (slice_set x i v)
+set-between l h x i v between small low high =
+    let count : length l ≡ length x = between.low.same_length in
+    let same : length (slice_set x i v) ≡ length x = length-set x i v in
+    let at : slice_index (slice_set x i v) i ≡ v = get_or-set_same x i v 0 (omega arith) in
+    record {
+      low = record {
+        same_length = count ∙ sym same;
+        each = λ k within. elim (cases_eq k i) [
+          | inl e ↦ subst (λ j. slice_index l j ≤ slice_index (slice_set x i v) j) (sym e) (omega arith)
+          | inr ne ↦ (let other : slice_index (slice_set x i v) k ≡ slice_index x k = get_or-set_other x i k v 0 ne in omega (arith, between.low.each k within))
+        ];
+      };
+      high = record {
+        same_length = same ∙ between.high.same_length;
+        each = λ k within. elim (cases_eq k i) [
+          | inl e ↦ subst (λ j. slice_index (slice_set x i v) j ≤ slice_index h j) (sym e) (omega arith)
+          | inr ne ↦ (let other : slice_index (slice_set x i v) k ≡ slice_index x k = get_or-set_other x i k v 0 ne in omega (arith, between.high.each k (omega arith)))
+        ];
+      };
+    }
+
+-- the number that a place is given is between the corners
+pub digit-high : (l h : List ℕ) (i left width : ℕ) → IsBelow l h → i < length l → width ≡ suc (slice_index h i) - slice_index l i
+    → slice_index l i + left % width ≤ slice_index h i
+digit-high l h i left width ordered small wide =
+    let bound : slice_index l i ≤ slice_index h i = ordered.each i small in
+    let some : 0 < width = omega arith in
+    let digit : left % width < width = omega arith in
+    omega arith
+
+pub unranking-next : (l h x : List ℕ) (i left width v r : ℕ) → IsBelow l h → i < length l → width ≡ suc (slice_index h i) - slice_index l i
+    → v ≡ slice_index l i + left % width → IsUnranking l h x (suc i) left r → IsUnranking l h (slice_set x i v) i (left / width) r
+unranking-next l h x i left width v r ordered small wide is so_far =
+    let bound : slice_index l i ≤ slice_index h i = ordered.each i small in
+    let some : 0 < width = omega arith in
+    let digit : left % width < width = omega arith in
+    let split : left / width * width + left % width ≡ left = omega arith in
+    let value : v - slice_index l i ≡ left % width = omega arith in
+    let between = set-between l h x i v so_far.between small (omega arith) (omega arith) in
+    let count : length l ≡ length x = so_far.between.low.same_length in
+    let at : slice_index (slice_set x i v) i ≡ v = get_or-set_same x i v 0 (omega arith) in
+    let away : drop (suc i) (slice_set x i v) ≡ drop (suc i) x = drop-set-lt (suc i) x i v (omega arith) in
+    let volumes : volume (drop i l) (drop i h) ≡ width * volume (drop (suc i) l) (drop (suc i) h) =
+    volume-drop l h i ordered small ∙ ap (λ w. w * volume (drop (suc i) l) (drop (suc i) h)) (sym wide) in
+    let places : place_in (drop i l) (drop i h) (drop i (slice_set x i v))
+    ≡ left % width * volume (drop (suc i) l) (drop (suc i) h) + place_in (drop (suc i) l) (drop (suc i) h) (drop (suc i) x) =
+    place_in-drop l h (slice_set x i v) i ordered (sym (between.low.same_length)) small
+    ∙ (ap (λ n. (n - slice_index l i) * volume (drop (suc i) l) (drop (suc i) h) + place_in (drop (suc i) l) (drop (suc i) h) (drop (suc i) (slice_set x i v))) at
+    ∙ (ap (λ n. n * volume (drop (suc i) l) (drop (suc i) h) + place_in (drop (suc i) l) (drop (suc i) h) (drop (suc i) (slice_set x i v))) value
+    ∙ ap (λ (y : List ℕ). left % width * volume (drop (suc i) l) (drop (suc i) h) + place_in (drop (suc i) l) (drop (suc i) h) y) away)) in
+    record {
+      between = between;
+      all = ap (λ n. left / width * n + place_in (drop i l) (drop i h) (drop i (slice_set x i v))) volumes
+          ∙ (ap (λ n. left / width * (width * volume (drop (suc i) l) (drop (suc i) h)) + n) places
+          ∙ (horner (left / width) width (left % width) (volume (drop (suc i) l) (drop (suc i) h)) (place_in (drop (suc i) l) (drop (suc i) h) (drop (suc i) x))
+          ∙ (ap (λ n. n * volume (drop (suc i) l) (drop (suc i) h) + place_in (drop (suc i) l) (drop (suc i) h) (drop (suc i) x)) split
+          ∙ so_far.all)));
+    }
+
+-- the step of a loop that goes down, over the number of the places that aren't set
+pub unranking-step : (l h x : List ℕ) (n left width v r : ℕ) → IsBelow l h → 0 < n → n ≤ length l → width ≡ suc (slice_index h (n - 1)) - slice_index l (n - 1)
+    → v ≡ slice_index l (n - 1) + left % width → IsUnranking l h x n left r → IsUnranking l h (slice_set x (n - 1) v) (n - 1) (left / width) r
+unranking-step l h x n left width v r ordered some few wide is so_far =
+    let down : n ≡ suc (n - 1) = omega arith in
+    unranking-next l h x (n - 1) left width v r ordered (omega arith) wide is (subst (λ k. IsUnranking l h x k left r) down so_far)
+
+-- a place below the number of states is used up, and is that of the state
+pub unranking-last : (l h x : List ℕ) (left r : ℕ) → r < length (box l h) → IsUnranking l h x 0 left r → slice_get (box l h) r ≡ Some x
+unranking-last l h x left r small so_far =
+    let total : length (box l h) ≡ volume l h = length-box l h in
+    let all : left * volume l h + place_in l h x ≡ r = so_far.all in
+    let used : left ≡ 0 = elim (cases_eq left 0) [
+      | inl e ↦ e
+      | inr ne ↦ absurd (let more : volume l h ≤ volume l h * left = le-mul_of_pos_right (volume l h) (omega arith) in omega arith)
+    ] in
+    let none : left * volume l h ≡ 0 = ap (λ n. n * volume l h) used ∙ zero-mul (volume l h) in
+    let place : r ≡ place_in l h x = omega arith in
+    ap (λ k. slice_get (box l h) k) place ∙ slice_get-box l h x so_far.between
