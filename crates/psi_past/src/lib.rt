@@ -1,1 +1,18 @@
+//! The random words that a sampler reads, one for each place.
+//!
+//! Coupling from the past (Propp and Wilson 1996) runs a network from further and further back,
+//! and has to meet the same random word at the same time on each run. A [`Past`] is that fixed
+//! choice: one word of 32 bits for each place, where the event of time -t is drawn from the word
+//! at place t - 1. [`SeedPast`] has the words of a seed and a stream, [`ListPast`] those of a list,
+//! and [`Kept`] keeps the words that it has drawn, so that a longer run draws only the older ones.
 #![tactic(auto)]
+
+mod kept;
+mod list;
+mod past;
+mod seed;
+
+pub use kept::{Kept, OutOfMemory};
+pub use list::ListPast;
+pub use past::Past;
+pub use seed::SeedPast;

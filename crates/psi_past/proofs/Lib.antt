@@ -1,0 +1,2 @@
+pub mod BlockVectors
+pub mod KeyStream

@@ -1,0 +1,53 @@
+use super::*;
+use crate::ListPast;
+use std::test::Fail;
+
+#[test]
+fn keeps_words_until_the_past_is_replaced(rt: HostRuntime) -> Result<(), Fail> {
+    let alloc = rt.alloc();
+    let mut kept = Kept::reserve(alloc, ListPast::new(vec![in alloc; 5, 6, 7]?), 4)?;
+    kept.extend_to(2);
+    assert_eq!(rt; kept.at(1), 6);
+    kept.replace(ListPast::new(vec![in alloc; 9]?));
+    kept.extend_to(1);
+    assert_eq!(rt; kept.at(0), 9);
+    kept.extend_to(4);
+    assert_eq!(rt; kept.at(3), 0);
+    Ok(())
+}
+
+// A past that counts the words drawn from it, and sees whether their places came in order from 0.
+#[derive(Drop)]
+struct CountingPast {
+    drawn: u32,
+    in_order: bool,
+}
+
+impl Past for CountingPast {
+    ghost words = { λ _ place. place };
+
+    fn word(&mut self, place: u32) -> u32 {
+        self.in_order = self.in_order && place == self.drawn;
+        self.drawn = self.drawn.wrapping_add(1);
+        place
+    }
+}
+
+#[test]
+fn draws_each_word_once_and_in_order(rt: HostRuntime) -> Result<(), Fail> {
+    let past = CountingPast {
+        drawn: 0,
+        in_order: true,
+    };
+    let mut kept = Kept::reserve(rt.alloc(), past, 64)?;
+    kept.extend_to(1);
+    kept.extend_to(2);
+    kept.extend_to(16);
+    assert_eq!(rt; kept.past.drawn, 16);
+    kept.extend_to(8);
+    assert_eq!(rt; kept.past.drawn, 16);
+    kept.extend_to(64);
+    assert_eq!(rt; kept.past.drawn, 64);
+    assert!(rt; kept.past.in_order);
+    Ok(())
+}
