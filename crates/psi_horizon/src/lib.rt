@@ -1,1 +1,6 @@
+//! Samples of a network by coupling from the past (Propp and Wilson 1996).
 #![tactic(auto)]
+
+mod coupling;
+
+pub use coupling::{OutOfMemory, Plan};

@@ -5,3 +5,4 @@ pub mod Composition
 pub mod Doubling
 pub mod Refusal
 pub mod System
+pub mod Outcomes
