@@ -75,36 +75,42 @@ impl<'n, E: EventLaw, P: Past + Drop> Plan<'n, E, P> {
         ensures system { self.new.system ≡ self.old.system }
         ensures words { P.words self.new.past ≡ P.words self.old.past }
     {
-        match least_meeting(&self.system, &mut self.words) {
-            Some((horizon, state)) => Outcome::Met { horizon, state },
-            None => Outcome::NotMet {
-                limit: self.system.limit(),
-            },
-        }
+        first_meeting(&self.system, &mut self.words)
     }
 }
 
 // The least horizon among 1, 2, 4, .., 2^limit at which all states have met, with the state.
-fn least_meeting<E: EventLaw, P: Past + Drop>(system: &System<'_, E>, words: &mut Kept<P>) -> Option<(u32, State)>
+fn first_meeting<E: EventLaw, P: Past + Drop>(
+    system: &System<'_, E>,
+    words: &mut Kept<P>,
+) -> Outcome
     requires room { 2 ^ system.now.limit ≤ words.old.most }
     requires monotone { All (λ e. IsMonotone (E.capacities e) (E.function e)) system.now.events }
-    ensures least { let run = meeting_at (functions_of E.function system.now (P.words words.old.past)) system.now.caps in
-        MatchOption result (HasNone run (suc system.now.limit)) (λ found. IsFirst run system.now.limit found.0 found.1) }
+    ensures least { let f = functions_of E.function system.now (P.words words.old.past) in
+        IsOutcome (meeting_at f system.now.caps) system.now.limit result }
+    ensures reached { let f = functions_of E.function system.now (P.words words.old.past) in
+        ReachesOutcome f system.now.caps result }
     ensures words { P.words words.new.past ≡ P.words words.old.past }
     ensures most { words.new.most ≡ words.old.most }
 {
-    for exponent in 0..=system.limit() {
+    let _caps = system.caps();
+    let limit = system.limit();
+    for exponent in 0..limit + 1 {
         let horizon = 1 << exponent;
         if let Some(state) = meeting(system, words, horizon) {
-            return Some((horizon, state));
+            return Outcome::Met { horizon, state };
         }
     }
-    None
+    Outcome::NotMet { limit }
 }
 
 // The state in which all states have met that start so many steps before time zero, if they have: the
 // least and the greatest state are followed.
-fn meeting<E: EventLaw, P: Past + Drop>(system: &System<'_, E>, words: &mut Kept<P>, horizon: u32) -> Option<State>
+fn meeting<E: EventLaw, P: Past + Drop>(
+    system: &System<'_, E>,
+    words: &mut Kept<P>,
+    horizon: u32,
+) -> Option<State>
     requires room { horizon ≤ words.old.most }
     requires monotone { All (λ e. IsMonotone (E.capacities e) (E.function e)) system.now.events }
     ensures met { result ≡ meeting_at (functions_of E.function system.now (P.words words.old.past)) system.now.caps horizon }

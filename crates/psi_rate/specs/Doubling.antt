@@ -31,7 +31,7 @@ pub record IsFirst {A : Type 0} (run : ℕ → Option A) (limit t : ℕ) (a : A)
   pub answer : run t ≡ Some a
   pub earlier : HasNone run exponent
 
-has_none-next : {A : Type 0} (run : ℕ → Option A) (k t : ℕ) → t ≡ 2 ^ k → run t ≡ None → HasNone run k → HasNone run (suc k)
+pub has_none-next : {A : Type 0} (run : ℕ → Option A) (k t : ℕ) → t ≡ 2 ^ k → run t ≡ None → HasNone run k → HasNone run (suc k)
 has_none-next run k t power none before = record {
   each = λ j small. elim (cases_lt j k) [
     | inl less ↦ before.each j less

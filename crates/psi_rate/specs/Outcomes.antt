@@ -1,6 +1,6 @@
 -- What a sample is: the first horizon among 1, 2, 4, .. at which all states have met, with the state.
-use Rattle.std.specs.Prelude.{◌≡◌, ℕ, suc, ◌-◌, ◌<◌, ◌≤◌, List, length, map, slice_index_or, Option, Some, None, All, ◌⊎◌, refl}
-use Rattle.std.proofs.Common.{inl, inr, ap, sym, ◌∙◌, subst, arith}
+use Rattle.std.specs.Prelude.{◌≡◌, ℕ, suc, ◌-◌, List, length, map, slice_index_or, Option, Some, None, All}
+use Rattle.std.proofs.Common.{inl, inr, ap, sym, ◌∙◌, subst}
 use Rattle.std.proofs.lemmas.Bool.{cases_lt}
 use Rattle.std.proofs.lemmas.List.{get_or_past}
 use Rattle.std.proofs.lemmas.List.Elements.{All-map}
@@ -9,7 +9,7 @@ use Rattle.psi_state.specs.declared.ending.Outcome.TheVariants.{Met, NotMet}
 use Rattle.psi_state.specs.Sets.{single}
 use Rattle.psi_event.specs.Law.{IsClosed, IsMonotone}
 use Rattle.psi_rate.specs.Rates.{event_of}
-use Rattle.psi_rate.specs.Composition.{Parts, picked, function_at, functions_of, image_at, AreClosed, AreMonotone, IsReached, image_at-reached}
+use Rattle.psi_rate.specs.Composition.{Parts, picked, functions_of, image_at, AreClosed, AreMonotone, IsReached, image_at-reached}
 use Rattle.psi_rate.specs.Doubling.{first_answer, IsFirst, HasNone, first_answer-found, first_answer-none}
 
 -- the state in which all states have met that start t steps before time zero, if they have
@@ -44,31 +44,47 @@ unfolding outcome_within
 outcome_within-not_met run limit none = ap (λ found. outcome_of limit found) (sym (first_answer-none run limit none))
 
 pub met-reached : (f : ℕ → List ℕ → List ℕ) (caps : List ℕ) (limit t : ℕ) (s : List ℕ) → AreClosed caps f
-  → IsFirst (meeting_at f caps) limit t s → IsReached f caps t s
+    → IsFirst (meeting_at f caps) limit t s → IsReached f caps t s
 met-reached f caps limit t s closed first = image_at-reached caps f t s closed first.answer
 
+-- an outcome in these words is the outcome of the run
+pub outcome_within-only : (run : ℕ → Option (List ℕ)) (limit : ℕ) (o : Outcome) → IsOutcome run limit o → o ≡ outcome_within run limit
+outcome_within-only run limit (Met t s) is = outcome_within-met run limit t s is
+outcome_within-only run limit (NotMet l) is = ap (λ n. NotMet n) is.0 ∙ outcome_within-not_met run limit is.1
+
+-- and what it tells is where every state is at time zero
+pub outcome-reached : (f : ℕ → List ℕ → List ℕ) (caps : List ℕ) (limit : ℕ) (o : Outcome) → AreClosed caps f
+    → IsOutcome (meeting_at f caps) limit o → ReachesOutcome f caps o
+outcome-reached f caps limit (Met t s) closed is = met-reached f caps limit t s closed is
+outcome-reached f caps limit (NotMet l) closed is = tt
+
 picked-each : (P : (List ℕ → List ℕ) → Type 0) (functions : List (List ℕ → List ℕ)) (rates : List ℕ) (word : ℕ)
-  → All P functions → P (λ x. x) → P (picked functions rates word)
+    → All P functions → P (λ x. x) → P (picked functions rates word)
 picked-each P functions rates word each idle = elim (cases_lt (event_of rates word) (length functions)) [
-      inl small ↦ each (event_of rates word) (λ x. x) small
-    | inr past ↦ subst P (sym (get_or_past functions (event_of rates word) (λ x. x) past)) idle ]
+  | inl small ↦ each (event_of rates word) (λ x. x) small
+  | inr past ↦ subst P (sym (get_or_past functions (event_of rates word) (λ x. x) past)) idle
+]
 
 -- each time's function makes states of states, since each event's does
 pub functions-closed : {E : Type 0} (capacities : E → List ℕ) (function : E → List ℕ → List ℕ) (system : Parts E) (words : ℕ → ℕ)
-  → ((event : E) → IsClosed (capacities event) (function event)) → All (λ event. capacities event ≡ system.caps) system.events
-  → AreClosed system.caps (functions_of function system words)
-functions-closed {E} capacities function system words closed same = record { each = λ t.
-    picked-each (IsClosed system.caps) (map function system.events) system.rates (words (t - 1))
-        (All-map (IsClosed system.caps) function system.events
-            (λ k d small. subst (λ (caps : List ℕ). IsClosed caps (function (slice_index_or system.events k d))) (same k d small) (closed (slice_index_or system.events k d))))
-        (record { each = λ x within. within }) }
+    → ((event : E) → IsClosed (capacities event) (function event)) → All (λ event. capacities event ≡ system.caps) system.events
+    → AreClosed system.caps (functions_of function system words)
+functions-closed {E} capacities function system words closed same = record {
+  each = λ t.
+      picked-each (IsClosed system.caps) (map function system.events) system.rates (words (t - 1))
+      (All-map (IsClosed system.caps) function system.events
+      (λ k d small. subst (λ (caps : List ℕ). IsClosed caps (function (slice_index_or system.events k d))) (same k d small) (closed (slice_index_or system.events k d))))
+      (record { each = λ x within. within });
+}
 
 -- each time's function is monotone, if each event's is
 pub functions-monotone : {E : Type 0} (capacities : E → List ℕ) (function : E → List ℕ → List ℕ) (system : Parts E) (words : ℕ → ℕ)
-  → All (λ event. IsMonotone (capacities event) (function event)) system.events → All (λ event. capacities event ≡ system.caps) system.events
-  → AreMonotone system.caps (functions_of function system words)
-functions-monotone {E} capacities function system words monotone same = record { each = λ t.
-    picked-each (IsMonotone system.caps) (map function system.events) system.rates (words (t - 1))
-        (All-map (IsMonotone system.caps) function system.events
-            (λ k d small. subst (λ (caps : List ℕ). IsMonotone caps (function (slice_index_or system.events k d))) (same k d small) (monotone k d small)))
-        (record { each = λ x y within below. below }) }
+    → All (λ event. IsMonotone (capacities event) (function event)) system.events → All (λ event. capacities event ≡ system.caps) system.events
+    → AreMonotone system.caps (functions_of function system words)
+functions-monotone {E} capacities function system words monotone same = record {
+  each = λ t.
+      picked-each (IsMonotone system.caps) (map function system.events) system.rates (words (t - 1))
+      (All-map (IsMonotone system.caps) function system.events
+      (λ k d small. subst (λ (caps : List ℕ). IsMonotone caps (function (slice_index_or system.events k d))) (same k d small) (monotone k d small)))
+      (record { each = λ x y within below. below });
+}

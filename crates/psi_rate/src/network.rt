@@ -90,14 +90,17 @@ impl<'n, E: EventLaw> System<'n, E> {
 
     /// The exponent of the greatest horizon, 0 to 22.
     pub fn limit(&self) -> u8
-        ensures { result ≡ self.now.limit }
+        ensures value { result ≡ self.now.limit }
+        ensures bound { result ≤ 22 }
     {
         self.limit
     }
 
     /// The number of states up to which a region is followed state by state, 1 to 4,096.
     pub fn split(&self) -> u16
-        ensures { result ≡ self.now.split }
+        ensures value { result ≡ self.now.split }
+        ensures some { 1 ≤ result }
+        ensures most { result ≤ 4096 }
     {
         self.split
     }
