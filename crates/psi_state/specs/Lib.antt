@@ -4,4 +4,5 @@ pub mod Boxes
 pub mod Sets
 pub mod Hull
 pub mod Volume
+pub mod Listing
 pub mod Inverse
