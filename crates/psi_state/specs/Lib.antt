@@ -5,4 +5,6 @@ pub mod Sets
 pub mod Hull
 pub mod Volume
 pub mod Listing
+pub mod Ascending
+pub mod States
 pub mod Inverse
