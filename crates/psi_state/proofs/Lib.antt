@@ -1,3 +1,4 @@
 mod Arrays
 mod Counting
+mod Odometer
 mod Tests

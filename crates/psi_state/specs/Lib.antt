@@ -4,4 +4,7 @@ pub mod Boxes
 pub mod Sets
 pub mod Hull
 pub mod Volume
+pub mod Listing
+pub mod Ascending
+pub mod States
 pub mod Inverse

@@ -7,10 +7,12 @@
 
 mod ending;
 mod interval;
+mod listing;
 mod numbers;
 mod vector;
 
 pub use ending::{Outcome, Step};
 pub use interval::Bounds;
+pub use listing::States;
 pub use numbers::Queues;
 pub use vector::State;
