@@ -33,6 +33,7 @@ impl<P: Past + Drop> Model for Kept<P> {
 
     ghost Value = { Keeping P };
 
+    // The room is the list's capacity, which no call changes after `reserve`.
     ghost view = { λ k. record {
       past = k.past;
       count = length k.words.items;

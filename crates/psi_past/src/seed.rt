@@ -34,7 +34,10 @@ impl Model for SeedPast {
 
     ghost view = { λ p. record { seed = p.seed; stream = p.stream } };
 
-    ghost invariant = { λ p. (p.generator ≡ record { key = key_of (key_bytes p.seed); stream = p.stream; word_pos = p.next }) × (p.stream < 2 ^ 64) };
+    // The generator has the seed's key and the stream, and stands at `next`.
+    ghost invariant = { λ p.
+        (p.generator ≡ record { key = key_of (key_bytes p.seed); stream = p.stream; word_pos = p.next })
+        × (p.stream < 2 ^ 64) };
 }
 
 impl SeedPast {
