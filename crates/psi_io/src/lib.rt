@@ -1,9 +1,13 @@
 #![tactic(auto)]
 
+mod memory_sink;
 mod out_of_memory;
 mod shelf;
 mod sink;
+mod std_sink;
 
+pub use memory_sink::MemorySink;
 pub use out_of_memory::OutOfMemory;
 pub use shelf::{Shelf, ShelfFault};
 pub use sink::{Sink, SinkFault, write_all};
+pub use std_sink::StdSink;
