@@ -1,16 +1,19 @@
 -- The files of a shelf in memory: the first of a name, and what a change of it leaves.
-use Rattle.std.proofs.Common.{◌≡◌, ◌≢◌, ℕ, zero, suc, ◌-◌, ◌^◌, ◌<◌, ◌≤◌, Bool, true, false, cond, List, [], ◌∷◌, ◌++◌, length, set, get_or, Option, None, Some, refl, sym, ◌∙◌, ap, inl, inr, arith}
-use Rattle.std.specs.Prelude.{find, position, option_map}
-use Rattle.std.specs.List.{position_or_len, prefix_len}
+use Rattle.std.proofs.Common.{◌≡◌, ◌≢◌, ℕ, zero, suc, ◌^◌, ◌<◌, ◌≤◌, Bool, true, false, cond, List, [], ◌∷◌, ◌++◌, length, set, get_or, Option, None, Some, Result, Ok, Err, refl, sym, ◌∙◌, ap, inl, inr, arith, eq-eqb}
+use Rattle.std.specs.Prelude.{find, position, option_map, nat_eq, IfErr, IsErrOf}
+use Rattle.std.specs.List.{list_any, position_or_len}
 use Rattle.std.specs.Option.{option_map_or, option_or}
 use Rattle.std.specs.Str.{bytes_eq}
+use Rattle.std.proofs.Math.Path.{fun_ext}
 use Rattle.std.proofs.lemmas.Bool.{cases_Bool}
-use Rattle.std.proofs.lemmas.List.Folds.{find-append}
+use Rattle.std.proofs.lemmas.List.Folds.{find-append, list_any_at}
 use Rattle.std.proofs.lemmas.List.Quantifiers.{position-Some}
 use Rattle.std.proofs.lemmas.List.Recursion.{found_at}
 use Rattle.std.proofs.lemmas.Slice.Eq.{bytes_eq-Decides}
 use Rattle.psi_io.specs.Counts.{counted}
-use Rattle.psi_io.specs.MemoryShelf.{ShelfFile, ShelfContents, has_name, file_of, told_of, faults_of, changed, with_fault, with_bytes, after_put, after_failed_read}
+use Rattle.psi_io.specs.MemoryShelf.{ShelfFile, ShelfContents, has_name, file_of, told_of, faults_of, changed, with_fault, with_bytes, FailsToRead, after_put, after_failed_read}
+use Rattle.psi_io.specs.declared.shelf.ShelfFault.{ShelfFault}
+use Rattle.psi_io.specs.declared.shelf.ShelfFault.TheVariants.{Failed, OutOfMemory}
 
 -- the file at the place of a name is the file of the name
 pub find-at :
@@ -198,3 +201,122 @@ counts-put shelf name bytes other (Some file) is =
 pub counts-after_put :
     (shelf : ShelfContents) (name bytes other : List ℕ) → faults_of (after_put shelf name bytes) other ≡ faults_of shelf other
 counts-after_put shelf name bytes other = counts-put shelf name bytes other (file_of shelf name) refl
+
+-- a shelf with one more fault at a name's place is the shelf after its failed read
+pub fail-place :
+    (shelf : ShelfContents) (name : List ℕ) (place : ℕ) (file : ShelfFile)
+    → position (has_name name) shelf.files ≡ Some place → file ≡ get_or shelf.files place file
+    → record shelf { files = set shelf.files place (with_fault file); reads = counted shelf.reads } ≡ after_failed_read shelf name
+fail-place shelf name place file found is =
+    rw (find-at name shelf.files place file found)
+    (ap (λ (files : List ShelfFile). record shelf { files = files; reads = counted shelf.reads })
+    (changed-at with_fault name shelf.files place file found is))
+
+-- a shelf with one more fault of the names that aren't there is the shelf after a failed read of one
+pub fail-absent :
+    (shelf : ShelfContents) (name : List ℕ)
+    → position (has_name name) shelf.files ≡ None
+    → record shelf { absent = counted shelf.absent; reads = counted shelf.reads } ≡ after_failed_read shelf name
+fail-absent shelf name none =
+    let missing = find-none name shelf.files none in
+    rw (missing, changed-none with_fault name shelf.files missing) refl
+
+-- the count of the name after one more fault of its file, or else of the names that aren't there
+count-fault :
+    (found : Option ShelfFile) (absent : ℕ)
+    → option_map_or (λ (f : ShelfFile). f.count) (option_map with_fault found) (option_map_or (λ (f : ShelfFile). absent) found (counted absent))
+        ≡ counted (option_map_or (λ (f : ShelfFile). f.count) found absent)
+count-fault None absent = refl
+count-fault (Some file) absent = refl
+
+-- a failed read raises the count of its name by one
+pub faults-after_failed :
+    (shelf : ShelfContents) (name : List ℕ) → faults_of (after_failed_read shelf name) name ≡ counted (faults_of shelf name)
+faults-after_failed shelf name =
+    rw (find-own with_fault (λ _. refl) name shelf.files) (count-fault (file_of shelf name) shelf.absent)
+
+-- a failed read changes nothing that is told
+pub told-after_failed : (shelf : ShelfContents) (name : List ℕ) → told_of (after_failed_read shelf name) ≡ told_of shelf
+told-after_failed shelf name =
+    fun_ext (λ other. find-changed (option_map (λ (f : ShelfFile). f.bytes)) with_fault (λ _. refl) (λ _. refl) name other shelf.files)
+
+-- the count of no file falls where one more fault of a name is counted
+count-raised :
+    (name other : List ℕ) (files : List ShelfFile) (absent : ℕ)
+    → option_map_or (λ (f : ShelfFile). f.count) (find (has_name name) files) 0 < 2 ^ 64
+    → option_map_or (λ (f : ShelfFile). f.count) (find (has_name other) files) absent
+        ≤ option_map_or (λ (f : ShelfFile). f.count) (find (has_name other) (changed with_fault name files)) absent
+count-raised name other [] absent small = omega arith
+count-raised name other (file ∷ files) absent small =
+    elim (cases_Bool (has_name name file)) [
+      inl named ↦
+        let bound : file.count < 2 ^ 64 = rw named at small in
+        rw named (elim (cases_Bool (has_name other file)) [
+          inl own ↦ rw own (omega arith)
+        | inr misses ↦ rw misses (omega arith)
+        ])
+    | inr past ↦
+        let rest = rw past at small in
+        rw past (elim (cases_Bool (has_name other file)) [
+          inl own ↦ rw own (omega arith)
+        | inr misses ↦ rw misses (count-raised name other files absent rest)
+        ])
+    ]
+
+-- a greater count of the names that aren't there makes no count smaller
+count-absent :
+    (found : Option ShelfFile) (absent : ℕ)
+    → absent < 2 ^ 64
+    → option_map_or (λ (f : ShelfFile). f.count) found absent ≤ option_map_or (λ (f : ShelfFile). f.count) found (counted absent)
+count-absent None absent small = omega arith
+count-absent (Some file) absent small = omega arith
+
+counts-failed :
+    (shelf : ShelfContents) (name other : List ℕ) (found : Option ShelfFile)
+    → file_of shelf name ≡ found → faults_of shelf name < 2 ^ 64
+    → faults_of shelf other ≤ faults_of (after_failed_read shelf name) other
+counts-failed shelf name other None is small =
+    let bound : shelf.absent < 2 ^ 64 = rw is at small in
+    rw (is, changed-none with_fault name shelf.files is) (count-absent (find (has_name other) shelf.files) shelf.absent bound)
+counts-failed shelf name other (Some file) is small =
+    let bound : option_map_or (λ (f : ShelfFile). f.count) (find (has_name name) shelf.files) 0 < 2 ^ 64 = rw is (rw is at small) in
+    rw is (count-raised name other shelf.files shelf.absent bound)
+
+-- a failed read makes no count smaller
+pub counts-after_failed :
+    (shelf : ShelfContents) (name other : List ℕ)
+    → faults_of shelf name < 2 ^ 64 → faults_of shelf other ≤ faults_of (after_failed_read shelf name) other
+counts-after_failed shelf name other small = counts-failed shelf name other (file_of shelf name) refl small
+
+-- the bytes of the file at a name's place are told of the name
+pub told-at :
+    (shelf : ShelfContents) (name : List ℕ) (place : ℕ) (file : ShelfFile)
+    → position (has_name name) shelf.files ≡ Some place → file ≡ get_or shelf.files place file
+    → told_of shelf name ≡ Some file.bytes
+told-at shelf name place file found is = rw (find-at name shelf.files place file found) (ap (λ (f : ShelfFile). Some f.bytes) (sym is))
+
+-- and its count is the name's
+pub faults-at :
+    (shelf : ShelfContents) (name : List ℕ) (place : ℕ) (file : ShelfFile)
+    → position (has_name name) shelf.files ≡ Some place → file ≡ get_or shelf.files place file
+    → faults_of shelf name ≡ file.count
+faults-at shelf name place file found is = rw (find-at name shelf.files place file found) (ap (λ (f : ShelfFile). f.count) (sym is))
+
+-- nothing is told of a name without a place
+pub told-none :
+    (shelf : ShelfContents) (name : List ℕ) → position (has_name name) shelf.files ≡ None → told_of shelf name ≡ None
+told-none shelf name none = ap (option_map (λ (f : ShelfFile). f.bytes)) (find-none name shelf.files none)
+
+-- a read of a name that is there, whose number isn't to fail, doesn't fail
+pub reads-at :
+    (shelf : ShelfContents) (name : List ℕ) (file : ShelfFile)
+    → told_of shelf name ≡ Some file.bytes → list_any (λ (n : ℕ). nat_eq n (counted shelf.reads)) shelf.fails ≡ false
+    → FailsToRead shelf name → ⊥
+reads-at shelf name file told spared (inl (place, within, is)) =
+    let found = list_any_at (λ (n : ℕ). nat_eq n (counted shelf.reads)) shelf.fails place (counted shelf.reads) within (eq-eqb _ _ is) in cc
+reads-at shelf name file told spared (inr missing) = cc
+
+-- an answer that is an error for want of memory alone isn't a fault
+pub no-fault : {T : Type 0} (r : Result T ShelfFault) → IfErr r (λ fault. fault ≡ OutOfMemory) → IsErrOf r Failed → ⊥
+no-fault (Ok value) memory is = cc
+no-fault (Err fault) memory is = cc

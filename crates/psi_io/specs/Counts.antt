@@ -1,5 +1,5 @@
 -- Counts of faults, which rise by one and stand still at the greatest number of 64 bits.
-use Rattle.std.specs.Prelude.{ℕ, ◌+◌, ◌-◌, ◌^◌, ◌<◌, ◌≤◌, ◌⊎◌, min}
+use Rattle.std.specs.Prelude.{◌≡◌, ℕ, ◌+◌, ◌-◌, ◌^◌, ◌<◌, ◌≤◌, ◌⊎◌, min}
 use Rattle.std.proofs.Common.{arith, inl, inr}
 use Rattle.std.proofs.lemmas.Bool.{cases_lt}
 
@@ -27,3 +27,7 @@ rose-greatest before after greatest = omega arith
 -- a count that rose in between rose over the whole
 pub rose-over : (first before after last : ℕ) → first ≤ before → Rose before after → after ≤ last → Rose first last
 rose-over first before after last earlier rose later = omega arith
+
+-- a count that rises by one rose
+pub rose-counted : (before after : ℕ) → after ≡ counted before → Rose before after
+rose-counted before after is = omega arith

@@ -1,4 +1,4 @@
-ghost use Rattle.std.specs.Prelude.{◌≡◌, ◌+◌, ◌≤◌, ◌^◌, take, string_bytes, IfOk, IfErr};
+ghost use Rattle.std.specs.Prelude.{◌≡◌, ◌+◌, ◌<◌, ◌≤◌, ◌^◌, take, string_bytes, IfOk, IfErr};
 ghost use Rattle.psi_io.specs.MemoryShelf.{has_name, with_bytes, with_fault};
 
 use crate::shelf::ShelfFault;
@@ -48,7 +48,8 @@ impl MemoryFile {
     }
 
     pub(crate) fn count_fault(&mut self)
-        ensures { self.new ≡ with_fault self.old }
+        ensures after { self.new ≡ with_fault self.old }
+        ensures bounded { self.old.count < 2 ^ 64 }
     {
         self.count = self.count.saturating_add(1);
     }
