@@ -28,8 +28,8 @@ find-past : {X : Type 0} (test : X → Bool) (xs : List X) → length xs ≤ pos
 find-past test [] past = refl
 find-past test (x ∷ xs) past =
     elim (cases_Bool (test x)) [
-      inl passes ↦ absurd (let none = rw passes at past in omega arith)
-    | inr fails ↦ let rest = rw fails at past in rw fails (find-past test xs (omega arith))
+      | inl passes ↦ absurd (let none = rw passes at past in omega arith)
+      | inr fails ↦ let rest = rw fails at past in rw fails (find-past test xs (omega arith))
     ]
 
 -- a name without a place has no file
@@ -43,8 +43,8 @@ pub changed-none :
 changed-none change name [] none = refl
 changed-none change name (file ∷ files) none =
     elim (cases_Bool (has_name name file)) [
-      inl named ↦ absurd (let found = rw named at none in cc)
-    | inr other ↦ let rest = rw other at none in rw other (ap (λ (fs : List ShelfFile). file ∷ fs) (changed-none change name files rest))
+      | inl named ↦ absurd (let found = rw named at none in cc)
+      | inr other ↦ let rest = rw other at none in rw other (ap (λ (fs : List ShelfFile). file ∷ fs) (changed-none change name files rest))
     ]
 
 -- a write of the changed file at the place of the name changes the file of the name
@@ -83,13 +83,13 @@ pub find-changed :
 find-changed part change names parts name other [] = refl
 find-changed part change names parts name other (file ∷ files) =
     elim (cases_Bool (has_name name file)) [
-      inl named ↦ rw (named, same-test change names other file) (elim (cases_Bool (has_name other file)) [
-        inl own ↦ rw own (parts file)
-      | inr misses ↦ rw misses refl
+      | inl named ↦ rw (named, same-test change names other file) (elim (cases_Bool (has_name other file)) [
+        | inl own ↦ rw own (parts file)
+        | inr misses ↦ rw misses refl
       ])
-    | inr past ↦ rw past (elim (cases_Bool (has_name other file)) [
-        inl own ↦ rw own refl
-      | inr misses ↦ rw misses (find-changed part change names parts name other files)
+      | inr past ↦ rw past (elim (cases_Bool (has_name other file)) [
+        | inl own ↦ rw own refl
+        | inr misses ↦ rw misses (find-changed part change names parts name other files)
       ])
     ]
 
@@ -100,16 +100,16 @@ pub find-own :
 find-own change names name [] = refl
 find-own change names name (file ∷ files) =
     elim (cases_Bool (has_name name file)) [
-      inl named ↦ rw (named, same-test change names name file, named) refl
-    | inr past ↦ rw (past, past) (find-own change names name files)
+      | inl named ↦ rw (named, same-test change names name file, named) refl
+      | inr past ↦ rw (past, past) (find-own change names name files)
     ]
 
 -- a file of a name isn't one of another name
 apart-names : (name other : List ℕ) (file : ShelfFile) → has_name name file ≡ true → other ≢ name → has_name other file ≡ false
 apart-names name other file named apart =
     elim (cases_Bool (has_name other file)) [
-      inl own ↦ absurd (apart (sym ((bytes_eq-Decides file.name other).0 own) ∙ (bytes_eq-Decides file.name name).0 named))
-    | inr misses ↦ misses
+      | inl own ↦ absurd (apart (sym ((bytes_eq-Decides file.name other).0 own) ∙ (bytes_eq-Decides file.name name).0 named))
+      | inr misses ↦ misses
     ]
 
 -- the files of other names stay
@@ -120,10 +120,10 @@ pub find-other :
 find-other change names name other [] apart = refl
 find-other change names name other (file ∷ files) apart =
     elim (cases_Bool (has_name name file)) [
-      inl named ↦ let misses = apart-names name other file named apart in rw (named, same-test change names other file, misses) refl
-    | inr past ↦ rw past (elim (cases_Bool (has_name other file)) [
-        inl own ↦ rw own refl
-      | inr misses ↦ rw misses (find-other change names name other files apart)
+      | inl named ↦ let misses = apart-names name other file named apart in rw (named, same-test change names other file, misses) refl
+      | inr past ↦ rw past (elim (cases_Bool (has_name other file)) [
+        | inl own ↦ rw own refl
+        | inr misses ↦ rw misses (find-other change names name other files apart)
       ])
     ]
 
@@ -143,7 +143,7 @@ pub put-new :
     → record shelf { files = shelf.files ++ file ∷ [] } ≡ after_put shelf name bytes
 put-new shelf name bytes file none names holds counts =
     let same : file ≡ record { name = name; bytes = bytes; count = shelf.absent } =
-        λ i. record { name = names i; bytes = holds i; count = counts i } in
+    λ i. record { name = names i; bytes = holds i; count = counts i } in
     rw (find-none name shelf.files none) (ap (λ (f : ShelfFile). record shelf { files = shelf.files ++ f ∷ [] }) same)
 
 -- what is put under a name is told of it
@@ -183,7 +183,7 @@ others-after_put shelf name bytes other apart = others-put shelf name bytes othe
 count-or :
     (found : Option ShelfFile) (own : Bool) (file : ShelfFile)
     → option_map_or (λ (f : ShelfFile). f.count) (option_or found (cond own (Some file) None)) file.count
-        ≡ option_map_or (λ (f : ShelfFile). f.count) found file.count
+    ≡ option_map_or (λ (f : ShelfFile). f.count) found file.count
 count-or (Some other) own file = refl
 count-or None true file = refl
 count-or None false file = refl
@@ -225,7 +225,7 @@ fail-absent shelf name none =
 count-fault :
     (found : Option ShelfFile) (absent : ℕ)
     → option_map_or (λ (f : ShelfFile). f.count) (option_map with_fault found) (option_map_or (λ (f : ShelfFile). absent) found (counted absent))
-        ≡ counted (option_map_or (λ (f : ShelfFile). f.count) found absent)
+    ≡ counted (option_map_or (λ (f : ShelfFile). f.count) found absent)
 count-fault None absent = refl
 count-fault (Some file) absent = refl
 
@@ -245,22 +245,22 @@ count-raised :
     (name other : List ℕ) (files : List ShelfFile) (absent : ℕ)
     → option_map_or (λ (f : ShelfFile). f.count) (find (has_name name) files) 0 < 2 ^ 64
     → option_map_or (λ (f : ShelfFile). f.count) (find (has_name other) files) absent
-        ≤ option_map_or (λ (f : ShelfFile). f.count) (find (has_name other) (changed with_fault name files)) absent
+    ≤ option_map_or (λ (f : ShelfFile). f.count) (find (has_name other) (changed with_fault name files)) absent
 count-raised name other [] absent small = omega arith
 count-raised name other (file ∷ files) absent small =
     elim (cases_Bool (has_name name file)) [
-      inl named ↦
-        let bound : file.count < 2 ^ 64 = rw named at small in
-        rw named (elim (cases_Bool (has_name other file)) [
-          inl own ↦ rw own (omega arith)
-        | inr misses ↦ rw misses (omega arith)
-        ])
-    | inr past ↦
-        let rest = rw past at small in
-        rw past (elim (cases_Bool (has_name other file)) [
-          inl own ↦ rw own (omega arith)
-        | inr misses ↦ rw misses (count-raised name other files absent rest)
-        ])
+      | inl named ↦
+          let bound : file.count < 2 ^ 64 = rw named at small in
+          rw named (elim (cases_Bool (has_name other file)) [
+            | inl own ↦ rw own (omega arith)
+            | inr misses ↦ rw misses (omega arith)
+          ])
+      | inr past ↦
+          let rest = rw past at small in
+          rw past (elim (cases_Bool (has_name other file)) [
+            | inl own ↦ rw own (omega arith)
+            | inr misses ↦ rw misses (count-raised name other files absent rest)
+          ])
     ]
 
 -- a greater count of the names that aren't there makes no count smaller

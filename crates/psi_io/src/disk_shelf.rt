@@ -1,4 +1,5 @@
-ghost use Rattle.std.specs.Prelude.{◌≡◌, ◌+◌, ◌≤◌, ◌^◌, length, IfOk, OnOk, IsErrOf};
+ghost use Rattle.std.specs.Prelude.{◌≡◌, ◌+◌, ◌≤◌, ◌^◌, ◌↔◌, length, take, IfOk, IfSome, OnOk, IsErrOf};
+ghost use Rattle.std.specs.IoError.{error_kind};
 ghost use Rattle.psi_io.specs.Counts.{counted, Rose};
 
 use crate::shelf::{Shelf, ShelfFault};
@@ -38,17 +39,20 @@ impl<'r, R: Files> DiskShelf<'r, R> {
 }
 
 /// Want of memory is that, and each other error of the system is a fault.
-fn fault_of(error: &Error) -> ShelfFault {
+fn fault_of(error: &Error) -> ShelfFault
+    ensures { (result ≡ ShelfFault.OutOfMemory) ↔ (error_kind error.now ≡ ErrorKind.OutOfMemory) }
+{
     match error.kind() {
         ErrorKind::OutOfMemory => ShelfFault::OutOfMemory,
         _ => ShelfFault::Failed,
     }
 }
 
-/// The bytes of a file up to its end, but at most `most + 1` of them.
-fn front_of<F: Read>(file: &mut F, alloc: Global, most: u32) -> Result<Vec<u8>, ShelfFault>
+/// The bytes that a reader has left, but at most `most + 1` of them.
+fn read_front<F: Read>(file: &mut F, alloc: Global, most: u32) -> Result<Vec<u8>, ShelfFault>
     requires { most ≤ 2 ^ 30 }
-    ensures { IfOk result (λ read. length read.items ≤ most + 1) }
+    ensures bytes { IfOk result (λ read. IfSome (F.remaining file.old) (λ bytes. read.items ≡ take (most + 1) bytes)) }
+    ensures bound { IfOk result (λ read. length read.items ≤ most + 1) }
 {
     let limit = most as usize + 1;
     let mut chunk = [0u8; CHUNK];
@@ -67,12 +71,13 @@ fn front_of<F: Read>(file: &mut F, alloc: Global, most: u32) -> Result<Vec<u8>, 
     Ok(bytes)
 }
 
-fn read_front<R: Files>(rt: &R, alloc: Global, name: &str, most: u32) -> Result<Vec<u8>, ShelfFault>
+/// The bytes of the file of this name, but at most `most + 1` of them.
+fn front_of<R: Files>(rt: &R, alloc: Global, name: &str, most: u32) -> Result<Vec<u8>, ShelfFault>
     requires { most ≤ 2 ^ 30 }
     ensures { IfOk result (λ read. length read.items ≤ most + 1) }
 {
     match fs::open(rt, name) {
-        Ok(mut file) => front_of(&mut file, alloc, most),
+        Ok(mut file) => read_front(&mut file, alloc, most),
         Err(error) => Err(fault_of(&error)),
     }
 }
@@ -102,7 +107,7 @@ impl<R: Files> Shelf for DiskShelf<'_, R> {
         ensures failed { IsErrOf result ShelfFault.Failed → Rose self.old self.new }
         ensures counts { self.old ≤ self.new }
     {
-        match read_front(self.rt, alloc, name, most) {
+        match front_of(self.rt, alloc, name, most) {
             Err(ShelfFault::Failed) => {
                 self.count = self.count.saturating_add(1);
                 Err(ShelfFault::Failed)

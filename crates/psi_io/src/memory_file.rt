@@ -20,9 +20,9 @@ impl Model for MemoryFile {
     ghost Value = { ShelfFile };
 
     ghost view = { λ file. record {
-        name = string_bytes file.name;
-        bytes = file.bytes.items;
-        count = file.count;
+      name = string_bytes file.name;
+      bytes = file.bytes.items;
+      count = file.count;
     } };
 }
 

@@ -29,10 +29,10 @@ impl Model for MemoryShelf {
     ghost Value = { ShelfContents };
 
     ghost view = { λ shelf. record {
-        files = shelf.files.items;
-        absent = shelf.absent;
-        reads = shelf.reads;
-        fails = shelf.fails.items;
+      files = shelf.files.items;
+      absent = shelf.absent;
+      reads = shelf.reads;
+      fails = shelf.fails.items;
     } };
 }
 

@@ -29,12 +29,12 @@ impl Model for MemorySink {
     ghost Value = { SinkContents };
 
     ghost view = { λ sink. record {
-        bytes = sink.bytes.items;
-        room = sink.room;
-        most = sink.most;
-        fails = sink.fails.items;
-        writes = sink.writes;
-        count = sink.count;
+      bytes = sink.bytes.items;
+      room = sink.room;
+      most = sink.most;
+      fails = sink.fails.items;
+      writes = sink.writes;
+      count = sink.count;
     } };
 
     ghost invariant = { λ sink. (1 ≤ sink.most) × (vec_len sink.bytes + sink.room ≤ vec_capacity sink.bytes) };
@@ -47,7 +47,12 @@ impl MemorySink {
     /// # Errors
     ///
     /// [`OutOfMemory`] where the room can't be reserved.
-    pub fn new(alloc: Global, room: usize, most: usize, fails: Vec<u64>) -> Result<MemorySink, OutOfMemory>
+    pub fn new(
+        alloc: Global,
+        room: usize,
+        most: usize,
+        fails: Vec<u64>,
+    ) -> Result<MemorySink, OutOfMemory>
         requires { 1 ≤ most }
         ensures bytes { IfOk result (λ sink. sink.bytes ≡ []) }
         ensures room { IfOk result (λ sink. sink.room ≡ room) }

@@ -23,11 +23,11 @@ returns-in-Some-clause-failed c = λ is. rose-counted _ _ (returns-in-Some-claus
 pub returns-in-Some-clause-counts : goal.returns-in-Some-clause-counts
 returns-in-Some-clause-counts c = λ other.
     let found : position (has_name c.args.name.now) c.args.self.now.files ≡ Some c.in-Some.place =
-        rw (← c.self.view_is, ← c.as_slice.ensures.value) (sym c.in-Some.ensures) in
+    rw (← c.self.view_is, ← c.as_slice.ensures.value) (sym c.in-Some.ensures) in
     let file : c.index_mut.result.now ≡ get_or c.args.self.now.files c.in-Some.place c.index_mut.result.now =
-        rw (← c.self.view_is) c.index_mut.ensures.value in
+    rw (← c.self.view_is) c.index_mut.ensures.value in
     let small : faults_of c.args.self.now c.args.name.now < 2 ^ 64 =
-        omega (arith, c.count_fault.ensures.bounded, faults-at c.args.self.now c.args.name.now c.in-Some.place c.index_mut.result.now found file) in
+    omega (arith, c.count_fault.ensures.bounded, faults-at c.args.self.now c.args.name.now c.in-Some.place c.index_mut.result.now found file) in
     subst (λ (shelf : ShelfContents). faults_of c.args.self.now other ≤ faults_of shelf other)
     (sym (returns-in-Some-clause-after_failed c refl)) (counts-after_failed c.args.self.now c.args.name.now other small)
 
@@ -39,15 +39,15 @@ returns-in-Some-clause-same c =
 told : (c : goal.After-front) → told_of c.args.self.now c.args.name.now ≡ Some c.index.result.now.bytes
 told c =
     let found : position (has_name c.args.name.now) c.args.self.now.files ≡ Some c.in-Some.place =
-        rw (← c.self.view_is, ← c.as_slice.ensures.value) (sym c.in-Some.ensures) in
+    rw (← c.self.view_is, ← c.as_slice.ensures.value) (sym c.in-Some.ensures) in
     let file : c.index.result.now ≡ get_or c.args.self.now.files c.in-Some.place c.index.result.now =
-        rw (← c.self.view_is) c.index.ensures in
+    rw (← c.self.view_is) c.index.ensures in
     told-at c.args.self.now c.args.name.now c.in-Some.place c.index.result.now found file
 
 pub returns-in-Some-2-clause-fails : goal.returns-in-Some-2-clause-fails
 returns-in-Some-2-clause-fails c =
     let spared : list_any (λ (n : ℕ). nat_eq n (counted c.args.self.now.reads)) c.args.self.now.fails ≡ false =
-        rw (← c.self.view_is, ← c.saturating_add-self-inside.ensures, ← c.deref.ensures.value) (sym c.if-fails.ensures.value) in
+    rw (← c.self.view_is, ← c.saturating_add-self-inside.ensures, ← c.deref.ensures.value) (sym c.if-fails.ensures.value) in
     (λ is. absurd (no-fault c.front.result c.front.ensures.memory is), λ fails. absurd (reads-at c.args.self.now c.args.name.now c.index.result.now (told c) spared fails))
 
 pub returns-in-Some-2-clause-bytes : goal.returns-in-Some-2-clause-bytes
@@ -63,7 +63,7 @@ returns-in-None-clause-after_failed c = λ _.
 pub returns-in-None-clause-fails : goal.returns-in-None-clause-fails
 returns-in-None-clause-fails c =
     let none : position (has_name c.args.name.now) c.args.self.now.files ≡ None =
-        rw (← c.self.view_is, ← c.as_slice.ensures.value) (sym c.in-None.ensures) in
+    rw (← c.self.view_is, ← c.as_slice.ensures.value) (sym c.in-None.ensures) in
     (λ _. inr (told-none c.args.self.now c.args.name.now none), λ _. refl)
 
 pub returns-in-None-clause-raised : goal.returns-in-None-clause-raised
