@@ -1,0 +1,4 @@
+pub mod Counts
+pub mod MemoryShelf
+pub mod MemorySink
+pub mod Sink

@@ -1,1 +1,26 @@
 #![tactic(auto)]
+//! Where the files that the program reads come from, and where the texts that it writes go to.
+//!
+//! A [`Shelf`] gives the bytes of a name, a [`Sink`] takes bytes. Each counts its faults, so that
+//! a caller can say of every refusal that it came from outside. [`MemoryShelf`] and
+//! [`MemorySink`] keep everything in memory and fail where they are told to; [`DiskShelf`] and
+//! [`StdSink`] are thin adapters to the files and the output of the system.
+
+mod disk_shelf;
+mod memory_file;
+mod memory_shelf;
+mod memory_sink;
+mod out_of_memory;
+mod shelf;
+mod sink;
+mod std_sink;
+#[cfg(test)]
+mod tests;
+
+pub use disk_shelf::DiskShelf;
+pub use memory_shelf::MemoryShelf;
+pub use memory_sink::MemorySink;
+pub use out_of_memory::OutOfMemory;
+pub use shelf::{Shelf, ShelfFault};
+pub use sink::{Sink, SinkFault, write_all};
+pub use std_sink::StdSink;

@@ -1,0 +1,17 @@
+use Rattle.std.proofs.Common.{Result, Ok, Err, IfOk, refl}
+use Rattle.std.specs.Prelude.{⊤}
+use Rattle.psi_io.proofs.disk_shelf.DiskShelfShelf.TheImpl.Goals as goal
+
+-- what always holds is known of an `Ok`
+ok_anyhow : {T E : Type 0} (r : Result T E) → IfOk r (λ _. ⊤)
+ok_anyhow (Ok value) = tt
+ok_anyhow (Err error) = tt
+
+pub read-tells : goal.read-tells
+read-tells g c = record {
+  bytes = ok_anyhow c.result;
+  bound = c.ensures.bound;
+  failed = c.ensures.failed;
+  counts = λ other. c.ensures.counts;
+  same = refl;
+}

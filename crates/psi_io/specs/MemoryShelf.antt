@@ -1,0 +1,73 @@
+-- What a shelf in memory is: its files with their counts, and which reads fail.
+use Rattle.std.specs.Prelude.{◌≡◌, ℕ, ◌⊎◌, Bool, if◌then◌else◌, List, [], ◌∷◌, ◌++◌, Option, None, find, option_map, Contains}
+use Rattle.std.specs.Option.{option_map_or}
+use Rattle.std.specs.Str.{bytes_eq}
+use Rattle.psi_io.specs.Counts.{counted}
+
+-- a file of the shelf: its name, its bytes, and the count of its failed reads
+pub record ShelfFile : Type 0 where
+  pub name : List ℕ
+  pub bytes : List ℕ
+  pub count : ℕ
+
+-- a shelf in memory: its files, the count that all names share that aren't there, the number of
+-- the last read, and the numbers of the reads that fail
+pub record ShelfContents : Type 0 where
+  pub files : List ShelfFile
+  pub absent : ℕ
+  pub reads : ℕ
+  pub fails : List ℕ
+
+-- whether a file has this name
+abbrev pub has_name : List ℕ → ShelfFile → Bool
+has_name name file = bytes_eq file.name name
+
+-- the file of a name
+abbrev pub file_of : ShelfContents → List ℕ → Option ShelfFile
+file_of shelf name = find (has_name name) shelf.files
+
+-- the bytes of a name, where it is there
+abbrev pub told_of : ShelfContents → List ℕ → Option (List ℕ)
+told_of shelf name = option_map (λ file. file.bytes) (file_of shelf name)
+
+-- the count of a name: its file's, or else the count of the names that aren't there
+abbrev pub faults_of : ShelfContents → List ℕ → ℕ
+faults_of shelf name = option_map_or (λ file. file.count) (file_of shelf name) shelf.absent
+
+-- a read of a name fails: its number is to fail, or the name isn't there
+abbrev pub FailsToRead : ShelfContents → List ℕ → Type 0
+FailsToRead shelf name = Contains shelf.fails (counted shelf.reads) ⊎ (told_of shelf name ≡ None)
+
+-- the first file of a name, changed
+abbrev pub changed : (ShelfFile → ShelfFile) → List ℕ → List ShelfFile → List ShelfFile
+changed change name [] = []
+changed change name (file ∷ files) =
+    if has_name name file then change file ∷ files else file ∷ changed change name files
+
+-- a file after one more failed read
+abbrev pub with_fault : ShelfFile → ShelfFile
+with_fault file = record file { count = counted file.count }
+
+-- a file with other bytes
+abbrev pub with_bytes : List ℕ → ShelfFile → ShelfFile
+with_bytes bytes file = record file { bytes = bytes }
+
+-- the shelf after a read that fails at no count: one more read
+abbrev pub after_read : ShelfContents → ShelfContents
+after_read shelf = record shelf { reads = counted shelf.reads }
+
+-- the shelf after a read of a name that fails: one more read, and one more fault of the name
+abbrev pub after_failed_read : ShelfContents → List ℕ → ShelfContents
+after_failed_read shelf name = record shelf {
+  files = changed with_fault name shelf.files;
+  absent = option_map_or (λ file. shelf.absent) (file_of shelf name) (counted shelf.absent);
+  reads = counted shelf.reads;
+}
+
+-- the shelf once bytes are put under a name: a name that wasn't there begins with the count of
+-- such names
+abbrev pub after_put : ShelfContents → List ℕ → List ℕ → ShelfContents
+after_put shelf name bytes = record shelf {
+  files = option_map_or (λ file. changed (with_bytes bytes) name shelf.files) (file_of shelf name)
+      (shelf.files ++ (record { name = name; bytes = bytes; count = shelf.absent }) ∷ []);
+}

@@ -1,0 +1,118 @@
+ghost use Rattle.std.specs.Prelude.{◌≡◌, ◌+◌, ◌≤◌, ◌^◌, ◌↔◌, length, take, IfOk, IfSome, OnOk, IsErrOf};
+ghost use Rattle.std.specs.IoError.{error_kind};
+ghost use Rattle.psi_io.specs.Counts.{counted, Rose};
+
+use crate::shelf::{Shelf, ShelfFault};
+use std::alloc::Global;
+use std::fs;
+use std::io::{Error, ErrorKind, Read};
+use std::marker::Model;
+use std::rt::Files;
+
+/// How many bytes one turn of a read asks for at most.
+const CHUNK: usize = 8192;
+
+/// A shelf over the files of the system, opened through the runtime that it is lent. It tells
+/// nothing of what they hold, and is seen as its count of faults: one number for all names, which
+/// stands still at the greatest u64.
+#[derive(Drop)]
+pub struct DiskShelf<'r, R: Files> {
+    rt: &'r R,
+    count: u64,
+}
+
+impl<'r, R: Files> Model for DiskShelf<'r, R> {
+    ghost use Rattle.std.specs.Prelude.{ℕ};
+
+    ghost Value = { ℕ };
+
+    ghost view = { λ shelf. shelf.count };
+}
+
+impl<'r, R: Files> DiskShelf<'r, R> {
+    /// A shelf over the files of this runtime, with no fault yet.
+    pub fn new(rt: &'r R) -> DiskShelf<'r, R>
+        ensures { result ≡ 0 }
+    {
+        DiskShelf { rt, count: 0 }
+    }
+}
+
+/// Want of memory is that, and each other error of the system is a fault.
+fn fault_of(error: &Error) -> ShelfFault
+    ensures { (result ≡ ShelfFault.OutOfMemory) ↔ (error_kind error.now ≡ ErrorKind.OutOfMemory) }
+{
+    match error.kind() {
+        ErrorKind::OutOfMemory => ShelfFault::OutOfMemory,
+        _ => ShelfFault::Failed,
+    }
+}
+
+/// The bytes that a reader has left, but at most `most + 1` of them.
+fn read_front<F: Read>(file: &mut F, alloc: Global, most: u32) -> Result<Vec<u8>, ShelfFault>
+    requires { most ≤ 2 ^ 30 }
+    ensures bytes { IfOk result (λ read. IfSome (F.remaining file.old) (λ bytes. read.items ≡ take (most + 1) bytes)) }
+    ensures bound { IfOk result (λ read. length read.items ≤ most + 1) }
+{
+    let limit = most as usize + 1;
+    let mut chunk = [0u8; CHUNK];
+    let mut bytes = Vec::new(alloc);
+    while bytes.len() < limit {
+        let wanted = CHUNK.min(limit - bytes.len());
+        let count = match file.read(&mut chunk[..wanted]) {
+            Ok(count) => count,
+            Err(error) => return Err(fault_of(&error)),
+        };
+        if count == 0 {
+            break;
+        }
+        bytes.extend_from_slice(&chunk[..count])?;
+    }
+    Ok(bytes)
+}
+
+/// The bytes of the file of this name, but at most `most + 1` of them.
+fn front_of<R: Files>(rt: &R, alloc: Global, name: &str, most: u32) -> Result<Vec<u8>, ShelfFault>
+    requires { most ≤ 2 ^ 30 }
+    ensures { IfOk result (λ read. length read.items ≤ most + 1) }
+{
+    match fs::open(rt, name) {
+        Ok(mut file) => read_front(&mut file, alloc, most),
+        Err(error) => Err(fault_of(&error)),
+    }
+}
+
+impl<R: Files> Shelf for DiskShelf<'_, R> {
+    ghost use Rattle.std.specs.Prelude.{None};
+
+    ghost told = { λ shelf name. None };
+
+    ghost faults = { λ shelf name. shelf };
+
+    /// Opens the file of this name and reads it, chunk by chunk, up to its end or to `most + 1`
+    /// bytes. Memory grows with what is read.
+    ///
+    /// # Errors
+    ///
+    /// [`ShelfFault::Failed`] where the file can't be opened or read, and the count rises by one.
+    /// [`ShelfFault::OutOfMemory`] where there is no memory, and the count stays.
+    fn read(&mut self, alloc: Global, name: &str, most: u32) -> Result<Vec<u8>, ShelfFault>
+        requires { most ≤ 2 ^ 30 }
+        ensures still { OnOk result (self.new ≡ self.old) }
+        ensures raised { IsErrOf result ShelfFault.Failed → self.new ≡ counted self.old }
+        ensures refused { IsErrOf result ShelfFault.OutOfMemory → self.new ≡ self.old }
+
+        // What every shelf keeps.
+        ensures bound { IfOk result (λ read. length read.items ≤ most + 1) }
+        ensures failed { IsErrOf result ShelfFault.Failed → Rose self.old self.new }
+        ensures counts { self.old ≤ self.new }
+    {
+        match front_of(self.rt, alloc, name, most) {
+            Err(ShelfFault::Failed) => {
+                self.count = self.count.saturating_add(1);
+                Err(ShelfFault::Failed)
+            }
+            answer => answer,
+        }
+    }
+}

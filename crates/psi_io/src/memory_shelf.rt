@@ -1,0 +1,129 @@
+ghost use Rattle.std.specs.Prelude.{◌≡◌, ◌≢◌, ℕ, ◌+◌, ◌≤◌, ◌^◌, ◌↔◌, List, [], Some, length, take, position, IfOk, IfSome, OnOk, OnErr, IsErrOf};
+ghost use Rattle.psi_io.specs.Counts.{counted, Rose};
+ghost use Rattle.psi_io.specs.MemoryShelf.{has_name, told_of, faults_of, FailsToRead, after_read, after_failed_read, after_put};
+
+use crate::memory_file::MemoryFile;
+use crate::out_of_memory::OutOfMemory;
+use crate::shelf::{Shelf, ShelfFault};
+use std::alloc::Global;
+use std::marker::Model;
+
+/// A shelf of files in memory, whose reads fail where they are told to. It tells the bytes that
+/// were last put under a name, and nothing of a name that isn't there.
+///
+/// Reads are numbered from 1. All names that aren't there share one count of faults, and a name
+/// that is first put begins with it. The number of a read and each count stand still at the
+/// greatest u64.
+#[derive(Drop)]
+pub struct MemoryShelf {
+    files: Vec<MemoryFile>,
+    absent: u64,
+    reads: u64,
+    fails: Vec<u64>,
+    alloc: Global,
+}
+
+impl Model for MemoryShelf {
+    ghost use Rattle.psi_io.specs.MemoryShelf.{ShelfContents};
+
+    ghost Value = { ShelfContents };
+
+    ghost view = { λ shelf. record {
+      files = shelf.files.items;
+      absent = shelf.absent;
+      reads = shelf.reads;
+      fails = shelf.fails.items;
+    } };
+}
+
+impl MemoryShelf {
+    /// A shelf without files. The reads whose numbers are in `fails` fail.
+    pub fn new(alloc: Global, fails: Vec<u64>) -> MemoryShelf
+        ensures files { result.files ≡ [] }
+        ensures absent { result.absent ≡ 0 }
+        ensures reads { result.reads ≡ 0 }
+        ensures fails { result.fails ≡ fails.items }
+    {
+        MemoryShelf {
+            files: Vec::new(alloc),
+            absent: 0,
+            reads: 0,
+            fails,
+            alloc,
+        }
+    }
+
+    /// Puts bytes under a name, in place of those that were there.
+    ///
+    /// # Errors
+    ///
+    /// [`OutOfMemory`] where there is no memory for the name or the bytes. The shelf then stays as
+    /// it was.
+    pub fn put(&mut self, name: &str, bytes: &[u8]) -> Result<(), OutOfMemory>
+        ensures told { OnOk result (told_of self.new name.now ≡ Some bytes.now) }
+        ensures others { (other : List ℕ) → other ≢ name.now → told_of self.new other ≡ told_of self.old other }
+        ensures counts { (other : List ℕ) → faults_of self.new other ≡ faults_of self.old other }
+        ensures after { OnOk result (self.new ≡ after_put self.old name.now bytes.now) }
+        ensures refused { OnErr result (self.new ≡ self.old) }
+    {
+        let bytes = Vec::from_slice(self.alloc, bytes)?;
+        match place_of(self.files.as_slice(), name) {
+            Some(place) => self.files[place].replace(bytes),
+            None => {
+                let name = String::from_str(self.alloc, name)?;
+                self.files.push(MemoryFile::new(name, bytes, self.absent))?;
+            }
+        }
+        Ok(())
+    }
+}
+
+fn place_of(files: &[MemoryFile], name: &str) -> Option<usize>
+    ensures { result ≡ position (has_name name.now) files.now }
+{
+    files.iter().position(|file| file.has_name(name))
+}
+
+impl Shelf for MemoryShelf {
+    ghost told = { told_of };
+
+    ghost faults = { faults_of };
+
+    /// Reads the bytes that were last put under the name, cut at `most + 1`.
+    ///
+    /// # Errors
+    ///
+    /// [`ShelfFault::Failed`] exactly where the number of the read is in `fails` or the name isn't
+    /// there. The count of the name rises by one there, and no other read raises a count.
+    /// [`ShelfFault::OutOfMemory`] where there is no memory for the bytes: such a read has its
+    /// number, and raises no count.
+    fn read(&mut self, alloc: Global, name: &str, most: u32) -> Result<Vec<u8>, ShelfFault>
+        requires { most ≤ 2 ^ 30 }
+        ensures fails { IsErrOf result ShelfFault.Failed ↔ FailsToRead self.old name.now }
+        ensures raised { IsErrOf result ShelfFault.Failed → faults_of self.new name.now ≡ counted (faults_of self.old name.now) }
+        ensures after { OnOk result (self.new ≡ after_read self.old) }
+        ensures after_failed { IsErrOf result ShelfFault.Failed → self.new ≡ after_failed_read self.old name.now }
+        ensures after_refused { IsErrOf result ShelfFault.OutOfMemory → self.new ≡ after_read self.old }
+
+        // What every shelf keeps.
+        ensures bytes { IfOk result (λ read. IfSome (told_of self.old name.now) (λ bytes. read.items ≡ take (most + 1) bytes)) }
+        ensures bound { IfOk result (λ read. length read.items ≤ most + 1) }
+        ensures failed { IsErrOf result ShelfFault.Failed → Rose (faults_of self.old name.now) (faults_of self.new name.now) }
+        ensures counts { (other : List ℕ) → faults_of self.old other ≤ faults_of self.new other }
+        ensures same { told_of self.new ≡ told_of self.old }
+    {
+        self.reads = self.reads.saturating_add(1);
+        let fails = self.fails.contains(&self.reads);
+        match place_of(self.files.as_slice(), name) {
+            Some(place) if fails => {
+                self.files[place].count_fault();
+                Err(ShelfFault::Failed)
+            }
+            Some(place) => self.files[place].front(alloc, most),
+            None => {
+                self.absent = self.absent.saturating_add(1);
+                Err(ShelfFault::Failed)
+            }
+        }
+    }
+}

@@ -1,0 +1,49 @@
+ghost use Rattle.std.specs.Prelude.{◌≡◌, ℕ, ◌+◌, ◌≤◌, ◌^◌, List, Option, length, take, IfOk, IfSome, IsErrOf};
+ghost use Rattle.psi_io.specs.Counts.{Rose};
+ghost use Rattle.psi_io.specs.declared.shelf.ShelfFault.TheVariants.{OutOfMemory};
+
+use std::alloc::{AllocError, Global};
+
+/// Why a read gave no bytes.
+#[derive(Clone, Copy, Debug, PartialEq, Eq)]
+pub enum ShelfFault {
+    /// The file isn't there or could not be read. It comes only where the name's count of faults
+    /// rose in this call, or stands at the greatest u64.
+    Failed,
+    /// There was not enough memory for what the file holds.
+    OutOfMemory,
+}
+
+impl From<AllocError> for ShelfFault {
+    ghost from_gives = { λ _ fault. fault ≡ OutOfMemory };
+
+    fn from(_error: AllocError) -> ShelfFault {
+        ShelfFault::OutOfMemory
+    }
+}
+
+/// Files, each under a name.
+///
+/// Two meanings belong to a shelf. `told` gives the bytes under a name, where the shelf tells
+/// them: a shelf over real files tells none, and no call changes what a shelf tells. `faults` is
+/// the count of faults of a name, which never falls.
+pub trait Shelf {
+    ghost told: { Self → List ℕ → Option (List ℕ) };
+
+    ghost faults: { Self → List ℕ → ℕ };
+
+    /// Reads the file of this name up to its end, but at most `most + 1` bytes of it, so that the
+    /// caller sees from the length alone whether the file has more than `most` bytes.
+    ///
+    /// # Errors
+    ///
+    /// [`ShelfFault::Failed`] only where the count of this name rose or stands at the greatest
+    /// u64, and [`ShelfFault::OutOfMemory`] where there was not enough memory.
+    fn read(&mut self, alloc: Global, name: &str, most: u32) -> Result<Vec<u8>, ShelfFault>
+        requires { most ≤ 2 ^ 30 }
+        ensures bytes { IfOk result (λ read. IfSome (told self.old name.now) (λ bytes. read.items ≡ take (most + 1) bytes)) }
+        ensures bound { IfOk result (λ read. length read.items ≤ most + 1) }
+        ensures failed { IsErrOf result ShelfFault.Failed → Rose (faults self.old name.now) (faults self.new name.now) }
+        ensures counts { (other : List ℕ) → faults self.old other ≤ faults self.new other }
+        ensures same { told self.new ≡ told self.old };
+}

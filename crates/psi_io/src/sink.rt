@@ -1,0 +1,58 @@
+ghost use Rattle.std.specs.Prelude.{◌≡◌, ℕ, ◌≤◌, List, Option, length, take, IfOk, OnOk, OnErr};
+ghost use Rattle.psi_io.specs.Counts.{Rose};
+ghost use Rattle.psi_io.specs.Sink.{appended, GrewByPrefix};
+
+/// Why a write took no bytes.
+#[derive(Clone, Copy, Debug, PartialEq, Eq)]
+pub enum SinkFault {
+    /// The sink could not take the bytes. It comes only where the sink's count of faults rose in
+    /// this call, or stands at the greatest u64.
+    Failed,
+}
+
+/// What takes bytes, some of a piece at a time.
+///
+/// Two meanings belong to a sink. `held` is what it holds, where it tells it: a sink over a
+/// terminal tells nothing. `faults` is its count of faults, which never falls.
+pub trait Sink {
+    ghost held: { Self → Option (List ℕ) };
+
+    ghost faults: { Self → ℕ };
+
+    /// Takes the first bytes of a piece, at least one of a piece that isn't empty, and answers how
+    /// many.
+    ///
+    /// # Errors
+    ///
+    /// [`SinkFault::Failed`] only where the sink's count rose or stands at the greatest u64. The
+    /// sink then holds what it held.
+    fn write(&mut self, piece: &[u8]) -> Result<usize, SinkFault>
+        ensures within { IfOk result (λ count. count ≤ length piece.now) }
+        ensures progress { IfOk result (λ count. 1 ≤ length piece.now → 1 ≤ count) }
+        ensures grew { IfOk result (λ count. held self.new ≡ appended (held self.old) (take count piece.now)) }
+        ensures failed { OnErr result (Rose (faults self.old) (faults self.new)) }
+        ensures kept { OnErr result (held self.new ≡ held self.old) }
+        ensures counts { faults self.old ≤ faults self.new };
+}
+
+/// Writes a whole piece, in as many writes as the sink asks for.
+///
+/// # Errors
+///
+/// [`SinkFault::Failed`] only where the sink's count rose or stands at the greatest u64. What the
+/// sink holds then grew by the bytes of the piece that were taken before: a prefix of it.
+pub fn write_all<K: Sink>(sink: &mut K, piece: &[u8]) -> Result<(), SinkFault>
+    ensures whole { OnOk result (K.held sink.new ≡ appended (K.held sink.old) piece.now) }
+    ensures prefix { OnErr result (GrewByPrefix (K.held sink.old) (K.held sink.new) piece.now) }
+    ensures failed { OnErr result (Rose (K.faults sink.old) (K.faults sink.new)) }
+    ensures counts { K.faults sink.old ≤ K.faults sink.new }
+{
+    let mut at = 0;
+    while at < piece.len() {
+        match sink.write(&piece[at..]) {
+            Ok(count) => at += count,
+            Err(fault) => return Err(fault),
+        }
+    }
+    Ok(())
+}

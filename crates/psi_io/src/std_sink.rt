@@ -1,0 +1,66 @@
+ghost use Rattle.std.specs.Prelude.{◌≡◌, ℕ, ◌≤◌, length, IfOk, OnOk, OnErr};
+ghost use Rattle.psi_io.specs.Counts.{counted, Rose};
+
+use crate::sink::{Sink, SinkFault};
+use std::io::Write;
+use std::marker::Model;
+
+/// A sink over a writer of the system, as its output. It tells nothing of what it holds, and is
+/// seen as its count of faults, which stands still at the greatest u64.
+#[derive(Drop)]
+pub struct StdSink<W: Write> {
+    writer: W,
+    count: u64,
+}
+
+impl<W: Write> Model for StdSink<W> {
+    ghost use Rattle.std.specs.Prelude.{ℕ};
+
+    ghost Value = { ℕ };
+
+    ghost view = { λ sink. sink.count };
+}
+
+impl<W: Write> StdSink<W> {
+    /// A sink over this writer, with no fault yet.
+    pub fn new(writer: W) -> StdSink<W>
+        ensures { result ≡ 0 }
+    {
+        StdSink { writer, count: 0 }
+    }
+}
+
+impl<W: Write> Sink for StdSink<W> {
+    ghost use Rattle.std.specs.Prelude.{None};
+
+    ghost held = { λ sink. None };
+
+    ghost faults = { λ sink. sink };
+
+    /// Writes once and flushes.
+    ///
+    /// # Errors
+    ///
+    /// [`SinkFault::Failed`] where the writer fails, takes no byte of a piece that isn't empty, or
+    /// can't be flushed. The count of faults rises by one there and nowhere else.
+    fn write(&mut self, piece: &[u8]) -> Result<usize, SinkFault>
+        ensures still { OnOk result (self.new ≡ self.old) }
+        ensures raised { OnErr result (self.new ≡ counted self.old) }
+
+        // What every sink keeps.
+        ensures within { IfOk result (λ count. count ≤ length piece.now) }
+        ensures progress { IfOk result (λ count. 1 ≤ length piece.now → 1 ≤ count) }
+        ensures failed { OnErr result (Rose self.old self.new) }
+        ensures counts { self.old ≤ self.new }
+    {
+        match self.writer.write(piece) {
+            Ok(count) if count > 0 || piece.is_empty() => match self.writer.flush() {
+                Ok(()) => return Ok(count),
+                Err(_) => {}
+            },
+            _ => {}
+        }
+        self.count = self.count.saturating_add(1);
+        Err(SinkFault::Failed)
+    }
+}
