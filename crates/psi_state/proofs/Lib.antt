@@ -1,4 +1,5 @@
 mod Arrays
 mod Counting
 mod Odometer
-mod Tests
+mod Rows
+mod Deciding

@@ -16,3 +16,6 @@ pub use interval::Bounds;
 pub use listing::States;
 pub use numbers::Queues;
 pub use vector::State;
+
+#[cfg(test)]
+mod tests;

@@ -1,4 +1,4 @@
-use Rattle.psi_state.proofs.Tests.{holds-then, holds-else}
+use Rattle.psi_state.proofs.Deciding.{holds-then, holds-else}
 use Rattle.psi_state.proofs.interval.Bounds.holds.Goals as goal
 
 pub returns-then-leq : goal.returns-then-leq

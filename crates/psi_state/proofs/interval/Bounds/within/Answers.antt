@@ -1,4 +1,4 @@
-use Rattle.psi_state.proofs.Tests.{within-then, within-else}
+use Rattle.psi_state.proofs.Deciding.{within-then, within-else}
 use Rattle.psi_state.proofs.interval.Bounds.within.Goals as goal
 
 pub returns-then-leq : goal.returns-then-leq
