@@ -7,5 +7,8 @@
 mod dial;
 mod network;
 
+#[cfg(test)]
+mod tests;
+
 pub use dial::{RateRefusal, Wheel};
 pub use network::System;

@@ -1,0 +1,87 @@
+//! The wheel and the system on small rates, worked out by hand.
+
+ghost use Rattle.std.specs.Prelude.{◌≡◌, ◌≤◌, ◌∷◌, [], All};
+ghost use Rattle.psi_state.specs.State.{AreCapacities};
+
+use crate::{RateRefusal, System, Wheel};
+use psi_event::{EventLaw, Single};
+use psi_state::State;
+use std::test::Fail;
+
+#[test]
+fn words_pick_events_by_their_rates(rt: HostRuntime) -> Result<(), Fail> {
+    let wheel = Wheel::new(rt.alloc(), &[1, 2])?;
+    let words: [u32; 4] = [0xade0_b876, 0x903d_f1a0, 0xe56a_5d40, 0x28bd_8653];
+    assert_eq!(rt; wheel.modulus(), 4);
+    assert_eq!(rt; wheel.idle(), 1);
+    assert_eq!(rt; wheel.events(), 2);
+    // Modulo 4 the words are 2, 0, 0 and 3: out, in, in and idle.
+    assert_eq!(rt; wheel.pick(words[0]), 1);
+    assert_eq!(rt; wheel.pick(words[1]), 0);
+    assert_eq!(rt; wheel.pick(words[2]), 0);
+    assert_eq!(rt; wheel.pick(words[3]), 2);
+    Ok(())
+}
+
+#[test]
+fn three_equal_rates_leave_one_number_idle(rt: HostRuntime) -> Result<(), Fail> {
+    let wheel = Wheel::new(rt.alloc(), &[1, 1, 1])?;
+    assert_eq!(rt; wheel.modulus(), 4);
+    assert_eq!(rt; wheel.idle(), 1);
+    assert_eq!(rt; wheel.pick(0), 0);
+    assert_eq!(rt; wheel.pick(1), 1);
+    assert_eq!(rt; wheel.pick(2), 2);
+    assert_eq!(rt; wheel.pick(3), 3);
+    assert_eq!(rt; wheel.pick(4), 0);
+    Ok(())
+}
+
+#[test]
+fn a_total_that_is_a_power_of_two_leaves_no_idle_number(rt: HostRuntime) -> Result<(), Fail> {
+    let one = Wheel::new(rt.alloc(), &[1])?;
+    let most = Wheel::new(rt.alloc(), &[1_048_576; 16])?;
+    assert_eq!(rt; one.modulus(), 1);
+    assert_eq!(rt; one.idle(), 0);
+    assert_eq!(rt; one.pick(u32::MAX), 0);
+    assert_eq!(rt; most.modulus(), 16_777_216);
+    assert_eq!(rt; most.idle(), 0);
+    assert_eq!(rt; most.pick(u32::MAX), 15);
+    Ok(())
+}
+
+#[test]
+fn rates_are_refused_by_their_number_and_total(rt: HostRuntime) {
+    let none = Wheel::new(rt.alloc(), &[]).err();
+    let large = Wheel::new(rt.alloc(), &[1_048_576; 17]).err();
+    assert_eq!(rt; none, Some(RateRefusal::NoEvents));
+    assert_eq!(rt; large, Some(RateRefusal::TotalTooLarge { at: 16 }));
+}
+
+// One queue with room for `capacity` customers.
+fn capacities(capacity: u16) -> State
+    requires { 1 ≤ capacity }
+    ensures value { result ≡ capacity ∷ [] }
+    ensures valid { AreCapacities result }
+{
+    let mut caps = State::zero(1);
+    caps.set(0, capacity);
+    caps
+}
+
+#[test]
+fn a_system_reads_its_parts_back(rt: HostRuntime) -> Result<(), Fail> {
+    let caps = capacities(3);
+    let events = [Single::join(caps, 0)];
+    let wheel = Wheel::new(rt.alloc(), &[5])?;
+    assert_eq!(rt; wheel.events(), 1);
+    let system = System::new(caps, &events, &wheel, 18, 256);
+    let shorter = system.with_limit(7);
+    assert_eq!(rt; system.caps(), caps);
+    assert_eq!(rt; system.event(0).caps(), caps);
+    assert_eq!(rt; system.wheel().modulus(), 8);
+    assert_eq!(rt; system.limit(), 18);
+    assert_eq!(rt; system.split(), 256);
+    assert_eq!(rt; shorter.limit(), 7);
+    assert_eq!(rt; shorter.split(), 256);
+    Ok(())
+}
