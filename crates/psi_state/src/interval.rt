@@ -134,7 +134,7 @@ impl Bounds {
         ensures some { 1 ≤ length self.now.lo }
         ensures ordered { IsBelow self.now.lo self.now.hi }
     {
-        self.lo().len()
+        self.lo.len()
     }
 
     // How far `x` is above the lower corner at a place.
@@ -143,7 +143,7 @@ impl Bounds {
         requires member { In x.now (box self.now.lo self.now.hi) }
         ensures { result ≡ slice_index x.now place - slice_index self.now.lo place }
     {
-        (x.get(place) - self.lo().get(place)) as u32
+        (x.get(place) - self.lo.get(place)) as u32
     }
 
     // How many numbers of customers a queue can hold in the box.
@@ -154,6 +154,6 @@ impl Bounds {
         ensures few { result ≤ 65536 }
         ensures most { slice_index self.now.hi place < 65536 }
     {
-        (self.hi().get(place) - self.lo().get(place)) as u32 + 1
+        (self.hi.get(place) - self.lo.get(place)) as u32 + 1
     }
 }

@@ -1,5 +1,6 @@
-use Rattle.std.specs.Prelude.{◌≡◌, ℕ, List, slice_index}
+use Rattle.std.specs.Prelude.{◌≡◌, slice_index}
 use Rattle.std.proofs.Common.{ap, arith}
+use Rattle.psi_state.specs.State.{Corners}
 use Rattle.psi_state.proofs.Counting.{place-between}
 use Rattle.psi_state.proofs.interval.Bounds.offset.Goals as goal
 
@@ -11,6 +12,6 @@ get-requires c =
 pub overflow_sub-result : goal.overflow_sub-result
 overflow_sub-result c =
     let place = place-between c.args.self.now.lo c.args.self.now.hi c.args.x.now c.args.place c.requires.member c.requires.within in
-    let low : slice_index c.lo.result c.args.place ≡ slice_index c.args.self.now.lo c.args.place =
-    ap (λ (l : List ℕ). slice_index l c.args.place) c.lo.ensures.value in
+    let low : slice_index c.self.inside.lo c.args.place ≡ slice_index c.args.self.now.lo c.args.place =
+    ap (λ (b : Corners). slice_index b.lo c.args.place) c.self.view_is in
     omega arith
