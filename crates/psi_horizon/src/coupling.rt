@@ -93,6 +93,7 @@ fn first_meeting<E: EventLaw, P: Past + Drop>(
     ensures words { P.words words.new.past ≡ P.words words.old.past }
     ensures most { words.new.most ≡ words.old.most }
 {
+    // The events fit the capacities.
     let _caps = system.caps();
     let limit = system.limit();
     for exponent in 0..limit + 1 {
@@ -137,6 +138,7 @@ fn step<E: EventLaw>(system: &System<'_, E>, word: u32, low: &mut State, high: &
     ensures low_within { IsBelow low.new system.now.caps }
     ensures high_within { IsBelow high.new system.now.caps }
 {
+    // The events fit the capacities.
     let _caps = system.caps();
     let number = system.wheel().pick(word);
     if number < system.wheel().events() {

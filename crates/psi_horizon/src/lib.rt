@@ -2,5 +2,7 @@
 #![tactic(auto)]
 
 mod coupling;
+#[cfg(test)]
+mod tests;
 
 pub use coupling::{OutOfMemory, Plan};
