@@ -60,6 +60,7 @@ changed-from change name (file ∷ files) (suc place) default within named befor
     rw first (ap (λ (fs : List ShelfFile). file ∷ fs)
     (changed-from change name files place default (omega arith) named (λ k below. before (suc k) (omega arith))))
 
+-- the same from the place that is found
 pub changed-at :
     (change : ShelfFile → ShelfFile) (name : List ℕ) (files : List ShelfFile) (place : ℕ) (file : ShelfFile)
     → position (has_name name) files ≡ Some place → file ≡ get_or files place file
@@ -156,6 +157,7 @@ told-put shelf name bytes None is =
 told-put shelf name bytes (Some file) is =
     rw (is, find-own (with_bytes bytes) (λ _. refl) name shelf.files, is) refl
 
+-- the same for each shelf
 pub told-after_put : (shelf : ShelfContents) (name bytes : List ℕ) → told_of (after_put shelf name bytes) name ≡ Some bytes
 told-after_put shelf name bytes = told-put shelf name bytes (file_of shelf name) refl
 
@@ -174,6 +176,7 @@ others-put shelf name bytes other None is apart =
 others-put shelf name bytes other (Some file) is apart =
     rw (is, find-other (with_bytes bytes) (λ _. refl) name other shelf.files apart) refl
 
+-- the same for each shelf
 pub others-after_put :
     (shelf : ShelfContents) (name bytes other : List ℕ)
     → other ≢ name → told_of (after_put shelf name bytes) other ≡ told_of shelf other
@@ -198,6 +201,7 @@ counts-put shelf name bytes other None is =
 counts-put shelf name bytes other (Some file) is =
     rw is (find-changed (λ (o : Option ShelfFile). option_map_or (λ (f : ShelfFile). f.count) o shelf.absent) (with_bytes bytes) (λ _. refl) (λ _. refl) name other shelf.files)
 
+-- the same for each shelf
 pub counts-after_put :
     (shelf : ShelfContents) (name bytes other : List ℕ) → faults_of (after_put shelf name bytes) other ≡ faults_of shelf other
 counts-after_put shelf name bytes other = counts-put shelf name bytes other (file_of shelf name) refl
@@ -271,6 +275,7 @@ count-absent :
 count-absent None absent small = omega arith
 count-absent (Some file) absent small = omega arith
 
+-- a failed read makes no count smaller, by whether its name is there
 counts-failed :
     (shelf : ShelfContents) (name other : List ℕ) (found : Option ShelfFile)
     → file_of shelf name ≡ found → faults_of shelf name < 2 ^ 64
@@ -282,7 +287,7 @@ counts-failed shelf name other (Some file) is small =
     let bound : option_map_or (λ (f : ShelfFile). f.count) (find (has_name name) shelf.files) 0 < 2 ^ 64 = rw is (rw is at small) in
     rw is (count-raised name other shelf.files shelf.absent bound)
 
--- a failed read makes no count smaller
+-- the same for each shelf
 pub counts-after_failed :
     (shelf : ShelfContents) (name other : List ℕ)
     → faults_of shelf name < 2 ^ 64 → faults_of shelf other ≤ faults_of (after_failed_read shelf name) other

@@ -52,7 +52,7 @@ with_fault file = record file { count = counted file.count }
 abbrev pub with_bytes : List ℕ → ShelfFile → ShelfFile
 with_bytes bytes file = record file { bytes = bytes }
 
--- the shelf after a read that fails at no count: one more read
+-- the shelf after a read that doesn't fail, given or refused for want of memory: one more read
 abbrev pub after_read : ShelfContents → ShelfContents
 after_read shelf = record shelf { reads = counted shelf.reads }
 

@@ -9,7 +9,7 @@ use std::io::{Error, ErrorKind, Read};
 use std::marker::Model;
 use std::rt::Files;
 
-/// How many bytes one turn of a read asks for at most.
+/// The most bytes that one turn of a read asks for.
 const CHUNK: usize = 8192;
 
 /// A shelf over the files of the system, opened through the runtime that it is lent. It tells
@@ -38,7 +38,7 @@ impl<'r, R: Files> DiskShelf<'r, R> {
     }
 }
 
-/// Want of memory is that, and each other error of the system is a fault.
+/// The answer to an error of the system: want of memory, or else a fault.
 fn fault_of(error: &Error) -> ShelfFault
     ensures { (result ≡ ShelfFault.OutOfMemory) ↔ (error_kind error.now ≡ ErrorKind.OutOfMemory) }
 {

@@ -78,6 +78,7 @@ impl MemoryShelf {
     }
 }
 
+/// The place of the first file of this name.
 fn place_of(files: &[MemoryFile], name: &str) -> Option<usize>
     ensures { result ≡ position (has_name name.now) files.now }
 {

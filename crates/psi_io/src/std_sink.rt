@@ -1,4 +1,5 @@
-ghost use Rattle.std.specs.Prelude.{◌≡◌, ℕ, ◌≤◌, length, IfOk, OnOk, OnErr};
+ghost use Rattle.std.specs.Prelude.{◌≡◌, ℕ, ◌≤◌, length, take, IfOk, OnOk, OnErr};
+ghost use Rattle.std.specs.Io.KnownBytes.{Appends};
 ghost use Rattle.psi_io.specs.Counts.{counted, Rose};
 
 use crate::sink::{Sink, SinkFault};
@@ -30,6 +31,21 @@ impl<W: Write> StdSink<W> {
     }
 }
 
+/// One write and a flush: the number of bytes that were taken.
+fn write_and_flush<W: Write>(writer: &mut W, piece: &[u8]) -> Result<usize, SinkFault>
+    ensures within { IfOk result (λ count. count ≤ length piece.now) }
+    ensures progress { IfOk result (λ count. 1 ≤ length piece.now → 1 ≤ count) }
+    ensures grew { IfOk result (λ count. Appends (W.contents writer.old) (W.contents writer.new) (take count piece.now)) }
+{
+    match writer.write(piece) {
+        Ok(count) if count > 0 || piece.is_empty() => match writer.flush() {
+            Ok(()) => Ok(count),
+            Err(_) => Err(SinkFault::Failed),
+        },
+        _ => Err(SinkFault::Failed),
+    }
+}
+
 impl<W: Write> Sink for StdSink<W> {
     ghost use Rattle.std.specs.Prelude.{None};
 
@@ -53,14 +69,10 @@ impl<W: Write> Sink for StdSink<W> {
         ensures failed { OnErr result (Rose self.old self.new) }
         ensures counts { self.old ≤ self.new }
     {
-        match self.writer.write(piece) {
-            Ok(count) if count > 0 || piece.is_empty() => match self.writer.flush() {
-                Ok(()) => return Ok(count),
-                Err(_) => {}
-            },
-            _ => {}
+        let answer = write_and_flush(&mut self.writer, piece);
+        if answer.is_err() {
+            self.count = self.count.saturating_add(1);
         }
-        self.count = self.count.saturating_add(1);
-        Err(SinkFault::Failed)
+        answer
     }
 }
