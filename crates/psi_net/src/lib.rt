@@ -32,6 +32,8 @@ mod network;
 mod reading;
 mod refusals;
 mod tables;
+#[cfg(test)]
+mod tests;
 
 pub use naming::Name;
 pub use network::Net;

@@ -1,6 +1,6 @@
 //! Reading a file.
 
-ghost use Rattle.std.specs.Prelude.{◌≡◌, Ok, IfOk, IfErr};
+ghost use Rattle.std.specs.Prelude.{◌≡◌, take, Ok, IfOk, IfErr};
 ghost use Rattle.psi_net.specs.Refusal.{Gives, IsNetError};
 ghost use Rattle.psi_net.specs.Draft.{drafted};
 ghost use Rattle.psi_net.specs.Reading.{file_text, text_network, network_of};
@@ -63,6 +63,8 @@ fn text_draft(alloc: Global, text: &str) -> Result<Draft, NetError>
 pub fn net_of(alloc: Global, bytes: &[u8]) -> Result<Net, NetError>
     ensures network { IfOk result (λ net. network_of bytes.now ≡ Ok net) }
     ensures refused { IfErr result (λ error. IsNetError error (network_of bytes.now)) }
+    // A file is judged by its first 1,048,577 bytes.
+    ensures front { network_of bytes.now ≡ network_of (take 1048577 bytes.now) }
 {
     let text = read!(file_text(bytes));
     let draft = read!(text_draft(alloc, text));
