@@ -1,5 +1,6 @@
 use Rattle.std.proofs.Common.{◌≡◌, ℕ, ◌≤◌, map, ap, ◌∙◌, arith}
-use Rattle.psi_rate.specs.Composition.{picked, functions_of}
+use Rattle.psi_state.specs.State.{zeros}
+use Rattle.psi_rate.specs.Composition.{compose, picked, functions_of}
 use Rattle.psi_rate.specs.Outcomes.{meeting_at, functions-closed, functions-monotone}
 use Rattle.psi_horizon.proofs.Running.{compose-step, runs-meet, runs-apart}
 use Rattle.psi_horizon.proofs.coupling.meeting.Goals as goal
@@ -14,9 +15,9 @@ loop-place-preserved g c =
     record {
       low_within = c.step.ensures.low_within;
       high_within = c.step.ensures.high_within;
-      low = compose-step f c.loop-place.place c.loop-place.low c.step.new.low _ some kept.low
+      low = compose-step f c.loop-place.place c.loop-place.low c.step.new.low (compose f c.args.horizon (zeros system.caps)) some kept.low
           (c.step.ensures.low ∙ ap (λ word. function_of_word word c.loop-place.low) c.at.ensures);
-      high = compose-step f c.loop-place.place c.loop-place.high c.step.new.high _ some kept.high
+      high = compose-step f c.loop-place.place c.loop-place.high c.step.new.high (compose f c.args.horizon system.caps) some kept.high
           (c.step.ensures.high ∙ ap (λ word. function_of_word word c.loop-place.high) c.at.ensures);
     }
 
