@@ -8,7 +8,6 @@
 mod idleness;
 mod law;
 mod one_customer;
-
 #[cfg(test)]
 mod tests;
 

@@ -6,7 +6,6 @@
 
 mod dial;
 mod network;
-
 #[cfg(test)]
 mod tests;
 

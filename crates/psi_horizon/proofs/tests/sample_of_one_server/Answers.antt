@@ -1,4 +1,4 @@
-use Rattle.std.proofs.Common.{◌<◌, length, slice_index_or}
+use Rattle.std.proofs.Common.{slice_index_or}
 use Rattle.psi_event.specs.Change.{changed-monotone}
 use Rattle.psi_horizon.proofs.tests.sample_of_one_server.Goals as goal
 
