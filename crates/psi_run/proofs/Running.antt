@@ -5,7 +5,7 @@ use Rattle.psi_io.specs.Sink.{appended, GrewByPrefix, appended-nothing, grew-lon
 use Rattle.psi_net.specs.Network.{Network}
 use Rattle.psi_net.specs.Reading.{network_of}
 use Rattle.psi_run.specs.declared.status.Status.{Status}
-use Rattle.psi_run.specs.declared.status.Status.TheVariants as status
+use Rattle.psi_run.specs.declared.status.Status.TheVariants as ending
 use Rattle.psi_run.specs.declared.answer.Answer.{Answer}
 use Rattle.psi_run.specs.declared.answer.Answer.TheVariants.{Met, NotMet, Usage, NetRefused, NetUnread, OutOfMemory}
 use Rattle.psi_run.specs.Command.{Command, command_of, sample}
@@ -44,12 +44,12 @@ still sink text none grew = grew ∙ ap (appended sink.before) none ∙ appended
 
 -- the reply was written whole
 replied-run : (call : Call) (given : Reply) → IsReplied given.status → IfSome (reply_of call) (λ r. given ≡ r)
-    → IsWhole given call.out call.err → (given.status ≡ status.Usage → IsErr (command_of call.words))
-    → (IsErr (command_of call.words) → given.status ≡ status.Usage)
-    → (given.status ≡ status.LogRefused → ⊥) → (given.status ≡ status.LogTooLong → ⊥)
+    → IsWhole given call.out call.err → (given.status ≡ ending.Usage → IsErr (command_of call.words))
+    → (IsErr (command_of call.words) → given.status ≡ ending.Usage)
+    → (given.status ≡ ending.LogRefused → ⊥) → (given.status ≡ ending.LogTooLong → ⊥)
     → (IsReported given.status → given.out ≡ []) → (IsPrinted given.status → given.err ≡ []) → IsRun call given.status
 replied-run call given kind same whole usage no_command no_refused no_long no_out no_err = record {
-  replied = of-same (λ r. IsReplied given.status → given.status ≡ r.status) (reply_of call) given same (λ k. refl);
+  status = of-same (λ r. IsReplied given.status → given.status ≡ r.status) (reply_of call) given same (λ k. refl);
   out = of-same (λ r. IsReplied given.status → Grew call.out r.out) (reply_of call) given same (λ k. whole.printed);
   err = of-same (λ r. IsReplied given.status → Grew call.err r.err) (reply_of call) given same (λ k. whole.reported);
   complete = λ out err net. inl kind;
@@ -76,9 +76,9 @@ whole-run call (Usage place) is whole = replied-run call (answer_reply (Usage pl
 whole-run call (NetRefused refusal) is whole = replied-run call (answer_reply (NetRefused refusal)) tt is.reply whole
     (λ e. absurd cc) (λ wrong. absurd (ok-not_err (command_of call.words) is.cause wrong)) (λ e. absurd cc) (λ e. absurd cc) (λ k. refl) (λ k. absurd k)
 whole-run call NetUnread is whole = record {
-  replied = of-each (λ r. IsReplied status.ReadFault → status.ReadFault ≡ r.status) (reply_of call) (λ r k. absurd k);
-  out = of-each (λ r. IsReplied status.ReadFault → Grew call.out r.out) (reply_of call) (λ r k. absurd k);
-  err = of-each (λ r. IsReplied status.ReadFault → Grew call.err r.err) (reply_of call) (λ r k. absurd k);
+  status = of-each (λ r. IsReplied ending.ReadFault → ending.ReadFault ≡ r.status) (reply_of call) (λ r k. absurd k);
+  out = of-each (λ r. IsReplied ending.ReadFault → Grew call.out r.out) (reply_of call) (λ r k. absurd k);
+  err = of-each (λ r. IsReplied ending.ReadFault → Grew call.err r.err) (reply_of call) (λ r k. absurd k);
   complete = λ out err net. absurd (net is.cause);
   usage = λ e. absurd cc;
   no_command = λ wrong. absurd (unread-command call.shelf (command_of call.words) is.cause wrong);
@@ -91,9 +91,9 @@ whole-run call NetUnread is whole = record {
   silent_err = λ k. absurd k;
 }
 whole-run call OutOfMemory is whole = record {
-  replied = of-each (λ r. IsReplied status.OutOfMemory → status.OutOfMemory ≡ r.status) (reply_of call) (λ r k. absurd k);
-  out = of-each (λ r. IsReplied status.OutOfMemory → Grew call.out r.out) (reply_of call) (λ r k. absurd k);
-  err = of-each (λ r. IsReplied status.OutOfMemory → Grew call.err r.err) (reply_of call) (λ r k. absurd k);
+  status = of-each (λ r. IsReplied ending.OutOfMemory → ending.OutOfMemory ≡ r.status) (reply_of call) (λ r k. absurd k);
+  out = of-each (λ r. IsReplied ending.OutOfMemory → Grew call.out r.out) (reply_of call) (λ r k. absurd k);
+  err = of-each (λ r. IsReplied ending.OutOfMemory → Grew call.err r.err) (reply_of call) (λ r k. absurd k);
   complete = λ out err net. inr refl;
   usage = λ e. absurd cc;
   no_command = λ wrong. absurd (ok-not_err (command_of call.words) is.cause wrong);
@@ -139,11 +139,11 @@ err-part call OutOfMemory is part = of-each (EndsWithin call) (reply_of call) (�
 failed-sink : (call : Call) → OutFaulted call ⊎ ErrFaulted call → HasFailed call.out ⊎ HasFailed call.err
 failed-sink call faulted = elim faulted [ inl out ↦ inl out.cause | inr err ↦ inr err.cause ]
 
-faulted-run : (call : Call) → OutFaulted call ⊎ ErrFaulted call → IsRun call status.WriteFault
+faulted-run : (call : Call) → OutFaulted call ⊎ ErrFaulted call → IsRun call ending.WriteFault
 faulted-run call faulted = record {
-  replied = of-each (λ r. IsReplied status.WriteFault → status.WriteFault ≡ r.status) (reply_of call) (λ r k. absurd k);
-  out = of-each (λ r. IsReplied status.WriteFault → Grew call.out r.out) (reply_of call) (λ r k. absurd k);
-  err = of-each (λ r. IsReplied status.WriteFault → Grew call.err r.err) (reply_of call) (λ r k. absurd k);
+  status = of-each (λ r. IsReplied ending.WriteFault → ending.WriteFault ≡ r.status) (reply_of call) (λ r k. absurd k);
+  out = of-each (λ r. IsReplied ending.WriteFault → Grew call.out r.out) (reply_of call) (λ r k. absurd k);
+  err = of-each (λ r. IsReplied ending.WriteFault → Grew call.err r.err) (reply_of call) (λ r k. absurd k);
   complete = λ out err net. elim (failed-sink call faulted) [ inl o ↦ absurd (out o) | inr e ↦ absurd (err e) ];
   usage = λ e. absurd cc;
   no_command = λ wrong. inr refl;
@@ -158,7 +158,7 @@ faulted-run call faulted = record {
 
 -- the answer was cut by a failed write
 pub run_cut : (call : Call) (answer : Answer) → IsAnswer call.shelf (command_of call.words) answer
-    → IsCut (answer_reply answer).out call.out call.err ⊎ IsCut (answer_reply answer).err call.err call.out → IsRun call status.WriteFault
+    → IsCut (answer_reply answer).out call.out call.err ⊎ IsCut (answer_reply answer).err call.err call.out → IsRun call ending.WriteFault
 run_cut call answer is cut =
     elim cut [
       | inl out ↦ faulted-run call (inl (record { cause = out.cause; out = out-part call answer is out.part; err = out.rest }))
@@ -173,8 +173,8 @@ unfolding reply_to
 reply-sample command told name seed stream bytes net is there accepted = rw (is, there, accepted) refl
 
 printed-replied : (result : Status) → IsPrinted result → IsReplied result
-printed-replied status.Done k = tt
-printed-replied status.NotCoupled k = tt
+printed-replied ending.Done k = tt
+printed-replied ending.NotCoupled k = tt
 printed-replied s k = absurd k
 
 -- what is printed of a network that is told and accepted is its sample
@@ -186,7 +186,7 @@ run_sampled call result run name seed stream bytes net is there accepted printed
     let reply : reply_of call ≡ Some (outcome_reply (sampled net seed stream)) =
     reply-sample (command_of call.words) call.shelf.told name seed stream bytes net is there accepted in
     let same : IsReplied result → result ≡ (outcome_reply (sampled net seed stream)).status =
-    subst (λ o. IfSome o (λ (r : Reply). IsReplied result → result ≡ r.status)) reply run.replied in
+    subst (λ o. IfSome o (λ (r : Reply). IsReplied result → result ≡ r.status)) reply run.status in
     let text : IsReplied result → Grew call.out (outcome_reply (sampled net seed stream)).out =
     subst (λ o. IfSome o (λ (r : Reply). IsReplied result → Grew call.out r.out)) reply run.out in
     sampled_printed call.out.before call.out.after result net seed stream (same (printed-replied result printed)) (text (printed-replied result printed))

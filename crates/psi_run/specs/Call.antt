@@ -109,7 +109,7 @@ pub record MemoryLacked (call : Call) : Type 0 where
 -- what the status of a call says of it
 pub record IsRun (call : Call) (result : Status) : Type 0 where
   -- where the shelf tells the names needed, a status from 0 to 5 is the reply's, whatever counts rose
-  pub replied : IfSome (reply_of call) (λ reply. IsReplied result → result ≡ reply.status)
+  pub status : IfSome (reply_of call) (λ reply. IsReplied result → result ≡ reply.status)
   -- and with such a status each sink that tells what it holds grew by exactly the reply's text
   pub out : IfSome (reply_of call) (λ reply. IsReplied result → Grew call.out reply.out)
   pub err : IfSome (reply_of call) (λ reply. IsReplied result → Grew call.err reply.err)

@@ -47,7 +47,7 @@ pub fn run<F: Shelf, O: Sink, E: Sink>(
     err: &mut E,
 ) -> Status
     // What each status says of the words, the shelf and the sinks.
-    ensures run { IsRun (record {
+    ensures call { IsRun (record {
       words = map string_bytes words.now;
       shelf = record { told = F.told shelf.old; faults_before = F.faults shelf.old; faults_after = F.faults shelf.new };
       out = record { before = O.held out.old; after = O.held out.new; faults_before = O.faults out.old; faults_after = O.faults out.new };

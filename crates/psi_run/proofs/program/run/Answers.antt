@@ -3,8 +3,8 @@ use Rattle.psi_run.specs.Call.{Call}
 use Rattle.psi_run.proofs.Running.{run_whole, run_cut, run_sampled}
 use Rattle.psi_run.proofs.program.run.Goals as goal
 
-pub returns-in-Ok-clause-run : goal.returns-in-Ok-clause-run
-returns-in-Ok-clause-run g c =
+pub returns-in-Ok-clause-call : goal.returns-in-Ok-clause-call
+returns-in-Ok-clause-call g c =
     run_whole _ c.answer_to-answer.result c.status.result c.answer_to-answer.ensures c.in-Ok.ensures c.status.ensures
 
 pub returns-in-Ok-clause-sampled : goal.returns-in-Ok-clause-sampled
@@ -32,5 +32,5 @@ returns-in-Ok-clause-sampled g c =
     run_sampled call c.status.result
     (run_whole call c.answer_to-answer.result c.status.result c.answer_to-answer.ensures c.in-Ok.ensures c.status.ensures)
 
-pub returns-clause-run : goal.returns-clause-run
-returns-clause-run g c = run_cut _ c.answer_to-answer.result c.answer_to-answer.ensures c.in-Err.ensures
+pub returns-clause-call : goal.returns-clause-call
+returns-clause-call g c = run_cut _ c.answer_to-answer.result c.answer_to-answer.ensures c.in-Err.ensures
