@@ -1,0 +1,71 @@
+-- Numbers as words.
+use Rattle.std.specs.Prelude.{◌≡◌, ◌⊎◌, ℕ, ◌+◌, ◌<◌, ◌≤◌, ◌^◌, List, length, slice_index, Bool, true, false, not, ◌&&◌, ◌||◌, ◌==◌, nat_lt, nat_le, Option, Some, None, Result, Ok, Err, refl}
+use Rattle.std.specs.List.{list_all}
+use Rattle.std.specs.Result.{result_ok, OkIff}
+use Rattle.std.specs.Str.Parse.{ParsesUnsigned, digits_value}
+use Rattle.std.proofs.Common.{rules, arith, ap, ◌∙◌, inl, inr}
+use Rattle.std.proofs.lemmas.Bool.{cases_lt, le-leb, lt-leb, lt-ltb, ltb-true, ne_eqb}
+use Rattle.std.proofs.lemmas.Str.Parse.{IsNumeralModel, numerals_by_value, parse_digits}
+use Rattle.psi_run.specs.Command.{is_digit, is_numeral, greatest_number, number_up_to}
+
+own : IsNumeralModel (λ word. list_all is_digit word ≡ true) (digits_value 10)
+own = numerals_by_value _ (search rules)
+
+and-parts : (a b : Bool) → (a && b) ≡ true → (a ≡ true) × (b ≡ true)
+and-parts true b is = (refl, is)
+and-parts false b is = absurd cc
+
+-- a numeral has a digit, and nothing but digits
+numeral-digits : (word : List ℕ) → is_numeral word ≡ true → (0 < length word) × (list_all is_digit word ≡ true)
+numeral-digits word is =
+    let digits = and-parts (nat_lt 0 (length word) && (nat_le (length word) 1 || not (slice_index word 0 == 48))) (list_all is_digit word) is in
+    let parts = and-parts (nat_lt 0 (length word)) (nat_le (length word) 1 || not (slice_index word 0 == 48)) digits.0 in
+    (ltb-true 0 (length word) parts.0, digits.1)
+
+-- no digit is no numeral
+pub numeral_empty : (word : List ℕ) → length word ≡ 0 → is_numeral word ≡ false
+numeral_empty word none = rw none refl
+
+-- nor are several digits with a 0 in front
+pub numeral_zero : (word : List ℕ) → 1 < length word → slice_index word 0 ≡ 48 → is_numeral word ≡ false
+numeral_zero word several zero =
+    let some : 0 < length word = omega arith in
+    rw (lt-ltb 0 (length word) some, lt-leb (length word) 1 several, zero) refl
+
+-- one byte is a numeral where it is a digit
+pub numeral_one : (word : List ℕ) → 0 < length word → length word ≤ 1 → is_numeral word ≡ list_all is_digit word
+numeral_one word some one = rw (lt-ltb 0 (length word) some, le-leb (length word) 1 one) refl
+
+-- and so are several bytes of which the first isn't 0
+pub numeral_more : (word : List ℕ) → 0 < length word → (slice_index word 0 ≡ 48 → ⊥) → is_numeral word ≡ list_all is_digit word
+numeral_more word some other =
+    elim (cases_lt 1 (length word)) [
+      | inl several ↦ rw (lt-ltb 0 (length word) some, lt-leb (length word) 1 several, ne_eqb (slice_index word 0) 48 other) refl
+      | inr one ↦ numeral_one word some one
+    ]
+
+-- a number of 64 bits that is read is at most the greatest one, and what isn't read is greater
+read-bounded : {E : Type 0} (some : Type 0) (n : ℕ) (read : Result ℕ E) → some → OkIff read (some × (n < 2 ^ 64)) n
+    → ((result_ok read ≡ Some n) × (n ≤ greatest_number)) ⊎ ((result_ok read ≡ None) × (greatest_number < n))
+read-bounded some n (Ok m) has is = (let small : n < 2 ^ 64 = is.0.1 in inl (ap Some is.1, omega arith))
+read-bounded some n (Err e) has is =
+    elim (cases_lt greatest_number n) [
+      | inl greater ↦ inr (refl, greater)
+      | inr few ↦ (let small : n < 2 ^ 64 = omega arith in absurd (is (has, small)))
+    ]
+
+-- what std reads of a numeral is its number, where that has 64 bits
+pub number_parsed : {E : Type 0} (word : List ℕ) (read : Result ℕ E) → ParsesUnsigned 64 10 word read → is_numeral word ≡ true
+    → result_ok read ≡ number_up_to greatest_number word
+unfolding number_up_to
+number_parsed word read parses is =
+    let digits : (0 < length word) × (list_all is_digit word ≡ true) = numeral-digits word is in
+    elim (read-bounded (0 < length word) (digits_value 10 word) read digits.0 (parse_digits own 64 word read parses digits.1)) [
+      | inl few ↦ few.0 ∙ rw (is, le-leb (digits_value 10 word) greatest_number few.1) refl
+      | inr many ↦ many.0 ∙ rw (is, lt-leb (digits_value 10 word) greatest_number many.1) refl
+    ]
+
+-- and another word is no number
+pub number_none : (word : List ℕ) → is_numeral word ≡ false → number_up_to greatest_number word ≡ None
+unfolding number_up_to
+number_none word is = rw is refl

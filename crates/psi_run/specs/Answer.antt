@@ -1,0 +1,59 @@
+-- What a call has to write once its work is done, and what that says of the call.
+use Rattle.std.specs.Prelude.{◌≡◌, ℕ, List, [], Option, Result, Ok, Err, IsOk, IfSome, string_bytes}
+use Rattle.psi_io.specs.Counts.{Rose}
+use Rattle.psi_run.specs.declared.status.Status.TheVariants as status
+use Rattle.psi_run.specs.declared.answer.Answer.{Answer}
+use Rattle.psi_run.specs.declared.answer.Answer.TheVariants.{Met, NotMet, Usage, NetRefused, NetUnread, OutOfMemory}
+use Rattle.psi_run.specs.Command.{Command, sample}
+use Rattle.psi_run.specs.Texts.{unread_line, memory_line}
+use Rattle.psi_run.specs.Reply.{Reply, usage_reply, refused_reply, reply_to}
+
+-- the status and the texts of an answer
+abbrev pub answer_reply : Answer → Reply
+answer_reply (Met text) = record { status = status.Done; out = string_bytes text; err = [] }
+answer_reply (NotMet text) = record { status = status.NotCoupled; out = string_bytes text; err = [] }
+answer_reply (Usage place) = usage_reply place
+answer_reply (NetRefused refusal) = refused_reply refusal
+answer_reply NetUnread = record { status = status.ReadFault; out = []; err = unread_line }
+answer_reply OutOfMemory = record { status = status.OutOfMemory; out = []; err = memory_line }
+
+-- the answer is the reply, unless it tells of a failed read or of want of memory
+abbrev pub MayReply : Answer → Reply → Type 0
+MayReply NetUnread reply = Unit {0}
+MayReply OutOfMemory reply = Unit {0}
+MayReply answer reply = answer_reply answer ≡ reply
+
+-- the answer is one that the bytes of a file have
+abbrev pub IsOfFile : Answer → Type 0
+IsOfFile (Usage place) = ⊥
+IsOfFile NetUnread = ⊥
+IsOfFile answer = Unit {0}
+
+-- what is seen of a shelf over a call: the bytes that it tells of each name, and each name's count of faults before and after
+pub record ShelfSeen : Type 0 where
+  pub told : List ℕ → Option (List ℕ)
+  pub faults_before : List ℕ → ℕ
+  pub faults_after : List ℕ → ℕ
+
+-- a read of the name failed in the call
+abbrev pub IsUnread : ShelfSeen → List ℕ → Type 0
+IsUnread shelf name = Rose (shelf.faults_before name) (shelf.faults_after name)
+
+-- a read of the network file that the words name failed in the call
+abbrev pub IsNetUnread : ShelfSeen → Result Command ℕ → Type 0
+IsNetUnread shelf (Ok (sample net seed stream)) = IsUnread shelf net
+IsNetUnread shelf (Err place) = ⊥
+
+-- the cause of each answer: the words and, for a failed read, the count of the name
+abbrev pub IsCaused : ShelfSeen → Result Command ℕ → Answer → Type 0
+IsCaused shelf command (Met text) = IsOk command
+IsCaused shelf command (NotMet text) = IsOk command
+IsCaused shelf command (Usage place) = command ≡ Err place
+IsCaused shelf command (NetRefused refusal) = IsOk command
+IsCaused shelf command NetUnread = IsNetUnread shelf command
+IsCaused shelf command OutOfMemory = IsOk command
+
+-- the answer to a call: its reply where the names needed are told, and its cause
+pub record IsAnswer (shelf : ShelfSeen) (command : Result Command ℕ) (answer : Answer) : Type 0 where
+  pub reply : IfSome (reply_to command shelf.told) (λ reply. MayReply answer reply)
+  pub cause : IsCaused shelf command answer

@@ -1,0 +1,9 @@
+pub mod Command
+pub mod Words
+pub mod Texts
+pub mod Status
+pub mod Reply
+pub mod Answer
+pub mod Call
+pub mod Writing
+pub mod Headline

@@ -1,0 +1,63 @@
+-- The texts that the program writes, byte by byte. Each line ends with one line feed.
+use Rattle.std.specs.Prelude.{ℕ, ◌^◌, ◌≤◌, List, ◌++◌, map, codes, ◌==◌, Option, Some, None, if◌then◌else◌}
+use Rattle.std.specs.List.{join_with_byte}
+use Rattle.std.specs.Fmt.{decimal}
+use Rattle.psi_state.specs.declared.ending.Outcome.{Outcome}
+use Rattle.psi_state.specs.declared.ending.Outcome.TheVariants.{Met, NotMet}
+use Rattle.psi_net.specs.declared.refusals.NetRefusal.{NetRefusal}
+use Rattle.psi_net.specs.declared.refusals.Section.{Section}
+use Rattle.psi_net.specs.declared.refusals.Section.TheVariants.{Top, Queue, Event, Reward}
+
+-- a state's numbers in the queues' order, joined by commas
+unfoldable pub state_text : List ℕ → List ℕ
+state_text state = join_with_byte 44 (map decimal state)
+
+-- the horizon and the state of a sample, or the greatest horizon within which it isn't met
+unfoldable pub outcome_text : Outcome → List ℕ
+outcome_text (Met horizon state) =
+    codes "met " ++ decimal horizon ++ codes "\nstate " ++ state_text state ++ codes "\n"
+outcome_text (NotMet limit) = codes "not coupled within " ++ decimal (2 ^ limit) ++ codes "\n"
+
+-- the exponent of a greatest horizon is at most 22
+abbrev pub IsWithinLimit : Outcome → Type 0
+IsWithinLimit (Met horizon state) = Unit {0}
+IsWithinLimit (NotMet limit) = limit ≤ 22
+
+-- the place of the word that offends
+unfoldable pub usage_line : ℕ → List ℕ
+usage_line place = codes "psi: usage word " ++ decimal place ++ codes "\n"
+
+-- the name of a refusal's code
+abbrev pub refusal_name : ℕ → List ℕ
+refusal_name code =
+    if code == 0 then codes "TooLong" else if code == 1 then codes "NotToml" else codes "NotBuilt"
+
+-- the part of the file that a refusal names
+abbrev pub section_name : Section → List ℕ
+section_name Top = codes "top"
+section_name Queue = codes "queue"
+section_name Event = codes "event"
+section_name Reward = codes "reward"
+
+-- the key that a refusal names, or a dash
+abbrev pub key_text : Option (List ℕ) → List ℕ
+key_text None = codes "-"
+key_text (Some key) = key
+
+-- the five words that tell a refusal
+abbrev pub refused_words : (code name section number key : List ℕ) → List ℕ
+refused_words code name section number key =
+    codes "psi: network refused " ++ code ++ codes " " ++ name ++ codes " " ++ section ++ codes " " ++ number ++ codes " " ++ key ++ codes "\n"
+
+-- why the network file is refused, and where
+unfoldable pub refused_line : NetRefusal → List ℕ
+refused_line refusal =
+    refused_words (decimal refusal.code) (refusal_name refusal.code) (section_name refusal.section) (decimal refusal.number) (key_text refusal.key)
+
+-- the network file can't be read
+abbrev pub unread_line : List ℕ
+unread_line = codes "psi: cannot read network\n"
+
+-- there is no memory
+abbrev pub memory_line : List ℕ
+memory_line = codes "psi: out of memory\n"

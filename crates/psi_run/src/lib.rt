@@ -1,0 +1,17 @@
+//! The whole program as one call: from its words, over a shelf of files and two sinks, to its status.
+//!
+//! `run` reads the network file that the words name, draws a sample of the network by coupling from the
+//! past (Propp and Wilson 1996) and prints it. What it answers is defined in `specs/Reply.antt`, the texts
+//! in `specs/Texts.antt`, and what a call is seen to do in `specs/Call.antt`.
+#![tactic(auto)]
+
+mod answer;
+mod answering;
+mod program;
+mod status;
+mod texts;
+mod words;
+mod writing;
+
+pub use program::run;
+pub use status::Status;

@@ -1,0 +1,68 @@
+//! The call that does all that the program does.
+
+ghost use Rattle.std.specs.Prelude.{◌≡◌, ℕ, List, Some, Ok, map, string_bytes};
+ghost use Rattle.psi_net.specs.Network.{Network};
+ghost use Rattle.psi_net.specs.Reading.{network_of};
+ghost use Rattle.psi_run.specs.Command.{command_of, sample};
+ghost use Rattle.psi_run.specs.Call.{IsRun, IsPrinted};
+ghost use Rattle.psi_run.specs.Headline.{IsSampled};
+
+use crate::answering::answer_to;
+use crate::status::Status;
+use crate::writing::write_answer;
+use psi_io::{Shelf, Sink};
+use std::alloc::Global;
+
+/// Does what the words after the program's name ask for, and answers how it ended.
+///
+/// | Words | What it does |
+/// |---|---|
+/// | `sample NET SEED STREAM` | prints the sample that this seed and stream draw of the network in the file NET |
+///
+/// NET is any text. SEED and STREAM are `0` or digits without a leading zero, at most
+/// 18,446,744,073,709,551,615. The words are judged from the left; the offending word is the first place,
+/// counted from 1, at which the word is missing, isn't the command or number that must stand there, or is
+/// one too many.
+///
+/// | Status | Comes | Text |
+/// |---|---|---|
+/// | `Done` | the sample is met | out: `met T`, `state S` |
+/// | `NotCoupled` | the sample isn't met within N = 2 to the power `limit` steps | out: `not coupled within N` |
+/// | `Usage` | the words aren't a command | err: `psi: usage word N` |
+/// | `NetRefused` | the network file is refused | err: `psi: network refused CODE NAME SECTION NUMBER KEY` |
+/// | `ReadFault` | the shelf's count of NET rose in this call | err: `psi: cannot read network` |
+/// | `WriteFault` | the count of out or of err rose in this call | a prefix of the text |
+/// | `OutOfMemory` | there was not enough memory | err: `psi: out of memory` |
+///
+/// Each line ends with a line feed. S is the state's numbers in the queues' order, joined by commas. The
+/// sample is that of coupling from the past (Propp and Wilson 1996): T is the least of 1, 2, 4, .., N such
+/// that all states that start T steps before time zero meet, and S is the state in which they meet.
+///
+/// All memory is taken before the first byte is written. Words that aren't a command take none.
+pub fn run<F: Shelf, O: Sink, E: Sink>(
+    alloc: Global,
+    words: &[String],
+    shelf: &mut F,
+    out: &mut O,
+    err: &mut E,
+) -> Status
+    // What each status says of the words, the shelf and the sinks.
+    ensures call { IsRun (record {
+      words = map string_bytes words.now;
+      shelf = record { told = F.told shelf.old; faults_before = F.faults shelf.old; faults_after = F.faults shelf.new };
+      out = record { before = O.held out.old; after = O.held out.new; faults_before = O.faults out.old; faults_after = O.faults out.new };
+      err = record { before = E.held err.old; after = E.held err.new; faults_before = E.faults err.old; faults_after = E.faults err.new };
+    }) result }
+
+    // What is printed of a network that the shelf tells is a sample of it.
+    ensures sampled { (name : List ℕ) (seed stream : ℕ) (bytes : List ℕ) (net : Network)
+        → command_of (map string_bytes words.now) ≡ Ok (sample name seed stream) → F.told shelf.old name ≡ Some bytes
+        → network_of bytes ≡ Ok net → IsPrinted result
+        → IsSampled (O.held out.old) (O.held out.new) result net seed stream }
+{
+    let answer = answer_to(alloc, words, shelf);
+    match write_answer(&answer, out, err) {
+        Ok(()) => answer.status(),
+        Err(_) => Status::WriteFault,
+    }
+}
