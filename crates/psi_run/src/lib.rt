@@ -9,6 +9,8 @@ mod answer;
 mod answering;
 mod program;
 mod status;
+#[cfg(test)]
+mod tests;
 mod texts;
 mod words;
 mod writing;

@@ -1,0 +1,271 @@
+//! Calls over a shelf and sinks in memory, worked out by hand.
+
+use crate::{Status, run};
+use psi_io::{MemoryShelf, MemorySink};
+use std::alloc::{AllocError, Global};
+use std::process::Abort;
+use std::test::Fail;
+
+// One queue with room for two customers, an arrival of rate 1 and a service of rate 2.
+const FIRST: &str = "version = 1
+[[queue]]
+name = \"a\"
+capacity = 2
+[[event]]
+name = \"in\"
+kind = \"arrival\"
+rate = 1
+to = [\"a\"]
+[[event]]
+name = \"out\"
+kind = \"service\"
+rate = 2
+from = \"a\"
+";
+
+// The words of a sample of the network that is there.
+const SAMPLE: [&str; 4] = ["sample", "net.toml", "0", "0"];
+
+// What is printed of the first network, 14 bytes.
+const MET: &str = "met 4\nstate 1\n";
+
+// The status of a call, and its sinks afterwards.
+#[derive(Drop)]
+struct Seen {
+    status: Status,
+    out: MemorySink,
+    err: MemorySink,
+}
+
+// One queue of this capacity with an arrival of rate 1 and, where it serves, a service of rate 1.
+fn network(alloc: Global, capacity: u32, serves: bool) -> Result<String, AllocError> {
+    let service = if serves {
+        "[[event]]\nname = \"out\"\nkind = \"service\"\nrate = 1\nfrom = \"a\"\n"
+    } else {
+        ""
+    };
+    let mut net = format!(in alloc;
+        "version = 1\n[[queue]]\nname = \"a\"\ncapacity = {capacity}\n"
+    )?;
+    net.push_str("[[event]]\nname = \"in\"\nkind = \"arrival\"\nrate = 1\nto = [\"a\"]\n")?;
+    net.push_str(service)?;
+    Ok(net)
+}
+
+// A shelf with these bytes under `net.toml`; the read of this number fails, and no read has the number 0.
+fn shelf_with(alloc: Global, net: &[u8], fails: u64) -> Result<MemoryShelf, Fail> {
+    let mut shelf = MemoryShelf::new(alloc, vec![in alloc; fails]?);
+    shelf.put("net.toml", net).ok().ok_or("room for a file")?;
+    Ok(shelf)
+}
+
+// A sink with room for each text, which takes it in one write.
+fn wide(alloc: Global) -> Result<MemorySink, Fail> {
+    let sink = MemorySink::new(alloc, 1000, 1000, Vec::new(alloc));
+    Ok(sink.ok().ok_or("room for a sink")?)
+}
+
+// A sink with room for so many bytes, which takes one in a write; the write of this number fails, and no
+// write has the number 0.
+fn narrow(alloc: Global, room: usize, fails: u64) -> Result<MemorySink, Fail> {
+    let sink = MemorySink::new(alloc, room, 1, vec![in alloc; fails]?);
+    Ok(sink.ok().ok_or("room for a sink")?)
+}
+
+// A call of the program.
+fn called(
+    alloc: Global,
+    words: &[&str],
+    mut shelf: MemoryShelf,
+    mut out: MemorySink,
+    mut err: MemorySink,
+) -> Result<Seen, AllocError> {
+    let mut strings = Vec::new(alloc);
+    for word in words {
+        strings.push(String::from_str(alloc, word)?)?;
+    }
+    let status = run(alloc, strings.as_slice(), &mut shelf, &mut out, &mut err);
+    Ok(Seen { status, out, err })
+}
+
+// The call ended so, and its sinks hold these texts.
+fn assert_seen(rt: &impl Abort, seen: &Seen, status: Status, out: &str, err: &str) {
+    assert_eq!(rt; seen.status, status);
+    assert_eq!(rt; seen.out.bytes(), out.as_bytes());
+    assert_eq!(rt; seen.err.bytes(), err.as_bytes());
+}
+
+// With ample memory the call answers something else than want of memory.
+#[test]
+fn networks_are_sampled(rt: HostRuntime) -> Result<(), Fail> {
+    let alloc = rt.alloc();
+    let cases = [
+        (String::from_str(alloc, FIRST)?, "0", Status::Done, MET),
+        (
+            String::from_str(alloc, FIRST)?,
+            "18446744073709551615",
+            Status::Done,
+            "met 4\nstate 0\n",
+        ),
+        (
+            network(alloc, 3, true)?,
+            "0",
+            Status::Done,
+            "met 4\nstate 3\n",
+        ),
+        (
+            network(alloc, 1, true)?,
+            "0",
+            Status::Done,
+            "met 1\nstate 1\n",
+        ),
+        (
+            network(alloc, 1, false)?,
+            "0",
+            Status::Done,
+            "met 1\nstate 1\n",
+        ),
+        (
+            network(alloc, 65535, true)?,
+            "0",
+            Status::NotCoupled,
+            "not coupled within 262144\n",
+        ),
+    ];
+    for (net, number, status, text) in cases {
+        let shelf = shelf_with(alloc, net.as_bytes(), 0)?;
+        let words = ["sample", "net.toml", number, number];
+        let seen = called(alloc, &words, shelf, wide(alloc)?, wide(alloc)?)?;
+        assert_seen(&rt, &seen, status, text, "");
+    }
+    Ok(())
+}
+
+#[test]
+fn network_files_are_refused(rt: HostRuntime) -> Result<(), Fail> {
+    let alloc = rt.alloc();
+    let long = vec![in alloc; b'#'; 1_048_577]?;
+    let cases = [
+        (b"".as_slice(), "psi: network refused 17 NotBuilt top 0 -\n"),
+        (
+            b"version = ".as_slice(),
+            "psi: network refused 1 NotToml top 0 -\n",
+        ),
+        (
+            b"\xff".as_slice(),
+            "psi: network refused 1 NotToml top 0 -\n",
+        ),
+        (long.as_slice(), "psi: network refused 0 TooLong top 0 -\n"),
+    ];
+    for (net, line) in cases {
+        let shelf = shelf_with(alloc, net, 0)?;
+        let seen = called(alloc, &SAMPLE, shelf, wide(alloc)?, wide(alloc)?)?;
+        assert_seen(&rt, &seen, Status::NetRefused, "", line);
+    }
+    Ok(())
+}
+
+#[test]
+fn words_that_are_no_command(rt: HostRuntime) -> Result<(), Fail> {
+    let alloc = rt.alloc();
+    let cases: [(&[&str], &str); 14] = [
+        (&[], "psi: usage word 1\n"),
+        (&["check", "a", "b"], "psi: usage word 1\n"),
+        (&["Sample", "net.toml", "0", "0"], "psi: usage word 1\n"),
+        (&["sample"], "psi: usage word 2\n"),
+        (&["sample", "net.toml"], "psi: usage word 3\n"),
+        (&["sample", "net.toml", "00", "0"], "psi: usage word 3\n"),
+        (&["sample", "net.toml", "+1", "0"], "psi: usage word 3\n"),
+        (&["sample", "net.toml", "", "0"], "psi: usage word 3\n"),
+        (
+            &["sample", "net.toml", "18446744073709551616", "0"],
+            "psi: usage word 3\n",
+        ),
+        (&["sample", "net.toml", "x"], "psi: usage word 3\n"),
+        (&["sample", "net.toml", "0"], "psi: usage word 4\n"),
+        (&["sample", "net.toml", "0", "1x"], "psi: usage word 4\n"),
+        (
+            &["sample", "net.toml", "0", "01", "Log"],
+            "psi: usage word 4\n",
+        ),
+        (
+            &["sample", "net.toml", "0", "0", "Log"],
+            "psi: usage word 5\n",
+        ),
+    ];
+    for (words, line) in cases {
+        let shelf = shelf_with(alloc, FIRST.as_bytes(), 0)?;
+        let seen = called(alloc, words, shelf, wide(alloc)?, wide(alloc)?)?;
+        assert_seen(&rt, &seen, Status::Usage, "", line);
+    }
+    Ok(())
+}
+
+// Out takes one byte in a write and fails at each write of the text in turn, and at none.
+#[test]
+fn out_fails_at_each_write(rt: HostRuntime) -> Result<(), Fail> {
+    let alloc = rt.alloc();
+    for written in 0..MET.len() {
+        let shelf = shelf_with(alloc, FIRST.as_bytes(), 0)?;
+        let out = narrow(alloc, 1000, written as u64 + 1)?;
+        let seen = called(alloc, &SAMPLE, shelf, out, wide(alloc)?)?;
+        assert_eq!(rt; seen.status, Status::WriteFault, "after {written} bytes");
+        assert_eq!(rt; seen.out.bytes(), &MET.as_bytes()[..written]);
+        assert_eq!(rt; seen.out.count(), 1);
+        assert_eq!(rt; seen.err.bytes(), b"".as_slice());
+    }
+    let shelf = shelf_with(alloc, FIRST.as_bytes(), 0)?;
+    let whole = called(alloc, &SAMPLE, shelf, narrow(alloc, 1000, 0)?, wide(alloc)?)?;
+    assert_seen(&rt, &whole, Status::Done, MET, "");
+    assert_eq!(rt; whole.out.count(), 0);
+    Ok(())
+}
+
+#[test]
+fn out_has_room_for_five_bytes(rt: HostRuntime) -> Result<(), Fail> {
+    let alloc = rt.alloc();
+    let shelf = shelf_with(alloc, FIRST.as_bytes(), 0)?;
+    let seen = called(alloc, &SAMPLE, shelf, narrow(alloc, 5, 0)?, wide(alloc)?)?;
+    assert_seen(&rt, &seen, Status::WriteFault, "met 4", "");
+    assert_eq!(rt; seen.out.count(), 1);
+    Ok(())
+}
+
+// The first read fails, or there is no file of the name.
+#[test]
+fn network_files_that_cannot_be_read(rt: HostRuntime) -> Result<(), Fail> {
+    let alloc = rt.alloc();
+    for (net, fails) in [("net.toml", 1), ("nets.toml", 0)] {
+        let shelf = shelf_with(alloc, FIRST.as_bytes(), fails)?;
+        let words = ["sample", net, "0", "0"];
+        let seen = called(alloc, &words, shelf, wide(alloc)?, wide(alloc)?)?;
+        assert_seen(
+            &rt,
+            &seen,
+            Status::ReadFault,
+            "",
+            "psi: cannot read network\n",
+        );
+    }
+    Ok(())
+}
+
+// Err takes one byte in a write and fails at the line of the place, or at the line of the failed read.
+#[test]
+fn err_fails_within_its_line(rt: HostRuntime) -> Result<(), Fail> {
+    let alloc = rt.alloc();
+    let absent: &[&str] = &["sample", "nets.toml", "0", "0"];
+    let cases: [(&[&str], u64, &str); 3] = [
+        (&[], 1, ""),
+        (absent, 5, "psi:"),
+        (&[], 18, "psi: usage word 1"),
+    ];
+    for (words, fails, held) in cases {
+        let shelf = shelf_with(alloc, FIRST.as_bytes(), 0)?;
+        let err = narrow(alloc, 1000, fails)?;
+        let seen = called(alloc, words, shelf, wide(alloc)?, err)?;
+        assert_seen(&rt, &seen, Status::WriteFault, "", held);
+        assert_eq!(rt; seen.err.count(), 1);
+    }
+    Ok(())
+}
