@@ -1,7 +1,7 @@
 -- What a call is seen to do, from its answer and how that was written.
 use Rattle.std.specs.Prelude.{◌≡◌, ℕ, List, [], Option, Some, None, Result, Ok, Err, IsOk, IsErr, IfSome, ◌⊎◌, refl}
 use Rattle.std.proofs.Common.{sym, ap, ◌∙◌, subst, inl, inr}
-use Rattle.psi_io.specs.Sink.{appended, GrewByPrefix, appended-nothing, grew-longer}
+use Rattle.psi_io.specs.Sink.{appended, appended-nothing, grew-longer}
 use Rattle.psi_net.specs.Network.{Network}
 use Rattle.psi_net.specs.Reading.{network_of}
 use Rattle.psi_run.specs.declared.status.Status.{Status}
@@ -9,10 +9,9 @@ use Rattle.psi_run.specs.declared.status.Status.TheVariants as ending
 use Rattle.psi_run.specs.declared.answer.Answer.{Answer}
 use Rattle.psi_run.specs.declared.answer.Answer.TheVariants.{Met, NotMet, Usage, NetRefused, NetUnread, OutOfMemory}
 use Rattle.psi_run.specs.Command.{Command, command_of, sample}
-use Rattle.psi_run.specs.Texts.{unread_line, memory_line}
 use Rattle.psi_run.specs.Reply.{Reply, reply_to, outcome_reply, sampled}
 use Rattle.psi_run.specs.Answer.{ShelfSeen, answer_reply, IsNetUnread, IsAnswer}
-use Rattle.psi_run.specs.Call.{Call, SinkSeen, Grew, GrewByPart, IsUnchanged, HasFailed, reply_of, IsCommand, NetFailed, IsReplied, IsPrinted, IsReported, ReadFaulted, OutFaulted, EndsWithin, ErrFaulted, MemoryLacked, IsRun}
+use Rattle.psi_run.specs.Call.{Call, SinkSeen, Grew, GrewByPart, IsUnchanged, HasFailed, reply_of, IsReplied, IsPrinted, IsReported, OutFaulted, EndsWithin, ErrFaulted, IsRun}
 use Rattle.psi_run.specs.Writing.{IsWhole, IsCut}
 use Rattle.psi_run.specs.Headline.{IsSampled}
 use Rattle.psi_run.proofs.Sampling.{sampled_printed}

@@ -1,6 +1,6 @@
 -- The sample of a network.
 use Rattle.std.specs.Prelude.{◌≡◌, ℕ, zero, suc, ◌+◌, ◌*◌, ◌^◌, ◌≤◌, List, map, Option, Some, None, refl}
-use Rattle.std.proofs.Common.{ap, sym, ◌∙◌, subst, arith}
+use Rattle.std.proofs.Common.{ap, ◌∙◌, subst, arith}
 use Rattle.psi_state.specs.declared.ending.Outcome.{Outcome}
 use Rattle.psi_state.specs.declared.ending.Outcome.TheVariants.{Met, NotMet}
 use Rattle.psi_past.specs.SeedWord.{seed_word}
@@ -9,7 +9,7 @@ use Rattle.psi_event.specs.Single.{joined-closed, left-closed}
 use Rattle.psi_rate.specs.Powers.{pow-double}
 use Rattle.psi_rate.specs.Composition.{Parts, function_at, functions_of, AreClosed}
 use Rattle.psi_rate.specs.Doubling.{answer_or, first_from, first_answer, HasNone, IsFirst, has_none-next}
-use Rattle.psi_rate.specs.Outcomes.{meeting_at, outcome_of, outcome_within, IsOutcome, ReachesOutcome, functions-closed, outcome-reached}
+use Rattle.psi_rate.specs.Outcomes.{meeting_at, outcome_of, outcome_within, IsOutcome, functions-closed, outcome-reached}
 use Rattle.psi_net.specs.Network as net
 use Rattle.psi_net.specs.Network.{Network, done, caps_of, rates_of}
 use Rattle.psi_net.specs.declared.entries.Event.{Event}

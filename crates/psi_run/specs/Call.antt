@@ -1,5 +1,5 @@
 -- What a call of the program is seen to do.
-use Rattle.std.specs.Prelude.{◌≡◌, ◌≢◌, ℕ, List, [], Option, Result, IsOk, IsErr, IfSome, ◌⊎◌}
+use Rattle.std.specs.Prelude.{◌≡◌, ◌≢◌, ℕ, List, Option, IsOk, IsErr, IfSome, ◌⊎◌}
 use Rattle.psi_io.specs.Counts.{Rose}
 use Rattle.psi_io.specs.Sink.{appended, GrewByPrefix}
 use Rattle.psi_run.specs.declared.status.Status.{Status}
