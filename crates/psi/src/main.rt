@@ -4,11 +4,10 @@
 use psi_io::{DiskShelf, StdSink};
 use psi_run::{Status, run};
 use std::alloc::Global;
-use std::env;
-use std::io;
 use std::io::ErrorKind;
 use std::process::ExitCode;
 use std::rt::Env;
+use std::{env, io};
 
 /// The exit status where the system can't give the words, as those that aren't UTF-8.
 const NO_WORDS: u8 = 13;
