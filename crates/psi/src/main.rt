@@ -2,16 +2,13 @@
 #![tactic(auto)]
 
 use psi_io::{DiskShelf, StdSink};
-use psi_run::run;
+use psi_run::{Status, run};
 use std::alloc::Global;
 use std::env;
 use std::io;
 use std::io::ErrorKind;
 use std::process::ExitCode;
 use std::rt::Env;
-
-/// The exit status where memory was wanting before the words were there.
-const OUT_OF_MEMORY: u8 = 8;
 
 /// The exit status where the system can't give the words, as those that aren't UTF-8.
 const NO_WORDS: u8 = 13;
@@ -29,7 +26,7 @@ fn main(rt: HostRuntime) -> ExitCode {
     let words = match words(&rt) {
         Ok(words) => words,
         Err(error) if error.kind() == ErrorKind::OutOfMemory => {
-            return ExitCode::from(OUT_OF_MEMORY);
+            return ExitCode::from(Status::OutOfMemory.code());
         }
         Err(_) => return ExitCode::from(NO_WORDS),
     };

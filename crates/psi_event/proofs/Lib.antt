@@ -1,2 +1,3 @@
 mod Changes
 mod Envelopes
+mod Worked

@@ -1,8 +1,9 @@
 -- How the two runs of a sample go on, and what they say of all states when they end.
 use Rattle.std.proofs.Common.{◌≡◌, ◌≢◌, ℕ, zero, suc, ◌+◌, ◌-◌, ◌*◌, ◌%◌, ◌^◌, ◌<◌, ◌≤◌, List, Option, Some, None, Bool, true, false, sym, ◌∙◌, ap, subst, arith, nat_eq}
-use Rattle.std.specs.Cmp.Lexicographic.{pointwise, same_text, other_text}
+use Rattle.std.specs.Cmp.Lexicographic.{pointwise}
 use Rattle.std.proofs.Math.Pow.{pow-lt}
 use Rattle.psi_state.specs.State.{zeros}
+use Rattle.psi_state.specs.States.{same-from_eq, apart-from_eq}
 use Rattle.psi_rate.specs.Composition.{compose, AreClosed, AreMonotone, corners-meet, corners-apart}
 use Rattle.psi_rate.specs.Powers.{pow-order}
 use Rattle.psi_rate.specs.Doubling.{HasNone, IsFirst, has_none-next}
@@ -21,7 +22,7 @@ pub runs-meet : (caps : List ℕ) (f : ℕ → List ℕ → List ℕ) (t end : �
 runs-meet caps f t end low high same closed mono none first second test is =
     let at_low : low ≡ compose f t (zeros caps) = ap (λ n. compose f n low) (sym none) ∙ first in
     let at_high : high ≡ compose f t caps = ap (λ n. compose f n high) (sym none) ∙ second in
-    let together : low ≡ high = same_text low high (sym is ∙ test) in
+    let together : low ≡ high = same-from_eq low high (sym test ∙ is) in
     sym (corners-meet caps f t low closed mono (sym at_low) (sym at_high ∙ sym together))
 
 -- they end apart: all states haven't met
@@ -31,7 +32,7 @@ pub runs-apart : (caps : List ℕ) (f : ℕ → List ℕ → List ℕ) (t end : 
 runs-apart caps f t end low high same none first second test is =
     let at_low : low ≡ compose f t (zeros caps) = ap (λ n. compose f n low) (sym none) ∙ first in
     let at_high : high ≡ compose f t caps = ap (λ n. compose f n high) (sym none) ∙ second in
-    let apart : low ≢ high = other_text low high (sym is ∙ test) in
+    let apart : low ≢ high = apart-from_eq low high (sym test ∙ is) in
     sym (corners-apart caps f t (λ met. apart (at_low ∙ (met ∙ sym at_high))))
 
 -- a shift of 1 within the greatest limit is a power of two

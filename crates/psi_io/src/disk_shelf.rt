@@ -1,4 +1,4 @@
-ghost use Rattle.std.specs.Prelude.{◌≡◌, ◌+◌, ◌≤◌, ◌^◌, ◌↔◌, length, take, IfOk, IfSome, OnOk, IsErrOf};
+ghost use Rattle.std.specs.Prelude.{◌≡◌, ◌+◌, ◌≤◌, ◌^◌, ◌↔◌, length, take, IfOk, IfSome, OnOk, OnErr, IsErrOf};
 ghost use Rattle.std.specs.IoError.{error_kind};
 ghost use Rattle.psi_io.specs.Counts.{counted, Rose};
 
@@ -94,25 +94,22 @@ impl<R: Files> Shelf for DiskShelf<'_, R> {
     ///
     /// # Errors
     ///
-    /// [`ShelfFault::Failed`] where the file can't be opened or read, and the count rises by one.
-    /// [`ShelfFault::OutOfMemory`] where there is no memory, and the count stays.
+    /// [`ShelfFault::Failed`] where the file can't be opened or read, and
+    /// [`ShelfFault::OutOfMemory`] where there is no memory. With each of them the count rises by one.
     fn read(&mut self, alloc: Global, name: &str, most: u32) -> Result<Vec<u8>, ShelfFault>
         requires { most ≤ 2 ^ 30 }
         ensures still { OnOk result (self.new ≡ self.old) }
-        ensures raised { IsErrOf result ShelfFault.Failed → self.new ≡ counted self.old }
-        ensures refused { IsErrOf result ShelfFault.OutOfMemory → self.new ≡ self.old }
+        ensures raised { OnErr result (self.new ≡ counted self.old) }
 
         // What every shelf keeps.
         ensures bound { IfOk result (λ read. length read.items ≤ most + 1) }
         ensures failed { IsErrOf result ShelfFault.Failed → Rose self.old self.new }
         ensures counts { self.old ≤ self.new }
     {
-        match front_of(self.rt, alloc, name, most) {
-            Err(ShelfFault::Failed) => {
-                self.count = self.count.saturating_add(1);
-                Err(ShelfFault::Failed)
-            }
-            answer => answer,
+        let answer = front_of(self.rt, alloc, name, most);
+        if answer.is_err() {
+            self.count = self.count.saturating_add(1);
         }
+        answer
     }
 }

@@ -1,12 +1,12 @@
 //! The value of each key.
 
 ghost use Rattle.std.specs.Prelude.{◌≡◌, ◌≤◌, map, position, IfOk};
+ghost use Rattle.std.specs.List.{list_any};
+ghost use Rattle.std.specs.Str.{bytes_eq};
 ghost use Rattle.toml.specs.Data.{get_member};
 ghost use Rattle.toml.specs.View.{view, table_view};
 ghost use Rattle.psi_net.specs.Refusal.{Gives};
 ghost use Rattle.psi_net.specs.Reading.{seen, no_unknown, version_of, number_of, text_of, name_at, array_in, array_of, elements_of, queue_number};
-ghost use Rattle.std.specs.List.{list_any};
-ghost use Rattle.std.specs.Str.{bytes_eq};
 
 use crate::entries::Queue;
 use crate::naming::{Name, name_of};

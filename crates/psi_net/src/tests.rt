@@ -147,7 +147,7 @@ fn values_at_their_limits_are_read(rt: HostRuntime) -> Result<(), Fail> {
 }
 
 #[test]
-fn documents_of_another_form_are_refused(rt: HostRuntime) -> Result<(), Fail> {
+fn queues_of_another_form_are_refused(rt: HostRuntime) -> Result<(), Fail> {
     let alloc = rt.alloc();
     for (place, text) in [
         (0, ""),
@@ -174,6 +174,21 @@ fn documents_of_another_form_are_refused(rt: HostRuntime) -> Result<(), Fail> {
         (3, "capacity = 4294967298"),
         (3, "capacity = true"),
         (3, "capacity = 2\nservers = 1"),
+    ] {
+        let file = with_line(alloc, place, text)?;
+        assert_eq!(rt;
+            error_of(alloc, file.as_str().as_bytes()),
+            refused(17),
+            "line {place}: {text}"
+        );
+    }
+    Ok(())
+}
+
+#[test]
+fn events_of_another_form_are_refused(rt: HostRuntime) -> Result<(), Fail> {
+    let alloc = rt.alloc();
+    for (place, text) in [
         (5, ""),
         (5, "name = \"123456789012345678901234567890123\""),
         (5, "name = \"i.n\""),

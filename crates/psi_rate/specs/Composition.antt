@@ -1,11 +1,11 @@
 -- Coupling from the past (Propp and Wilson 1996): the composition of the event functions of the last steps, the
 -- oldest first, and what it makes of all states.
-use Rattle.std.specs.Prelude.{◌≡◌, ℕ, zero, suc, ◌+◌, ◌-◌, ◌≤◌, List, map, slice_index_or, Some, None, refl}
+use Rattle.std.specs.Prelude.{◌≡◌, ℕ, zero, suc, ◌+◌, ◌-◌, ◌≤◌, List, map, slice_index_or, Some, None}
 use Rattle.std.proofs.Common.{ap, sym, ◌∙◌, subst, arith}
 use Rattle.psi_state.specs.State.{IsBelow, zeros, all_states}
-use Rattle.psi_state.specs.Members.{In}
 use Rattle.psi_state.specs.Boxes.{In-all_states, In-of_all_states, below-itself, zeros-below, same-from_below}
 use Rattle.psi_state.specs.Sets.{image, single, image-single, single-image, single-apart, In-image}
+use Rattle.psi_state.specs.States.{In-caps, In-zeros}
 use Rattle.psi_event.specs.Law.{IsClosed, IsMonotone}
 use Rattle.psi_rate.specs.Rates.{event_of}
 
@@ -81,16 +81,10 @@ pub image_at-reached : (caps : List ℕ) (f : ℕ → List ℕ → List ℕ) (t 
 image_at-reached caps f t s closed one = reached-later caps f t s closed
     (λ x within. image-single (compose f t) s x (all_states caps) one (In-all_states caps x within))
 
-caps-all_states : (caps : List ℕ) → In caps (all_states caps)
-caps-all_states caps = In-all_states caps caps (below-itself caps)
-
-zeros-caps : (caps : List ℕ) → IsBelow (zeros caps) caps
-zeros-caps caps = zeros-below caps caps refl
-
 -- under monotone events all states have met where the least and the greatest have
 pub corners-meet : (caps : List ℕ) (f : ℕ → List ℕ → List ℕ) (t : ℕ) (s : List ℕ) → AreClosed caps f → AreMonotone caps f
     → compose f t (zeros caps) ≡ s → compose f t caps ≡ s → single (image_at f caps t) ≡ Some s
-corners-meet caps f t s closed mono low high = single-image (compose f t) s caps (all_states caps) (caps-all_states caps)
+corners-meet caps f t s closed mono low high = single-image (compose f t) s caps (all_states caps) (In-caps caps)
     (λ x member. (let within = In-of_all_states caps x member in
     let above : IsBelow (compose f t (zeros caps)) (compose f t x) = compose-monotone caps f closed mono t (zeros caps) x within (zeros-below caps x within.same_length) in
     let below : IsBelow (compose f t x) (compose f t caps) = compose-monotone caps f closed mono t x caps (below-itself caps) within in
@@ -100,5 +94,5 @@ corners-meet caps f t s closed mono low high = single-image (compose f t) s caps
 pub corners-apart : (caps : List ℕ) (f : ℕ → List ℕ → List ℕ) (t : ℕ)
     → (compose f t (zeros caps) ≡ compose f t caps → ⊥) → single (image_at f caps t) ≡ None
 corners-apart caps f t apart = single-apart (image_at f caps t) (compose f t (zeros caps)) (compose f t caps)
-    (In-image (compose f t) (zeros caps) (all_states caps) (In-all_states caps (zeros caps) (zeros-caps caps)))
-    (In-image (compose f t) caps (all_states caps) (caps-all_states caps)) apart
+    (In-image (compose f t) (zeros caps) (all_states caps) (In-zeros caps))
+    (In-image (compose f t) caps (all_states caps) (In-caps caps)) apart

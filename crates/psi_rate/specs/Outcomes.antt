@@ -4,8 +4,8 @@ use Rattle.std.proofs.Common.{inl, inr, ap, sym, ◌∙◌, subst}
 use Rattle.std.proofs.lemmas.Bool.{cases_lt}
 use Rattle.std.proofs.lemmas.List.{get_or_past}
 use Rattle.std.proofs.lemmas.List.Elements.{All-map}
-use Rattle.psi_state.specs.declared.ending.Outcome.{Outcome}
-use Rattle.psi_state.specs.declared.ending.Outcome.TheVariants.{Met, NotMet}
+use Rattle.psi_state.specs.declared.Outcome.{Outcome}
+use Rattle.psi_state.specs.declared.Outcome.TheVariants.{Met, NotMet}
 use Rattle.psi_state.specs.Sets.{single}
 use Rattle.psi_event.specs.Law.{IsClosed, IsMonotone}
 use Rattle.psi_rate.specs.Rates.{event_of}

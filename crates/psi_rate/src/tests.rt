@@ -1,11 +1,13 @@
 //! The wheel and the system on small rates, worked out by hand.
 
-ghost use Rattle.std.specs.Prelude.{◌≡◌, ◌≤◌, ◌∷◌, [], All};
+ghost use Rattle.std.specs.Prelude.{◌≡◌, ◌≤◌, ◌∷◌, [], length};
 ghost use Rattle.psi_state.specs.State.{AreCapacities};
 
 use crate::{RateRefusal, System, Wheel};
 use psi_event::{EventLaw, Single};
+use psi_past::{Past, SeedPast};
 use psi_state::State;
+use std::process::Abort;
 use std::test::Fail;
 
 #[test]
@@ -83,5 +85,32 @@ fn a_system_reads_its_parts_back(rt: HostRuntime) -> Result<(), Fail> {
     assert_eq!(rt; system.split(), 256);
     assert_eq!(rt; shorter.limit(), 7);
     assert_eq!(rt; shorter.split(), 256);
+    Ok(())
+}
+
+// Each word of seed 0 and stream 0, from place 0 on, picks the event that is told.
+fn assert_picks(rt: &impl Abort, wheel: &Wheel, events: &[u16])
+    requires { length events.now ≤ 16 }
+{
+    let mut past = SeedPast::new(0, 0);
+    for (place, event) in events.iter().enumerate() {
+        let word = past.word(place as u32);
+        assert_eq!(rt; wheel.pick(word), *event);
+    }
+}
+
+#[test]
+fn the_first_words_of_a_seed_pick_by_their_rests(rt: HostRuntime) -> Result<(), Fail> {
+    let two = Wheel::new(rt.alloc(), &[1, 1])?;
+    let three = Wheel::new(rt.alloc(), &[1, 1, 1])?;
+    let four = Wheel::new(rt.alloc(), &[20, 20, 20, 4])?;
+    assert_picks(&rt, &two, &[0, 0, 0, 1, 1, 0, 0, 1, 0, 1, 1, 0, 0, 1, 1, 0]);
+    assert_picks(
+        &rt,
+        &three,
+        &[2, 0, 0, 3, 1, 0, 0, 3, 2, 1, 3, 0, 2, 1, 3, 2],
+    );
+    // Modulo 64 the words are 54, 32, 0, 19, 61, 32, 40 and 11.
+    assert_picks(&rt, &four, &[2, 1, 0, 0, 3, 1, 2, 0]);
     Ok(())
 }

@@ -1,8 +1,8 @@
 -- The sample of a network.
 use Rattle.std.specs.Prelude.{◌≡◌, ℕ, zero, suc, ◌+◌, ◌*◌, ◌^◌, ◌≤◌, List, map, Option, Some, None, refl}
 use Rattle.std.proofs.Common.{ap, ◌∙◌, subst, arith}
-use Rattle.psi_state.specs.declared.ending.Outcome.{Outcome}
-use Rattle.psi_state.specs.declared.ending.Outcome.TheVariants.{Met, NotMet}
+use Rattle.psi_state.specs.declared.Outcome.{Outcome}
+use Rattle.psi_state.specs.declared.Outcome.TheVariants.{Met, NotMet}
 use Rattle.psi_past.specs.SeedWord.{seed_word}
 use Rattle.psi_event.specs.Law.{IsClosed}
 use Rattle.psi_event.specs.Single.{joined-closed, left-closed}

@@ -1,7 +1,7 @@
 -- What a printed sample is.
 use Rattle.std.specs.Prelude.{◌≡◌, ℕ, List, Option}
 use Rattle.psi_io.specs.Sink.{appended}
-use Rattle.psi_state.specs.declared.ending.Outcome.{Outcome}
+use Rattle.psi_state.specs.declared.Outcome.{Outcome}
 use Rattle.psi_rate.specs.Outcomes.{meeting_at, IsOutcome, ReachesOutcome}
 use Rattle.psi_net.specs.Network.{Network, caps_of}
 use Rattle.psi_run.specs.declared.status.Status.{Status}

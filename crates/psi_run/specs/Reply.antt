@@ -1,13 +1,13 @@
 -- What the program answers: a status with a text for out and a text for err.
 use Rattle.std.specs.Prelude.{ℕ, List, [], Option, Some, option_map, Result, Ok, Err}
-use Rattle.psi_state.specs.declared.ending.Outcome.{Outcome}
-use Rattle.psi_state.specs.declared.ending.Outcome.TheVariants.{Met, NotMet}
+use Rattle.psi_state.specs.declared.Outcome.{Outcome}
+use Rattle.psi_state.specs.declared.Outcome.TheVariants.{Met, NotMet}
 use Rattle.psi_past.specs.SeedWord.{seed_word}
 use Rattle.psi_rate.specs.Composition.{function_at}
 use Rattle.psi_rate.specs.Outcomes.{meeting_at, outcome_within}
 use Rattle.psi_net.specs.Network.{Network, caps_of, rates_of, functions_of}
 use Rattle.psi_net.specs.Reading.{network_of}
-use Rattle.psi_net.specs.declared.refusals.NetRefusal.{NetRefusal}
+use Rattle.psi_net.specs.declared.NetRefusal.{NetRefusal}
 use Rattle.psi_run.specs.declared.status.Status.{Status}
 use Rattle.psi_run.specs.declared.status.Status.TheVariants.{Done, NotCoupled, Usage, NetRefused}
 use Rattle.psi_run.specs.Command.{Command, sample}

@@ -2,11 +2,11 @@
 use Rattle.std.specs.Prelude.{ℕ, ◌^◌, ◌≤◌, List, ◌++◌, map, codes, ◌==◌, Option, Some, None, if◌then◌else◌}
 use Rattle.std.specs.List.{join_with_byte}
 use Rattle.std.specs.Fmt.{decimal}
-use Rattle.psi_state.specs.declared.ending.Outcome.{Outcome}
-use Rattle.psi_state.specs.declared.ending.Outcome.TheVariants.{Met, NotMet}
-use Rattle.psi_net.specs.declared.refusals.NetRefusal.{NetRefusal}
-use Rattle.psi_net.specs.declared.refusals.Section.{Section}
-use Rattle.psi_net.specs.declared.refusals.Section.TheVariants.{Top, Queue, Event, Reward}
+use Rattle.psi_state.specs.declared.Outcome.{Outcome}
+use Rattle.psi_state.specs.declared.Outcome.TheVariants.{Met, NotMet}
+use Rattle.psi_net.specs.declared.NetRefusal.{NetRefusal}
+use Rattle.psi_net.specs.declared.Section.{Section}
+use Rattle.psi_net.specs.declared.Section.TheVariants.{Top, Queue, Event, Reward}
 
 -- a state's numbers in the queues' order, joined by commas
 unfoldable pub state_text : List ℕ → List ℕ
