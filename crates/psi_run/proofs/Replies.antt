@@ -1,6 +1,6 @@
 -- The answer to a call, from what was read.
-use Rattle.std.specs.Prelude.{◌≡◌, ℕ, List, take, Option, Some, None, option_map, Result, Ok, Err, IfSome, refl}
-use Rattle.std.proofs.Common.{sym, ap, ◌∙◌, subst}
+use Rattle.std.specs.Prelude.{◌≡◌, ℕ, ◌+◌, List, take, Option, Some, None, option_map, Result, Ok, Err, IfSome, refl}
+use Rattle.std.proofs.Common.{sym, ap, ◌∙◌, subst, arith}
 use Rattle.psi_net.specs.Reading.{network_of}
 use Rattle.psi_net.specs.Front.{network_of-take}
 use Rattle.psi_run.specs.declared.answer.Answer.{Answer}
@@ -10,12 +10,14 @@ use Rattle.psi_run.specs.Reply.{net_reply, reply_to}
 use Rattle.psi_run.specs.Answer.{MayReply, IsOfFile, ShelfSeen, IsCaused, IsAnswer}
 
 -- the reply to what was read of a file is the reply to the file, since its front is judged like the whole
-reply-read : (told : Option (List ℕ)) (seed stream : ℕ) (answer : Answer) (read : List ℕ) → IfSome told (λ bytes. read ≡ take 1048577 bytes)
+reply-read : (most : ℕ) → most ≡ 1048576 → (told : Option (List ℕ)) (seed stream : ℕ) (answer : Answer) (read : List ℕ) → IfSome told (λ bytes. read ≡ take (most + 1) bytes)
     → MayReply answer (net_reply seed stream (network_of read))
     → IfSome (option_map (λ bytes. net_reply seed stream (network_of bytes)) told) (λ reply. MayReply answer reply)
-reply-read None seed stream answer read front may = tt
-reply-read (Some bytes) seed stream answer read front may =
-    subst (λ n. MayReply answer (net_reply seed stream n)) (ap network_of front ∙ sym (network_of-take bytes)) may
+reply-read most is None seed stream answer read front may = tt
+reply-read most is (Some bytes) seed stream answer read front may =
+    let count : most + 1 ≡ 1048577 = omega arith in
+    let whole : read ≡ take 1048577 bytes = front ∙ ap (λ n. take n bytes) count in
+    subst (λ n. MayReply answer (net_reply seed stream n)) (ap network_of whole ∙ sym (network_of-take bytes)) may
 
 file-caused : (shelf : ShelfSeen) (command : Command) (answer : Answer) → IsOfFile answer → IsCaused shelf (Ok command) answer
 file-caused shelf command (Met text) of = refl
@@ -26,12 +28,12 @@ file-caused shelf command NetUnread of = absurd of
 file-caused shelf command OutOfMemory of = refl
 
 -- the answer to what was read of a network file
-pub file_answered : (shelf : ShelfSeen) (net : List ℕ) (seed stream : ℕ) (answer : Answer) (read : List ℕ)
-    → IfSome (shelf.told net) (λ bytes. read ≡ take 1048577 bytes) → MayReply answer (net_reply seed stream (network_of read)) → IsOfFile answer
+pub file_answered : (most : ℕ) → most ≡ 1048576 → (shelf : ShelfSeen) (net : List ℕ) (seed stream : ℕ) (answer : Answer) (read : List ℕ)
+    → IfSome (shelf.told net) (λ bytes. read ≡ take (most + 1) bytes) → MayReply answer (net_reply seed stream (network_of read)) → IsOfFile answer
     → IsAnswer shelf (Ok (sample net seed stream)) answer
 unfolding reply_to
-file_answered shelf net seed stream answer read front may of = record {
-  reply = reply-read (shelf.told net) seed stream answer read front may;
+file_answered most is shelf net seed stream answer read front may of = record {
+  reply = reply-read most is (shelf.told net) seed stream answer read front may;
   cause = file-caused shelf (sample net seed stream) answer of;
 }
 
