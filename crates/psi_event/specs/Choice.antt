@@ -80,7 +80,7 @@ first_some-found f first (suc n) i a low high is before =
     elim (cases_eq i first) [
       | inl e ↦ first_some-here f first n a (subst (λ j. f j ≡ Some a) e is)
       | inr ne ↦ first_some-later f first n (before first (omega arith) (omega arith))
-        ∙ first_some-found f (suc first) n i a (omega arith) (omega arith) is (λ j more less. before j (omega arith) less)
+          ∙ first_some-found f (suc first) n i a (omega arith) (omega arith) is (λ j more less. before j (omega arith) less)
     ]
 
 -- where there is no answer, no number has one
