@@ -123,10 +123,9 @@ impl Region {
         ensures { ShowsBox self.now.area result }
     {
         if self.is_split {
-            None
-        } else {
-            Some(self.bounds)
+            return None;
         }
+        Some(self.bounds)
     }
 
     /// The states of a split region in ascending, that is lexicographic, order. The region stays as it was.
