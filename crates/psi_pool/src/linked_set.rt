@@ -146,7 +146,8 @@ impl Pool {
     pub fn only(&self) -> Option<State>
         ensures { result ≡ single self.now.states }
     {
-        if self.len != 1 {
+        let len = self.len;
+        if len != 1 {
             return None;
         }
         some_held(&self.table)

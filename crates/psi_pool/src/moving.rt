@@ -38,7 +38,8 @@ pub(crate) fn pour_all(table: &mut Table, b: usize)
 }
 
 // Where the first waiting node goes: to the bucket of its state, or to the free nodes where that bucket
-// has the state.
+// has the state. Most buckets are empty, so that is tried for first.
+#[inline]
 fn target(table: &Table) -> usize
     requires enough { 3 ≤ length table.now }
     requires few { length table.now ≤ 8192 }
@@ -48,6 +49,9 @@ fn target(table: &Table) -> usize
 {
     let x = table.first(1);
     let bucket = bucket_of(x, table.count());
+    if !table.has_some(bucket) {
+        return bucket;
+    }
     if table.has(bucket, x) {
         return 0;
     }

@@ -75,6 +75,7 @@ impl Table {
     }
 
     /// Whether chain `a` has a node with the state `x`.
+    #[inline(never)]
     pub(crate) fn has(&self, a: usize, x: &State) -> bool
         requires { a < length self.now }
         ensures { IsTrue result ↔ In x.now (chain self.now a) }
@@ -133,13 +134,13 @@ impl Table {
         ensures items { out.new.items ≡ out.old.items ++ chain self.now a }
         ensures capacity { vec_capacity out.new ≡ vec_capacity out.old }
     {
-        let mut at = self.heads[a] as usize;
+        let mut place = self.heads[a] as usize;
         for _seen in 0..self.nodes.len() {
-            if at >= self.nodes.len() {
+            if place >= self.nodes.len() {
                 return;
             }
-            out.push_reserved(self.nodes[at].state);
-            at = self.nodes[at].next as usize;
+            out.push_reserved(self.nodes[place].state);
+            place = self.nodes[place].next as usize;
         }
     }
 }
