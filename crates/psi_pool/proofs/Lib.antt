@@ -2,3 +2,4 @@ pub mod Reading
 pub mod Seeking
 pub mod Relinking
 pub mod Inserting
+pub mod Within

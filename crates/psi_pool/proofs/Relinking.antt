@@ -70,37 +70,37 @@ pub held-first : (cs : List (List (List ℕ))) (b : ℕ) (x : List ℕ) → 2 �
 held-first cs b x low some is =
     In-held x cs b low (subst (λ (c : List (List ℕ)). In x c) (sym (chain-begins (chain cs b) some)) (inl is))
 
-module _ (f : List ℕ → List ℕ) (old now mid new : List (List (List ℕ))) (len to : ℕ) (enough : 3 ≤ length now) (some : 1 ≤ length (chain now 1))
-    (linking : IsLinking f old now len) (moved : mid ≡ with_first now 1 (f (first (chain now 1)))) where
+module _ (f : List ℕ → List ℕ) (old now mid new : List (List (List ℕ))) (used len to : ℕ) (enough : 3 ≤ used) (whole : used ≤ length now) (some : 1 ≤ length (chain now 1))
+    (linking : IsLinking f old now used len) (moved : mid ≡ with_first now 1 (f (first (chain now 1)))) where
   pub relink-some : 1 ≤ length (chain mid 1)
-  relink-some = subst (λ (cs : List (List (List ℕ))). 1 ≤ length (chain cs 1)) (sym moved) (moved-some f old now len enough some linking)
+  relink-some = subst (λ (cs : List (List (List ℕ))). 1 ≤ length (chain cs 1)) (sym moved) (moved-some f old now used len enough whole some linking)
 
   pub relink-count : length mid ≡ length now
-  relink-count = ap (λ (cs : List (List (List ℕ))). length cs) moved ∙ moved-count f old now len enough some linking
+  relink-count = ap (λ (cs : List (List (List ℕ))). length cs) moved ∙ moved-count f old now used len enough whole some linking
 
-  module _ (target : IsTarget mid (first (chain mid 1)) to) (carries : new ≡ carried mid 1 to (first (chain mid 1))) where
-    aim : IsTarget now (f (first (chain now 1))) to
-    aim = target-read f old now len enough some linking to (subst (λ (cs : List (List (List ℕ))). IsTarget cs (first (chain cs 1)) to) moved target)
+  module _ (target : IsTarget mid used (first (chain mid 1)) to) (carries : new ≡ carried mid 1 to (first (chain mid 1))) where
+    aim : IsTarget now used (f (first (chain now 1))) to
+    aim = target-read f old now used len enough whole some linking to (subst (λ (cs : List (List (List ℕ))). IsTarget cs used (first (chain cs 1)) to) moved target)
 
     made : new ≡ carried (with_first now 1 (f (first (chain now 1)))) 1 to (first (chain (with_first now 1 (f (first (chain now 1)))) 1))
     made = carries ∙ ap (λ (cs : List (List (List ℕ))). carried cs 1 to (first (chain cs 1))) moved
 
-    pub relink-new : 2 ≤ to → IsLinking f old new (len + 1)
-    relink-new high = elim (linking-step f old now len enough some linking to aim) [
+    pub relink-new : 2 ≤ to → IsLinking f old new used (len + 1)
+    relink-new high = elim (linking-step f old now used len enough whole some linking to aim) [
       | inl back ↦ absurd (let is = back.0 in omega arith)
-      | inr next ↦ subst (λ (cs : List (List (List ℕ))). IsLinking f old cs (len + 1)) (sym made) next.1
+      | inr next ↦ subst (λ (cs : List (List (List ℕ))). IsLinking f old cs used (len + 1)) (sym made) next.1
     ]
 
-    pub relink-back : to < 2 → IsLinking f old new len
-    relink-back low = elim (linking-step f old now len enough some linking to aim) [
-      | inl back ↦ subst (λ (cs : List (List (List ℕ))). IsLinking f old cs len) (sym made) back.1
+    pub relink-back : to < 2 → IsLinking f old new used len
+    relink-back low = elim (linking-step f old now used len enough whole some linking to aim) [
+      | inl back ↦ subst (λ (cs : List (List (List ℕ))). IsLinking f old cs used len) (sym made) back.1
       | inr next ↦ absurd (let is = next.0 in omega arith)
     ]
 
     pub relink-fewer : length (chain new 1) < length (chain now 1)
-    relink-fewer = subst (λ (cs : List (List (List ℕ))). length (chain cs 1) < length (chain now 1)) (sym made) (waiting-fewer f old now len enough some linking to aim)
+    relink-fewer = subst (λ (cs : List (List (List ℕ))). length (chain cs 1) < length (chain now 1)) (sym made) (waiting-fewer f old now used len enough whole some linking to aim)
 
 -- fewer nodes are linked than there are
-pub relink-small : (f : List ℕ → List ℕ) (old now : List (List (List ℕ))) (len most : ℕ) → lengths old ≤ most → IsLinking f old now len → len ≤ most
-relink-small f old now len most small linking =
+pub relink-small : (f : List ℕ → List ℕ) (old now : List (List (List ℕ))) (used len most : ℕ) → lengths old ≤ most → IsLinking f old now used len → len ≤ most
+relink-small f old now used len most small linking =
     (let all = linking.all in let holds = linking.holds in let parts = lengths-held now in omega arith)

@@ -12,7 +12,7 @@ abbrev pub hash_from : ℕ → List ℕ → ℕ
 hash_from h [] = h
 hash_from h (v ∷ x) = hash_from ((h + v) % 2 ^ 32 * 2654435769 % 2 ^ 32) x
 
--- the bucket of a state where there are so many chains
+-- the bucket of a state where so many chains are in use
 unfoldable pub bucket : ℕ → List ℕ → ℕ
 bucket chains x = hash_from 0 x * (chains - 2) / 2 ^ 32 + 2
 
@@ -25,9 +25,9 @@ flat (c ∷ cs) = c ++ flat cs
 abbrev pub held : List (List (List ℕ)) → List (List ℕ)
 held cs = flat (rest (rest cs))
 
--- each state is in its own bucket, and there once
-pub record IsBuckets (cs : List (List (List ℕ))) : Type 0 where
-  pub own : (b : ℕ) (z : List ℕ) → 2 ≤ b → In z (chain cs b) → bucket (length cs) z ≡ b
+-- where so many chains are in use, each state is in its own bucket, and there once
+pub record IsBuckets (cs : List (List (List ℕ))) (used : ℕ) : Type 0 where
+  pub own : (b : ℕ) (z : List ℕ) → 2 ≤ b → In z (chain cs b) → bucket used z ≡ b
   pub once : (b : ℕ) → 2 ≤ b → IsDistinct (chain cs b)
 
 hash_from-small : (h : ℕ) (x : List ℕ) → h < 2 ^ 32 → hash_from h x < 2 ^ 32
@@ -77,13 +77,20 @@ In-of_held z (c ∷ []) member = absurd member
 In-of_held z (c ∷ d ∷ cs) member = (let found = chain-append z cs member in (suc (suc found.0), omega arith, found.1))
 
 -- in its own
-pub In-own : (z : List ℕ) (cs : List (List (List ℕ))) → IsBuckets cs → In z (held cs) → In z (chain cs (bucket (length cs) z))
-In-own z cs buckets member =
+pub In-own : (z : List ℕ) (cs : List (List (List ℕ))) (used : ℕ) → IsBuckets cs used → In z (held cs) → In z (chain cs (bucket used z))
+In-own z cs used buckets member =
     let found = In-of_held z cs member in
     subst (λ b. In z (chain cs b)) (sym (buckets.own found.0 z found.1 found.2)) found.2
 
-pub In-bucket : (z : List ℕ) (cs : List (List (List ℕ))) → In z (chain cs (bucket (length cs) z)) → In z (held cs)
-In-bucket z cs member = In-held z cs (bucket (length cs) z) (bucket-low (length cs) z) member
+pub In-bucket : (z : List ℕ) (cs : List (List (List ℕ))) (used : ℕ) → In z (chain cs (bucket used z)) → In z (held cs)
+In-bucket z cs used member = In-held z cs (bucket used z) (bucket-low used z) member
+
+-- no bucket has a state but those in use
+pub own-past : (z : List ℕ) (cs : List (List (List ℕ))) (used b : ℕ) → IsBuckets cs used → 3 ≤ used → used ≤ b → In z (chain cs b) → ⊥
+own-past z cs used b buckets enough past member =
+    let own = buckets.own b z (omega arith) member in
+    let high = bucket-high used z enough in
+    omega arith
 
 length-flat : (cs : List (List (List ℕ))) → length (flat cs) ≡ lengths cs
 length-flat [] = refl
@@ -111,10 +118,10 @@ distinct-flat (c ∷ cs) each apart =
     (λ z here there. (let found = chain-append z cs there in let same : 0 ≡ suc found.0 = apart z 0 (suc found.0) here found.1 in omega arith))
 
 -- no state is held twice
-pub held-distinct : (cs : List (List (List ℕ))) → IsBuckets cs → IsDistinct (held cs)
-held-distinct [] buckets = tt
-held-distinct (c ∷ []) buckets = tt
-held-distinct (c ∷ d ∷ cs) buckets =
+pub held-distinct : (cs : List (List (List ℕ))) (used : ℕ) → IsBuckets cs used → IsDistinct (held cs)
+held-distinct [] used buckets = tt
+held-distinct (c ∷ []) used buckets = tt
+held-distinct (c ∷ d ∷ cs) used buckets =
     distinct-flat cs (λ a. buckets.once (suc (suc a)) (omega arith))
     (λ z a b here there.
     (let first = buckets.own (suc (suc a)) z (omega arith) here in

@@ -32,10 +32,9 @@ carried cs a b x =
 unfoldable pub with_first : {A : Type 0} → List (List A) → ℕ → A → List (List A)
 with_first cs a x = slice_set cs a (x ∷ rest (chain cs a))
 
--- so many nodes that are all in the first chain, of at least three
+-- so many nodes that are all in the first chain, of three more
 pub record IsFresh (cs : List (List (List ℕ))) (most : ℕ) : Type 0 where
-  pub enough : 3 ≤ length cs
-  pub few : length cs ≤ 8192
+  pub count : length cs ≡ most + 3
   pub none : (a : ℕ) → 1 ≤ a → chain cs a ≡ []
   pub all : lengths cs ≡ most
 

@@ -16,8 +16,7 @@ pub record AreFree (nodes : List Node) (most : ℕ) : Type 0 where
 
 -- the first chain begins at the first node, and the others are empty
 pub record AreHeads (heads : List ℕ) (most : ℕ) : Type 0 where
-  pub enough : 3 ≤ length heads
-  pub few : length heads ≤ 8192
+  pub count : length heads ≡ most + 3
   pub first : slice_index heads 0 ≡ 0
   pub none : (a : ℕ) → 1 ≤ a → a < length heads → most ≤ slice_index heads a
 
@@ -105,8 +104,7 @@ pub fresh-seen : (nodes : List Node) (heads : List ℕ) (most others : ℕ) → 
 fresh-seen nodes heads most others free firsts all =
     let count = length-chains_of nodes heads in
     record {
-      enough = (let enough = firsts.enough in omega arith);
-      few = (let few = firsts.few in omega arith);
+      count = (let whole = firsts.count in omega arith);
       none = λ a some. none-seen nodes heads most a free firsts some;
       all = lengths-seen nodes heads (fresh-linked nodes heads most others free firsts all) ∙ free.count;
     }
@@ -161,12 +159,11 @@ heads-more heads more most n is some begun =
       ];
     })
 
-pub heads-all : (heads : List ℕ) (most n : ℕ) → 3 ≤ n → n ≤ 8192 → BeginHeads heads most n → AreHeads heads most
-heads-all heads most n enough few begun =
+pub heads-all : (heads : List ℕ) (most n : ℕ) → n ≡ most + 3 → BeginHeads heads most n → AreHeads heads most
+heads-all heads most n whole begun =
     let count = begun.count in
     record {
-      enough = omega arith;
-      few = omega arith;
+      count = omega arith;
       first = begun.first;
       none = λ a some small. (let is = begun.none a some (omega arith) in omega arith);
     }

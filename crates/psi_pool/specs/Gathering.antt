@@ -46,6 +46,7 @@ pub record IsGathering (old now : List (List (List ℕ))) (b before : ℕ) : Typ
   pub count : length now ≡ length old
   pub all : lengths now ≡ lengths old
   pub none : (c : ℕ) → 2 ≤ c → c < before → chain now c ≡ []
+  pub later : (c : ℕ) → before ≤ c → chain now c ≡ chain old c
   pub kept : (c : ℕ) → c < 2 → c ≢ b → chain now c ≡ chain old c
   pub members : HaveSame (chain now b ++ held now) (chain old b ++ held old)
 
@@ -130,6 +131,7 @@ gathering-none cs b = record {
   count = refl;
   all = refl;
   none = λ c low high. absurd (omega arith);
+  later = λ c past. refl;
   kept = λ c low apart. refl;
   members = same-itself (chain cs b ++ held cs);
 }
@@ -143,17 +145,19 @@ gathering-more old mid now a b bucket other gathering poured empty = record {
     | inl e ↦ ap (λ k. chain now k) e ∙ empty
     | inr ne ↦ poured.others c ne (λ e. (omega arith)) ∙ gathering.none c low (omega arith)
   ];
+  later = λ c past. poured.others c (λ e. (omega arith)) (λ e. (omega arith)) ∙ gathering.later c (omega arith);
   kept = λ c low apart. poured.others c (λ e. (omega arith)) apart ∙ gathering.kept c low apart;
   members = same-through (chain now b ++ held now) (chain mid b ++ held mid) (chain old b ++ held old) poured.members gathering.members;
 }
 
-pub gathering-all : (old now : List (List (List ℕ))) (b before : ℕ) → length now ≤ before → IsGathering old now b before → IsGathered old now b
-gathering-all old now b before past gathering = record {
+pub gathering-all : (old now : List (List (List ℕ))) (b before : ℕ) → 2 ≤ before → ((c : ℕ) → before ≤ c → chain old c ≡ []) → IsGathering old now b before
+    → IsGathered old now b
+gathering-all old now b before low rest gathering = record {
   count = gathering.count;
   all = gathering.all;
-  none = held-none now (λ c low. elim (cases_lt c (length now)) [
-    | inl small ↦ gathering.none c low (omega arith)
-    | inr over ↦ get_or_past now c [] over
+  none = held-none now (λ c bucket. elim (cases_lt c before) [
+    | inl small ↦ gathering.none c bucket small
+    | inr past ↦ gathering.later c past ∙ rest c past
   ]);
   kept = gathering.kept;
   members = gathering.members;

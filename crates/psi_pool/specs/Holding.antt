@@ -5,17 +5,18 @@ use Rattle.psi_state.specs.Members.{In, In-append, In-append_left, In-append_rig
 use Rattle.psi_state.specs.Sets.{insert_state, ascending, image, single, In-ascending, In-of_ascending}
 use Rattle.psi_state.specs.Ascending.{IsRising, ascending-members, ascending-rising, length-ascending, image-ascending}
 use Rattle.psi_pool.specs.Chains.{chain, lengths, carried, IsFresh, length-carried}
-use Rattle.psi_pool.specs.Buckets.{held, bucket, IsBuckets, In-own, In-bucket, lengths-held, held-distinct}
-use Rattle.psi_pool.specs.Gathering.{IsGathered, held-none}
+use Rattle.psi_pool.specs.Buckets.{held, bucket, IsBuckets, In-own, In-bucket, own-past, lengths-held, held-distinct}
+use Rattle.psi_pool.specs.Gathering.{IsGathered, list-none, held-none}
 use Rattle.psi_pool.specs.Linking.{IsRelinked, buckets-none, new-held, new-buckets, new-all, new-count, new-kept}
 use Rattle.psi_pool.specs.Sorting.{insert_state-there}
 
 -- each node is free or holds a state in its bucket, no state is held twice, and there is room to list them all
-pub record IsPool (cs : List (List (List ℕ))) (len most room : ℕ) : Type 0 where
-  pub enough : 3 ≤ length cs
-  pub few : length cs ≤ 8192
+pub record IsPool (cs : List (List (List ℕ))) (used len most room : ℕ) : Type 0 where
+  pub count : length cs ≡ most + 3
+  pub enough : 3 ≤ used
+  pub whole : used ≤ length cs
   pub idle : chain cs 1 ≡ []
-  pub buckets : IsBuckets cs
+  pub buckets : IsBuckets cs used
   pub holds : len ≡ length (held cs)
   pub all : lengths cs ≡ most
   pub small : most ≤ 4096
@@ -25,14 +26,15 @@ pub held-fresh : (cs : List (List (List ℕ))) (most : ℕ) → IsFresh cs most 
 held-fresh cs most fresh = held-none cs (λ c low. fresh.none c (omega arith))
 
 -- a new table holds nothing
-pub pool-fresh : (cs : List (List (List ℕ))) (most room : ℕ) → IsFresh cs most → most ≤ 4096 → most ≤ room → IsPool cs 0 most room
+pub pool-fresh : (cs : List (List (List ℕ))) (most room : ℕ) → IsFresh cs most → most ≤ 4096 → most ≤ room → IsPool cs (most + 3) 0 most room
 pool-fresh cs most room fresh small listed =
     let none : held cs ≡ [] = held-fresh cs most fresh in
     record {
-      enough = fresh.enough;
-      few = fresh.few;
+      count = fresh.count;
+      enough = omega arith;
+      whole = (let count = fresh.count in omega arith);
       idle = fresh.none 1 (omega arith);
-      buckets = buckets-none cs none;
+      buckets = buckets-none cs (most + 3) none;
       holds = sym (ap (λ (xs : List (List ℕ)). length xs) none);
       all = fresh.all;
       small = small;
@@ -43,22 +45,23 @@ pub states-fresh : (cs : List (List (List ℕ))) (most : ℕ) → IsFresh cs mos
 states-fresh cs most fresh = ap (λ (xs : List (List ℕ)). ascending xs) (held-fresh cs most fresh)
 
 -- the count of the linked nodes is that of the set
-pub pool-length : (cs : List (List (List ℕ))) (len most room : ℕ) → IsPool cs len most room → len ≡ length (ascending (held cs))
-pool-length cs len most room pool = pool.holds ∙ sym (length-ascending (held cs) (held-distinct cs pool.buckets))
+pub pool-length : (cs : List (List (List ℕ))) (used len most room : ℕ) → IsPool cs used len most room → len ≡ length (ascending (held cs))
+pool-length cs used len most room pool = pool.holds ∙ sym (length-ascending (held cs) (held-distinct cs used pool.buckets))
 
-pub pool-few : (cs : List (List (List ℕ))) (len most room : ℕ) → IsPool cs len most room → length (held cs) ≤ most
-pool-few cs len most room pool = (let parts = lengths-held cs in let all = pool.all in omega arith)
+pub pool-few : (cs : List (List (List ℕ))) (used len most room : ℕ) → IsPool cs used len most room → length (held cs) ≤ most
+pool-few cs used len most room pool = (let parts = lengths-held cs in let all = pool.all in omega arith)
 
 pub pool-rising : (cs : List (List (List ℕ))) → IsRising (ascending (held cs))
 pool-rising cs = ascending-rising (held cs)
 
 -- all nodes are free again
-pub pool-cleared : (old now : List (List (List ℕ))) (len most room : ℕ) → IsPool old len most room → IsGathered old now 0 → IsPool now 0 most room
-pool-cleared old now len most room pool gathered = record {
-  enough = (let count = gathered.count in let enough = pool.enough in omega arith);
-  few = (let count = gathered.count in let few = pool.few in omega arith);
+pub pool-cleared : (old now : List (List (List ℕ))) (used len most room : ℕ) → IsPool old used len most room → IsGathered old now 0 → IsPool now (most + 3) 0 most room
+pool-cleared old now used len most room pool gathered = record {
+  count = gathered.count ∙ pool.count;
+  enough = omega arith;
+  whole = (let same = gathered.count in let count = pool.count in omega arith);
   idle = gathered.kept 1 (omega arith) (λ e. (omega arith)) ∙ pool.idle;
-  buckets = buckets-none now gathered.none;
+  buckets = buckets-none now (most + 3) gathered.none;
   holds = sym (ap (λ (xs : List (List ℕ)). length xs) gathered.none);
   all = gathered.all ∙ pool.all;
   small = pool.small;
@@ -69,47 +72,48 @@ pub states-cleared : (old now : List (List (List ℕ))) → IsGathered old now 0
 states-cleared old now gathered = ap (λ (xs : List (List ℕ)). ascending xs) gathered.none
 
 -- a state is in the set exactly where its bucket has it
-pub pool-there : (cs : List (List (List ℕ))) (x : List ℕ) → In x (chain cs (bucket (length cs) x)) → In x (ascending (held cs))
-pool-there cs x member = In-ascending x (held cs) (In-bucket x cs member)
+pub pool-there : (cs : List (List (List ℕ))) (used : ℕ) (x : List ℕ) → In x (chain cs (bucket used x)) → In x (ascending (held cs))
+pool-there cs used x member = In-ascending x (held cs) (In-bucket x cs used member)
 
-pub pool-back : (cs : List (List (List ℕ))) (x : List ℕ) → IsBuckets cs → In x (ascending (held cs)) → In x (chain cs (bucket (length cs) x))
-pool-back cs x buckets member = In-own x cs buckets (In-of_ascending x (held cs) member)
+pub pool-back : (cs : List (List (List ℕ))) (used : ℕ) (x : List ℕ) → IsBuckets cs used → In x (ascending (held cs)) → In x (chain cs (bucket used x))
+pool-back cs used x buckets member = In-own x cs used buckets (In-of_ascending x (held cs) member)
 
-pub states-there : (cs : List (List (List ℕ))) (x : List ℕ) → In x (chain cs (bucket (length cs) x)) → ascending (held cs) ≡ insert_state x (ascending (held cs))
-states-there cs x member = sym (insert_state-there x (ascending (held cs)) (ascending-rising (held cs)) (pool-there cs x member))
+pub states-there : (cs : List (List (List ℕ))) (used : ℕ) (x : List ℕ) → In x (chain cs (bucket used x)) → ascending (held cs) ≡ insert_state x (ascending (held cs))
+states-there cs used x member = sym (insert_state-there x (ascending (held cs)) (ascending-rising (held cs)) (pool-there cs used x member))
 
 -- where there is room, there is a free node
-pub pool-free : (cs : List (List (List ℕ))) (len most room : ℕ) → IsPool cs len most room → length (ascending (held cs)) < most → 1 ≤ length (chain cs 0)
-pool-free cs len most room pool fewer =
-    let same = length-ascending (held cs) (held-distinct cs pool.buckets) in
+pub pool-free : (cs : List (List (List ℕ))) (used len most room : ℕ) → IsPool cs used len most room → length (ascending (held cs)) < most → 1 ≤ length (chain cs 0)
+pool-free cs used len most room pool fewer =
+    let same = length-ascending (held cs) (held-distinct cs used pool.buckets) in
     let parts = lengths-held cs in
     let idle = ap (λ (c : List (List ℕ)). length c) pool.idle in
     let all = pool.all in
     omega arith
 
-module _ (cs : List (List (List ℕ))) (len most room : ℕ) (x : List ℕ) (pool : IsPool cs len most room) (free : 1 ≤ length (chain cs 0))
-    (absent : In x (chain cs (bucket (length cs) x)) → ⊥) where
+module _ (cs : List (List (List ℕ))) (used len most room : ℕ) (x : List ℕ) (pool : IsPool cs used len most room) (free : 1 ≤ length (chain cs 0))
+    (absent : In x (chain cs (bucket used x)) → ⊥) where
   other : 0 < 2
   other = omega arith
 
   -- the set has one state more
-  pub pool-inserted : IsPool (carried cs 0 (bucket (length cs) x) x) (len + 1) most room
+  pub pool-inserted : IsPool (carried cs 0 (bucket used x) x) used (len + 1) most room
   pool-inserted = record {
-    enough = (let count = length-carried cs 0 (bucket (length cs) x) x in let enough = pool.enough in omega arith);
-    few = (let count = length-carried cs 0 (bucket (length cs) x) x in let few = pool.few in omega arith);
-    idle = new-kept cs 0 x pool.enough other free 1 (omega arith) (λ e. (omega arith)) ∙ pool.idle;
-    buckets = new-buckets cs 0 x pool.enough other free pool.buckets absent;
-    holds = ap (λ n. n + 1) pool.holds ∙ sym (new-count cs 0 x pool.enough other free);
-    all = new-all cs 0 x pool.enough other free ∙ pool.all;
+    count = length-carried cs 0 (bucket used x) x ∙ pool.count;
+    enough = pool.enough;
+    whole = (let same = length-carried cs 0 (bucket used x) x in let whole = pool.whole in omega arith);
+    idle = new-kept cs 0 used x pool.enough pool.whole other free 1 (omega arith) (λ e. (omega arith)) ∙ pool.idle;
+    buckets = new-buckets cs 0 used x pool.enough pool.whole other free pool.buckets absent;
+    holds = ap (λ n. n + 1) pool.holds ∙ sym (new-count cs 0 used x pool.enough pool.whole other free);
+    all = new-all cs 0 used x pool.enough pool.whole other free ∙ pool.all;
     small = pool.small;
     listed = pool.listed;
   }
 
-  pub states-inserted : ascending (held (carried cs 0 (bucket (length cs) x) x)) ≡ insert_state x (ascending (held cs))
-  states-inserted = ascending-members (held (carried cs 0 (bucket (length cs) x) x)) (x ∷ held cs) (new-held cs 0 x pool.enough other free)
+  pub states-inserted : ascending (held (carried cs 0 (bucket used x) x)) ≡ insert_state x (ascending (held cs))
+  states-inserted = ascending-members (held (carried cs 0 (bucket used x) x)) (x ∷ held cs) (new-held cs 0 used x pool.enough pool.whole other free)
 
 -- the nodes of a pool wait, and are linked again
-module _ (f : List ℕ → List ℕ) (old mid now : List (List (List ℕ))) (len count most room : ℕ) (pool : IsPool old len most room)
+module _ (f : List ℕ → List ℕ) (old mid now : List (List (List ℕ))) (used len count most room : ℕ) (pool : IsPool old used len most room)
     (gathered : IsGathered old mid 1) where
   waiting-there : (z : List ℕ) → In z (chain mid 1) → In z (held old)
   waiting-there z member =
@@ -128,20 +132,19 @@ module _ (f : List ℕ → List ℕ) (old mid now : List (List (List ℕ))) (len
   pub waiting-state : (z : List ℕ) → In z (chain mid 1) → In z (ascending (held old))
   waiting-state z member = In-ascending z (held old) (waiting-there z member)
 
-  pub waiting-enough : 3 ≤ length mid
-  waiting-enough = (let same = gathered.count in let enough = pool.enough in omega arith)
-
-  pub waiting-few : length mid ≤ 8192
-  waiting-few = (let same = gathered.count in let few = pool.few in omega arith)
+  pub waiting-whole : len + 3 ≤ length mid
+  waiting-whole =
+      (let same = gathered.count in let count = pool.count in let all = pool.all in let holds = pool.holds in let parts = lengths-held old in omega arith)
 
   pub waiting-small : lengths mid ≤ 4096
   waiting-small = (let same = gathered.all in let all = pool.all in let small = pool.small in omega arith)
 
-  module _ (relinked : IsRelinked f mid now count) where
-    pub pool-stepped : IsPool now count most room
+  module _ (relinked : IsRelinked f mid now (len + 3) count) where
+    pub pool-stepped : IsPool now (len + 3) count most room
     pool-stepped = record {
-      enough = (let same = relinked.count in let enough = waiting-enough in omega arith);
-      few = (let same = relinked.count in let few = waiting-few in omega arith);
+      count = relinked.count ∙ (gathered.count ∙ pool.count);
+      enough = omega arith;
+      whole = (let same = relinked.count in let whole = waiting-whole in omega arith);
       idle = relinked.idle;
       buckets = relinked.buckets;
       holds = relinked.holds;
@@ -159,6 +162,13 @@ module _ (f : List ℕ → List ℕ) (old mid now : List (List (List ℕ))) (len
               relinked.members.back z (subst (λ (y : List ℕ). In y (map f (chain mid 1))) (sym found.2) (In-map f found.0 (chain mid 1) (waiting-back found.0 found.1))));
         })
         ∙ sym (image-ascending f (held old))
+
+-- past the chains in use there is nothing
+pub pool-rest : (cs : List (List (List ℕ))) (used len most room c : ℕ) → IsPool cs used len most room → used ≤ c → chain cs c ≡ []
+pool-rest cs used len most room c pool past = list-none (chain cs c) (λ z member. own-past z cs used c pool.buckets pool.enough past member)
+
+pub pool-used : (cs : List (List (List ℕ))) (used len most room : ℕ) → IsPool cs used len most room → used ≤ 4099
+pool-used cs used len most room pool = (let whole = pool.whole in let count = pool.count in let small = pool.small in omega arith)
 
 -- a set of one state
 pub single-of : (xs : List (List ℕ)) (x : List ℕ) → length (ascending xs) ≡ 1 → In x xs → single (ascending xs) ≡ Some x

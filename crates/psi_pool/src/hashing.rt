@@ -9,13 +9,13 @@ use psi_state::State;
 // (multiplicative hashing, Knuth, volume 3, section 6.4).
 const MULTIPLIER: u32 = 2_654_435_769;
 
-/// The bucket of a state where there are so many chains, from chain 2 on.
-pub(crate) fn bucket_of(x: &State, chains: usize) -> usize
-    requires enough { 3 ≤ chains }
-    requires few { chains ≤ 8192 }
-    ensures value { result ≡ bucket chains x.now }
+/// The bucket of a state where so many chains are in use: one of the chains from 2 on.
+pub(crate) fn bucket_of(x: &State, used: usize) -> usize
+    requires enough { 3 ≤ used }
+    requires few { used ≤ 4099 }
+    ensures value { result ≡ bucket used x.now }
     ensures low { 2 ≤ result }
-    ensures high { result < chains }
+    ensures high { result < used }
 {
     let mut hash: u32 = 0;
     for place in 0..x.len() {
@@ -23,5 +23,5 @@ pub(crate) fn bucket_of(x: &State, chains: usize) -> usize
             .wrapping_add(x.get(place) as u32)
             .wrapping_mul(MULTIPLIER);
     }
-    ((hash as u64 * (chains as u64 - 2)) >> 32) as usize + 2
+    ((hash as u64 * (used as u64 - 2)) >> 32) as usize + 2
 }

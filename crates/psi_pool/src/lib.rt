@@ -9,5 +9,7 @@ mod hashing;
 mod linked_set;
 mod moving;
 mod nodes;
+#[cfg(test)]
+mod tests;
 
 pub use linked_set::{OutOfMemory, Pool};

@@ -31,10 +31,13 @@ impl From<AllocError> for OutOfMemory {
 /// A set of at most `most` states, seen as the lexicographically ascending list of them.
 ///
 /// All its memory is taken by `reserve`: one vector of nodes, linked by index, and room for the list of
-/// the states. No other call takes memory.
+/// the states. No other call takes memory. The work of a step grows with the number of states, not with
+/// the room for them: it passes over each state and over as many buckets as there are states.
 #[derive(Drop)]
 pub struct Pool {
     table: Table,
+    // The chains in use: a state's hash chooses one of these.
+    used: usize,
     len: u16,
     most: u16,
     order: Vec<State>,
@@ -54,7 +57,7 @@ impl Model for Pool {
       states = ascending (held p.table);
     } };
 
-    ghost invariant = { λ p. IsPool p.table p.len p.most (vec_capacity p.order) };
+    ghost invariant = { λ p. IsPool p.table p.used p.len p.most (vec_capacity p.order) };
 }
 
 impl Pool {
@@ -70,6 +73,7 @@ impl Pool {
         let order = Vec::with_capacity(alloc, most as usize)?;
         Ok(Pool {
             table,
+            used: most as usize + 3,
             len: 0,
             most,
             order,
@@ -92,7 +96,8 @@ impl Pool {
     pub fn clear(&mut self)
         ensures { self.new ≡ record { most = self.old.most; states = [] } }
     {
-        pour_all(&mut self.table, 0);
+        pour_all(&mut self.table, self.used, 0);
+        self.used = self.most as usize + 3;
         self.len = 0;
     }
 
@@ -100,7 +105,7 @@ impl Pool {
     pub fn contains(&self, x: &State) -> bool
         ensures { IsTrue result ↔ In x.now self.now.states }
     {
-        self.table.has(bucket_of(x, self.table.count()), x)
+        self.table.has(bucket_of(x, self.used), x)
     }
 
     /// Puts `x` into the set, and answers whether it was not there. There has to be room for it, or it is
@@ -111,7 +116,7 @@ impl Pool {
         ensures most { self.new.most ≡ self.old.most }
         ensures fresh { IsTrue result ↔ (In x self.old.states → ⊥) }
     {
-        let bucket = bucket_of(&x, self.table.count());
+        let bucket = bucket_of(&x, self.used);
         if self.table.has(bucket, &x) {
             return false;
         }
@@ -128,8 +133,9 @@ impl Pool {
         ensures states { self.new.states ≡ image (E.function e.now) self.old.states }
         ensures most { self.new.most ≡ self.old.most }
     {
-        pour_all(&mut self.table, 1);
-        self.len = relink(&mut self.table, e);
+        pour_all(&mut self.table, self.used, 1);
+        self.used = self.len as usize + 3;
+        self.len = relink(&mut self.table, self.used, e);
     }
 
     /// The states in ascending order. The set stays as it is.
@@ -146,7 +152,8 @@ impl Pool {
     pub fn only(&self) -> Option<State>
         ensures { result ≡ single self.now.states }
     {
-        if self.len != 1 {
+        let len = self.len;
+        if len != 1 {
             return None;
         }
         some_held(&self.table)

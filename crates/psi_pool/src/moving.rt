@@ -27,27 +27,35 @@ fn pour(table: &mut Table, a: usize, b: usize)
     }
 }
 
-/// The nodes of all buckets go to chain `b`.
-pub(crate) fn pour_all(table: &mut Table, b: usize)
+/// The nodes of all buckets go to chain `b`, where so many chains are in use.
+pub(crate) fn pour_all(table: &mut Table, used: usize, b: usize)
     requires other { b < 2 }
+    requires low { 2 ≤ used }
+    requires whole { used ≤ length table.old }
+    requires rest { (c : ℕ) → used ≤ c → chain table.old c ≡ [] }
     ensures { IsGathered table.old table.new b }
 {
-    for bucket in 2..table.count() {
+    for bucket in 2..used {
         pour(table, bucket, b);
     }
 }
 
 // Where the first waiting node goes: to the bucket of its state, or to the free nodes where that bucket
-// has the state.
-fn target(table: &Table) -> usize
-    requires enough { 3 ≤ length table.now }
-    requires few { length table.now ≤ 8192 }
+// has the state. Most buckets are empty, so that is tried for first.
+#[inline]
+fn target(table: &Table, used: usize) -> usize
+    requires enough { 3 ≤ used }
+    requires few { used ≤ 4099 }
+    requires whole { used ≤ length table.now }
     requires some { 1 ≤ length (chain table.now 1) }
-    ensures value { IsTarget table.now (first (chain table.now 1)) result }
+    ensures value { IsTarget table.now used (first (chain table.now 1)) result }
     ensures within { result < length table.now }
 {
     let x = table.first(1);
-    let bucket = bucket_of(x, table.count());
+    let bucket = bucket_of(x, used);
+    if !table.has_some(bucket) {
+        return bucket;
+    }
     if table.has(bucket, x) {
         return 0;
     }
@@ -55,19 +63,20 @@ fn target(table: &Table) -> usize
 }
 
 /// Links the waiting nodes into the buckets, each after the event has moved its state on, and answers how
-/// many are linked. A node whose state is there already is free again.
-pub(crate) fn relink<E: EventLaw>(table: &mut Table, e: &E) -> u16
-    requires enough { 3 ≤ length table.old }
-    requires few { length table.old ≤ 8192 }
+/// many are linked, where so many chains are in use. A node whose state is there already is free again.
+pub(crate) fn relink<E: EventLaw>(table: &mut Table, used: usize, e: &E) -> u16
+    requires enough { 3 ≤ used }
+    requires few { used ≤ 4099 }
+    requires whole { used ≤ length table.old }
     requires small { lengths table.old ≤ 4096 }
     requires none { held table.old ≡ [] }
     requires below { (x : List ℕ) → In x (chain table.old 1) → IsBelow x (E.capacities e.now) }
-    ensures { IsRelinked (E.function e.now) table.old table.new result }
+    ensures { IsRelinked (E.function e.now) table.old table.new used result }
 {
     let mut len = 0;
     while table.has_some(1) {
         table.apply_first(1, e);
-        let to = target(table);
+        let to = target(table, used);
         table.carry(1, to);
         if to >= 2 {
             len += 1;

@@ -39,7 +39,7 @@ impl Model for Table {
 }
 
 impl Table {
-    /// So many nodes, all in chain 0, and two empty chains or more: about one for each two nodes.
+    /// So many nodes, all in chain 0, and two empty chains more than there are nodes.
     pub(crate) fn reserve(alloc: Global, most: u16) -> Result<Table, AllocError>
         requires least { 1 ≤ most }
         requires most { most ≤ 4096 }
@@ -75,6 +75,7 @@ impl Table {
     }
 
     /// Whether chain `a` has a node with the state `x`.
+    #[inline(never)]
     pub(crate) fn has(&self, a: usize, x: &State) -> bool
         requires { a < length self.now }
         ensures { IsTrue result ↔ In x.now (chain self.now a) }
@@ -133,13 +134,13 @@ impl Table {
         ensures items { out.new.items ≡ out.old.items ++ chain self.now a }
         ensures capacity { vec_capacity out.new ≡ vec_capacity out.old }
     {
-        let mut at = self.heads[a] as usize;
+        let mut place = self.heads[a] as usize;
         for _seen in 0..self.nodes.len() {
-            if at >= self.nodes.len() {
+            if place >= self.nodes.len() {
                 return;
             }
-            out.push_reserved(self.nodes[at].state);
-            at = self.nodes[at].next as usize;
+            out.push_reserved(self.nodes[place].state);
+            place = self.nodes[place].next as usize;
         }
     }
 }
@@ -164,7 +165,7 @@ fn first_heads(alloc: Global, most: u16) -> Result<Vec<u16>, AllocError>
     requires { most ≤ 4096 }
     ensures { IfOk result (λ heads. AreHeads heads.items most) }
 {
-    let others = most / 2 + 2;
+    let others = most + 2;
     let mut heads = Vec::with_capacity(alloc, others as usize + 1)?;
     heads.push_reserved(0);
     for _chain in 0..others {

@@ -13,4 +13,4 @@ loop-place-preserved c =
 pub returns-clause-value : goal.returns-clause-value
 returns-clause-value c =
     let all : length c.args.x.now ≤ c.loop-place.place = (let count = c.len-place-end.ensures.value in omega arith) in
-    hash-end c.args.x.now c.loop-place.place c.loop-place.hash c.args.chains all c.loop-place.invariant.left
+    hash-end c.args.x.now c.loop-place.place c.loop-place.hash c.args.used all c.loop-place.invariant.left

@@ -1,4 +1,4 @@
-use Rattle.std.proofs.Common.{arith}
+use Rattle.std.proofs.Common.{◌≡◌, ◌≤◌, arith}
 use Rattle.psi_pool.specs.Gathering.{gathering-none, gathering-more, gathering-all}
 use Rattle.psi_pool.proofs.moving.pour_all.Goals as goal
 
@@ -6,7 +6,7 @@ pub loop-bucket-init : goal.loop-bucket-init
 loop-bucket-init c = record { gathering = gathering-none c.args.table.now c.args.b }
 
 pub pour-requires-clause-within : goal.pour-requires-clause-within
-pour-requires-clause-within c = (let gathering = c.loop-bucket.invariant.gathering in let count = gathering.count in omega arith)
+pour-requires-clause-within c = (let gathering = c.loop-bucket.invariant.gathering in let count = gathering.count in let whole = c.requires.whole in omega arith)
 
 pub loop-bucket-preserved : goal.loop-bucket-preserved
 loop-bucket-preserved c = record {
@@ -16,6 +16,6 @@ loop-bucket-preserved c = record {
 
 pub returns : goal.returns
 returns c =
-    let gathering = c.loop-bucket.invariant.gathering in
-    let count = gathering.count in
-    gathering-all c.args.table.now c.loop-bucket.table c.args.b c.loop-bucket.bucket (omega arith) c.loop-bucket.invariant.gathering
+    let end : c.loop-bucket.bucket ≡ c.args.used = (let low = c.requires.low in let past = c.loop-bucket.auto.bucket-end in omega arith) in
+    gathering-all c.args.table.now c.loop-bucket.table c.args.b c.loop-bucket.bucket c.loop-bucket.auto.bucket
+    (λ k past. c.requires.rest k (omega arith)) c.loop-bucket.invariant.gathering

@@ -7,10 +7,10 @@ use Rattle.psi_pool.proofs.Relinking.{chain-none, relink-some, relink-count, rel
 use Rattle.psi_pool.proofs.moving.relink.Goals as goal
 
 pub loop-table-init : goal.loop-table-init
-loop-table-init g c = record { linking = linking-none (g.E.EventLaw.function c.args.e.now) c.args.table.now c.requires.none }
+loop-table-init g c = record { linking = linking-none (g.E.EventLaw.function c.args.e.now) c.args.table.now c.args.used c.requires.none }
 
 pub has_some-requires : goal.has_some-requires
-has_some-requires g c = (let linking = c.loop-table.invariant.linking in let count = linking.count in let enough = c.requires.enough in omega arith)
+has_some-requires g c = (let linking = c.loop-table.invariant.linking in let count = linking.count in let enough = c.requires.enough in let known = c.requires.whole in omega arith)
 
 pub apply_first-requires-clause-below : goal.apply_first-requires-clause-below
 apply_first-requires-clause-below g c =
@@ -19,25 +19,15 @@ apply_first-requires-clause-below g c =
     c.requires.below (first (chain c.loop-table.table 1)) (linking.waiting (first (chain c.loop-table.table 1))
     (subst (λ (d : List (List ℕ)). In (first (chain c.loop-table.table 1)) d) (sym (chain-begins (chain c.loop-table.table 1) some)) (inl refl)))
 
-pub target-to-requires-clause-enough : goal.target-to-requires-clause-enough
-target-to-requires-clause-enough g c =
+pub target-to-requires-clause-whole : goal.target-to-requires-clause-whole
+target-to-requires-clause-whole g c =
     let some : 1 ≤ length (chain c.loop-table.table 1) = c.has_some.ensures.0 c.loop-table-test.true in
     let linking = c.loop-table.invariant.linking in
     let count = linking.count in
-    let enough : 3 ≤ length c.loop-table.table = (let known = c.requires.enough in omega arith) in
+    let enough = c.requires.enough in
+    let whole : c.args.used ≤ length c.loop-table.table = (let known = c.requires.whole in omega arith) in
     let moved : length c.apply_first.new.self ≡ length c.loop-table.table =
-    relink-count (g.E.EventLaw.function c.args.e.now) c.args.table.now c.loop-table.table c.apply_first.new.self c.apply_first.new.self c.loop-table.len 0 enough some c.loop-table.invariant.linking c.apply_first.ensures in
-    omega arith
-
-pub target-to-requires-clause-few : goal.target-to-requires-clause-few
-target-to-requires-clause-few g c =
-    let some : 1 ≤ length (chain c.loop-table.table 1) = c.has_some.ensures.0 c.loop-table-test.true in
-    let linking = c.loop-table.invariant.linking in
-    let count = linking.count in
-    let enough : 3 ≤ length c.loop-table.table = (let known = c.requires.enough in omega arith) in
-    let moved : length c.apply_first.new.self ≡ length c.loop-table.table =
-    relink-count (g.E.EventLaw.function c.args.e.now) c.args.table.now c.loop-table.table c.apply_first.new.self c.apply_first.new.self c.loop-table.len 0 enough some c.loop-table.invariant.linking c.apply_first.ensures in
-    let few = c.requires.few in
+    relink-count (g.E.EventLaw.function c.args.e.now) c.args.table.now c.loop-table.table c.apply_first.new.self c.apply_first.new.self c.args.used c.loop-table.len 0 enough whole some c.loop-table.invariant.linking c.apply_first.ensures in
     omega arith
 
 pub target-to-requires-clause-some : goal.target-to-requires-clause-some
@@ -45,17 +35,19 @@ target-to-requires-clause-some g c =
     let some : 1 ≤ length (chain c.loop-table.table 1) = c.has_some.ensures.0 c.loop-table-test.true in
     let linking = c.loop-table.invariant.linking in
     let count = linking.count in
-    let enough : 3 ≤ length c.loop-table.table = (let known = c.requires.enough in omega arith) in
-    relink-some (g.E.EventLaw.function c.args.e.now) c.args.table.now c.loop-table.table c.apply_first.new.self c.apply_first.new.self c.loop-table.len 0 enough some c.loop-table.invariant.linking c.apply_first.ensures
+    let enough = c.requires.enough in
+    let whole : c.args.used ≤ length c.loop-table.table = (let known = c.requires.whole in omega arith) in
+    relink-some (g.E.EventLaw.function c.args.e.now) c.args.table.now c.loop-table.table c.apply_first.new.self c.apply_first.new.self c.args.used c.loop-table.len 0 enough whole some c.loop-table.invariant.linking c.apply_first.ensures
 
 pub carry-requires-clause-old_chain : goal.carry-requires-clause-old_chain
 carry-requires-clause-old_chain g c =
     let some : 1 ≤ length (chain c.loop-table.table 1) = c.has_some.ensures.0 c.loop-table-test.true in
     let linking = c.loop-table.invariant.linking in
     let count = linking.count in
-    let enough : 3 ≤ length c.loop-table.table = (let known = c.requires.enough in omega arith) in
+    let enough = c.requires.enough in
+    let whole : c.args.used ≤ length c.loop-table.table = (let known = c.requires.whole in omega arith) in
     let moved : length c.apply_first.new.self ≡ length c.loop-table.table =
-    relink-count (g.E.EventLaw.function c.args.e.now) c.args.table.now c.loop-table.table c.apply_first.new.self c.apply_first.new.self c.loop-table.len 0 enough some c.loop-table.invariant.linking c.apply_first.ensures in
+    relink-count (g.E.EventLaw.function c.args.e.now) c.args.table.now c.loop-table.table c.apply_first.new.self c.apply_first.new.self c.args.used c.loop-table.len 0 enough whole some c.loop-table.invariant.linking c.apply_first.ensures in
     omega arith
 
 pub carry-requires-clause-some : goal.carry-requires-clause-some
@@ -63,13 +55,14 @@ carry-requires-clause-some g c =
     let some : 1 ≤ length (chain c.loop-table.table 1) = c.has_some.ensures.0 c.loop-table-test.true in
     let linking = c.loop-table.invariant.linking in
     let count = linking.count in
-    let enough : 3 ≤ length c.loop-table.table = (let known = c.requires.enough in omega arith) in
-    relink-some (g.E.EventLaw.function c.args.e.now) c.args.table.now c.loop-table.table c.apply_first.new.self c.apply_first.new.self c.loop-table.len 0 enough some c.loop-table.invariant.linking c.apply_first.ensures
+    let enough = c.requires.enough in
+    let whole : c.args.used ≤ length c.loop-table.table = (let known = c.requires.whole in omega arith) in
+    relink-some (g.E.EventLaw.function c.args.e.now) c.args.table.now c.loop-table.table c.apply_first.new.self c.apply_first.new.self c.args.used c.loop-table.len 0 enough whole some c.loop-table.invariant.linking c.apply_first.ensures
 
 pub overflow_add-len : goal.overflow_add-len
 overflow_add-len g c =
     let small : c.loop-table.len ≤ 4096 =
-    relink-small (g.E.EventLaw.function c.args.e.now) c.args.table.now c.loop-table.table c.loop-table.len 4096 c.requires.small c.loop-table.invariant.linking in
+    relink-small (g.E.EventLaw.function c.args.e.now) c.args.table.now c.loop-table.table c.args.used c.loop-table.len 4096 c.requires.small c.loop-table.invariant.linking in
     omega arith
 
 pub loop-table-smaller-then-to-ge2 : goal.loop-table-smaller-then-to-ge2
@@ -77,8 +70,9 @@ loop-table-smaller-then-to-ge2 g c =
     let some : 1 ≤ length (chain c.loop-table.table 1) = c.has_some.ensures.0 c.loop-table-test.true in
     let linking = c.loop-table.invariant.linking in
     let count = linking.count in
-    let enough : 3 ≤ length c.loop-table.table = (let known = c.requires.enough in omega arith) in
-    relink-fewer (g.E.EventLaw.function c.args.e.now) c.args.table.now c.loop-table.table c.apply_first.new.self c.carry.new.self c.loop-table.len c.target-to.result enough some c.loop-table.invariant.linking c.apply_first.ensures
+    let enough = c.requires.enough in
+    let whole : c.args.used ≤ length c.loop-table.table = (let known = c.requires.whole in omega arith) in
+    relink-fewer (g.E.EventLaw.function c.args.e.now) c.args.table.now c.loop-table.table c.apply_first.new.self c.carry.new.self c.args.used c.loop-table.len c.target-to.result enough whole some c.loop-table.invariant.linking c.apply_first.ensures
     c.target-to.ensures.value c.carry.ensures
 
 pub loop-table-smaller : goal.loop-table-smaller
@@ -86,8 +80,9 @@ loop-table-smaller g c =
     let some : 1 ≤ length (chain c.loop-table.table 1) = c.has_some.ensures.0 c.loop-table-test.true in
     let linking = c.loop-table.invariant.linking in
     let count = linking.count in
-    let enough : 3 ≤ length c.loop-table.table = (let known = c.requires.enough in omega arith) in
-    relink-fewer (g.E.EventLaw.function c.args.e.now) c.args.table.now c.loop-table.table c.apply_first.new.self c.carry.new.self c.loop-table.len c.target-to.result enough some c.loop-table.invariant.linking c.apply_first.ensures
+    let enough = c.requires.enough in
+    let whole : c.args.used ≤ length c.loop-table.table = (let known = c.requires.whole in omega arith) in
+    relink-fewer (g.E.EventLaw.function c.args.e.now) c.args.table.now c.loop-table.table c.apply_first.new.self c.carry.new.self c.args.used c.loop-table.len c.target-to.result enough whole some c.loop-table.invariant.linking c.apply_first.ensures
     c.target-to.ensures.value c.carry.ensures
 
 pub loop-table-preserved-then-to-ge2 : goal.loop-table-preserved-then-to-ge2
@@ -95,9 +90,10 @@ loop-table-preserved-then-to-ge2 g c =
     let some : 1 ≤ length (chain c.loop-table.table 1) = c.has_some.ensures.0 c.loop-table-test.true in
     let linking = c.loop-table.invariant.linking in
     let count = linking.count in
-    let enough : 3 ≤ length c.loop-table.table = (let known = c.requires.enough in omega arith) in
+    let enough = c.requires.enough in
+    let whole : c.args.used ≤ length c.loop-table.table = (let known = c.requires.whole in omega arith) in
     record {
-      linking = relink-new (g.E.EventLaw.function c.args.e.now) c.args.table.now c.loop-table.table c.apply_first.new.self c.carry.new.self c.loop-table.len c.target-to.result enough some c.loop-table.invariant.linking c.apply_first.ensures
+      linking = relink-new (g.E.EventLaw.function c.args.e.now) c.args.table.now c.loop-table.table c.apply_first.new.self c.carry.new.self c.args.used c.loop-table.len c.target-to.result enough whole some c.loop-table.invariant.linking c.apply_first.ensures
           c.target-to.ensures.value c.carry.ensures c.if-to-ge2.true;
     }
 
@@ -106,14 +102,15 @@ loop-table-preserved g c =
     let some : 1 ≤ length (chain c.loop-table.table 1) = c.has_some.ensures.0 c.loop-table-test.true in
     let linking = c.loop-table.invariant.linking in
     let count = linking.count in
-    let enough : 3 ≤ length c.loop-table.table = (let known = c.requires.enough in omega arith) in
+    let enough = c.requires.enough in
+    let whole : c.args.used ≤ length c.loop-table.table = (let known = c.requires.whole in omega arith) in
     record {
-      linking = relink-back (g.E.EventLaw.function c.args.e.now) c.args.table.now c.loop-table.table c.apply_first.new.self c.carry.new.self c.loop-table.len c.target-to.result enough some c.loop-table.invariant.linking c.apply_first.ensures
+      linking = relink-back (g.E.EventLaw.function c.args.e.now) c.args.table.now c.loop-table.table c.apply_first.new.self c.carry.new.self c.args.used c.loop-table.len c.target-to.result enough whole some c.loop-table.invariant.linking c.apply_first.ensures
           c.target-to.ensures.value c.carry.ensures c.if-to-ge2.false;
     }
 
 pub returns : goal.returns
 returns g c =
-    linking-all (g.E.EventLaw.function c.args.e.now) c.args.table.now c.loop-table.table c.loop-table.len
+    linking-all (g.E.EventLaw.function c.args.e.now) c.args.table.now c.loop-table.table c.args.used c.loop-table.len
     (chain-none (chain c.loop-table.table 1) (λ some. (let yes = c.has_some.ensures.1 some in let empty = c.loop-table-test.false in cc)))
     c.loop-table.invariant.linking

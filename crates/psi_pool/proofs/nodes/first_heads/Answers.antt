@@ -24,4 +24,4 @@ loop-chain-preserved c = record {
 pub returns : goal.returns
 returns c =
     let bound = c.loop-chain.invariant.bound in
-    heads-all c.loop-chain.heads.items c.args.most (c.loop-chain._chain + 1) (omega arith) (omega arith) c.loop-chain.invariant.begun
+    heads-all c.loop-chain.heads.items c.args.most (c.loop-chain._chain + 1) (omega arith) c.loop-chain.invariant.begun
