@@ -172,9 +172,13 @@ least-slice_range values first past m is within =
       below = λ k over under.
           (let same : slice_index (slice_range values first past) k ≡ slice_index values (first + k) = slice_index-slice_range values first past k (omega arith) in
           let least : m ≤ slice_index values (first + k) = is.below (first + k) (omega arith) (omega arith) in omega arith);
-      reached = (found.0 - first, omega arith, omega arith,
-          (let e : first + (found.0 - first) ≡ found.0 = omega arith in
-          slice_index-slice_range values first past (found.0 - first) (omega arith) ∙ (ap (λ j. slice_index values j) e ∙ at)));
+      reached = (
+        found.0 - first,
+        omega arith,
+        omega arith,
+        (let e : first + (found.0 - first) ≡ found.0 = omega arith in
+            slice_index-slice_range values first past (found.0 - first) (omega arith) ∙ (ap (λ j. slice_index values j) e ∙ at)),
+      );
     })
 
 pub greatest-slice_range : (values : List ℕ) (first past m : ℕ) → IsGreatest values first past m → past ≤ length values → m ≡ greatest_of (slice_range values first past)
@@ -188,7 +192,11 @@ greatest-slice_range values first past m is within =
       above = λ k over under.
           (let same : slice_index (slice_range values first past) k ≡ slice_index values (first + k) = slice_index-slice_range values first past k (omega arith) in
           let most : slice_index values (first + k) ≤ m = is.above (first + k) (omega arith) (omega arith) in omega arith);
-      reached = (found.0 - first, omega arith, omega arith,
-          (let e : first + (found.0 - first) ≡ found.0 = omega arith in
-          slice_index-slice_range values first past (found.0 - first) (omega arith) ∙ (ap (λ j. slice_index values j) e ∙ at)));
+      reached = (
+        found.0 - first,
+        omega arith,
+        omega arith,
+        (let e : first + (found.0 - first) ≡ found.0 = omega arith in
+            slice_index-slice_range values first past (found.0 - first) (omega arith) ∙ (ap (λ j. slice_index values j) e ∙ at)),
+      );
     })

@@ -61,6 +61,7 @@ level-is values levels found d j are is small = subst (λ (w : Level). IsLevel v
 pub exponent-level : (values : List ℕ) (levels : List Level) (rises : Bool) (shown : List ℕ) (first last e : ℕ) → IsSparse values levels rises → values ≡ shown
     → first < last → last < length shown → 2 ^ e ≤ last - first + 1 → last - first + 1 < 2 * 2 ^ e → (1 ≤ e) × (e ≤ length levels)
 exponent-level values levels rises shown first last e sparse same ordered within least past =
-    let count : length values ≡ length shown = ap (λ (xs : List ℕ). length xs) same in
-    (exponent-some (last - first + 1) e (omega arith) past,
-    exponent-within (last - first + 1) (length levels) (length values) e (omega arith) sparse.enough least)
+    let count : length values ≡ length shown = ap (λ (xs : List ℕ). length xs) same in (
+      exponent-some (last - first + 1) e (omega arith) past,
+      exponent-within (last - first + 1) (length levels) (length values) e (omega arith) sparse.enough least,
+    )
