@@ -1,5 +1,5 @@
 -- What one customer's joining and leaving makes of small states, worked out by hand and computed by the checker.
-use Rattle.std.proofs.Common.{◌≡◌, List, ℕ, [], ◌∷◌, map, refl}
+use Rattle.std.proofs.Common.{◌≡◌, [], ◌∷◌, map, refl}
 use Rattle.psi_event.specs.Single.{joined, left}
 
 -- two queues with room for one and two: one joins the second

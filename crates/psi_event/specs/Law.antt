@@ -1,5 +1,5 @@
 -- What an event promises: a function on the states of its capacities, and whether it keeps their order.
-use Rattle.std.specs.Prelude.{◌≡◌, ℕ, List, Option, MatchOption, refl}
+use Rattle.std.specs.Prelude.{◌≡◌, ℕ, ◌<◌, List, length, slice_index, Option, MatchOption, refl}
 use Rattle.std.proofs.Common.{sym, subst}
 use Rattle.psi_state.specs.State.{IsBelow, box}
 use Rattle.psi_state.specs.Boxes.{IsBetween, In-box, In-of_box, below-itself, below-through}
@@ -43,3 +43,17 @@ pub tight-corners : (f : List ℕ → List ℕ) (l h u w : List ℕ) → IsBelow
     → corners (image f (box l h)) ≡ record { lo = u; hi = w }
 tight-corners f l h u w ordered tight =
     corners-from_tight (f l) (image f (box l h)) u w (In-image f l (box l h) (In-box l h l (below-itself l) ordered)) tight
+
+-- a box is tight around the image of another where the image of each of its states lies inside and each end is the value of one of them
+pub tight-by : (f : List ℕ → List ℕ) (l h u w : List ℕ) → ((x : List ℕ) → IsBetween l h x → IsBetween u w (f x))
+    → ((i : ℕ) → i < length u → (x : List ℕ) × IsBetween l h x × (slice_index (f x) i ≡ slice_index u i))
+    → ((i : ℕ) → i < length w → (x : List ℕ) × IsBetween l h x × (slice_index (f x) i ≡ slice_index w i))
+    → IsTight (image f (box l h)) u w
+tight-by f l h u w inside low high = record {
+  inside = λ z member. (let from = In-of_image f z (box l h) member in
+      subst (λ (y : List ℕ). IsBetween u w y) (sym from.2) (inside from.0 (In-of_box l h from.0 from.1)));
+  low = λ i small. (let found = low i small in
+      (f found.0, In-image f found.0 (box l h) (In-box l h found.0 found.1.low found.1.high), found.2));
+  high = λ i small. (let found = high i small in
+      (f found.0, In-image f found.0 (box l h) (In-box l h found.0 found.1.low found.1.high), found.2));
+}

@@ -1,4 +1,5 @@
 pub mod Law
+pub mod Choice
 pub mod Idle
 pub mod Single
 pub mod Change

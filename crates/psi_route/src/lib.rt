@@ -1,0 +1,6 @@
+//! Routes.
+#![tactic(auto)]
+
+mod parts;
+
+pub use parts::{Full, RouteRefusal, Source};
