@@ -1,1 +1,2 @@
 mod Tightness
+mod Offering

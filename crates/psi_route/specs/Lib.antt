@@ -1,3 +1,5 @@
 pub mod Routing
 pub mod Refusals
 pub mod Ends
+pub mod Keys
+pub mod Offers
