@@ -8,6 +8,7 @@ use Rattle.psi_state.specs.Hull.{IsTight}
 use Rattle.psi_event.specs.Choice.{choose_each, all_or_some}
 use Rattle.psi_event.specs.Law.{tight-by}
 use Rattle.psi_route.specs.Routing.{Routing, IsRouting, HasRoom, Lacks, IsBest, IsPassed, Leaves, Remains, Routed}
+use Rattle.psi_route.specs.Acting.{best_or_passed, leaves_or_remains}
 use Rattle.psi_route.specs.Ends.{CanChoose, CanPass, IsLowEnd, IsHighEnd, AreEnds}
 
 -- a queue is the target at some place, or at none
@@ -111,36 +112,6 @@ holds_at r is l h x i is_box between small =
     let count = is_box.count in
     let same = between.low.same_length in
     record { place = small; low = between.low.each (r.queue i) (omega arith); high = between.high.each (r.queue i) (omega arith) }
-
--- each place is the chosen one or is passed over
-pub best_or_passed : (r : Routing) → IsRouting r → (x : List ℕ) (j : ℕ) → j < r.places → IsBest r x j ⊎ IsPassed r x j
-best_or_passed r is x j place =
-    elim (cases_lt (r.cap (r.queue j)) (slice_index x (r.queue j) + r.size)) [
-      | inl less ↦ inr (inl less)
-      | inr room ↦ elim (all_or_some
-          (λ i. i ≢ j → Lacks r i (slice_index x (r.queue i)) ⊎ (r.key j (slice_index x (r.queue j)) < r.key i (slice_index x (r.queue i))))
-          (λ i. (i ≢ j) × HasRoom r i (slice_index x (r.queue i)) × (r.key i (slice_index x (r.queue i)) < r.key j (slice_index x (r.queue j))))
-          r.places each) [
-        | inl all ↦ inl (record { place = place; room = room; others = all })
-        | inr found ↦ (let rival = found.2 in inr (inr (found.0, found.1, rival.0, rival.1, rival.2)))
-      ]
-    ]
-  where
-    each : (i : ℕ) → i < r.places
-        → (i ≢ j → Lacks r i (slice_index x (r.queue i)) ⊎ (r.key j (slice_index x (r.queue j)) < r.key i (slice_index x (r.queue i))))
-        ⊎ ((i ≢ j) × HasRoom r i (slice_index x (r.queue i)) × (r.key i (slice_index x (r.queue i)) < r.key j (slice_index x (r.queue j))))
-    each i small =
-        elim (cases_eq i j) [
-          | inl e ↦ inl (λ ne. absurd (ne e))
-          | inr ne ↦ elim (cases_lt (r.cap (r.queue i)) (slice_index x (r.queue i) + r.size)) [
-            | inl lacks ↦ inl (λ d. inl lacks)
-            | inr room ↦ elim (cases_lt (r.key i (slice_index x (r.queue i))) (r.key j (slice_index x (r.queue j)))) [
-              | inl less ↦ inr (ne, room, less)
-              | inr most ↦ (let differ = is.differ i j (slice_index x (r.queue i)) (slice_index x (r.queue j)) small place ne in
-                  inl (λ d. inr (omega arith)))
-            ]
-          ]
-        ]
 
 -- a number that can be chosen is chosen in some state of the box
 pub record Chosen (r : Routing) (l h : List ℕ) (j v : ℕ) : Type 0 where
@@ -289,7 +260,7 @@ turn_of : (r : Routing) → IsRouting r → (l h x y : List ℕ) (j : ℕ) → I
 turn_of r is l h x y j is_box between small routed =
     elim (cases_lt (slice_index x r.source) r.least) [
       | inl idle ↦ kept (idle_can r is l h x j is_box between idle) (ap (λ (z : List ℕ). slice_index z (r.queue j)) (routed.idle idle))
-      | inr serve ↦ elim (best_or_passed r is x j small) [
+      | inr serve ↦ elim (best_or_passed r x j is small) [
         | inl best ↦ raised (chosen_can r is l h x j is_box between best serve) (routed.gains j serve best)
         | inr passed ↦ kept (passed_can r is l h x j is_box between passed) (routed.stays j small passed)
       ]
@@ -411,20 +382,6 @@ high_reached r is f routes l h j u is_box small end =
             | raised can more ↦ absurd (all.0 (slice_index h (r.queue j)) order (omega arith) (omega arith) can)
             | kept can same ↦ same ∙ sym all.1
           ]))
-    ]
-
-leaves_or_remains : (r : Routing) (x : List ℕ) → Leaves r x ⊎ Remains r x
-leaves_or_remains r x =
-    elim (cases_Bool r.lost) [
-      | inl lost ↦ inl (inl lost)
-      | inr stay ↦ elim (cases_lt 0 r.places) [
-        | inr empty ↦ inl (inr (inl (omega arith)))
-        | inl some ↦ elim (all_or_some (λ i. Lacks r i (slice_index x (r.queue i))) (λ i. HasRoom r i (slice_index x (r.queue i))) r.places
-            (λ i small. cases_lt (r.cap (r.queue i)) (slice_index x (r.queue i) + r.size))) [
-          | inl full ↦ inr (stay, some, full)
-          | inr room ↦ inl (inr (inr room))
-        ]
-      ]
     ]
 
 -- where a state lets one leave, so does each state below it

@@ -1,5 +1,6 @@
 pub mod Routing
 pub mod Refusals
+pub mod Acting
 pub mod Ends
 pub mod Keys
 pub mod Offers
