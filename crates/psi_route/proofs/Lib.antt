@@ -1,2 +1,3 @@
 mod Judged
 mod Told
+mod Choosing

@@ -4,3 +4,5 @@ pub mod Acting
 pub mod Accepted
 pub mod Closed
 pub mod Route
+pub mod Leader
+pub mod Monotone

@@ -19,12 +19,12 @@ use psi_state::{Queues, State};
 /// queue and the other index policies are routes.
 #[derive(Drop, Debug)]
 pub struct Route {
-    caps: State,
-    source: Option<Source>,
-    size: u16,
-    targets: Queues,
-    tables: Vec<IndexTable>,
-    full: Full,
+    pub(crate) caps: State,
+    pub(crate) source: Option<Source>,
+    pub(crate) size: u16,
+    pub(crate) targets: Queues,
+    pub(crate) tables: Vec<IndexTable>,
+    pub(crate) full: Full,
     ghost valid: { IsRouteShape (shape caps source size targets tables.items full) },
 }
 
@@ -79,5 +79,50 @@ impl Route {
             tables,
             full,
         })
+    }
+    // The number of targets.
+    pub(crate) fn places(&self) -> u8
+        ensures value { result ≡ length self.now.targets }
+        ensures few { result ≤ 32 }
+    {
+        self.targets.len()
+    }
+
+    // The queue of the target at place `i`.
+    pub(crate) fn target(&self, i: u8) -> u8
+        requires { i < length self.now.targets }
+        ensures value { result ≡ slice_index self.now.targets i }
+        ensures named { result < length self.now.caps }
+    {
+        self.targets.get(i)
+    }
+
+    // The capacity of the target at place `i`.
+    pub(crate) fn cap(&self, i: u8) -> u16
+        requires { i < length self.now.targets }
+        ensures { result ≡ slice_index self.now.caps (slice_index self.now.targets i) }
+    {
+        self.caps.get(self.target(i))
+    }
+
+    // The number of customers at the target at place `i`.
+    pub(crate) fn held(&self, x: &State, i: u8) -> u16
+        requires place { i < length self.now.targets }
+        requires length { length x.now ≡ length self.now.caps }
+        ensures { result ≡ slice_index x.now (slice_index self.now.targets i) }
+    {
+        x.get(self.target(i))
+    }
+
+    // The first part of the key of the target at place `i` with `v` customers; without tables it is 0.
+    pub(crate) fn weight(&self, i: u8, v: u16) -> u32
+        requires place { i < length self.now.targets }
+        requires number { v < slice_index self.now.caps (slice_index self.now.targets i) }
+        ensures { result ≡ weight (shape_of self.now) i v }
+    {
+        if self.tables.is_empty() {
+            return 0;
+        }
+        self.tables[i as usize].at(v)
     }
 }

@@ -3,6 +3,7 @@
 
 mod built;
 mod judging;
+mod moving;
 mod parts;
 
 pub use built::Route;
