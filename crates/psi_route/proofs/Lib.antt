@@ -1,2 +1,5 @@
 mod Tightness
 mod Offering
+mod Judged
+mod Told
+mod Choosing

@@ -1,7 +1,11 @@
 //! Routes.
 #![tactic(auto)]
 
+mod built;
+mod judging;
 mod keys;
+mod moving;
 mod parts;
 
+pub use built::Route;
 pub use parts::{Full, RouteRefusal, Source};
