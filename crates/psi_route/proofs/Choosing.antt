@@ -1,10 +1,9 @@
 -- Choosing a target: by the list alone, and by the keys.
-use Rattle.std.proofs.Common.{◌≡◌, ◌≢◌, ℕ, suc, ◌+◌, ◌*◌, ◌<◌, ◌≤◌, List, [], length, get_or, slice_index, Option, Some, None, MatchOption, IfSome, nat_le, Bool, true, false, inl, inr, refl, ap, sym, ◌∙◌, subst, arith}
-use Rattle.std.proofs.lemmas.Bool.{cases_lt, cases_order, leb-true, leb-false}
+use Rattle.std.proofs.Common.{◌≡◌, ℕ, ◌<◌, ◌≤◌, List, [], length, get_or, slice_index, Option, Some, None, IfSome, nat_le, Bool, true, false, inl, inr, ap, sym, ◌∙◌, subst, arith}
+use Rattle.std.proofs.lemmas.Bool.{cases_order, leb-true, leb-false}
 use Rattle.std.proofs.lemmas.List.{get_or_past}
-use Rattle.psi_route.specs.Routing.{Shape, routing, weight, has_room, best, moved, routed, HasRoom, Lacks, IsBest}
-use Rattle.psi_route.specs.Accepted.{IsRouteShape}
-use Rattle.psi_route.specs.Acting.{Leads, NoRoom, best-from_leads, best-is, best-none, best-place, act-serves, act-idle, is-room, is-lacks}
+use Rattle.psi_route.specs.Routing.{Shape, routing, weight, has_room, best, moved, routed, HasRoom, IsBest}
+use Rattle.psi_route.specs.Acting.{Leads, NoRoom, best-from_leads, best-is, best-none, best-place, act-serves, act-idle, is-room}
 use Rattle.psi_route.specs.Leader.{IsLeading, IsLeader}
 
 -- without tables each value is 0

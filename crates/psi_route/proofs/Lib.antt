@@ -1,3 +1,4 @@
+mod Setting
 mod Tightness
 mod Offering
 mod Judged

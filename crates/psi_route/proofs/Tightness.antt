@@ -1,13 +1,13 @@
 -- The ends of what a route makes of a box are tight: each image lies between them, and each end is met.
-use Rattle.std.proofs.Common.{◌≡◌, ◌≢◌, ◌⊎◌, ℕ, ◌+◌, ◌<◌, ◌≤◌, true, false, List, length, slice_index, inl, inr, ap, sym, ◌∙◌, subst, arith, refl}
-use Rattle.std.proofs.lemmas.Bool.{cases_lt, cases_eq, cases_Bool}
+use Rattle.std.proofs.Common.{◌≡◌, ◌≢◌, ◌⊎◌, ℕ, ◌+◌, ◌<◌, ◌≤◌, List, length, slice_index, inl, inr, ap, sym, ◌∙◌, subst, arith, refl}
+use Rattle.std.proofs.lemmas.Bool.{cases_lt, cases_eq}
 use Rattle.psi_state.specs.State.{IsBelow, box}
 use Rattle.psi_state.specs.Boxes.{IsBetween, below-itself, below-through}
 use Rattle.psi_state.specs.Sets.{image}
 use Rattle.psi_state.specs.Hull.{IsTight}
 use Rattle.psi_event.specs.Choice.{choose_each, all_or_some}
 use Rattle.psi_event.specs.Law.{tight-by}
-use Rattle.psi_route.specs.Routing.{Routing, IsRouting, HasRoom, Lacks, IsBest, IsPassed, Leaves, Remains, Routed}
+use Rattle.psi_route.specs.Routing.{Routing, IsRouting, HasRoom, Lacks, IsBest, IsPassed, Leaves, Routed}
 use Rattle.psi_route.specs.Acting.{best_or_passed, leaves_or_remains}
 use Rattle.psi_route.specs.Ends.{CanChoose, CanPass, IsLowEnd, IsHighEnd, AreEnds}
 
@@ -54,27 +54,34 @@ state_with r is l h below count A S target source =
           | inr found ↦ (let i = found.0 in
               let within : i < r.places = found.1 in
               let at : r.queue i ≡ p = found.2 in
-              let w = target i within in
-              (w.0, record {
-                low = subst (λ q. slice_index l q ≤ w.0) at w.1;
-                high = subst (λ q. w.0 ≤ slice_index h q) at w.2;
-                target = λ k less e. subst (λ n. A n w.0) (is.apart i k within less (at ∙ sym e)) w.3;
-                own = λ e. absurd (is.no_source i within (at ∙ e));
-              }))
+              let w = target i within in (
+                w.0,
+                record {
+                  low = subst (λ q. slice_index l q ≤ w.0) at w.1;
+                  high = subst (λ q. w.0 ≤ slice_index h q) at w.2;
+                  target = λ k less e. subst (λ n. A n w.0) (is.apart i k within less (at ∙ sym e)) w.3;
+                  own = λ e. absurd (is.no_source i within (at ∙ e));
+                },
+              ))
           | inl apart ↦ elim (cases_eq p r.source) [
-            | inl e ↦ (let w = source (subst (λ q. q < r.queues) e small) in
-                (w.0, record {
-                  low = subst (λ q. slice_index l q ≤ w.0) (sym e) w.1;
-                  high = subst (λ q. w.0 ≤ slice_index h q) (sym e) w.2;
-                  target = λ k less at. absurd (apart k less at);
-                  own = λ d. w.3;
-                }))
-            | inr ne ↦ (slice_index l p, record {
+            | inl e ↦ (let w = source (subst (λ q. q < r.queues) e small) in (
+              w.0,
+              record {
+                low = subst (λ q. slice_index l q ≤ w.0) (sym e) w.1;
+                high = subst (λ q. w.0 ≤ slice_index h q) (sym e) w.2;
+                target = λ k less at. absurd (apart k less at);
+                own = λ d. w.3;
+              },
+            ))
+            | inr ne ↦ (
+              slice_index l p,
+              record {
                 low = omega arith;
                 high = below.each p (omega arith);
                 target = λ k less at. absurd (apart k less at);
                 own = λ e. absurd (ne e);
-              })
+              },
+            )
           ]
         ]
 
@@ -130,8 +137,12 @@ outdone : (r : Routing) (l h : List ℕ) (j v i : ℕ) → IsHeld r l h j v → 
     → (w : ℕ) × (slice_index l (r.queue i) ≤ w) × (w ≤ slice_index h (r.queue i)) × Outdone r j v i w
 outdone r l h j v i held can small =
     elim (cases_eq i j) [
-      | inl e ↦ (v, subst (λ k. slice_index l (r.queue k) ≤ v) (sym e) held.low, subst (λ k. v ≤ slice_index h (r.queue k)) (sym e) held.high,
-          record { own = λ d. refl; other = λ ne. absurd (ne e) })
+      | inl e ↦ (
+        v,
+        subst (λ k. slice_index l (r.queue k) ≤ v) (sym e) held.low,
+        subst (λ k. v ≤ slice_index h (r.queue k)) (sym e) held.high,
+        record { own = λ d. refl; other = λ ne. absurd (ne e) },
+      )
       | inr ne ↦ (let w = can.others i small ne in (w.0, w.1, w.2, record { own = λ e. absurd (ne e); other = λ d. w.3 }))
     ]
 
@@ -181,13 +192,25 @@ two : (r : Routing) (l h : List ℕ) (j v i w k : ℕ) → IsRouting r → IsBox
     → (n : ℕ) × (slice_index l (r.queue k) ≤ n) × (n ≤ slice_index h (r.queue k)) × AreTwo j v i w k n
 two r l h j v i w k is is_box held apart low high small =
     elim (cases_eq k j) [
-      | inl e ↦ (v, subst (λ m. slice_index l (r.queue m) ≤ v) (sym e) held.low, subst (λ m. v ≤ slice_index h (r.queue m)) (sym e) held.high,
-          record { own = λ d. refl; other = λ d. absurd (apart (sym d ∙ e)) })
+      | inl e ↦ (
+        v,
+        subst (λ m. slice_index l (r.queue m) ≤ v) (sym e) held.low,
+        subst (λ m. v ≤ slice_index h (r.queue m)) (sym e) held.high,
+        record { own = λ d. refl; other = λ d. absurd (apart (sym d ∙ e)) },
+      )
       | inr ne ↦ elim (cases_eq k i) [
-        | inl e ↦ (w, subst (λ m. slice_index l (r.queue m) ≤ w) (sym e) low, subst (λ m. w ≤ slice_index h (r.queue m)) (sym e) high,
-            record { own = λ d. absurd (ne d); other = λ d. refl })
-        | inr no_i ↦ (slice_index l (r.queue k), omega arith, is_box.below.each (r.queue k) (let count = is_box.count in let within = is.is_queue k small in omega arith),
-            record { own = λ d. absurd (ne d); other = λ d. absurd (no_i d) })
+        | inl e ↦ (
+          w,
+          subst (λ m. slice_index l (r.queue m) ≤ w) (sym e) low,
+          subst (λ m. w ≤ slice_index h (r.queue m)) (sym e) high,
+          record { own = λ d. absurd (ne d); other = λ d. refl },
+        )
+        | inr no_i ↦ (
+          slice_index l (r.queue k),
+          omega arith,
+          is_box.below.each (r.queue k) (let count = is_box.count in let within = is.is_queue k small in omega arith),
+          record { own = λ d. absurd (ne d); other = λ d. absurd (no_i d) },
+        )
       ]
     ]
 
@@ -229,9 +252,14 @@ can_pass r is l h j v is_box held can =
             record {
               state = made.state;
               between = made.between;
-              kept = inl (inr (i, rival.1, rival.2, subst (λ n. HasRoom r i n) (sym there) rival.3.3,
-                  subst (λ n. r.key i n < r.key j (slice_index made.state (r.queue j))) (sym there)
-                  (subst (λ n. r.key i w < r.key j n) (sym here) rival.3.4)));
+              kept = inl (inr (
+                i,
+                rival.1,
+                rival.2,
+                subst (λ n. HasRoom r i n) (sym there) rival.3.3,
+                subst (λ n. r.key i n < r.key j (slice_index made.state (r.queue j))) (sym there)
+                    (subst (λ n. r.key i w < r.key j n) (sym here) rival.3.4),
+              ));
               at = here;
             })
       ]
@@ -341,11 +369,14 @@ passed-meets : (r : Routing) → IsRouting r → (f : List ℕ → List ℕ) →
     → CanPass r l h j v → Meets f l h (r.queue j) v
 passed-meets r is f routes l h j v is_box held can =
     let made = can_pass r is l h j v is_box held can in
-    let routed = routes made.state (between-long r l h made.state is_box made.between) in
-    (made.state, made.between, elim made.kept [
-      | inl passed ↦ routed.stays j held.place passed ∙ made.at
-      | inr idle ↦ ap (λ (z : List ℕ). slice_index z (r.queue j)) (routed.idle idle) ∙ made.at
-    ])
+    let routed = routes made.state (between-long r l h made.state is_box made.between) in (
+      made.state,
+      made.between,
+      elim made.kept [
+        | inl passed ↦ routed.stays j held.place passed ∙ made.at
+        | inr idle ↦ ap (λ (z : List ℕ). slice_index z (r.queue j)) (routed.idle idle) ∙ made.at
+      ],
+    )
 
 chosen-meets : (r : Routing) → IsRouting r → (f : List ℕ → List ℕ) → Routes r f → (l h : List ℕ) (j v : ℕ) → IsBoxOf r l h → IsHeld r l h j v
     → CanChoose r l h j v → Meets f l h (r.queue j) (v + r.size)
@@ -362,11 +393,14 @@ low_reached r is f routes l h j u is_box small end =
           (found.0, found.1, found.2 ∙ sym first.6))
       | inr all ↦ (let between = between-low l h is_box.below in
           let order : slice_index l (r.queue j) ≤ slice_index h (r.queue j) = (holds_at r is l h l j is_box between small).high in
-          let positive = is.sized in
-          (l, between, elim (turn_of r is l h l (f l) j is_box between small (routes l is_box.count)) [
-            | raised can more ↦ more ∙ sym all.1
-            | kept can same ↦ absurd (all.0 (slice_index l (r.queue j)) (omega arith) order (omega arith) can)
-          ]))
+          let positive = is.sized in (
+            l,
+            between,
+            elim (turn_of r is l h l (f l) j is_box between small (routes l is_box.count)) [
+              | raised can more ↦ more ∙ sym all.1
+              | kept can same ↦ absurd (all.0 (slice_index l (r.queue j)) (omega arith) order (omega arith) can)
+            ],
+          ))
     ]
 
 high_reached : (r : Routing) → IsRouting r → (f : List ℕ → List ℕ) → Routes r f → (l h : List ℕ) (j u : ℕ) → IsBoxOf r l h → j < r.places
@@ -377,11 +411,14 @@ high_reached r is f routes l h j u is_box small end =
           (found.0, found.1, found.2 ∙ sym last.6))
       | inr all ↦ (let between = between-high l h is_box.below in
           let order : slice_index l (r.queue j) ≤ slice_index h (r.queue j) = (holds_at r is l h h j is_box between small).low in
-          let positive = is.sized in
-          (h, between, elim (turn_of r is l h h (f h) j is_box between small (routes h (between-long r l h h is_box between))) [
-            | raised can more ↦ absurd (all.0 (slice_index h (r.queue j)) order (omega arith) (omega arith) can)
-            | kept can same ↦ same ∙ sym all.1
-          ]))
+          let positive = is.sized in (
+            h,
+            between,
+            elim (turn_of r is l h h (f h) j is_box between small (routes h (between-long r l h h is_box between))) [
+              | raised can more ↦ absurd (all.0 (slice_index h (r.queue j)) order (omega arith) (omega arith) can)
+              | kept can same ↦ same ∙ sym all.1
+            ],
+          ))
     ]
 
 -- where a state lets one leave, so does each state below it
@@ -446,20 +483,20 @@ ends_inside r is f routes l h u w x is_box ends between =
     let long = between-long r l h x is_box between in
     let made : length (f x) ≡ r.queues = (routes x long).long in
     record {
-      low = record { same_length = ends.low_count ∙ sym made; each = λ p small. low p (omega (arith, ends.low_count)) };
-      high = record { same_length = made ∙ sym ends.high_count; each = λ p small. high p (omega (arith, made)) };
+      low = record { same_length = ends.low.count ∙ sym made; each = λ p small. low p (omega (arith, ends.low.count)) };
+      high = record { same_length = made ∙ sym ends.high.count; each = λ p small. high p (omega (arith, made)) };
     }
   where
     low : (p : ℕ) → p < r.queues → slice_index u p ≤ slice_index (f x) p
     low p small =
         elim (place_is r p) [
           | is_target i within e ↦ subst (λ q. slice_index u q ≤ slice_index (f x) q) e
-              (low_inside r is f routes l h x i (slice_index u (r.queue i)) is_box between within (ends.low i within))
+              (low_inside r is f routes l h x i (slice_index u (r.queue i)) is_box between within (ends.low.targets i within))
           | is_source e ↦ (let at : r.source < r.queues = omega arith in
-              let same : slice_index u r.source ≡ slice_index (f l) r.source = ends.source_low at in
+              let same : slice_index u r.source ≡ slice_index (f l) r.source = ends.low.source at in
               let order : slice_index (f l) r.source ≤ slice_index (f x) r.source = source_monotone r is f routes l x between.low is_box.count at in
               subst (λ q. slice_index u q ≤ slice_index (f x) q) (sym e) (omega arith))
-          | is_other ne apart ↦ (let same : slice_index u p ≡ slice_index l p = ends.other_low p ne apart in
+          | is_other ne apart ↦ (let same : slice_index u p ≡ slice_index l p = ends.low.others p ne apart in
               let kept : slice_index (f x) p ≡ slice_index x p = (routes x (between-long r l h x is_box between)).others p ne apart in
               let count = is_box.count in
               let order : slice_index l p ≤ slice_index x p = between.low.each p (omega arith) in omega arith)
@@ -469,12 +506,12 @@ ends_inside r is f routes l h u w x is_box ends between =
     high p small =
         elim (place_is r p) [
           | is_target i within e ↦ subst (λ q. slice_index (f x) q ≤ slice_index w q) e
-              (high_inside r is f routes l h x i (slice_index w (r.queue i)) is_box between within (ends.high i within))
+              (high_inside r is f routes l h x i (slice_index w (r.queue i)) is_box between within (ends.high.targets i within))
           | is_source e ↦ (let at : r.source < r.queues = omega arith in
-              let same : slice_index w r.source ≡ slice_index (f h) r.source = ends.source_high at in
+              let same : slice_index w r.source ≡ slice_index (f h) r.source = ends.high.source at in
               let order : slice_index (f x) r.source ≤ slice_index (f h) r.source = source_monotone r is f routes x h between.high (between-long r l h x is_box between) at in
               subst (λ q. slice_index (f x) q ≤ slice_index w q) (sym e) (omega arith))
-          | is_other ne apart ↦ (let same : slice_index w p ≡ slice_index h p = ends.other_high p ne apart in
+          | is_other ne apart ↦ (let same : slice_index w p ≡ slice_index h p = ends.high.others p ne apart in
               let long : length x ≡ r.queues = between-long r l h x is_box between in
               let kept : slice_index (f x) p ≡ slice_index x p = (routes x long).others p ne apart in
               let order : slice_index x p ≤ slice_index h p = between.high.each p (omega arith) in omega arith)
@@ -485,10 +522,10 @@ low_met : (r : Routing) → IsRouting r → (f : List ℕ → List ℕ) → Rout
 low_met r is f routes l h u w p is_box ends small =
     elim (place_is r p) [
       | is_target i within e ↦ subst (λ q. Meets f l h q (slice_index u q)) e
-          (low_reached r is f routes l h i (slice_index u (r.queue i)) is_box within (ends.low i within))
+          (low_reached r is f routes l h i (slice_index u (r.queue i)) is_box within (ends.low.targets i within))
       | is_source e ↦ (let at : r.source < r.queues = omega arith in
-          subst (λ q. Meets f l h q (slice_index u q)) (sym e) (l, between-low l h is_box.below, sym (ends.source_low at)))
-      | is_other ne apart ↦ (l, between-low l h is_box.below, (routes l is_box.count).others p ne apart ∙ sym (ends.other_low p ne apart))
+          subst (λ q. Meets f l h q (slice_index u q)) (sym e) (l, between-low l h is_box.below, sym (ends.low.source at)))
+      | is_other ne apart ↦ (l, between-low l h is_box.below, (routes l is_box.count).others p ne apart ∙ sym (ends.low.others p ne apart))
     ]
 
 high_met : (r : Routing) → IsRouting r → (f : List ℕ → List ℕ) → Routes r f → (l h u w : List ℕ) (p : ℕ) → IsBoxOf r l h → AreEnds r f l h u w → p < r.queues
@@ -496,11 +533,14 @@ high_met : (r : Routing) → IsRouting r → (f : List ℕ → List ℕ) → Rou
 high_met r is f routes l h u w p is_box ends small =
     elim (place_is r p) [
       | is_target i within e ↦ subst (λ q. Meets f l h q (slice_index w q)) e
-          (high_reached r is f routes l h i (slice_index w (r.queue i)) is_box within (ends.high i within))
+          (high_reached r is f routes l h i (slice_index w (r.queue i)) is_box within (ends.high.targets i within))
       | is_source e ↦ (let at : r.source < r.queues = omega arith in
-          subst (λ q. Meets f l h q (slice_index w q)) (sym e) (h, between-high l h is_box.below, sym (ends.source_high at)))
-      | is_other ne apart ↦ (h, between-high l h is_box.below,
-          (routes h (between-long r l h h is_box (between-high l h is_box.below))).others p ne apart ∙ sym (ends.other_high p ne apart))
+          subst (λ q. Meets f l h q (slice_index w q)) (sym e) (h, between-high l h is_box.below, sym (ends.high.source at)))
+      | is_other ne apart ↦ (
+        h,
+        between-high l h is_box.below,
+        (routes h (between-long r l h h is_box (between-high l h is_box.below))).others p ne apart ∙ sym (ends.high.others p ne apart),
+      )
     ]
 
 -- so the box between the ends is tight around the image of the box
@@ -508,8 +548,8 @@ pub ends-tight : (r : Routing) → IsRouting r → (f : List ℕ → List ℕ) �
     → IsTight (image f (box l h)) u w
 ends-tight r is f routes l h u w is_box ends =
     tight-by f l h u w (λ x between. ends_inside r is f routes l h u w x is_box ends between)
-    (λ p small. low_met r is f routes l h u w p is_box ends (omega (arith, ends.low_count)))
-    (λ p small. high_met r is f routes l h u w p is_box ends (omega (arith, ends.high_count)))
+    (λ p small. low_met r is f routes l h u w p is_box ends (omega (arith, ends.low.count)))
+    (λ p small. high_met r is f routes l h u w p is_box ends (omega (arith, ends.high.count)))
 
 -- and its ends are in order
 pub ends-below : (r : Routing) → IsRouting r → (f : List ℕ → List ℕ) → Routes r f → (l h u w : List ℕ) → IsBoxOf r l h → AreEnds r f l h u w → IsBelow u w

@@ -1,5 +1,5 @@
 -- Keys as numbers, and the lesser one of two.
-use Rattle.std.specs.Prelude.{◌≡◌, ◌⊎◌, ℕ, ◌+◌, ◌*◌, ◌<◌, ◌≤◌, Option, Some, None, MatchOption}
+use Rattle.std.specs.Prelude.{◌≡◌, ◌⊎◌, ℕ, ◌+◌, ◌*◌, ◌≤◌, Option, Some, MatchOption}
 use Rattle.psi_route.specs.declared.keys.Key.{Key}
 
 -- keys are ordered by the tables' values, and equal ones by the places, of which there are at most 32

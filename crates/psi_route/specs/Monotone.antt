@@ -1,10 +1,10 @@
 -- Where a route keeps the order of states: for size 1, exactly where no keys cross.
-use Rattle.std.specs.Prelude.{◌≡◌, ◌≢◌, ◌⊎◌, ℕ, zero, suc, ◌+◌, ◌-◌, ◌*◌, ◌<◌, ◌≤◌, List, length, slice_index, Option, Some, None, Bool, true, false, refl}
+use Rattle.std.specs.Prelude.{◌≡◌, ◌≢◌, ◌⊎◌, ℕ, zero, suc, ◌+◌, ◌-◌, ◌<◌, ◌≤◌, List, length, slice_index}
 use Rattle.std.proofs.Common.{inl, inr, ap, sym, ◌∙◌, subst, arith}
 use Rattle.std.proofs.lemmas.Bool.{cases_lt, cases_eq, cases_order}
 use Rattle.psi_state.specs.State.{IsBelow}
 use Rattle.psi_event.specs.Choice.{all_or_some}
-use Rattle.psi_route.specs.Routing.{Routing, act, IsRouting, HasRoom, Lacks, IsBest, IsPassed, Leaves, Remains, Routed, Crosses}
+use Rattle.psi_route.specs.Routing.{Routing, act, IsRouting, IsBest, IsPassed, Leaves, Routed, Crosses}
 use Rattle.psi_route.specs.Acting.{act-routed, best_or_passed, leaves_or_remains}
 
 -- a key that goes from above c to below it takes a step over it; no key of this function is c
@@ -46,9 +46,9 @@ chosen_still r x y j is one clear below same chosen passed =
                 (let d = slice_index y (r.queue found.0) - slice_index x (r.queue found.0) in
                 let e : slice_index y (r.queue found.0) ≡ slice_index x (r.queue found.0) + (slice_index y (r.queue found.0) - slice_index x (r.queue found.0)) = omega arith in
                 let step = step_past (r.key found.0) (r.key j (slice_index x (r.queue j))) (slice_index x (r.queue found.0))
-                    (slice_index y (r.queue found.0) - slice_index x (r.queue found.0))
-                    (λ u. is.differ found.0 j u (slice_index x (r.queue j)) place chosen.place found.2) above
-                    (subst (λ v. r.key found.0 v < r.key j (slice_index x (r.queue j))) e less) in
+                (slice_index y (r.queue found.0) - slice_index x (r.queue found.0))
+                (λ u. is.differ found.0 j u (slice_index x (r.queue j)) place chosen.place found.2) above
+                (subst (λ v. r.key found.0 v < r.key j (slice_index x (r.queue j))) e less) in
                 let last : step.0 < slice_index x (r.queue found.0) + (slice_index y (r.queue found.0) - slice_index x (r.queue found.0)) = step.2 in
                 clear found.0 j step.0 (slice_index x (r.queue j)) (record {
                   first = place;
@@ -145,7 +145,7 @@ source-below r x y u w is count below first second small =
         | inl fewer ↦ omega (arith, less)
         | inr equal ↦ elim (cases_lt (slice_index x r.source) r.least) [
           | inl idle ↦ absurd (let unmoved : slice_index w r.source ≡ slice_index y r.source =
-                ap (λ (z : List ℕ). slice_index z r.source) (second.idle (omega arith)) in omega (arith, less))
+              ap (λ (z : List ℕ). slice_index z r.source) (second.idle (omega arith)) in omega (arith, less))
           | inr serves ↦ elim (leaves_or_remains r y) [
             | inr remains ↦ absurd (let unmoved = second.keeps remains in omega (arith, less, unmoved))
             | inl leaves ↦ (let gone = first.takes small serves (leaves-down r x y targets leaves) in omega (arith, less, gone))
@@ -170,10 +170,10 @@ ordered-without r x y is one clear count other below =
       same_length = first.long ∙ sym second.long;
       each = λ p small. elim (place_of r p) [
         | inr found ↦ subst (λ q. slice_index (act r x) q ≤ slice_index (act r y) q) found.2
-              (target-below r x y (act r x) (act r y) found.0 is one clear count below first second found.1)
+            (target-below r x y (act r x) (act r y) found.0 is one clear count below first second found.1)
         | inl free ↦ elim (cases_eq p r.source) [
           | inl e ↦ subst (λ q. slice_index (act r x) q ≤ slice_index (act r y) q) (sym e)
-                (source-below r x y (act r x) (act r y) is count below first second (omega arith))
+              (source-below r x y (act r x) (act r y) is count below first second (omega arith))
           | inr away ↦ (let here = first.others p away free in
               let there = second.others p away free in
               let old : slice_index x p ≤ slice_index y p = below.each p (omega arith) in omega (arith, here, there))

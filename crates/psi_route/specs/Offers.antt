@@ -1,5 +1,5 @@
 -- What each place offers in a box of states: the least key with which it can be chosen, and the greatest one where it always has room.
-use Rattle.std.specs.Prelude.{◌≡◌, ◌≢◌, ◌⊎◌, ℕ, ◌+◌, ◌<◌, ◌≤◌, List, slice_index, Option, Some, None, nat_eq, if◌then◌else◌, MatchOption}
+use Rattle.std.specs.Prelude.{◌≡◌, ◌≢◌, ◌⊎◌, ℕ, ◌<◌, ◌≤◌, List, slice_index, Option, Some, None, nat_eq, if◌then◌else◌, MatchOption}
 use Rattle.psi_route.specs.Routing.{Routing, HasRoom, Lacks}
 use Rattle.psi_route.specs.Keys.{key_of}
 use Rattle.psi_route.specs.declared.keys.Key.{Key}
@@ -46,3 +46,19 @@ beside (Some key) second j = if nat_eq key.place j then second else Some key
 pub record AreLeastTwo (O : ℕ → Option Key → Type 0) (n : ℕ) (first second : Option Key) : Type 0 where
   pub first_is : IsLeastOffer O n n first
   pub second_is : MatchOption first (Unit {0}) (λ key. IsLeastOffer O n key.place second)
+
+-- v customers can stay as they are at place j: there is no room, the source doesn't serve, or another place has a lesser key
+abbrev pub MayStay : Routing → List ℕ → ℕ → ℕ → Option Key → Type 0
+MayStay r l j v rival = Lacks r j v ⊎ (slice_index l r.source < r.least) ⊎ MatchOption rival ⊥ (λ key. key_of key < r.key j v)
+
+-- they can't
+abbrev pub MustRise : Routing → List ℕ → ℕ → ℕ → Option Key → Type 0
+MustRise r l j v rival = HasRoom r j v × (r.least ≤ slice_index l r.source) × MatchOption rival (Unit {0}) (λ key. r.key j v ≤ key_of key)
+
+-- v customers can become more at place j: there is room, the source serves, and no other place always has a lesser key
+abbrev pub MayRise : Routing → List ℕ → ℕ → ℕ → Option Key → Type 0
+MayRise r h j v bar = HasRoom r j v × (r.least ≤ slice_index h r.source) × MatchOption bar (Unit {0}) (λ key. r.key j v < key_of key)
+
+-- they can't
+abbrev pub MustStay : Routing → List ℕ → ℕ → ℕ → Option Key → Type 0
+MustStay r h j v bar = Lacks r j v ⊎ (slice_index h r.source < r.least) ⊎ MatchOption bar ⊥ (λ key. key_of key ≤ r.key j v)

@@ -2,9 +2,12 @@
 #![tactic(auto)]
 
 mod built;
+mod ends;
+mod envelope;
 mod judging;
 mod keys;
 mod moving;
+mod offers;
 mod parts;
 
 pub use built::Route;

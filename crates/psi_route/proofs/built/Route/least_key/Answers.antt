@@ -1,4 +1,4 @@
-use Rattle.std.proofs.Common.{◌≤◌, ◌≡◌, length, sym, ◌∙◌, arith}
+use Rattle.std.proofs.Common.{arith}
 use Rattle.psi_route.specs.Route.{shape_of}
 use Rattle.psi_route.proofs.Choosing.{leader-some, leader-none}
 use Rattle.psi_route.proofs.built.Route.least_key.Goals as goal

@@ -1,4 +1,4 @@
-use Rattle.std.proofs.Common.{sym, ◌∙◌}
+use Rattle.std.proofs.Common.{◌∙◌}
 use Rattle.psi_route.specs.Route.{shape_of}
 use Rattle.psi_route.proofs.Choosing.{chosen-place, chosen-room, routed-serves, routed-idle}
 use Rattle.psi_route.proofs.built.Route.pass.Goals as goal
