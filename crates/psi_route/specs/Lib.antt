@@ -6,3 +6,4 @@ pub mod Closed
 pub mod Route
 pub mod Leader
 pub mod Monotone
+pub mod Upset
