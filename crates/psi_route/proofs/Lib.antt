@@ -1,3 +1,4 @@
 mod Judged
 mod Told
 mod Choosing
+mod Searching

@@ -241,7 +241,7 @@ pair-some s p is =
     let second : between.0 < length s.targets = (let high = between.2 in omega (arith, high)) in
     (behind.0, between.0, values.0, here.0, is-crosses (routing s) behind.0 between.0 values.0 here.0 first second found.0, found.1)
 
-upset-several : (s : Shape) → 2 ≤ s.size → upset_of s ≡ Some (batch_pair s)
+pub upset-several : (s : Shape) → 2 ≤ s.size → upset_of s ≡ Some (batch_pair s)
 unfolding upset_of
 upset-several s several = ap (λ t. if t then Some (batch_pair s) else first_pair s) (le-leb 2 s.size several)
 

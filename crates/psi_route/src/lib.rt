@@ -3,6 +3,7 @@
 
 mod built;
 mod judging;
+mod marks;
 mod moving;
 mod parts;
 
