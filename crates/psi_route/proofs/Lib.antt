@@ -4,3 +4,4 @@ mod Offering
 mod Judged
 mod Told
 mod Choosing
+mod Searching

@@ -9,3 +9,4 @@ pub mod Monotone
 pub mod Ends
 pub mod Keys
 pub mod Offers
+pub mod Upset

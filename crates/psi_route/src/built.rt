@@ -1,6 +1,6 @@
 //! The route.
 
-ghost use Rattle.std.specs.Prelude.{◌≡◌, ◌<◌, ◌≤◌, ℕ, length, slice_index, get_or, OnOk, IfOk, IfErr, IfSome, EachIndex, Some, None};
+ghost use Rattle.std.specs.Prelude.{◌≡◌, ◌<◌, ◌≤◌, ◌↔◌, ℕ, IsTrue, length, slice_index, get_or, OnOk, IfOk, IfErr, IfSome, EachIndex, Some, None};
 ghost use Rattle.psi_state.specs.State.{AreCapacities, IsBelow};
 ghost use Rattle.psi_route.specs.Routing.{weight};
 ghost use Rattle.psi_route.specs.Refusals.{refusal_of};
@@ -80,6 +80,13 @@ impl Route {
             full,
         })
     }
+    // Whether there are no tables, so that the first target with room is chosen.
+    pub(crate) fn is_plain(&self) -> bool
+        ensures { IsTrue result ↔ (length self.now.tables.items ≡ 0) }
+    {
+        self.tables.is_empty()
+    }
+
     // The number of targets.
     pub(crate) fn places(&self) -> u8
         ensures value { result ≡ length self.now.targets }

@@ -6,6 +6,7 @@ mod ends;
 mod envelope;
 mod judging;
 mod keys;
+mod marks;
 mod moving;
 mod offers;
 mod parts;

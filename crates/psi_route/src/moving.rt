@@ -46,7 +46,7 @@ impl Route {
         requires { length x.now ≡ length self.now.caps }
         ensures { result ≡ best (routing (shape_of self.now)) x.now }
     {
-        if self.tables.is_empty() {
+        if self.is_plain() {
             self.first_with_room(x)
         } else {
             self.least_key(x)
