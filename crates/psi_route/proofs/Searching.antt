@@ -1,5 +1,5 @@
 -- Searching for keys that cross.
-use Rattle.std.proofs.Common.{◌≡◌, ◌≢◌, ℕ, suc, ◌+◌, ◌*◌, ◌<◌, ◌≤◌, List, [], length, get_or, slice_index, Option, Some, None, is_some, Bool, true, false, not, ◌&&◌, ◌||◌, nat_eq, nat_lt, nat_le, IsTrue, ◌↔◌, if◌then◌else◌, inl, inr, refl, ap, sym, ◌∙◌, subst, arith}
+use Rattle.std.proofs.Common.{◌≡◌, ◌≢◌, ℕ, suc, ◌+◌, ◌*◌, ◌<◌, ◌≤◌, List, [], length, get_or, slice_index, Option, Some, None, is_some, is_none, Bool, true, false, not, ◌&&◌, ◌||◌, nat_eq, nat_lt, nat_le, IsTrue, ◌↔◌, if◌then◌else◌, inl, inr, refl, ap, sym, ◌∙◌, subst, arith}
 use Rattle.std.specs.Bool.{then_some}
 use Rattle.std.proofs.lemmas.Bool.{cases_lt, cases_Bool, lt-leb}
 use Rattle.psi_event.specs.Choice.{first_some, first_some-none, first_some-found}
@@ -87,3 +87,10 @@ pair-absent s a b v w is = then_some-false (crosses (routing s) a b v w) (pair_o
 pub single-is : (s : Shape) (o : Option (List ℕ × List ℕ)) → s.size < 2 → o ≡ first_pair s → o ≡ upset_of s
 unfolding upset_of
 single-is s o single is = is ∙ sym (ap (λ t. if t then Some (batch_pair s) else first_pair s) (lt-leb 2 s.size single))
+
+-- an answer isn't there where it is none
+pub absent-is : {A : Type 0} (o : Option A) (b : Bool) → is_some o ≡ not b → b ≡ is_none o
+absent-is None true tells = refl
+absent-is None false tells = absurd cc
+absent-is (Some a) true tells = absurd cc
+absent-is (Some a) false tells = refl

@@ -2,12 +2,13 @@
 
 ghost use Rattle.std.specs.Prelude.{◌≡◌, ◌<◌, ◌≤◌, ◌↔◌, ℕ, IsTrue, length, slice_index, get_or, OnOk, IfOk, IfErr, IfSome, EachIndex, Some, None};
 ghost use Rattle.psi_state.specs.State.{AreCapacities, IsBelow};
-ghost use Rattle.psi_route.specs.Routing.{weight};
+ghost use Rattle.psi_route.specs.Routing.{routed, upset_of, weight};
 ghost use Rattle.psi_route.specs.Refusals.{refusal_of};
 ghost use Rattle.psi_route.specs.Accepted.{shape, IsRouteShape};
 
 use crate::judging::{fit_tables, is_self_target, is_size_off, repeats};
 use crate::parts::{Full, RouteRefusal, Source};
+use psi_event::EventLaw;
 use psi_index::IndexTable;
 use psi_state::{Queues, State};
 
@@ -56,7 +57,9 @@ impl Route {
         requires most { IfSome source (λ s. s.k ≤ slice_index caps s.queue) }
         ensures accepted { OnOk result (refusal_of (shape caps source size targets tables.items full) ≡ None) }
         ensures refused { IfErr result (λ refusal. refusal_of (shape caps source size targets tables.items full) ≡ Some refusal) }
-        ensures shape { IfOk result (λ route. shape_of route ≡ shape caps source size targets tables.items full) }
+        ensures caps { IfOk result (λ route. ⟦<Route as EventLaw>⟧.capacities route ≡ caps) }
+        ensures function { IfOk result (λ route. ⟦<Route as EventLaw>⟧.function route ≡ routed (shape caps source size targets tables.items full)) }
+        ensures upset { IfOk result (λ route. ⟦<Route as EventLaw>⟧.upset_pair route ≡ upset_of (shape caps source size targets tables.items full)) }
     {
         let _few = targets.len();
         if is_self_target(source, &targets) {
