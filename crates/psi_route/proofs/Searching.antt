@@ -71,18 +71,6 @@ plain-none s plain =
     let less : weight s a (v + 1) < weight s a v = fall.1 in
     absurd (omega arith))))))
 
--- the test for a fall, passed or failed
-pub level-from_test : (s : Shape) (a b v : ℕ) (t : Bool) → a < length s.targets → b < length s.targets
-    → (IsTrue t ↔ ((v + 1 < slice_index s.caps (slice_index s.targets a)) × (weight s a (v + 1) < weight s a v))) → t ≡ false → pair_from s a b v ≡ None
-level-from_test s a b v t first second tells fails = level-none s a b v first second (λ fall. (let passes : t ≡ true = tells.1 fall in absurd cc))
-
--- the pair of keys that cross
-pub pair-here : (s : Shape) (a b v w : ℕ) → crosses (routing s) a b v w ≡ true → pair_at s a b v w ≡ Some (pair_of s a b v w)
-pair-here s a b v w is = then_some-true (crosses (routing s) a b v w) (pair_of s a b v w) is
-
-pub pair-absent : (s : Shape) (a b v w : ℕ) → crosses (routing s) a b v w ≡ false → pair_at s a b v w ≡ None
-pair-absent s a b v w is = then_some-false (crosses (routing s) a b v w) (pair_of s a b v w) is
-
 -- the pair of a route of one customer
 pub single-is : (s : Shape) (o : Option (List ℕ × List ℕ)) → s.size < 2 → o ≡ first_pair s → o ≡ upset_of s
 unfolding upset_of

@@ -16,6 +16,7 @@ mod marks;
 mod moving;
 mod offers;
 mod parts;
+mod passing;
 #[cfg(test)]
 mod tests;
 
