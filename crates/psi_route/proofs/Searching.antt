@@ -39,9 +39,9 @@ level-none s a b v first second level =
     (elim (cases_Bool (crosses (routing s) a b v w)) [
       | inr fails ↦ fails
       | inl passes ↦ absurd (let cross = is-crosses (routing s) a b v w first second passes in
-            let falls : 32 * weight s a (v + 1) + a < 32 * weight s b w + b = cross.falls in
-            let above : 32 * weight s b w + b < 32 * weight s a v + a = cross.above in
-            level (cross.room, omega arith))
+          let falls : 32 * weight s a (v + 1) + a < 32 * weight s b w + b = cross.falls in
+          let above : 32 * weight s b w + b < 32 * weight s a v + a = cross.above in
+          level (cross.room, omega arith))
     ]))
 
 -- nor where it rises throughout
