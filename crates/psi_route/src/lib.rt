@@ -9,6 +9,8 @@
 mod built;
 mod ends;
 mod envelope;
+#[cfg(test)]
+mod envelope_tests;
 mod judging;
 mod keys;
 mod law;
