@@ -1,0 +1,9 @@
+mod Setting
+mod Tightness
+mod Offering
+mod Judged
+mod Told
+mod Choosing
+mod Searching
+mod Worked
+mod Falling

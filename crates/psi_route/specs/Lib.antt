@@ -1,0 +1,14 @@
+pub mod Routing
+pub mod Refusals
+pub mod Acting
+pub mod Accepted
+pub mod Closed
+pub mod Route
+pub mod Leader
+pub mod Monotone
+pub mod Ends
+pub mod Keys
+pub mod Offers
+pub mod Upset
+pub mod Plain
+pub mod Falls
