@@ -1,8 +1,7 @@
 -- Guarded events on small states, worked out by hand and computed by the checker.
-use Rattle.std.proofs.Common.{◌≡◌, ℕ, List, [], ◌∷◌, map, pos, negsuc, ℤ, Some, None, Option, refl}
+use Rattle.std.proofs.Common.{◌≡◌, ℕ, List, [], ◌∷◌, map, pos, negsuc, ℤ, Some, None, refl}
 use Rattle.psi_event.specs.Choice.{first_some}
 use Rattle.psi_guard.specs.declared.named.Part.{Part}
-use Rattle.psi_guard.specs.declared.shape.GuardRefusal.{GuardRefusal}
 use Rattle.psi_guard.specs.declared.shape.GuardRefusal.TheVariants.{Empty, Repeated, OutOfRange}
 use Rattle.psi_guard.specs.Guarding.{guarded, upset_of}
 use Rattle.psi_guard.specs.Refusals.{refusal_of}
@@ -19,27 +18,27 @@ unfolding guarded
 jumps = refl
 
 jump-upset : upset_of (5 ∷ []) jump ≡ Some (2 ∷ [], 3 ∷ [])
-unfolding upset_of, first_some
+unfolding upset_of first_some
 jump-upset = refl
 
 -- room for five: three or more become one
 drop-upset : upset_of (5 ∷ []) (part 0 3 5 (pos 0) 0 1 ∷ []) ≡ Some (2 ∷ [], 3 ∷ [])
-unfolding upset_of, first_some
+unfolding upset_of first_some
 drop-upset = refl
 
 -- a reset keeps the order
 reset-upset : upset_of (5 ∷ []) (part 0 0 5 (pos 0) 0 0 ∷ []) ≡ None
-unfolding upset_of, first_some
+unfolding upset_of first_some
 reset-upset = refl
 
 -- a customer of the first queue takes one from the second
 negative-upset : upset_of (1 ∷ 1 ∷ []) (part 0 1 1 (negsuc 0) 0 1 ∷ part 1 0 1 (negsuc 0) 0 1 ∷ []) ≡ Some (0 ∷ 1 ∷ [], 1 ∷ 1 ∷ [])
-unfolding upset_of, first_some
+unfolding upset_of first_some
 negative-upset = refl
 
 -- a customer comes to both queues, where both have room
 fork-upset : upset_of (1 ∷ 1 ∷ []) (part 0 0 0 (pos 1) 0 1 ∷ part 1 0 0 (pos 1) 0 1 ∷ []) ≡ Some (0 ∷ 0 ∷ [], 1 ∷ 0 ∷ [])
-unfolding upset_of, first_some
+unfolding upset_of first_some
 fork-upset = refl
 
 -- what is refused
