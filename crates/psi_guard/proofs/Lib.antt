@@ -1,0 +1,8 @@
+pub mod Arrays
+pub mod Order
+pub mod Pairs
+pub mod Hulls
+pub mod Steps
+pub mod Accepted
+pub mod Intervals
+mod Worked
