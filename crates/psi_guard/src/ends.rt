@@ -1,0 +1,176 @@
+//! The tight box around what a guarded event makes of a box.
+
+ghost use Rattle.std.specs.Prelude.{◌≡◌, ◌<◌, ◌≤◌, ℕ, Some, IsTrue, MatchBool, MatchOption, length, slice_index, unsigned_abs};
+ghost use Rattle.psi_state.specs.State.{IsBelow, box};
+ghost use Rattle.psi_state.specs.Sets.{image};
+ghost use Rattle.psi_state.specs.Hull.{corners, IsTight};
+ghost use Rattle.psi_guard.specs.Guarding.{guarded};
+ghost use Rattle.psi_guard.specs.Rule.{rule};
+ghost use Rattle.psi_guard.specs.Ends.{CanMoveAll, CanTurn, IsGreatestOf, IsLeastOf, Knows, MayKeep, MissesSome, one_more, others};
+
+use crate::event::moved;
+use crate::named::Part;
+use crate::shape::Guarded;
+use psi_state::{Bounds, State};
+
+// Which queues of a box can hold a number that the event doesn't happen with.
+#[derive(Clone, Copy)]
+pub(crate) enum Leaving {
+    Nowhere,
+    One(u8),
+    Several,
+}
+
+impl Guarded {
+    // The tight box around what the event makes of a box.
+    pub(crate) fn hull(&self, b: &Bounds) -> Bounds
+        requires { IsBelow b.now.hi self.now.caps }
+        ensures hull { result ≡ corners (image (guarded self.now.parts) (box b.now.lo b.now.hi)) }
+        ensures tight { IsTight (image (guarded self.now.parts) (box b.now.lo b.now.hi)) result.lo result.hi }
+    {
+        let old_lo = b.lo();
+        let old_hi = b.hi();
+        let moves = self.can_move(&old_lo, &old_hi);
+        let leaving = self.leaving(&old_lo, &old_hi);
+        let mut lo = old_lo;
+        let mut hi = old_hi;
+        for i in 0..self.count() {
+            let part = self.part(i);
+            let l = old_lo.get(part.queue);
+            let h = old_hi.get(part.queue);
+            let stays = others(leaving, part.queue);
+            lo.set(part.queue, low_end(part, l, h, moves, stays));
+            hi.set(part.queue, high_end(part, l, h, moves, stays));
+        }
+        Bounds::new(lo, hi)
+    }
+
+    // Whether the event happens in some state of the box from `lo` to `hi`.
+    fn can_move(&self, lo: &State, hi: &State) -> bool
+        requires low { length lo.now ≡ length self.now.caps }
+        requires high { length hi.now ≡ length self.now.caps }
+        requires below { IsBelow hi.now self.now.caps }
+        requires ordered { IsBelow lo.now hi.now }
+        ensures { MatchBool result (CanMoveAll (rule self.now.caps self.now.parts) lo.now hi.now) (MissesSome (rule self.now.caps self.now.parts) lo.now hi.now) }
+    {
+        for i in 0..self.count() {
+            let part = self.part(i);
+            if hi.get(part.queue) < part.least || part.most < lo.get(part.queue) {
+                return false;
+            }
+        }
+        true
+    }
+
+    // Which queues leave their guards in the box from `lo` to `hi`.
+    fn leaving(&self, lo: &State, hi: &State) -> Leaving
+        requires low { length lo.now ≡ length self.now.caps }
+        requires high { length hi.now ≡ length self.now.caps }
+        requires below { IsBelow hi.now self.now.caps }
+        ensures { Knows (rule self.now.caps self.now.parts) lo.now hi.now result }
+    {
+        let mut leaving = Leaving::Nowhere;
+        for i in 0..self.count() {
+            let part = self.part(i);
+            if lo.get(part.queue) < part.least || part.most < hi.get(part.queue) {
+                leaving = one_more(leaving, part.queue);
+            }
+        }
+        leaving
+    }
+}
+
+// The queues that leave their guards, with one more.
+fn one_more(leaving: Leaving, queue: u8) -> Leaving
+    ensures { result ≡ one_more leaving queue }
+{
+    match leaving {
+        Leaving::Nowhere => Leaving::One(queue),
+        Leaving::One(_) => Leaving::Several,
+        Leaving::Several => Leaving::Several,
+    }
+}
+
+// Whether a queue other than this one leaves its guard.
+fn others(leaving: Leaving, queue: u8) -> bool
+    ensures { result ≡ others leaving queue }
+{
+    match leaving {
+        Leaving::Nowhere => false,
+        Leaving::One(first) => first != queue,
+        Leaving::Several => true,
+    }
+}
+
+// The least number of a part's queue that held `l` to `h`: of those moved, if the event happens in some
+// state, and of those kept, where it doesn't happen.
+fn low_end(part: Part, l: u16, h: u16, moves: bool, stays: bool) -> u16
+    requires ordered { l ≤ h }
+    requires some { CanTurn part l h moves stays }
+    requires shift { unsigned_abs part.shift ≤ 65535 }
+    ensures { IsLeastOf part l h moves stays result }
+{
+    let image = moved(part, l.max(part.least));
+    match least_kept(part, l, h, stays) {
+        None => image,
+        Some(kept) => {
+            if moves && image < kept {
+                image
+            } else {
+                kept
+            }
+        }
+    }
+}
+
+// The greatest number of a part's queue that held `l` to `h`.
+fn high_end(part: Part, l: u16, h: u16, moves: bool, stays: bool) -> u16
+    requires ordered { l ≤ h }
+    requires some { CanTurn part l h moves stays }
+    requires shift { unsigned_abs part.shift ≤ 65535 }
+    ensures { IsGreatestOf part l h moves stays result }
+{
+    let image = moved(part, h.min(part.most));
+    match greatest_kept(part, l, h, stays) {
+        None => image,
+        Some(kept) => {
+            if moves && kept < image {
+                image
+            } else {
+                kept
+            }
+        }
+    }
+}
+
+// The least number from `l` to `h` that the queue may keep, if there is one.
+fn least_kept(part: Part, l: u16, h: u16, stays: bool) -> Option<u16>
+    requires { l ≤ h }
+    ensures { MatchOption result
+        ((v : ℕ) → l ≤ v → v ≤ h → MayKeep part stays v → ⊥)
+        (λ u. MayKeep part stays u × (l ≤ u) × (u ≤ h) × ((v : ℕ) → l ≤ v → v ≤ h → MayKeep part stays v → u ≤ v)) }
+{
+    if stays || l < part.least || part.most < l {
+        return Some(l);
+    }
+    if part.most < h {
+        return Some(part.most + 1);
+    }
+    None
+}
+
+// The greatest number from `l` to `h` that the queue may keep, if there is one.
+fn greatest_kept(part: Part, l: u16, h: u16, stays: bool) -> Option<u16>
+    requires { l ≤ h }
+    ensures { MatchOption result
+        ((v : ℕ) → l ≤ v → v ≤ h → MayKeep part stays v → ⊥)
+        (λ w. MayKeep part stays w × (l ≤ w) × (w ≤ h) × ((v : ℕ) → l ≤ v → v ≤ h → MayKeep part stays v → v ≤ w)) }
+{
+    if stays || h < part.least || part.most < h {
+        return Some(h);
+    }
+    if l < part.least {
+        return Some(part.least - 1);
+    }
+    None
+}

@@ -1,0 +1,17 @@
+//! Guarded events: several queues change at once, where each of them holds a number from its least to
+//! its most.
+//!
+//! A negative customer, a fork and a join are guarded events, and so are resets, clears and jumps. Such
+//! an event needn't keep the order of states: `monotone` tells exactly whether it does, `upset` shows
+//! two states whose order it breaks, and `envelope` gives the tight box around what it makes of a box
+//! (Bušić, Gaujal and Vincent 2008).
+#![tactic(auto)]
+
+mod ends;
+mod event;
+mod marks;
+mod named;
+mod shape;
+
+pub use named::{Part, Parts};
+pub use shape::{GuardRefusal, Guarded};
