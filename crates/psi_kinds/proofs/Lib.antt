@@ -1,1 +1,3 @@
 mod Chosen
+mod Routes
+mod Guards

@@ -40,7 +40,7 @@ form_of caps (Index from to table full size) = routes (record { caps = caps; sou
 form_of caps (Batch to size) = routes (record { caps = caps; source = None; size = size; targets = to; tables = []; full = Lost })
 form_of caps (Negative from on amount) = guards (source_parts caps from ++ losing_part caps 0 on amount ∷ [])
 form_of caps (Fork from to) = guards (source_parts caps from ++ map (gaining_part caps) to)
-form_of caps (Join from to) = guards (joined_parts caps to ++ map (λ q. losing_part caps 1 q 1) from)
+form_of caps (Join from to) = guards (map (λ q. losing_part caps 1 q 1) from ++ joined_parts caps to)
 form_of caps (Guarded parts) = guards parts
 
 -- the two states by which a form of event breaks the order, if there are any
