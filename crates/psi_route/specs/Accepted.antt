@@ -1,0 +1,181 @@
+-- What is known of a route: the facts that no refusal leaves open.
+use Rattle.std.specs.Prelude.{◌≡◌, ◌≢◌, ◌⊎◌, ℕ, zero, suc, ◌+◌, ◌*◌, ◌<◌, ◌≤◌, List, [], ◌∷◌, length, get_or, slice_index, Option, Some, None, Bool, true, false, not, ◌&&◌, ◌||◌, nat_eq, nat_le, nat_lt, is_some, is_none, if◌then◌else◌, IfSome, refl}
+use Rattle.std.specs.List.{list_any}
+use Rattle.std.proofs.Common.{inl, inr, ap, sym, ◌∙◌, subst, arith}
+use Rattle.std.proofs.lemmas.Bool.{cases_lt, cases_eq, cases_order, cases_Bool, le-leb, eq-eqb, eqb-true, eqb-false, leb-true, ltb-false, and_parts, not-false}
+use Rattle.psi_state.specs.State.{AreCapacities}
+use Rattle.psi_route.specs.Routing.{Shape, Routing, routing, source_queue, source_least, weight, IsRouting}
+use Rattle.psi_route.specs.Refusals.{is_self_target, repeats, are_tables, fit_tables, is_size_off, refusal_of}
+use Rattle.psi_route.specs.declared.parts.Source.{Source}
+use Rattle.psi_route.specs.declared.parts.Full.{Full}
+use Rattle.psi_route.specs.declared.parts.RouteRefusal.{RouteRefusal}
+use Rattle.psi_route.specs.declared.parts.RouteRefusal.TheVariants.{SelfTarget, Repeated, TableLength, SizeRange}
+
+-- the shape of these parts
+abbrev pub shape : List ℕ → Option Source → ℕ → List ℕ → List (List ℕ) → Full → Shape
+shape caps source size targets tables full =
+    record { caps = caps; source = source; size = size; targets = targets; tables = tables; full = full }
+
+-- the source is a queue, and its server one of those that it has room for
+pub record IsSource (caps : List ℕ) (source : Option Source) : Type 0 where
+  pub queue : (s : Source) → source ≡ Some s → s.queue < length caps
+  pub least : (s : Source) → source ≡ Some s → 1 ≤ s.k
+  pub most : (s : Source) → source ≡ Some s → s.k ≤ slice_index caps s.queue
+
+-- capacities, and targets that are different queues, none of them the source, each with room for the size and with its table if there are any
+pub record IsRouteShape (s : Shape) : Type 0 where
+  pub caps : AreCapacities s.caps
+  pub source : IsSource s.caps s.source
+  pub few : length s.targets ≤ 32
+  pub named : (i : ℕ) → i < length s.targets → slice_index s.targets i < length s.caps
+  pub away : (source : Source) → s.source ≡ Some source → (i : ℕ) → i < length s.targets → slice_index s.targets i ≢ source.queue
+  pub apart : (i j : ℕ) → i < length s.targets → j < length s.targets → slice_index s.targets i ≡ slice_index s.targets j → i ≡ j
+  pub tabled : 0 < length s.tables → length s.tables ≡ length s.targets
+  pub fitted : (i : ℕ) → i < length s.tables → length (get_or s.tables i []) ≡ slice_index s.caps (slice_index s.targets i)
+  pub sized : 1 ≤ s.size
+  pub fits : (i : ℕ) → i < length s.targets → s.size ≤ slice_index s.caps (slice_index s.targets i)
+  pub alone : 2 ≤ s.size → is_none s.source ≡ true
+  pub some : 2 ≤ s.size → 1 ≤ length s.targets
+
+-- ---- tests that failed
+
+-- neither test passed
+pub or_parts : (a b : Bool) → (a || b) ≡ false → (a ≡ false) × (b ≡ false)
+or_parts true b is = absurd cc
+or_parts false b is = (refl, is)
+
+-- no number of the list passes the test
+pub any-false : (p : ℕ → Bool) (xs : List ℕ) (i : ℕ) → list_any p xs ≡ false → i < length xs → p (slice_index xs i) ≡ false
+any-false p [] i is small = absurd (omega arith)
+any-false p (x ∷ xs) zero is small = (or_parts (p x) (list_any p xs) is).0
+any-false p (x ∷ xs) (suc i) is small = any-false p xs i ((or_parts (p x) (list_any p xs) is).1) (omega arith)
+
+-- the numbers of a list without repeats differ
+pub repeats-false : (xs : List ℕ) (i j : ℕ) → repeats xs ≡ false → i < j → j < length xs → slice_index xs i ≡ slice_index xs j → ⊥
+repeats-false [] i j is less small same = absurd (omega arith)
+repeats-false (x ∷ xs) i zero is less small same = absurd (omega arith)
+repeats-false (x ∷ xs) zero (suc j) is less small same =
+    let first = (or_parts (list_any (λ p. nat_eq p x) xs) (repeats xs) is).0 in
+    eqb-false (slice_index xs j) x (any-false (λ p. nat_eq p x) xs j first (omega arith)) (sym same)
+repeats-false (x ∷ xs) (suc i) (suc j) is less small same =
+    repeats-false xs i j ((or_parts (list_any (λ p. nat_eq p x) xs) (repeats xs) is).1) (omega arith) (omega arith) same
+
+pub apart-from_repeats : (xs : List ℕ) (i j : ℕ) → repeats xs ≡ false → i < length xs → j < length xs → slice_index xs i ≡ slice_index xs j → i ≡ j
+apart-from_repeats xs i j is small other same =
+    elim (cases_order i j) [
+      | inl e ↦ e
+      | inr rest ↦ elim rest [
+        | inl less ↦ absurd (repeats-false xs i j is less other same)
+        | inr more ↦ absurd (repeats-false xs j i is more small (sym same))
+      ]
+    ]
+
+-- each table is as long as its target's capacity
+pub are_tables-true : (caps qs : List ℕ) (ts : List (List ℕ)) → are_tables caps qs ts ≡ true
+    → (length ts ≡ length qs) × ((i : ℕ) → i < length ts → length (get_or ts i []) ≡ slice_index caps (slice_index qs i))
+are_tables-true caps [] [] is = (refl, λ i small. absurd (omega arith))
+are_tables-true caps [] (t ∷ ts) is = absurd cc
+are_tables-true caps (q ∷ qs) [] is = absurd cc
+are_tables-true caps (q ∷ qs) (t ∷ ts) is =
+    let both = and_parts (nat_eq (length t) (slice_index caps q)) (are_tables caps qs ts) is in
+    let rest = are_tables-true caps qs ts both.1 in
+    (ap suc rest.0, placed caps q qs t ts (eqb-true (length t) (slice_index caps q) both.0) rest.1)
+  where
+    placed : (caps : List ℕ) (q : ℕ) (qs t : List ℕ) (ts : List (List ℕ)) → length t ≡ slice_index caps q
+        → ((i : ℕ) → i < length ts → length (get_or ts i []) ≡ slice_index caps (slice_index qs i))
+        → (i : ℕ) → i < length (t ∷ ts) → length (get_or (t ∷ ts) i []) ≡ slice_index caps (slice_index (q ∷ qs) i)
+    placed caps q qs t ts here there zero small = here
+    placed caps q qs t ts here there (suc i) small = there i (omega arith)
+
+pub fit_tables-true : (caps targets : List ℕ) (tables : List (List ℕ)) → fit_tables caps targets tables ≡ true
+    → (0 < length tables → length tables ≡ length targets)
+    × ((i : ℕ) → i < length tables → length (get_or tables i []) ≡ slice_index caps (slice_index targets i))
+fit_tables-true caps targets [] is = (λ some. absurd (omega arith), λ i small. absurd (omega arith))
+fit_tables-true caps targets (t ∷ ts) is =
+    let found = are_tables-true caps targets (t ∷ ts) is in (λ some. found.0, found.1)
+
+-- a source that is no target
+away-from_test : (source : Option Source) (targets : List ℕ) (s : Source) (i : ℕ) → is_self_target source targets ≡ false → source ≡ Some s
+    → i < length targets → slice_index targets i ≢ s.queue
+away-from_test None targets s i is from_there small = absurd cc
+away-from_test (Some t) targets s i is from_there small =
+    let same : t ≡ s = cc in
+    let other = eqb-false (slice_index targets i) t.queue (any-false (λ q. nat_eq q t.queue) targets i is small) in
+    λ e. other (e ∙ ap (λ (u : Source). u.queue) (sym same))
+
+first_none : (a b c d : Bool) (p q r s : RouteRefusal) → (if a then Some p else if b then Some q else if not c then Some r else if d then Some s else None) ≡ None
+    → (a ≡ false) × (b ≡ false) × (c ≡ true) × (d ≡ false)
+first_none true b c d p q r s is = absurd cc
+first_none false true c d p q r s is = absurd cc
+first_none false false false d p q r s is = absurd cc
+first_none false false true true p q r s is = absurd cc
+first_none false false true false p q r s is = (refl, refl, refl, refl)
+
+some_none : (source : Option Source) → is_some source ≡ false → is_none source ≡ true
+some_none None is = refl
+some_none (Some s) is = absurd cc
+
+-- so what isn't refused is a route
+pub accepted : (s : Shape) → AreCapacities s.caps → IsSource s.caps s.source → length s.targets ≤ 32
+    → ((i : ℕ) → i < length s.targets → slice_index s.targets i < length s.caps) → refusal_of s ≡ None → IsRouteShape s
+unfolding refusal_of
+accepted s caps source few named is =
+    let tests = first_none (is_self_target s.source s.targets) (repeats s.targets) (fit_tables s.caps s.targets s.tables)
+    (is_size_off s.caps s.source s.size s.targets) SelfTarget Repeated TableLength SizeRange is in
+    let tables = fit_tables-true s.caps s.targets s.tables tests.2 in
+    let sizes = or_parts (nat_eq s.size 0 || list_any (λ q. nat_lt (slice_index s.caps q) s.size) s.targets)
+    (nat_le 2 s.size && (is_some s.source || nat_eq (length s.targets) 0)) tests.3 in
+    let parts = or_parts (nat_eq s.size 0) (list_any (λ q. nat_lt (slice_index s.caps q) s.size) s.targets) sizes.0 in
+    let several : 2 ≤ s.size → (is_some s.source || nat_eq (length s.targets) 0) ≡ false =
+    λ more. subst (λ (t : Bool). (t && (is_some s.source || nat_eq (length s.targets) 0)) ≡ false) (le-leb 2 s.size more) sizes.1 in
+    record {
+      caps = caps;
+      source = source;
+      few = few;
+      named = named;
+      away = λ from_there is_there i small. away-from_test s.source s.targets from_there i tests.0 is_there small;
+      apart = λ i j small other same. apart-from_repeats s.targets i j tests.1 small other same;
+      tabled = tables.0;
+      fitted = tables.1;
+      sized = (let some : s.size ≢ 0 = eqb-false s.size 0 parts.0 in omega arith);
+      fits = λ i small. ltb-false (slice_index s.caps (slice_index s.targets i)) s.size
+          (any-false (λ q. nat_lt (slice_index s.caps q) s.size) s.targets i parts.1 small);
+      alone = λ more. some_none s.source ((or_parts (is_some s.source) (nat_eq (length s.targets) 0) (several more)).0);
+      some = λ more. (let empty = (or_parts (is_some s.source) (nat_eq (length s.targets) 0) (several more)).1 in
+          let apart : length s.targets ≢ 0 = eqb-false (length s.targets) 0 empty in omega arith);
+    }
+
+-- ---- the facts by places
+
+source-facts : (caps : List ℕ) (source : Option Source) → IsSource caps source
+    → ((source_queue source (length caps) < length caps) ⊎ (source_least source ≡ 0))
+    × (source_queue source (length caps) < length caps → 1 ≤ source_least source)
+    × (source_least source ≤ slice_index caps (source_queue source (length caps)))
+    × (source_queue source (length caps) ≤ length caps)
+source-facts caps None is = (inr refl, λ small. absurd (omega arith), omega arith, omega arith)
+source-facts caps (Some s) is =
+    (inl (is.queue s refl), λ small. is.least s refl, is.most s refl, (let small = is.queue s refl in omega (arith, small)))
+
+no_source-facts : (caps : List ℕ) (source : Option Source) (q : ℕ) → ((s : Source) → source ≡ Some s → q ≢ s.queue) → q < length caps
+    → q ≢ source_queue source (length caps)
+no_source-facts caps None q other small = λ e. absurd (omega arith)
+no_source-facts caps (Some s) q other small = other s refl
+
+pub routing-is : (s : Shape) → IsRouteShape s → IsRouting (routing s)
+routing-is s is = record {
+  is_queue = is.named;
+  apart = is.apart;
+  no_source = λ i small. no_source-facts s.caps s.source (slice_index s.targets i) (λ source from_there. is.away source from_there i small) (is.named i small);
+  differ = λ i j v w small other apart e. (let few = is.few in let ne : i ≢ j = apart in absurd (omega arith));
+  sized = is.sized;
+  sourced = (source-facts s.caps s.source is.source).0;
+  counts = (source-facts s.caps s.source is.source).1;
+}
+
+-- a source that is full serves
+pub source-most : (s : Shape) → IsRouteShape s → (routing s).least ≤ slice_index s.caps ((routing s).source)
+source-most s is = (source-facts s.caps s.source is.source).2
+
+-- a source is a queue, or past the last
+pub source-within : (s : Shape) → IsRouteShape s → (routing s).source ≤ length s.caps
+source-within s is = (source-facts s.caps s.source is.source).3

@@ -1,0 +1,83 @@
+//! The route.
+
+ghost use Rattle.std.specs.Prelude.{◌≡◌, ◌<◌, ◌≤◌, ℕ, length, slice_index, get_or, OnOk, IfOk, IfErr, IfSome, EachIndex, Some, None};
+ghost use Rattle.psi_state.specs.State.{AreCapacities, IsBelow};
+ghost use Rattle.psi_route.specs.Routing.{weight};
+ghost use Rattle.psi_route.specs.Refusals.{refusal_of};
+ghost use Rattle.psi_route.specs.Accepted.{shape, IsRouteShape};
+
+use crate::judging::{fit_tables, is_self_target, is_size_off, repeats};
+use crate::parts::{Full, RouteRefusal, Source};
+use psi_index::IndexTable;
+use psi_state::{Queues, State};
+
+/// Customers who come from outside, or one who is served at a source, join one of the targets.
+///
+/// They join the target with the least key among those that have room for them all. The key of a target is
+/// the value of its table at the number of customers there, and where two are equal the place in the list;
+/// without tables it is the place alone, so that the first target with room is chosen. Join the shortest
+/// queue and the other index policies are routes.
+#[derive(Drop, Debug)]
+pub struct Route {
+    caps: State,
+    source: Option<Source>,
+    size: u16,
+    targets: Queues,
+    tables: Vec<IndexTable>,
+    full: Full,
+    ghost valid: { IsRouteShape (shape caps source size targets tables.items full) },
+}
+
+impl Route {
+    ghost use Rattle.psi_route.specs.Route.{shape_of};
+
+    /// The route of these parts.
+    ///
+    /// `source` is where a served customer comes from; without one, customers come from outside. `size` is
+    /// how many come at once. `tables` has one table for each target, in the targets' order, with a value
+    /// for each number of customers at which the target has room for one more; it is empty where the first
+    /// target with room is to be chosen. `full` says what a served customer does who finds no room. Where
+    /// there is no target, a served customer leaves the network, whatever `full` is, and without a source
+    /// nothing changes.
+    ///
+    /// The refusals come in the order of `RouteRefusal`.
+    pub fn new(
+        caps: State,
+        source: Option<Source>,
+        size: u16,
+        targets: Queues,
+        tables: Vec<IndexTable>,
+        full: Full,
+    ) -> Result<Route, RouteRefusal>
+        requires caps { AreCapacities caps }
+        requires targets { EachIndex targets (λ i. slice_index targets i < length caps) }
+        requires queue { IfSome source (λ s. s.queue < length caps) }
+        requires least { IfSome source (λ s. 1 ≤ s.k) }
+        requires most { IfSome source (λ s. s.k ≤ slice_index caps s.queue) }
+        ensures accepted { OnOk result (refusal_of (shape caps source size targets tables.items full) ≡ None) }
+        ensures refused { IfErr result (λ refusal. refusal_of (shape caps source size targets tables.items full) ≡ Some refusal) }
+        ensures shape { IfOk result (λ route. shape_of route ≡ shape caps source size targets tables.items full) }
+    {
+        let _few = targets.len();
+        if is_self_target(source, &targets) {
+            return Err(RouteRefusal::SelfTarget);
+        }
+        if repeats(&targets) {
+            return Err(RouteRefusal::Repeated);
+        }
+        if !fit_tables(&caps, &targets, &tables) {
+            return Err(RouteRefusal::TableLength);
+        }
+        if is_size_off(&caps, source, size, &targets) {
+            return Err(RouteRefusal::SizeRange);
+        }
+        Ok(Route {
+            caps,
+            source,
+            size,
+            targets,
+            tables,
+            full,
+        })
+    }
+}
