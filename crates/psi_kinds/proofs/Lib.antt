@@ -1,3 +1,5 @@
+mod Judged
 mod Chosen
 mod Routes
 mod Guards
+mod Does

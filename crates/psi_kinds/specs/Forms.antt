@@ -43,6 +43,11 @@ form_of caps (Fork from to) = guards (source_parts caps from ++ map (gaining_par
 form_of caps (Join from to) = guards (map (λ q. losing_part caps 1 q 1) from ++ joined_parts caps to)
 form_of caps (Guarded parts) = guards parts
 
+-- what a form of event does to a state
+abbrev pub function_of : Form → List ℕ → List ℕ
+function_of (routes shape) = route.routed shape
+function_of (guards parts) = guard.guarded parts
+
 -- the two states by which a form of event breaks the order, if there are any
 abbrev pub pair_of : List ℕ → Form → Option (List ℕ × List ℕ)
 pair_of caps (routes shape) = route.upset_of shape

@@ -1,5 +1,5 @@
 -- What each kind of event does to a state, under the capacities of the network's queues.
-use Rattle.std.specs.Prelude.{◌≡◌, ℕ, zero, suc, ◌+◌, ◌-◌, List, [], ◌∷◌, Bool, true, false, ◌&&◌, ◌||◌, nat_le, nat_lt, nat_eq, if◌then◌else◌, Option, Some, None, slice_index, slice_index_or, slice_set}
+use Rattle.std.specs.Prelude.{◌≡◌, ℕ, zero, suc, ◌+◌, ◌-◌, List, [], ◌∷◌, Bool, true, false, ◌&&◌, ◌||◌, nat_le, nat_lt, nat_eq, if◌then◌else◌, Option, Some, None, IfSome, slice_index, slice_index_or, slice_set, EachIndex, ◌<◌, ◌≤◌, length}
 use Rattle.std.specs.List.{list_all}
 use Rattle.std.specs.Option.{option_map}
 use Rattle.psi_state.specs.State.{IsBelow}
@@ -115,6 +115,27 @@ do_kind caps (Negative from on amount) x = if may_serve from x then lose on amou
 do_kind caps (Fork from to) x = if may_serve from x && list_all (has_room caps 1 x) to then gain_each to (leave from x) else x
 do_kind caps (Join from to) x = if list_all (is_held x) from && may_join caps to x then gain_chosen to 1 (lose_each from x) else x
 do_kind caps (Guarded parts) x = guarded parts x
+
+-- a source among queues of these capacities, whose server works from some number of customers on that the queue can hold
+pub record IsSource (caps : List ℕ) (source : Source) : Type 0 where
+  pub queue : source.queue < length caps
+  pub least : 1 ≤ source.k
+  pub most : source.k ≤ slice_index caps source.queue
+
+-- each queue of the list is one of those with these capacities
+abbrev pub AreQueues : List ℕ → List ℕ → Type 0
+AreQueues caps queues = EachIndex queues (λ i. slice_index queues i < length caps)
+
+-- the queues and the source that a kind names are among those with these capacities; parts are judged by themselves
+abbrev pub IsKindOf : List ℕ → Kind → Type 0
+IsKindOf caps (Arrival to) = AreQueues caps to
+IsKindOf caps (Service from to full) = IsSource caps from × AreQueues caps to
+IsKindOf caps (Index from to table full size) = IfSome from (λ source. IsSource caps source) × AreQueues caps to
+IsKindOf caps (Batch to size) = AreQueues caps to
+IsKindOf caps (Negative from on amount) = IfSome from (λ source. IsSource caps source) × (on < length caps)
+IsKindOf caps (Fork from to) = IfSome from (λ source. IsSource caps source) × AreQueues caps to
+IsKindOf caps (Join from to) = AreQueues caps from × IfSome to (λ q. q < length caps)
+IsKindOf caps (Guarded parts) = Unit {0}
 
 -- the function does to every state of the capacities what the kind does
 pub record Does (caps : List ℕ) (f : List ℕ → List ℕ) (kind : Kind) : Type 0 where

@@ -98,12 +98,15 @@ refusal_of_parts caps (Guarded parts) = option_map of_parts (guard.refusal_of ca
 abbrev pub refused_where : Bool → KindRefusal → Option KindRefusal
 refused_where cause refusal = if cause then Some refusal else None
 
--- why a kind is refused, the first of its causes in this order
-unfoldable pub refusal_of : List ℕ → Kind → Option KindRefusal
-refusal_of caps kind =
+-- the first cause for which the lists and numbers of a kind are refused
+abbrev pub listed_refusal : List ℕ → Kind → Option KindRefusal
+listed_refusal caps kind =
     first_or (refused_where (lacks_queues kind) Empty)
     (first_or (refused_where (repeats_queue kind) Repeated)
     (first_or (refused_where (targets_itself kind) SelfTarget)
     (first_or (refused_where (lacks_tables caps kind) TableLength)
-    (first_or (refused_where (is_out_of_size caps kind) SizeRange)
-    (refusal_of_parts caps kind)))))
+    (refused_where (is_out_of_size caps kind) SizeRange))))
+
+-- why a kind is refused: the first of these causes, or else of those of its parts
+unfoldable pub refusal_of : List ℕ → Kind → Option KindRefusal
+refusal_of caps kind = first_or (listed_refusal caps kind) (refusal_of_parts caps kind)
