@@ -1,5 +1,7 @@
 mod Judged
+mod Taking
 mod Chosen
 mod Routes
 mod Guards
+mod Fitting
 mod Does

@@ -32,15 +32,27 @@ abbrev pub joined_parts : List ℕ → Option ℕ → List Part
 joined_parts caps None = []
 joined_parts caps (Some q) = gaining_part caps q ∷ []
 
+-- a negative customer: the source loses one, and the other queue the amount or all
+abbrev pub negative_parts : List ℕ → Option Source → ℕ → ℕ → List Part
+negative_parts caps from on amount = source_parts caps from ++ losing_part caps 0 on amount ∷ []
+
+-- a fork: the source loses one, and every queue of the list gains one
+abbrev pub fork_parts : List ℕ → Option Source → List ℕ → List Part
+fork_parts caps from to = source_parts caps from ++ map (gaining_part caps) to
+
+-- a join: every queue of the list loses one, and the queue that is joined gains one
+abbrev pub join_parts : List ℕ → List ℕ → Option ℕ → List Part
+join_parts caps from to = map (λ q. losing_part caps 1 q 1) from ++ joined_parts caps to
+
 -- the form of each kind
 abbrev pub form_of : List ℕ → Kind → Form
 form_of caps (Arrival to) = routes (record { caps = caps; source = None; size = 1; targets = to; tables = []; full = Lost })
 form_of caps (Service from to full) = routes (record { caps = caps; source = Some from; size = 1; targets = to; tables = []; full = full })
 form_of caps (Index from to table full size) = routes (record { caps = caps; source = from; size = size; targets = to; tables = table; full = full })
 form_of caps (Batch to size) = routes (record { caps = caps; source = None; size = size; targets = to; tables = []; full = Lost })
-form_of caps (Negative from on amount) = guards (source_parts caps from ++ losing_part caps 0 on amount ∷ [])
-form_of caps (Fork from to) = guards (source_parts caps from ++ map (gaining_part caps) to)
-form_of caps (Join from to) = guards (map (λ q. losing_part caps 1 q 1) from ++ joined_parts caps to)
+form_of caps (Negative from on amount) = guards (negative_parts caps from on amount)
+form_of caps (Fork from to) = guards (fork_parts caps from to)
+form_of caps (Join from to) = guards (join_parts caps from to)
 form_of caps (Guarded parts) = guards parts
 
 -- what a form of event does to a state

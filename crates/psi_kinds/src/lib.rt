@@ -7,6 +7,7 @@
 
 mod judging;
 mod kinds;
+mod parting;
 mod refusals;
 mod tables;
 

@@ -1,5 +1,10 @@
 //! Why a kind makes no event.
 
+ghost use Rattle.std.specs.Prelude.{◌≡◌};
+
+use psi_guard::GuardRefusal;
+use std::alloc::{AllocError, AllocFailed};
+
 /// Why a kind of event can't be lowered.
 #[derive(Clone, Copy, PartialEq, Eq, Debug)]
 pub enum KindRefusal {
@@ -27,3 +32,48 @@ pub enum KindRefusal {
 /// There is no memory.
 #[derive(Clone, Copy, PartialEq, Eq, Debug)]
 pub struct OutOfMemory;
+
+impl KindRefusal {
+    ghost use Rattle.psi_kinds.specs.Refusals.{of_parts};
+
+    // The refusal of a part as that of a kind.
+    pub(crate) fn of_parts(refusal: GuardRefusal) -> KindRefusal
+        ensures { result ≡ of_parts refusal }
+    {
+        match refusal {
+            GuardRefusal::Empty => KindRefusal::EmptyGuard,
+            GuardRefusal::Repeated => KindRefusal::Repeated,
+            GuardRefusal::OutOfRange => KindRefusal::PartRange,
+        }
+    }
+}
+
+impl From<AllocError> for KindRefusal {
+    ghost use Rattle.psi_kinds.specs.declared.refusals.KindRefusal.TheVariants.{OutOfMemory};
+
+    ghost from_gives = { λ _ refusal. refusal ≡ OutOfMemory };
+
+    fn from(_error: AllocError) -> KindRefusal {
+        KindRefusal::OutOfMemory
+    }
+}
+
+impl<T: Drop> From<AllocFailed<T>> for KindRefusal {
+    ghost use Rattle.psi_kinds.specs.declared.refusals.KindRefusal.TheVariants.{OutOfMemory};
+
+    ghost from_gives = { λ _ refusal. refusal ≡ OutOfMemory };
+
+    fn from(_error: AllocFailed<T>) -> KindRefusal {
+        KindRefusal::OutOfMemory
+    }
+}
+
+impl From<psi_index::OutOfMemory> for KindRefusal {
+    ghost use Rattle.psi_kinds.specs.declared.refusals.KindRefusal.TheVariants.{OutOfMemory};
+
+    ghost from_gives = { λ _ refusal. refusal ≡ OutOfMemory };
+
+    fn from(_error: psi_index::OutOfMemory) -> KindRefusal {
+        KindRefusal::OutOfMemory
+    }
+}
