@@ -18,7 +18,7 @@ use Rattle.psi_kinds.specs.Kinds.{has_room, is_held, serves, first_with_room, be
 use Rattle.psi_event.specs.Choice.{first_or}
 use Rattle.psi_kinds.specs.declared.refusals.KindRefusal.{KindRefusal}
 use Rattle.psi_kinds.specs.declared.refusals.KindRefusal.TheVariants.{SelfTarget, Repeated, TableLength, SizeRange, Empty}
-use Rattle.psi_kinds.specs.Refusals.{refused_where, listed_refusal, lacks_queues, repeats_queue, targets_itself, lacks_tables, is_out_of_size, has_given}
+use Rattle.psi_kinds.specs.Refusals.{IsUnrefused, IsShort, refused_where, listed_refusal, lacks_queues, repeats_queue, targets_itself, lacks_tables, is_out_of_size, has_given}
 use Rattle.psi_kinds.specs.Forms.{losing_part, gaining_part, source_parts, joined_parts, form_of, function_of}
 use Rattle.psi_kinds.proofs.Routes.{first-choice, best-choice, without, with, routed-without, routed-with, absent}
 use Rattle.psi_kinds.proofs.Guards.{move_each, AreSingle, AreApart, guarded-by, allows-losing, allows-gaining, moved-losing, moved-gaining, all_allow-append, move_each-append, all_allow-gaining, all_allow-losing, HoldAtMost, HaveCaps, lose-less, lose_each-less, move_each-losing, move_each-gaining, room-all, names-map, single-map, single-append, apart-map}
@@ -172,14 +172,6 @@ guarded-does caps parts x = refl
 
 -- ---- every kind
 
--- none of the causes of a refusal
-pub record IsUnrefused (caps : List ℕ) (kind : Kind) : Type 0 where
-  pub queues : lacks_queues kind ≡ false
-  pub once : repeats_queue kind ≡ false
-  pub away : targets_itself kind ≡ false
-  pub tables : lacks_tables caps kind ≡ false
-  pub size : is_out_of_size caps kind ≡ false
-
 pub unrefused : (caps : List ℕ) (kind : Kind) → listed_refusal caps kind ≡ None → IsUnrefused caps kind
 unrefused caps kind is =
     let tests = all_false (lacks_queues kind) (repeats_queue kind) (targets_itself kind) (lacks_tables caps kind) (is_out_of_size caps kind) is in
@@ -195,17 +187,6 @@ unrefused caps kind is =
     all_false false false false true e is = absurd cc
     all_false false false false false true is = absurd cc
     all_false false false false false false is = (refl, refl, refl, refl, refl)
-
--- the list of an index event is one that a `Queues` holds
-abbrev pub IsShort : Kind → Type 0
-IsShort (Arrival to) = Unit {0}
-IsShort (Service from to full) = Unit {0}
-IsShort (Index from to table full size) = length to ≤ 32
-IsShort (Batch to size) = Unit {0}
-IsShort (Negative from on amount) = Unit {0}
-IsShort (Fork from to) = Unit {0}
-IsShort (Join from to) = Unit {0}
-IsShort (Guarded parts) = Unit {0}
 
 source_queue : (caps : List ℕ) (from : Option Source) → IfSome from (λ s. IsSource caps s) → IfSome from (λ s. s.queue < length caps)
 source_queue caps None is = tt

@@ -1,5 +1,5 @@
 -- Which kinds are refused, and why.
-use Rattle.std.specs.Prelude.{ℕ, List, [], ◌∷◌, Bool, true, false, not, nat_eq, if◌then◌else◌, Option, Some, None}
+use Rattle.std.specs.Prelude.{◌≡◌, ◌≤◌, length, ℕ, List, [], ◌∷◌, Bool, true, false, not, nat_eq, if◌then◌else◌, Option, Some, None}
 use Rattle.std.specs.List.{list_any}
 use Rattle.std.specs.Option.{option_map}
 use Rattle.psi_event.specs.Choice.{first_or}
@@ -10,7 +10,7 @@ use Rattle.psi_route.specs.Refusals.{is_self_target, repeats, are_tables, is_siz
 use Rattle.psi_kinds.specs.declared.kinds.Kind.{Kind}
 use Rattle.psi_kinds.specs.declared.kinds.Kind.TheVariants.{Arrival, Service, Index, Batch, Negative, Fork, Join, Guarded}
 use Rattle.psi_kinds.specs.declared.refusals.KindRefusal.{KindRefusal}
-use Rattle.psi_kinds.specs.declared.refusals.KindRefusal.TheVariants.{SelfTarget, Repeated, TableLength, SizeRange, Empty, PartRange, EmptyGuard}
+use Rattle.psi_kinds.specs.declared.refusals.KindRefusal.TheVariants.{SelfTarget, Repeated, TableLength, SizeRange, Empty, PartRange, EmptyGuard, OutOfMemory}
 
 -- the list has nothing
 abbrev pub is_empty : {A : Type 0} → List A → Bool
@@ -110,3 +110,33 @@ listed_refusal caps kind =
 -- why a kind is refused: the first of these causes, or else of those of its parts
 unfoldable pub refusal_of : List ℕ → Kind → Option KindRefusal
 refusal_of caps kind = first_or (listed_refusal caps kind) (refusal_of_parts caps kind)
+
+-- what a refusal says of the cause that there is; want of memory says nothing
+abbrev pub IsKindRefusal : KindRefusal → Option KindRefusal → Type 0
+IsKindRefusal SelfTarget cause = cause ≡ Some SelfTarget
+IsKindRefusal Repeated cause = cause ≡ Some Repeated
+IsKindRefusal TableLength cause = cause ≡ Some TableLength
+IsKindRefusal SizeRange cause = cause ≡ Some SizeRange
+IsKindRefusal Empty cause = cause ≡ Some Empty
+IsKindRefusal PartRange cause = cause ≡ Some PartRange
+IsKindRefusal EmptyGuard cause = cause ≡ Some EmptyGuard
+IsKindRefusal OutOfMemory cause = Unit {0}
+
+-- the lists and numbers of a kind are no cause of a refusal
+pub record IsUnrefused (caps : List ℕ) (kind : Kind) : Type 0 where
+  pub queues : lacks_queues kind ≡ false
+  pub once : repeats_queue kind ≡ false
+  pub away : targets_itself kind ≡ false
+  pub tables : lacks_tables caps kind ≡ false
+  pub size : is_out_of_size caps kind ≡ false
+
+-- the list of an index event is one that a `Queues` holds
+abbrev pub IsShort : Kind → Type 0
+IsShort (Arrival to) = Unit {0}
+IsShort (Service from to full) = Unit {0}
+IsShort (Index from to table full size) = length to ≤ 32
+IsShort (Batch to size) = Unit {0}
+IsShort (Negative from on amount) = Unit {0}
+IsShort (Fork from to) = Unit {0}
+IsShort (Join from to) = Unit {0}
+IsShort (Guarded parts) = Unit {0}

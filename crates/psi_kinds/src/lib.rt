@@ -5,12 +5,16 @@
 //! two forms, a route or a guarded event, that does the same to every state.
 #![tactic(auto)]
 
+mod event;
 mod judging;
 mod kinds;
+mod lowering;
 mod parting;
 mod refusals;
 mod tables;
 
+pub use event::Event;
 pub use kinds::Kind;
+pub use lowering::lower;
 pub use refusals::{KindRefusal, OutOfMemory};
 pub use tables::Tables;
