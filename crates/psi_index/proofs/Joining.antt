@@ -1,5 +1,5 @@
 -- Two stretches that overlap make a longer one.
-use Rattle.std.proofs.Common.{◌≡◌, ℕ, zero, suc, ◌+◌, ◌-◌, ◌*◌, ◌<◌, ◌≤◌, List, [], ◌∷◌, length, min, max, take, drop, slice_index, slice_range, inl, inr, ap, sym, ◌∙◌, subst, arith, refl, length-drop}
+use Rattle.std.proofs.Common.{◌≡◌, ℕ, zero, suc, ◌+◌, ◌-◌, ◌*◌, ◌<◌, ◌≤◌, List, [], ◌∷◌, length, min, max, drop, slice_index, slice_range, inl, inr, ap, sym, ◌∙◌, subst, arith, refl, length-drop}
 use Rattle.std.proofs.lemmas.Bool.{cases_lt}
 use Rattle.std.proofs.lemmas.List.{get_or-take, get_or-drop, length-take-le}
 use Rattle.psi_index.specs.Extremes.{least_of, greatest_of, IsLeast, IsGreatest, AreLeast, AreGreatest, JoinBy}

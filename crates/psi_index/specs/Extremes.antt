@@ -1,5 +1,5 @@
 -- The least and the greatest value of a stretch of a list, and lists that rise.
-use Rattle.std.specs.Prelude.{◌≡◌, ℕ, ◌+◌, ◌*◌, ◌^◌, ◌<◌, ◌≤◌, List, [], ◌∷◌, length, min, max, slice_index, slice_range}
+use Rattle.std.specs.Prelude.{◌≡◌, ℕ, ◌+◌, ◌^◌, ◌<◌, ◌≤◌, List, [], ◌∷◌, length, min, max, slice_index, slice_range}
 
 -- the least number of a list
 abbrev pub least_of : List ℕ → ℕ

@@ -1,2 +1,7 @@
+mod Setting
+mod Tightness
+mod Offering
 mod Judged
 mod Told
+mod Choosing
+mod Searching

@@ -1,10 +1,10 @@
 -- What is known of a route: the facts that no refusal leaves open.
-use Rattle.std.specs.Prelude.{◌≡◌, ◌≢◌, ◌⊎◌, ℕ, zero, suc, ◌+◌, ◌*◌, ◌<◌, ◌≤◌, List, [], ◌∷◌, length, get_or, slice_index, Option, Some, None, Bool, true, false, not, ◌&&◌, ◌||◌, nat_eq, nat_le, nat_lt, is_some, is_none, if◌then◌else◌, IfSome, refl}
+use Rattle.std.specs.Prelude.{◌≡◌, ◌≢◌, ◌⊎◌, ℕ, zero, suc, ◌<◌, ◌≤◌, List, [], ◌∷◌, length, get_or, slice_index, Option, Some, None, Bool, true, false, not, ◌&&◌, ◌||◌, nat_eq, nat_le, nat_lt, is_some, is_none, if◌then◌else◌, refl}
 use Rattle.std.specs.List.{list_any}
 use Rattle.std.proofs.Common.{inl, inr, ap, sym, ◌∙◌, subst, arith}
-use Rattle.std.proofs.lemmas.Bool.{cases_lt, cases_eq, cases_order, cases_Bool, le-leb, eq-eqb, eqb-true, eqb-false, leb-true, ltb-false, and_parts, not-false}
+use Rattle.std.proofs.lemmas.Bool.{cases_order, le-leb, eqb-true, eqb-false, ltb-false, and_parts}
 use Rattle.psi_state.specs.State.{AreCapacities}
-use Rattle.psi_route.specs.Routing.{Shape, Routing, routing, source_queue, source_least, weight, IsRouting}
+use Rattle.psi_route.specs.Routing.{Shape, routing, source_queue, source_least, IsRouting}
 use Rattle.psi_route.specs.Refusals.{is_self_target, repeats, are_tables, fit_tables, is_size_off, refusal_of}
 use Rattle.psi_route.specs.declared.parts.Source.{Source}
 use Rattle.psi_route.specs.declared.parts.Full.{Full}

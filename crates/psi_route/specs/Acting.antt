@@ -1,8 +1,8 @@
 -- What a route does to a state, place by place.
-use Rattle.std.specs.Prelude.{◌≡◌, ◌≢◌, ◌⊎◌, ℕ, zero, suc, ◌+◌, ◌-◌, ◌<◌, ◌≤◌, List, length, slice_index, slice_set, Option, Some, None, Bool, true, false, ◌&&◌, ◌||◌, nat_eq, nat_le, nat_lt, is_none, if◌then◌else◌, refl}
+use Rattle.std.specs.Prelude.{◌≡◌, ◌≢◌, ◌⊎◌, ℕ, zero, suc, ◌+◌, ◌-◌, ◌<◌, ◌≤◌, List, length, slice_index, slice_set, Option, Some, None, Bool, true, false, ◌&&◌, ◌||◌, nat_eq, nat_lt, is_none, if◌then◌else◌, refl}
 use Rattle.std.specs.Bool.{then_some}
 use Rattle.std.proofs.Common.{inl, inr, ap, sym, ◌∙◌, subst, arith, length-set, get_or-set_same, get_or-set_other}
-use Rattle.std.proofs.lemmas.Bool.{cases_lt, cases_eq, cases_order, cases_Bool, lt-ltb, le-ltb, le-leb, lt-leb, leb-true, leb-false, ltb-true, eq-eqb, ne_eqb, and_parts, and_left, and_right}
+use Rattle.std.proofs.lemmas.Bool.{cases_lt, cases_eq, cases_order, cases_Bool, lt-ltb, le-ltb, le-leb, lt-leb, leb-true, leb-false, eq-eqb, ne_eqb, and_parts, and_left, and_right}
 use Rattle.std.proofs.lemmas.List.{set_past}
 use Rattle.psi_event.specs.Choice.{all_or_some, first_some, first_some-none, first_some-found, first_some-of_none, first_some-of_found}
 use Rattle.psi_route.specs.Routing.{Routing, has_room, beats, best_at, best, taken, moved, act, IsRouting, HasRoom, Lacks, IsBest, IsPassed, Leaves, Remains, Routed}
@@ -69,7 +69,7 @@ pub record Leads (r : Routing) (x : List ℕ) (n j : ℕ) : Type 0 where
   pub place : j < n
   pub room : HasRoom r j (slice_index x (r.queue j))
   pub others : (i : ℕ) → i < n → i ≢ j
-    → Lacks r i (slice_index x (r.queue i)) ⊎ (r.key j (slice_index x (r.queue j)) < r.key i (slice_index x (r.queue i)))
+      → Lacks r i (slice_index x (r.queue i)) ⊎ (r.key j (slice_index x (r.queue j)) < r.key i (slice_index x (r.queue i)))
 
 -- none of the first n places has room
 pub record NoRoom (r : Routing) (x : List ℕ) (n : ℕ) : Type 0 where
@@ -159,11 +159,11 @@ best_or_passed r x j is place =
     elim (room_or_lacks r j (slice_index x (r.queue j))) [
       | inr lacks ↦ inr (inl lacks)
       | inl room ↦ elim (all_or_some (λ i. i ≢ j → Lacks r i (slice_index x (r.queue i)) ⊎ (r.key j (slice_index x (r.queue j)) < r.key i (slice_index x (r.queue i))))
-            (λ i. (i ≢ j) × HasRoom r i (slice_index x (r.queue i)) × (r.key i (slice_index x (r.queue i)) < r.key j (slice_index x (r.queue j))))
-            r.places (λ i small. compared r x i j is small place)) [
-        | inl each ↦ inl (record { place = place; room = room; others = each })
-        | inr found ↦ inr (inr (found.0, found.1, found.2.0, found.2.1, found.2.2))
-      ]
+          (λ i. (i ≢ j) × HasRoom r i (slice_index x (r.queue i)) × (r.key i (slice_index x (r.queue i)) < r.key j (slice_index x (r.queue j))))
+          r.places (λ i small. compared r x i j is small place)) [
+            | inl each ↦ inl (record { place = place; room = room; others = each })
+            | inr found ↦ inr (inr (found.0, found.1, found.2.0, found.2.1, found.2.2))
+          ]
     ]
   where
     compared : (r : Routing) (x : List ℕ) (i j : ℕ) → IsRouting r → i < r.places → j < r.places
@@ -212,12 +212,12 @@ beats-not : (r : Routing) (x : List ℕ) (i j : ℕ) → IsBest r x j → i < r.
 beats-not r x i j best small =
     elim (cases_eq i j) [
       | inl e ↦ and_right (has_room r x i) (nat_lt (r.key i (slice_index x (r.queue i))) (r.key j (slice_index x (r.queue j))))
-            (subst (λ k. nat_lt (r.key k (slice_index x (r.queue k))) (r.key j (slice_index x (r.queue j))) ≡ false) (sym e)
-            (le-ltb (r.key j (slice_index x (r.queue j))) (r.key j (slice_index x (r.queue j))) (omega arith)))
+          (subst (λ k. nat_lt (r.key k (slice_index x (r.queue k))) (r.key j (slice_index x (r.queue j))) ≡ false) (sym e)
+          (le-ltb (r.key j (slice_index x (r.queue j))) (r.key j (slice_index x (r.queue j))) (omega arith)))
       | inr ne ↦ elim (best.others i small ne) [
         | inl lacks ↦ and_left (has_room r x i) (nat_lt (r.key i (slice_index x (r.queue i))) (r.key j (slice_index x (r.queue j)))) (lacks-is r x i lacks)
         | inr more ↦ and_right (has_room r x i) (nat_lt (r.key i (slice_index x (r.queue i))) (r.key j (slice_index x (r.queue j))))
-              (le-ltb (r.key i (slice_index x (r.queue i))) (r.key j (slice_index x (r.queue j))) (omega (arith, more)))
+            (le-ltb (r.key i (slice_index x (r.queue i))) (r.key j (slice_index x (r.queue j))) (omega (arith, more)))
       ]
     ]
 
@@ -243,9 +243,9 @@ best_at-beaten r x i j small room less =
     elim (cases_Bool (is_none (first_some (λ k. then_some (beats r x j k) k) 0 r.places))) [
       | inr no_answer ↦ no_answer
       | inl quiet ↦ absurd (let gone : then_some (beats r x j i) i ≡ None =
-            first_some-of_none (λ k. then_some (beats r x j k) k) 0 r.places
-            (none-is (first_some (λ k. then_some (beats r x j k) k) 0 r.places) quiet) i (omega arith) (omega arith) in
-            let under : beats r x j i ≡ false = false-then_some (beats r x j i) i gone in absurd cc)
+          first_some-of_none (λ k. then_some (beats r x j k) k) 0 r.places
+          (none-is (first_some (λ k. then_some (beats r x j k) k) 0 r.places) quiet) i (omega arith) (omega arith) in
+          let under : beats r x j i ≡ false = false-then_some (beats r x j i) i gone in absurd cc)
     ] in
     then_some-false (has_room r x j && is_none (first_some (λ k. then_some (beats r x j k) k) 0 r.places)) j
     (and_right (has_room r x j) (is_none (first_some (λ k. then_some (beats r x j k) k) 0 r.places)) found)
@@ -331,10 +331,10 @@ leaves_or_remains r x =
       | inr stays ↦ elim (cases_eq r.places 0) [
         | inl empty ↦ inl (inr (inl empty))
         | inr some ↦ elim (all_or_some (λ i. Lacks r i (slice_index x (r.queue i))) (λ i. HasRoom r i (slice_index x (r.queue i))) r.places
-              (λ i small. elim (room_or_lacks r i (slice_index x (r.queue i))) [ inl room ↦ inr room | inr lacks ↦ inl lacks ])) [
-          | inl each ↦ inr (stays, (let apart : r.places ≢ 0 = some in omega arith), each)
-          | inr found ↦ inl (inr (inr (found.0, found.1, found.2)))
-        ]
+            (λ i small. elim (room_or_lacks r i (slice_index x (r.queue i))) [ inl room ↦ inr room | inr lacks ↦ inl lacks ])) [
+              | inl each ↦ inr (stays, (let apart : r.places ≢ 0 = some in omega arith), each)
+              | inr found ↦ inl (inr (inr (found.0, found.1, found.2)))
+            ]
       ]
     ]
 
@@ -368,7 +368,7 @@ routed-some r x j is count serves chosen =
     let more : slice_index (slice_set (taken r x) (r.queue j) (slice_index x (r.queue j) + r.size)) (r.queue j) ≡ slice_index x (r.queue j) + r.size =
     get_or-set_same {A = ℕ} (taken r x) (r.queue j) (slice_index x (r.queue j) + r.size) 0 here in
     let elsewhere : (p : ℕ) → p ≢ r.queue j → p ≢ r.source
-        → slice_index (slice_set (taken r x) (r.queue j) (slice_index x (r.queue j) + r.size)) p ≡ slice_index x p =
+    → slice_index (slice_set (taken r x) (r.queue j) (slice_index x (r.queue j) + r.size)) p ≡ slice_index x p =
     λ p other away. get_or-set_other {A = ℕ} (taken r x) (r.queue j) p (slice_index x (r.queue j) + r.size) 0 other ∙ taken-other r x p away in
     record {
       long = length-set {A = ℕ} (taken r x) (r.queue j) (slice_index x (r.queue j) + r.size) ∙ (long ∙ count);
@@ -421,10 +421,10 @@ act-routed r is x count =
         | inl found ↦ subst (λ (y : List ℕ). Routed r x y) (sym (act-some r x found.0 serves found.1)) (routed-some r x found.0 is count serves found.1)
         | inr none_has ↦ elim (cases_Bool r.lost) [
           | inl lost ↦ subst (λ (y : List ℕ). Routed r x y) (sym (act-lost r x serves none_has (inl lost)))
-                (routed-lost r x is count serves none_has (λ remains. absurd (let stays : r.lost ≡ false = remains.0 in cc)))
+              (routed-lost r x is count serves none_has (λ remains. absurd (let stays : r.lost ≡ false = remains.0 in cc)))
           | inr stays ↦ elim (cases_eq r.places 0) [
             | inl empty ↦ subst (λ (y : List ℕ). Routed r x y) (sym (act-lost r x serves none_has (inr empty)))
-                  (routed-lost r x is count serves none_has (λ remains. absurd (omega (arith, remains.1))))
+                (routed-lost r x is count serves none_has (λ remains. absurd (omega (arith, remains.1))))
             | inr some ↦ (let more : 0 < r.places = (let apart : r.places ≢ 0 = some in omega arith) in
                 subst (λ (y : List ℕ). Routed r x y) (sym (act-stay r x serves none_has stays more))
                 (routed-stay r x count serves (stays, more, none_has.each)))

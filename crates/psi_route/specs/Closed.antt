@@ -1,11 +1,11 @@
 -- A route makes states of states.
-use Rattle.std.specs.Prelude.{◌≡◌, ◌⊎◌, ℕ, ◌+◌, ◌-◌, ◌<◌, ◌≤◌, List, length, slice_index, slice_set, Option, Some, None, Bool, true, false, ◌||◌, nat_eq, nat_le, if◌then◌else◌, refl}
+use Rattle.std.specs.Prelude.{◌≡◌, ℕ, ◌+◌, ◌-◌, ◌≤◌, List, length, slice_index, slice_set, Option, Some, None, Bool, true, false, ◌||◌, nat_eq, if◌then◌else◌, refl}
 use Rattle.std.proofs.Common.{inl, inr, ap, sym, ◌∙◌, subst, arith, length-set, get_or-set_same, get_or-set_other}
 use Rattle.std.proofs.lemmas.Bool.{cases_lt, cases_eq}
 use Rattle.std.proofs.lemmas.List.{set_past}
 use Rattle.psi_state.specs.State.{IsBelow}
 use Rattle.psi_event.specs.Law.{IsClosed}
-use Rattle.psi_route.specs.Routing.{Shape, Routing, routing, best, taken, moved, act, routed}
+use Rattle.psi_route.specs.Routing.{Shape, Routing, routing, best, taken, moved, routed}
 use Rattle.psi_route.specs.Acting.{act-idle, act-serves, best-place}
 
 -- a state with another number at one place is below another where it was and that number is
@@ -52,6 +52,6 @@ routed-closed s = record {
   each = λ x below. elim (cases_lt (slice_index x ((routing s).source)) ((routing s).least)) [
     | inl idle ↦ subst (λ (y : List ℕ). IsBelow y s.caps) (sym (act-idle (routing s) x idle)) below
     | inr serves ↦ subst (λ (y : List ℕ). IsBelow y s.caps) (sym (act-serves (routing s) x serves))
-          (moved-below s x (best (routing s) x) refl below)
+        (moved-below s x (best (routing s) x) refl below)
   ];
 }

@@ -4,3 +4,9 @@ pub mod Acting
 pub mod Accepted
 pub mod Closed
 pub mod Route
+pub mod Leader
+pub mod Monotone
+pub mod Ends
+pub mod Keys
+pub mod Offers
+pub mod Upset

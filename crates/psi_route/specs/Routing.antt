@@ -116,13 +116,13 @@ pub record IsBest (r : Routing) (x : List ℕ) (j : ℕ) : Type 0 where
   pub place : j < r.places
   pub room : HasRoom r j (slice_index x (r.queue j))
   pub others : (i : ℕ) → i < r.places → i ≢ j
-    → Lacks r i (slice_index x (r.queue i)) ⊎ (r.key j (slice_index x (r.queue j)) < r.key i (slice_index x (r.queue i)))
+      → Lacks r i (slice_index x (r.queue i)) ⊎ (r.key j (slice_index x (r.queue j)) < r.key i (slice_index x (r.queue i)))
 
 -- place j is passed over: it lacks room, or another place has room and a lesser key
 abbrev pub IsPassed : Routing → List ℕ → ℕ → Type 0
 IsPassed r x j = Lacks r j (slice_index x (r.queue j))
     ⊎ ((i : ℕ) × (i < r.places) × (i ≢ j) × HasRoom r i (slice_index x (r.queue i))
-      × (r.key i (slice_index x (r.queue i)) < r.key j (slice_index x (r.queue j))))
+    × (r.key i (slice_index x (r.queue i)) < r.key j (slice_index x (r.queue j))))
 
 -- a source that serves loses one: it is lost, the list is empty, or a place has room
 abbrev pub Leaves : Routing → List ℕ → Type 0
@@ -137,7 +137,7 @@ pub record Routed (r : Routing) (x y : List ℕ) : Type 0 where
   pub long : length y ≡ r.queues
   pub idle : slice_index x r.source < r.least → y ≡ x
   pub gains : (j : ℕ) → r.least ≤ slice_index x r.source → IsBest r x j
-    → slice_index y (r.queue j) ≡ slice_index x (r.queue j) + r.size
+      → slice_index y (r.queue j) ≡ slice_index x (r.queue j) + r.size
   pub stays : (j : ℕ) → j < r.places → IsPassed r x j → slice_index y (r.queue j) ≡ slice_index x (r.queue j)
   pub takes : r.source < r.queues → r.least ≤ slice_index x r.source → Leaves r x → slice_index y r.source + 1 ≡ slice_index x r.source
   pub keeps : Remains r x → slice_index y r.source ≡ slice_index x r.source

@@ -1,13 +1,14 @@
 //! The route.
 
-ghost use Rattle.std.specs.Prelude.{◌≡◌, ◌<◌, ◌≤◌, ℕ, length, slice_index, get_or, OnOk, IfOk, IfErr, IfSome, EachIndex, Some, None};
+ghost use Rattle.std.specs.Prelude.{◌≡◌, ◌<◌, ◌≤◌, ◌↔◌, ℕ, IsTrue, length, slice_index, get_or, OnOk, IfOk, IfErr, IfSome, EachIndex, Some, None};
 ghost use Rattle.psi_state.specs.State.{AreCapacities, IsBelow};
-ghost use Rattle.psi_route.specs.Routing.{weight};
+ghost use Rattle.psi_route.specs.Routing.{routed, upset_of, weight};
 ghost use Rattle.psi_route.specs.Refusals.{refusal_of};
 ghost use Rattle.psi_route.specs.Accepted.{shape, IsRouteShape};
 
 use crate::judging::{fit_tables, is_self_target, is_size_off, repeats};
 use crate::parts::{Full, RouteRefusal, Source};
+use psi_event::EventLaw;
 use psi_index::IndexTable;
 use psi_state::{Queues, State};
 
@@ -19,12 +20,12 @@ use psi_state::{Queues, State};
 /// queue and the other index policies are routes.
 #[derive(Drop, Debug)]
 pub struct Route {
-    caps: State,
-    source: Option<Source>,
-    size: u16,
-    targets: Queues,
-    tables: Vec<IndexTable>,
-    full: Full,
+    pub(crate) caps: State,
+    pub(crate) source: Option<Source>,
+    pub(crate) size: u16,
+    pub(crate) targets: Queues,
+    pub(crate) tables: Vec<IndexTable>,
+    pub(crate) full: Full,
     ghost valid: { IsRouteShape (shape caps source size targets tables.items full) },
 }
 
@@ -56,7 +57,9 @@ impl Route {
         requires most { IfSome source (λ s. s.k ≤ slice_index caps s.queue) }
         ensures accepted { OnOk result (refusal_of (shape caps source size targets tables.items full) ≡ None) }
         ensures refused { IfErr result (λ refusal. refusal_of (shape caps source size targets tables.items full) ≡ Some refusal) }
-        ensures shape { IfOk result (λ route. shape_of route ≡ shape caps source size targets tables.items full) }
+        ensures caps { IfOk result (λ route. ⟦<Route as EventLaw>⟧.capacities route ≡ caps) }
+        ensures function { IfOk result (λ route. ⟦<Route as EventLaw>⟧.function route ≡ routed (shape caps source size targets tables.items full)) }
+        ensures upset { IfOk result (λ route. ⟦<Route as EventLaw>⟧.upset_pair route ≡ upset_of (shape caps source size targets tables.items full)) }
     {
         let _few = targets.len();
         if is_self_target(source, &targets) {
@@ -79,5 +82,57 @@ impl Route {
             tables,
             full,
         })
+    }
+    // Whether there are no tables, so that the first target with room is chosen.
+    pub(crate) fn is_plain(&self) -> bool
+        ensures { IsTrue result ↔ (length self.now.tables.items ≡ 0) }
+    {
+        self.tables.is_empty()
+    }
+
+    // The number of targets.
+    pub(crate) fn places(&self) -> u8
+        ensures value { result ≡ length self.now.targets }
+        ensures few { result ≤ 32 }
+    {
+        self.targets.len()
+    }
+
+    // The queue of the target at place `i`.
+    pub(crate) fn target(&self, i: u8) -> u8
+        requires { i < length self.now.targets }
+        ensures value { result ≡ slice_index self.now.targets i }
+        ensures named { result < length self.now.caps }
+    {
+        self.targets.get(i)
+    }
+
+    // The capacity of the target at place `i`.
+    pub(crate) fn cap(&self, i: u8) -> u16
+        requires { i < length self.now.targets }
+        ensures { result ≡ slice_index self.now.caps (slice_index self.now.targets i) }
+    {
+        self.caps.get(self.target(i))
+    }
+
+    // The number of customers at the target at place `i`.
+    pub(crate) fn held(&self, x: &State, i: u8) -> u16
+        requires place { i < length self.now.targets }
+        requires length { length x.now ≡ length self.now.caps }
+        ensures { result ≡ slice_index x.now (slice_index self.now.targets i) }
+    {
+        x.get(self.target(i))
+    }
+
+    // The first part of the key of the target at place `i` with `v` customers; without tables it is 0.
+    pub(crate) fn weight(&self, i: u8, v: u16) -> u32
+        requires place { i < length self.now.targets }
+        requires number { v < slice_index self.now.caps (slice_index self.now.targets i) }
+        ensures { result ≡ weight (shape_of self.now) i v }
+    {
+        if self.tables.is_empty() {
+            return 0;
+        }
+        self.tables[i as usize].at(v)
     }
 }

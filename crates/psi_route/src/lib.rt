@@ -1,8 +1,20 @@
-//! Routes.
+//! Routes: customers who come from outside, or one who is served, join one of several queues.
+//!
+//! A [`Route`] chooses the target with the least key among those with room: the first of a list, or the
+//! least of an index, as in join the shortest queue. It is an event of a network: a function on states,
+//! with the tight envelope of each box (Bušić, Gaujal and Vincent 2008), and with an exact test for
+//! whether it keeps the componentwise order of states (Propp and Wilson 1996).
 #![tactic(auto)]
 
 mod built;
+mod ends;
+mod envelope;
 mod judging;
+mod keys;
+mod law;
+mod marks;
+mod moving;
+mod offers;
 mod parts;
 
 pub use built::Route;

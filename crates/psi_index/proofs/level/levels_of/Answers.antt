@@ -1,4 +1,4 @@
-use Rattle.std.proofs.Common.{rules, ◌≡◌, ◌*◌, ◌^◌, ◌≤◌, length, List, ap, sym, ◌∙◌, subst, arith}
+use Rattle.std.proofs.Common.{◌≡◌, ◌*◌, ◌^◌, length, List, ap, sym, ◌∙◌, subst, arith}
 use Rattle.psi_index.specs.Levels.{AreLevels}
 use Rattle.psi_index.specs.declared.level.Level.{Level}
 use Rattle.psi_index.proofs.Widths.{power-below, levels-more}

@@ -1,4 +1,4 @@
-use Rattle.std.proofs.Common.{◌≡◌, ◌+◌, ◌-◌, ◌*◌, ◌^◌, ◌<◌, ◌≤◌, List, ℕ, length, subst, arith}
+use Rattle.std.proofs.Common.{◌≡◌, ◌-◌, ◌^◌, ◌≤◌, List, ℕ, length, subst, arith}
 use Rattle.psi_index.specs.Levels.{IsLevel}
 use Rattle.psi_index.proofs.Widths.{exponent-level, level-is, level-width}
 use Rattle.psi_index.proofs.table.IndexTable.level.Goals as goal

@@ -1,5 +1,4 @@
-use Rattle.std.proofs.Common.{List, ℕ, Bool, false, true, sym, ◌∙◌, ap, subst, ◌≡◌, ◌≤◌, length, arith}
-use Rattle.psi_state.specs.State.{AreQueueNumbers}
+use Rattle.std.proofs.Common.{List, ℕ, sym, ◌∙◌, ap}
 use Rattle.psi_route.specs.Refusals.{fit_tables}
 use Rattle.psi_route.specs.Accepted.{shape, accepted}
 use Rattle.psi_route.proofs.Judged.{source-is}
@@ -32,12 +31,12 @@ returns-then-is_size_off-clause-refused c =
 pub invariant_of-result : goal.invariant_of-result
 invariant_of-result c = record {
   valid =
-    accepted (shape c.args.caps c.args.source c.args.size c.args.targets c.args.tables.items c.args.full) c.requires.caps
-    (source-is c.args.caps c.args.source c.requires.queue c.requires.least c.requires.most) c.len-few.ensures.numbers.few c.requires.targets
-    (told-none (shape c.args.caps c.args.source c.args.size c.args.targets c.args.tables.items c.args.full)
-    (sym c.is_self_target.ensures ∙ c.if-is_self_target.false) (sym c.repeats.ensures ∙ c.if-repeats.false)
-    (ap (λ (ts : List (List ℕ)). fit_tables c.args.caps c.args.targets ts) (sym c.deref.ensures.value) ∙ (sym c.fit_tables.ensures ∙ c.if-not-fit_tables.false))
-    (sym c.is_size_off.ensures ∙ c.if-is_size_off.false));
+      accepted (shape c.args.caps c.args.source c.args.size c.args.targets c.args.tables.items c.args.full) c.requires.caps
+      (source-is c.args.caps c.args.source c.requires.queue c.requires.least c.requires.most) c.len-few.ensures.numbers.few c.requires.targets
+      (told-none (shape c.args.caps c.args.source c.args.size c.args.targets c.args.tables.items c.args.full)
+      (sym c.is_self_target.ensures ∙ c.if-is_self_target.false) (sym c.repeats.ensures ∙ c.if-repeats.false)
+      (ap (λ (ts : List (List ℕ)). fit_tables c.args.caps c.args.targets ts) (sym c.deref.ensures.value) ∙ (sym c.fit_tables.ensures ∙ c.if-not-fit_tables.false))
+      (sym c.is_size_off.ensures ∙ c.if-is_size_off.false));
 }
 
 pub returns-clause-accepted : goal.returns-clause-accepted

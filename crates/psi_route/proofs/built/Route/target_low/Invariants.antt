@@ -1,0 +1,8 @@
+use Rattle.std.proofs.Common.{ℕ, ◌+◌, ◌<◌, ◌≤◌}
+use Rattle.psi_route.specs.Routing.{routing}
+use Rattle.psi_route.specs.Route.{shape_of}
+use Rattle.psi_route.specs.Ends.{CanPass}
+use Rattle.psi_route.proofs.built.Route.target_low.Given as goal
+
+abbrev pub invariant-loop-more : goal.invariant-loop-more
+invariant-loop-more l = (t : ℕ) → l.low ≤ t → t < l.low + l.more → CanPass (routing (shape_of l.self)) l.lo l.hi l.j t → ⊥

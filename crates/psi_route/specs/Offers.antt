@@ -1,0 +1,64 @@
+-- What each place offers in a box of states: the least key with which it can be chosen, and the greatest one where it always has room.
+use Rattle.std.specs.Prelude.{◌≡◌, ◌≢◌, ◌⊎◌, ℕ, ◌<◌, ◌≤◌, List, slice_index, Option, Some, None, nat_eq, if◌then◌else◌, MatchOption}
+use Rattle.psi_route.specs.Routing.{Routing, HasRoom, Lacks}
+use Rattle.psi_route.specs.Keys.{key_of}
+use Rattle.psi_route.specs.declared.keys.Key.{Key}
+
+-- the least key of place i with a number of customers that leaves room
+pub record IsRivalKey (r : Routing) (l h : List ℕ) (i : ℕ) (key : Key) : Type 0 where
+  pub place : key.place ≡ i
+  pub met : (w : ℕ) × (slice_index l (r.queue i) ≤ w) × (w ≤ slice_index h (r.queue i)) × HasRoom r i w × (r.key i w ≡ key_of key)
+  pub least : (w : ℕ) → slice_index l (r.queue i) ≤ w → w ≤ slice_index h (r.queue i) → HasRoom r i w → key_of key ≤ r.key i w
+
+-- that key, or none where no number leaves room
+abbrev pub IsRival : Routing → List ℕ → List ℕ → ℕ → Option Key → Type 0
+IsRival r l h i offer =
+    MatchOption offer ((w : ℕ) → slice_index l (r.queue i) ≤ w → w ≤ slice_index h (r.queue i) → Lacks r i w) (λ key. IsRivalKey r l h i key)
+
+-- the greatest key of place i, where each number of customers leaves room
+pub record IsBarKey (r : Routing) (l h : List ℕ) (i : ℕ) (key : Key) : Type 0 where
+  pub place : key.place ≡ i
+  pub room : HasRoom r i (slice_index h (r.queue i))
+  pub met : (w : ℕ) × (slice_index l (r.queue i) ≤ w) × (w ≤ slice_index h (r.queue i)) × (r.key i w ≡ key_of key)
+  pub most : (w : ℕ) → slice_index l (r.queue i) ≤ w → w ≤ slice_index h (r.queue i) → r.key i w ≤ key_of key
+
+-- that key, or none where the greatest number leaves no room
+abbrev pub IsBar : Routing → List ℕ → List ℕ → ℕ → Option Key → Type 0
+IsBar r l h i offer = MatchOption offer (Lacks r i (slice_index h (r.queue i))) (λ key. IsBarKey r l h i key)
+
+-- the least of the keys that the first n places but j offer
+pub record IsLeastKey (O : ℕ → Option Key → Type 0) (n j : ℕ) (key : Key) : Type 0 where
+  pub place : key.place < n
+  pub other : key.place ≢ j
+  pub own : O key.place (Some key)
+  pub least : (i : ℕ) → i < n → i ≢ j → O i None ⊎ ((k : Key) × O i (Some k) × (key_of key ≤ key_of k))
+
+-- that key, or none where none of them offers one
+abbrev pub IsLeastOffer : (ℕ → Option Key → Type 0) → ℕ → ℕ → Option Key → Type 0
+IsLeastOffer O n j found = MatchOption found ((i : ℕ) → i < n → i ≢ j → O i None) (λ key. IsLeastKey O n j key)
+
+-- the least of two keys that isn't of place j, where the second is the least beside the first
+abbrev pub beside : Option Key → Option Key → ℕ → Option Key
+beside None second j = None
+beside (Some key) second j = if nat_eq key.place j then second else Some key
+
+-- the least of all keys, and the least of those of the other places
+pub record AreLeastTwo (O : ℕ → Option Key → Type 0) (n : ℕ) (first second : Option Key) : Type 0 where
+  pub first_is : IsLeastOffer O n n first
+  pub second_is : MatchOption first (Unit {0}) (λ key. IsLeastOffer O n key.place second)
+
+-- v customers can stay as they are at place j: there is no room, the source doesn't serve, or another place has a lesser key
+abbrev pub MayStay : Routing → List ℕ → ℕ → ℕ → Option Key → Type 0
+MayStay r l j v rival = Lacks r j v ⊎ (slice_index l r.source < r.least) ⊎ MatchOption rival ⊥ (λ key. key_of key < r.key j v)
+
+-- they can't
+abbrev pub MustRise : Routing → List ℕ → ℕ → ℕ → Option Key → Type 0
+MustRise r l j v rival = HasRoom r j v × (r.least ≤ slice_index l r.source) × MatchOption rival (Unit {0}) (λ key. r.key j v ≤ key_of key)
+
+-- v customers can become more at place j: there is room, the source serves, and no other place always has a lesser key
+abbrev pub MayRise : Routing → List ℕ → ℕ → ℕ → Option Key → Type 0
+MayRise r h j v bar = HasRoom r j v × (r.least ≤ slice_index h r.source) × MatchOption bar (Unit {0}) (λ key. r.key j v < key_of key)
+
+-- they can't
+abbrev pub MustStay : Routing → List ℕ → ℕ → ℕ → Option Key → Type 0
+MustStay r h j v bar = Lacks r j v ⊎ (slice_index h r.source < r.least) ⊎ MatchOption bar ⊥ (λ key. key_of key ≤ r.key j v)

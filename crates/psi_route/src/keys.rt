@@ -1,0 +1,35 @@
+//! Keys of targets: the target with the least one is chosen.
+
+ghost use Rattle.std.specs.Prelude.{◌<◌, ◌↔◌, IsTrue};
+
+/// The key of a target: its table's value at its number of customers, and its place in the list.
+#[derive(Clone, Copy)]
+pub(crate) struct Key {
+    pub weight: u32,
+    pub place: u8,
+    pub ghost few: { place < 32 },
+}
+
+impl Key {
+    ghost use Rattle.psi_route.specs.Keys.{key_of, IsLesser};
+
+    /// Whether this key is the lesser one: by the values first, then by the places.
+    pub fn is_before(self, other: Key) -> bool
+        ensures { IsTrue result ↔ (key_of self < key_of other) }
+    {
+        self.weight < other.weight || (self.weight == other.weight && self.place < other.place)
+    }
+
+    /// The lesser of the keys that are there.
+    pub fn lesser(found: Option<Key>, offered: Option<Key>) -> Option<Key>
+        ensures { IsLesser found offered result }
+    {
+        match offered {
+            None => found,
+            Some(key) => match found {
+                None => offered,
+                Some(best) => if key.is_before(best) { offered } else { found },
+            },
+        }
+    }
+}

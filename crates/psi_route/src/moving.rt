@@ -1,0 +1,133 @@
+//! What a route does to a state.
+
+use crate::built::Route;
+use crate::parts::Full;
+use psi_state::State;
+
+impl Route {
+    ghost use Rattle.std.specs.Prelude.{◌≡◌, ◌+◌, ◌<◌, ◌≤◌, length, slice_index, nat_le, OnSome, IfSome};
+    ghost use Rattle.psi_route.specs.Routing.{routing, has_room, best, taken, moved, routed, HasRoom};
+    ghost use Rattle.psi_route.specs.Route.{shape_of};
+    ghost use Rattle.psi_route.specs.Leader.{IsLeader};
+
+    // Moves the customers, in place.
+    pub(crate) fn pass(&self, x: &mut State)
+        requires { length x.old ≡ length self.now.caps }
+        ensures { x.new ≡ routed (shape_of self.now) x.old }
+    {
+        if self.serves(x) {
+            let chosen = self.best(x);
+            self.move_to(x, chosen);
+        }
+    }
+
+    // Whether the source serves; without one, customers come each time.
+    pub(crate) fn serves(&self, x: &State) -> bool
+        requires { length x.now ≡ length self.now.caps }
+        ensures { let r = routing (shape_of self.now) in result ≡ nat_le r.least (slice_index x.now r.source) }
+    {
+        match self.source {
+            None => true,
+            Some(source) => x.get(source.queue) >= source.k,
+        }
+    }
+
+    // Whether the target at place `i` has room for the customers who come.
+    pub(crate) fn has_room(&self, x: &State, i: u8) -> bool
+        requires place { i < length self.now.targets }
+        requires length { length x.now ≡ length self.now.caps }
+        ensures { result ≡ has_room (routing (shape_of self.now)) x.now i }
+    {
+        self.held(x, i) as u32 + self.size as u32 <= self.cap(i) as u32
+    }
+
+    // The place of the chosen target, if any has room.
+    pub(crate) fn best(&self, x: &State) -> Option<u8>
+        requires { length x.now ≡ length self.now.caps }
+        ensures { result ≡ best (routing (shape_of self.now)) x.now }
+    {
+        if self.is_plain() {
+            self.first_with_room(x)
+        } else {
+            self.least_key(x)
+        }
+    }
+
+    // The same without tables, where each key is the place.
+    fn first_with_room(&self, x: &State) -> Option<u8>
+        requires length { length x.now ≡ length self.now.caps }
+        requires plain { length self.now.tables.items ≡ 0 }
+        ensures { result ≡ best (routing (shape_of self.now)) x.now }
+    {
+        for i in 0..self.places() {
+            if self.has_room(x, i) {
+                return Some(i);
+            }
+        }
+        None
+    }
+
+    // The same by the keys.
+    fn least_key(&self, x: &State) -> Option<u8>
+        requires { length x.now ≡ length self.now.caps }
+        ensures { result ≡ best (routing (shape_of self.now)) x.now }
+    {
+        let mut found = None;
+        for i in 0..self.places() {
+            found = self.better(x, i, found);
+        }
+        match found {
+            None => None,
+            Some((_, place)) => Some(place),
+        }
+    }
+
+    // The best of the places up to `i`, from the best of those before it, each with its table's value.
+    fn better(&self, x: &State, i: u8, found: Option<(u32, u8)>) -> Option<(u32, u8)>
+        requires place { i < length self.now.targets }
+        requires length { length x.now ≡ length self.now.caps }
+        requires found { IsLeader (shape_of self.now) x.now i found }
+        ensures { IsLeader (shape_of self.now) x.now (i + 1) result }
+    {
+        if !self.has_room(x, i) {
+            return found;
+        }
+        let value = self.weight(i, self.held(x, i));
+        match found {
+            Some((least, _)) if least <= value => found,
+            _ => Some((value, i)),
+        }
+    }
+
+    // Lets the customers join the target at the chosen place; without one, lets a customer leave the source
+    // who is lost or has nowhere to go.
+    fn move_to(&self, x: &mut State, chosen: Option<u8>)
+        requires length { length x.old ≡ length self.now.caps }
+        requires place { IfSome chosen (λ j. j < length self.now.targets) }
+        requires room { IfSome chosen (λ j. HasRoom (routing (shape_of self.now)) j (slice_index x.old (slice_index self.now.targets j))) }
+        ensures { x.new ≡ moved (routing (shape_of self.now)) x.old chosen }
+    {
+        match chosen {
+            Some(place) => {
+                let number = self.held(x, place) + self.size;
+                self.take_one(x);
+                x.set(self.target(place), number);
+            }
+            None => {
+                if self.full == Full::Lost || self.places() == 0 {
+                    self.take_one(x);
+                }
+            }
+        }
+    }
+
+    // Lets one customer leave the source, if there is one.
+    fn take_one(&self, x: &mut State)
+        requires { length x.old ≡ length self.now.caps }
+        ensures { x.new ≡ taken (routing (shape_of self.now)) x.old }
+    {
+        if let Some(source) = self.source {
+            x.set(source.queue, x.get(source.queue).saturating_sub(1));
+        }
+    }
+}

@@ -1,0 +1,156 @@
+//! The keys that the targets offer in a box of states.
+
+ghost use Rattle.std.specs.Prelude.{◌≡◌, ℕ, ◌<◌, ◌≤◌, length, slice_index};
+ghost use Rattle.psi_state.specs.State.{IsBelow};
+
+use crate::built::Route;
+use crate::keys::Key;
+use psi_state::State;
+
+/// The least of the keys that are offered, and the least of those of the other places.
+#[derive(Clone, Copy)]
+pub(crate) struct Offers {
+    pub first: Option<Key>,
+    pub second: Option<Key>,
+}
+
+impl Offers {
+    ghost use Rattle.psi_route.specs.Offers.{beside};
+
+    /// The least key of a place other than `place`.
+    pub fn beside(self, place: u8) -> Option<Key>
+        ensures { result ≡ beside self.first self.second place }
+    {
+        match self.first {
+            None => None,
+            Some(key) => if key.place == place {
+                self.second
+            } else {
+                self.first
+            },
+        }
+    }
+}
+
+impl Route {
+    ghost use Rattle.psi_route.specs.Routing.{routing, weight};
+    ghost use Rattle.psi_route.specs.Route.{shape_of};
+    ghost use Rattle.psi_route.specs.Offers.{IsRival, IsBar, IsLeastOffer, AreLeastTwo};
+
+    /// The two least keys with which targets can be chosen in the box from `lo` to `hi`.
+    pub(crate) fn rivals(&self, lo: &State, hi: &State) -> Offers
+        requires ordered { IsBelow lo.now hi.now }
+        requires within { IsBelow hi.now self.now.caps }
+        ensures { AreLeastTwo (IsRival (routing (shape_of self.now)) lo.now hi.now) (length self.now.targets) result.first result.second }
+    {
+        let first = self.least_rival(lo, hi, self.places());
+        let second = match first {
+            None => None,
+            Some(key) => self.least_rival(lo, hi, key.place),
+        };
+        Offers { first, second }
+    }
+
+    /// The two least of the greatest keys of the targets that always have room in the box from `lo` to `hi`.
+    pub(crate) fn bars(&self, lo: &State, hi: &State) -> Offers
+        requires ordered { IsBelow lo.now hi.now }
+        requires within { IsBelow hi.now self.now.caps }
+        ensures { AreLeastTwo (IsBar (routing (shape_of self.now)) lo.now hi.now) (length self.now.targets) result.first result.second }
+    {
+        let first = self.least_bar(lo, hi, self.places());
+        let second = match first {
+            None => None,
+            Some(key) => self.least_bar(lo, hi, key.place),
+        };
+        Offers { first, second }
+    }
+
+    // The least key with which a target at a place other than `without` can be chosen.
+    fn least_rival(&self, lo: &State, hi: &State, without: u8) -> Option<Key>
+        requires ordered { IsBelow lo.now hi.now }
+        requires within { IsBelow hi.now self.now.caps }
+        ensures { IsLeastOffer (IsRival (routing (shape_of self.now)) lo.now hi.now) (length self.now.targets) without result }
+    {
+        let mut found = None;
+        for i in 0..self.places() {
+            if i != without {
+                found = Key::lesser(found, self.rival(lo, hi, i));
+            }
+        }
+        found
+    }
+
+    // The least of the greatest keys of the targets at places other than `without` that always have room.
+    fn least_bar(&self, lo: &State, hi: &State, without: u8) -> Option<Key>
+        requires ordered { IsBelow lo.now hi.now }
+        requires within { IsBelow hi.now self.now.caps }
+        ensures { IsLeastOffer (IsBar (routing (shape_of self.now)) lo.now hi.now) (length self.now.targets) without result }
+    {
+        let mut found = None;
+        for i in 0..self.places() {
+            if i != without {
+                found = Key::lesser(found, self.bar(lo, hi, i));
+            }
+        }
+        found
+    }
+
+    // The least key of the target at place `i` with a number of customers that leaves room.
+    fn rival(&self, lo: &State, hi: &State, i: u8) -> Option<Key>
+        requires place { i < length self.now.targets }
+        requires ordered { IsBelow lo.now hi.now }
+        requires within { IsBelow hi.now self.now.caps }
+        ensures { IsRival (routing (shape_of self.now)) lo.now hi.now i result }
+    {
+        let least = self.held(lo, i);
+        let most = self.cap(i) - self.size;
+        if most < least {
+            return None;
+        }
+        let weight = self.least_weight(i, least, most.min(self.held(hi, i)));
+        Some(Key { weight, place: i })
+    }
+
+    // The greatest key of the target at place `i`, where each number of customers leaves room.
+    fn bar(&self, lo: &State, hi: &State, i: u8) -> Option<Key>
+        requires place { i < length self.now.targets }
+        requires ordered { IsBelow lo.now hi.now }
+        requires within { IsBelow hi.now self.now.caps }
+        ensures { IsBar (routing (shape_of self.now)) lo.now hi.now i result }
+    {
+        let most = self.held(hi, i);
+        if self.cap(i) - self.size < most {
+            return None;
+        }
+        let weight = self.greatest_weight(i, self.held(lo, i), most);
+        Some(Key { weight, place: i })
+    }
+
+    // The least value of a target's table from one number of customers to another.
+    fn least_weight(&self, i: u8, first: u16, last: u16) -> u32
+        requires place { i < length self.now.targets }
+        requires ordered { first ≤ last }
+        requires room { last < slice_index self.now.caps (slice_index self.now.targets i) }
+        ensures below { (v : ℕ) → first ≤ v → v ≤ last → result ≤ weight (shape_of self.now) i v }
+        ensures met { (v : ℕ) × (first ≤ v) × (v ≤ last) × (weight (shape_of self.now) i v ≡ result) }
+    {
+        if self.tables.is_empty() {
+            return 0;
+        }
+        self.tables[i as usize].least(first, last)
+    }
+
+    // The greatest value of a target's table from one number of customers to another.
+    fn greatest_weight(&self, i: u8, first: u16, last: u16) -> u32
+        requires place { i < length self.now.targets }
+        requires ordered { first ≤ last }
+        requires room { last < slice_index self.now.caps (slice_index self.now.targets i) }
+        ensures above { (v : ℕ) → first ≤ v → v ≤ last → weight (shape_of self.now) i v ≤ result }
+        ensures met { (v : ℕ) × (first ≤ v) × (v ≤ last) × (weight (shape_of self.now) i v ≡ result) }
+    {
+        if self.tables.is_empty() {
+            return 0;
+        }
+        self.tables[i as usize].greatest(first, last)
+    }
+}
