@@ -1,0 +1,6 @@
+pub mod Arrays
+pub mod Order
+pub mod Pairs
+pub mod Hulls
+pub mod Steps
+pub mod Accepted

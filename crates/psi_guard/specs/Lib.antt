@@ -3,4 +3,4 @@ pub mod Inverse
 pub mod Refusals
 pub mod Places
 pub mod Rule
-pub mod Ends
+pub mod Envelope

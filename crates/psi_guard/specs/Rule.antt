@@ -82,9 +82,9 @@ is_rule caps parts guards = record {
   top = λ p v place. (let top : (part_of caps parts p).ceiling ≤ slice_index caps p = (fits_guard caps parts p guards).ceiling in omega arith);
 }
 
-allows-place : (caps : List ℕ) (parts : List Part) (x : List ℕ) (p : ℕ) → IsBelow x caps → all_allow parts x ≡ true → p < length caps
+pub allowed_place : (caps : List ℕ) (parts : List Part) (x : List ℕ) (p : ℕ) → IsBelow x caps → all_allow parts x ≡ true → p < length caps
     → ((part_of caps parts p).least ≤ slice_index x p) × (slice_index x p ≤ (part_of caps parts p).most)
-allows-place caps parts x p below is place =
+allowed_place caps parts x p below is place =
     elim (named_or_free caps parts p) [
       | inl named ↦ (let ends = all_allow-true parts x is named.place named.small in
           subst (λ (part : Part). (part.least ≤ slice_index x p) × (slice_index x p ≤ part.most)) (sym named.part)
@@ -108,8 +108,8 @@ makes caps parts x guards below =
       | inl is ↦ subst (λ (y : List ℕ). Makes (rule caps parts) x y) (sym (guarded-moves parts x is)) (record {
         long = length-map_places (next parts) 0 x ∙ below.same_length;
         turn = inl (record {
-          low = λ p place. (allows-place caps parts x p below is place).0;
-          high = λ p place. (allows-place caps parts x p below is place).1;
+          low = λ p place. (allowed_place caps parts x p below is place).0;
+          high = λ p place. (allowed_place caps parts x p below is place).1;
         }, λ p place. (let there : p < length x = omega (arith, below.same_length) in
             let e : 0 + p ≡ p = omega arith in
             slice_index-map_places (next parts) 0 x p there

@@ -1,12 +1,12 @@
 //! The tight box around what a guarded event makes of a box.
 
-ghost use Rattle.std.specs.Prelude.{◌≡◌, ◌<◌, ◌≤◌, ℕ, Some, IsTrue, MatchBool, MatchOption, length, slice_index, unsigned_abs};
+ghost use Rattle.std.specs.Prelude.{◌≡◌, ◌<◌, ◌≤◌, ◌⊎◌, ℕ, IsTrue, MatchBool, MatchOption, length, slice_index, unsigned_abs};
 ghost use Rattle.psi_state.specs.State.{IsBelow, box};
 ghost use Rattle.psi_state.specs.Sets.{image};
 ghost use Rattle.psi_state.specs.Hull.{corners, IsTight};
 ghost use Rattle.psi_guard.specs.Guarding.{guarded};
 ghost use Rattle.psi_guard.specs.Rule.{rule};
-ghost use Rattle.psi_guard.specs.Ends.{CanMoveAll, CanTurn, IsGreatestOf, IsLeastOf, Knows, MayKeep, MissesSome, one_more, others};
+ghost use Rattle.psi_guard.specs.Envelope.{CanMoveAll, CanTurn, IsGreatestOf, IsLeastOf, Knows, MayKeep, MissesSome, one_more, others};
 
 use crate::event::moved;
 use crate::named::Part;
@@ -55,7 +55,7 @@ impl Guarded {
     {
         for i in 0..self.count() {
             let part = self.part(i);
-            if hi.get(part.queue) < part.least || part.most < lo.get(part.queue) {
+            if misses(part, lo.get(part.queue), hi.get(part.queue)) {
                 return false;
             }
         }
@@ -72,12 +72,26 @@ impl Guarded {
         let mut leaving = Leaving::Nowhere;
         for i in 0..self.count() {
             let part = self.part(i);
-            if lo.get(part.queue) < part.least || part.most < hi.get(part.queue) {
+            if leaves(part, lo.get(part.queue), hi.get(part.queue)) {
                 leaving = one_more(leaving, part.queue);
             }
         }
         leaving
     }
+}
+
+// Whether no number from `l` to `h` is one from the part's least to its most.
+fn misses(part: Part, l: u16, h: u16) -> bool
+    ensures { MatchBool result ((h < part.least) ⊎ (part.most < l)) ((l ≤ part.most) × (part.least ≤ h)) }
+{
+    h < part.least || part.most < l
+}
+
+// Whether some number from `l` to `h` isn't one from the part's least to its most.
+fn leaves(part: Part, l: u16, h: u16) -> bool
+    ensures { MatchBool result ((l < part.least) ⊎ (part.most < h)) ((part.least ≤ l) × (h ≤ part.most)) }
+{
+    l < part.least || part.most < h
 }
 
 // The queues that leave their guards, with one more.
