@@ -5,3 +5,4 @@ mod Routes
 mod Guards
 mod Fitting
 mod Does
+mod Accepting

@@ -33,7 +33,7 @@ impl EventLaw for Event {
 
     ghost upset_pair = { λ event. by_form ⟦<Route as EventLaw>⟧.upset_pair ⟦<Guarded as EventLaw>⟧.upset_pair ⟦<Idle as EventLaw>⟧.upset_pair event };
 
-    ghost closed = { λ event. by_form-closed ⟦<Route as EventLaw>⟧.capacities ⟦<Guarded as EventLaw>⟧.capacities ⟦<Idle as EventLaw>⟧.capacities ⟦<Route as EventLaw>⟧.function ⟦<Guarded as EventLaw>⟧.function ⟦<Idle as EventLaw>⟧.function ⟦<Route as EventLaw>⟧.closed ⟦<Guarded as EventLaw>⟧.closed ⟦<Idle as EventLaw>⟧.closed event };
+    ghost closed = { λ event. by_form-closed event };
 
     fn caps(&self) -> State {
         match self {
