@@ -4,33 +4,10 @@ use Rattle.std.proofs.lemmas.Bool.{cases_order, leb-true, leb-false}
 use Rattle.std.proofs.lemmas.List.{get_or_past}
 use Rattle.psi_route.specs.Routing.{Shape, routing, weight, has_room, best, moved, routed, HasRoom, IsBest}
 use Rattle.psi_route.specs.Acting.{Leads, NoRoom, best-from_leads, best-is, best-none, best-place, act-serves, act-idle, is-room}
+use Rattle.psi_route.specs.Plain.{first_best}
 use Rattle.psi_route.specs.Leader.{IsLeading, IsLeader}
 
--- without tables each value is 0
-pub weight-none : (s : Shape) (i v : ℕ) → length s.tables ≡ 0 → weight s i v ≡ 0
-weight-none s i v plain =
-    let past : get_or s.tables i [] ≡ [] = get_or_past {X = List ℕ} s.tables i [] (omega arith) in
-    ap (λ (t : List ℕ). slice_index t v) past
-
--- so the first target with room is chosen
-pub first_best : (s : Shape) (x : List ℕ) (j : ℕ) → length s.tables ≡ 0 → j < length s.targets
-    → HasRoom (routing s) j (slice_index x (slice_index s.targets j)) → NoRoom (routing s) x j → IsBest (routing s) x j
-first_best s x j plain place room before = record {
-  place = place;
-  room = room;
-  others = λ i small other. elim (cases_order i j) [
-    | inl e ↦ absurd (other e)
-    | inr rest ↦ elim rest [
-      | inl less ↦ inl (before.each i less)
-      | inr more ↦ inr (let own = weight-none s j (slice_index x (slice_index s.targets j)) plain in
-          let theirs = weight-none s i (slice_index x (slice_index s.targets i)) plain in
-          let first : weight s j (slice_index x (slice_index s.targets j)) ≡ 0 = own in
-          let second : weight s i (slice_index x (slice_index s.targets i)) ≡ 0 = theirs in
-          omega (arith, first, second))
-    ]
-  ];
-}
-
+-- the first place with room, as a loop finds it
 pub first-is : (s : Shape) (x : List ℕ) (j : ℕ) → length s.tables ≡ 0 → j < length s.targets → has_room (routing s) x j ≡ true
     → NoRoom (routing s) x j → Some j ≡ best (routing s) x
 first-is s x j plain place room before =

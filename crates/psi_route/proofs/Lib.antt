@@ -5,3 +5,4 @@ mod Judged
 mod Told
 mod Choosing
 mod Searching
+mod Worked

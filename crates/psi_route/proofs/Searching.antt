@@ -8,7 +8,7 @@ use Rattle.psi_route.specs.Routing.{Shape, routing, weight, crosses, Crosses, pa
 use Rattle.psi_route.specs.Acting.{then_some-true, then_some-false}
 use Rattle.psi_route.specs.Accepted.{IsRouteShape}
 use Rattle.psi_route.specs.Upset.{is-crosses}
-use Rattle.psi_route.proofs.Choosing.{weight-none}
+use Rattle.psi_route.specs.Plain.{weight-none}
 
 -- the first answer, as a loop finds it
 pub search-found : {A : Type 0} (f : ℕ → Option A) (n i : ℕ) (o : Option A) (b : Bool) → i < n → o ≡ f i → b ≡ is_some o → b ≡ true
@@ -39,9 +39,9 @@ level-none s a b v first second level =
     (elim (cases_Bool (crosses (routing s) a b v w)) [
       | inr fails ↦ fails
       | inl passes ↦ absurd (let cross = is-crosses (routing s) a b v w first second passes in
-            let falls : 32 * weight s a (v + 1) + a < 32 * weight s b w + b = cross.falls in
-            let above : 32 * weight s b w + b < 32 * weight s a v + a = cross.above in
-            level (cross.room, omega arith))
+          let falls : 32 * weight s a (v + 1) + a < 32 * weight s b w + b = cross.falls in
+          let above : 32 * weight s b w + b < 32 * weight s a v + a = cross.above in
+          level (cross.room, omega arith))
     ]))
 
 -- nor where it rises throughout

@@ -10,3 +10,4 @@ pub mod Ends
 pub mod Keys
 pub mod Offers
 pub mod Upset
+pub mod Plain

@@ -125,15 +125,20 @@ crossing-upset s a b v w is one cross =
       room = omega arith;
       others = λ i small other. elim (cases_eq i a) [
         | inl e ↦ inr (subst (λ k. (routing s).key b (slice_index (full_but s a b v w) (slice_index s.targets b)) < (routing s).key k (slice_index (full_but s a b v w) (slice_index s.targets k))) (sym e)
-              (subst (λ n. (routing s).key b n < (routing s).key a (slice_index (full_but s a b v w) (slice_index s.targets a))) (sym x_second)
-              (subst (λ n. (routing s).key b w < (routing s).key a n) (sym x_first) cross.above)))
+            (subst (λ n. (routing s).key b n < (routing s).key a (slice_index (full_but s a b v w) (slice_index s.targets a))) (sym x_second)
+            (subst (λ n. (routing s).key b w < (routing s).key a n) (sym x_first) cross.above)))
         | inr ne ↦ inl (full-lacks s a b v w i is cross.first cross.second small ne other)
       ];
     } in
     let passed : IsPassed (routing s) (full_but s a b (v + 1) w) b =
-    inr (a, cross.first, cross.two, omega arith,
+    inr (
+      a,
+      cross.first,
+      cross.two,
+      omega arith,
       subst (λ n. (routing s).key a (slice_index (full_but s a b (v + 1) w) (slice_index s.targets a)) < (routing s).key b n) (sym y_second)
-      (subst (λ n. (routing s).key a n < (routing s).key b w) (sym y_first) cross.falls)) in
+          (subst (λ n. (routing s).key a n < (routing s).key b w) (sym y_first) cross.falls),
+    ) in
     let gained : slice_index (act (routing s) (full_but s a b v w)) (slice_index s.targets b) ≡ slice_index (full_but s a b v w) (slice_index s.targets b) + s.size =
     x_made.gains b (full-serves s a b v w is cross.first cross.second) chosen in
     let stayed : slice_index (act (routing s) (full_but s a b (v + 1) w)) (slice_index s.targets b) ≡ slice_index (full_but s a b (v + 1) w) (slice_index s.targets b) =
@@ -170,10 +175,10 @@ batch-upset s is several =
     let fits : s.size ≤ slice_index s.caps (slice_index s.targets 0) = is.fits 0 (omega arith) in
     let low = slice_index s.caps (slice_index s.targets 0) - s.size in
     let x_first : slice_index (slice_set s.caps (slice_index s.targets 0) (slice_index s.caps (slice_index s.targets 0) - s.size)) (slice_index s.targets 0)
-        ≡ slice_index s.caps (slice_index s.targets 0) - s.size =
+    ≡ slice_index s.caps (slice_index s.targets 0) - s.size =
     get_or-set_same {A = ℕ} s.caps (slice_index s.targets 0) (slice_index s.caps (slice_index s.targets 0) - s.size) 0 small in
     let y_first : slice_index (slice_set s.caps (slice_index s.targets 0) (slice_index s.caps (slice_index s.targets 0) - s.size + 1)) (slice_index s.targets 0)
-        ≡ slice_index s.caps (slice_index s.targets 0) - s.size + 1 =
+    ≡ slice_index s.caps (slice_index s.targets 0) - s.size + 1 =
     get_or-set_same {A = ℕ} s.caps (slice_index s.targets 0) (slice_index s.caps (slice_index s.targets 0) - s.size + 1) 0 small in
     let x_long : length (slice_set s.caps (slice_index s.targets 0) (slice_index s.caps (slice_index s.targets 0) - s.size)) ≡ length s.caps =
     length-set {A = ℕ} s.caps (slice_index s.targets 0) (slice_index s.caps (slice_index s.targets 0) - s.size) in
@@ -186,16 +191,16 @@ batch-upset s is several =
       room = omega arith;
       others = λ i place other.
           (let all : slice_index (slice_set s.caps (slice_index s.targets 0) (slice_index s.caps (slice_index s.targets 0) - s.size)) (slice_index s.targets i)
-              ≡ slice_index s.caps (slice_index s.targets i) =
+          ≡ slice_index s.caps (slice_index s.targets i) =
           get_or-set_other {A = ℕ} s.caps (slice_index s.targets 0) (slice_index s.targets i) (slice_index s.caps (slice_index s.targets 0) - s.size) 0
           (λ e. other (is.apart i 0 place (omega arith) e)) in
           inl (omega arith));
     } in
     let gained : slice_index (act (routing s) (slice_set s.caps (slice_index s.targets 0) (slice_index s.caps (slice_index s.targets 0) - s.size))) (slice_index s.targets 0)
-        ≡ slice_index (slice_set s.caps (slice_index s.targets 0) (slice_index s.caps (slice_index s.targets 0) - s.size)) (slice_index s.targets 0) + s.size =
+    ≡ slice_index (slice_set s.caps (slice_index s.targets 0) (slice_index s.caps (slice_index s.targets 0) - s.size)) (slice_index s.targets 0) + s.size =
     x_made.gains 0 (batch-serves s (slice_index s.caps (slice_index s.targets 0) - s.size) is (omega arith)) chosen in
     let stayed : slice_index (act (routing s) (slice_set s.caps (slice_index s.targets 0) (slice_index s.caps (slice_index s.targets 0) - s.size + 1))) (slice_index s.targets 0)
-        ≡ slice_index (slice_set s.caps (slice_index s.targets 0) (slice_index s.caps (slice_index s.targets 0) - s.size + 1)) (slice_index s.targets 0) =
+    ≡ slice_index (slice_set s.caps (slice_index s.targets 0) (slice_index s.caps (slice_index s.targets 0) - s.size + 1)) (slice_index s.targets 0) =
     y_made.stays 0 (omega arith) (inl (omega arith)) in
     record {
       within = set-below s.caps s.caps (slice_index s.targets 0) (slice_index s.caps (slice_index s.targets 0) - s.size + 1) (below-itself s.caps) (omega arith);
@@ -204,7 +209,7 @@ batch-upset s is several =
       upset = λ below.
           (let long : length (act (routing s) (slice_set s.caps (slice_index s.targets 0) (slice_index s.caps (slice_index s.targets 0) - s.size))) ≡ length s.caps = x_made.long in
           let kept : slice_index (act (routing s) (slice_set s.caps (slice_index s.targets 0) (slice_index s.caps (slice_index s.targets 0) - s.size))) (slice_index s.targets 0)
-              ≤ slice_index (act (routing s) (slice_set s.caps (slice_index s.targets 0) (slice_index s.caps (slice_index s.targets 0) - s.size + 1))) (slice_index s.targets 0) =
+          ≤ slice_index (act (routing s) (slice_set s.caps (slice_index s.targets 0) (slice_index s.caps (slice_index s.targets 0) - s.size + 1))) (slice_index s.targets 0) =
           below.each (slice_index s.targets 0) (omega arith) in
           absurd (omega arith));
     }

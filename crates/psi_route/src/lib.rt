@@ -16,6 +16,8 @@ mod marks;
 mod moving;
 mod offers;
 mod parts;
+#[cfg(test)]
+mod tests;
 
 pub use built::Route;
 pub use parts::{Full, RouteRefusal, Source};

@@ -18,13 +18,13 @@ loop-a-preserved c =
     none-more (λ a. pair_behind (shape_of c.args.self.now) a) c.loop-a.a c.loop-a.invariant
     (elim c.if-not-rises.branch [
       | then-not-rises+else-is_some w ↦ none-there w.pair_behind-pair.result (pair_behind (shape_of c.args.self.now) c.loop-a.a) w.is_some.result
-            w.pair_behind-pair.ensures w.is_some.ensures w.if-is_some.false
+          w.pair_behind-pair.ensures w.is_some.ensures w.if-is_some.false
       | else-not-rises w ↦ rising-none (shape_of c.args.self.now) c.loop-a.a c.args.self.now.valid (omega (arith, c.places-a-end.ensures.value)) c.requires
-            (subst (λ (t : List ℕ). IsRising t)
-            (get_or_read_under c.args.self.now.tables.items c.loop-a.a (length c.args.self.now.tables.items) c.index.result.now [] c.index.ensures
-            (let count : length c.args.self.now.tables.items ≡ length c.args.self.now.targets = c.args.self.now.valid.tabled c.requires in
-            omega (arith, c.places-a-end.ensures.value)) refl)
-            (c.rises.ensures.0 w.if-not-rises.false))
+          (subst (λ (t : List ℕ). IsRising t)
+          (get_or_read_under c.args.self.now.tables.items c.loop-a.a (length c.args.self.now.tables.items) c.index.result.now [] c.index.ensures
+          (let count : length c.args.self.now.tables.items ≡ length c.args.self.now.targets = c.args.self.now.valid.tabled c.requires in
+          omega (arith, c.places-a-end.ensures.value)) refl)
+          (c.rises.ensures.0 w.if-not-rises.false))
     ])
 
 pub returns : goal.returns

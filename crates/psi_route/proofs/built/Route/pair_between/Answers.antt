@@ -17,9 +17,9 @@ loop-v-preserved c =
     none-more (λ v. pair_from (shape_of c.args.self.now) c.args.a c.args.b v) c.loop-v.v c.loop-v.invariant
     (elim c.if-falls.branch [
       | then-falls+else-is_some w ↦ none-there w.pair_from-pair.result (pair_from (shape_of c.args.self.now) c.args.a c.args.b c.loop-v.v) w.is_some.result
-            w.pair_from-pair.ensures w.is_some.ensures w.if-is_some.false
+          w.pair_from-pair.ensures w.is_some.ensures w.if-is_some.false
       | else-falls w ↦ level-from_test (shape_of c.args.self.now) c.args.a c.args.b c.loop-v.v c.falls.result c.requires.first c.requires.second
-            c.falls.ensures w.if-falls.false
+          c.falls.ensures w.if-falls.false
     ])
 
 pub returns : goal.returns
