@@ -1,5 +1,5 @@
 -- Parts that are accepted one after another.
-use Rattle.std.specs.Prelude.{◌≡◌, ℕ, zero, suc, ◌+◌, ◌<◌, ◌≤◌, Bool, true, false, ◌||◌, cond, ◌⊎◌, nat_eq, nat_lt, nat_le, unsigned_abs, List, [], ◌∷◌, ◌++◌, length, drop, slice_index, Option, Some, None, refl}
+use Rattle.std.specs.Prelude.{◌≡◌, ℕ, zero, suc, ◌+◌, ◌<◌, ◌≤◌, false, ◌||◌, cond, nat_eq, nat_lt, nat_le, unsigned_abs, List, [], ◌∷◌, ◌++◌, length, drop, slice_index, Option, Some, None}
 use Rattle.std.proofs.Common.{inl, inr, ap, sym, ◌∙◌, subst, arith, length-append}
 use Rattle.std.proofs.lemmas.Bool.{cases_lt, cases_eq, cases_Bool, eq-eqb, ne_eqb, or_parts, ltb-false, leb-false, both_ways}
 use Rattle.std.proofs.lemmas.List.{at_drop_more}
@@ -10,7 +10,7 @@ use Rattle.psi_guard.specs.declared.named.Part.{Part}
 use Rattle.psi_guard.specs.declared.shape.GuardRefusal.{GuardRefusal}
 use Rattle.psi_guard.specs.declared.shape.GuardRefusal.TheVariants.{Empty, Repeated, OutOfRange}
 use Rattle.psi_guard.specs.Inverse.{no_part}
-use Rattle.psi_guard.specs.Refusals.{is_out, names, is_empty, refusal_at, refusal_after, FitsQueue, AreApart, AreGuards, at}
+use Rattle.psi_guard.specs.Refusals.{is_out, names, is_empty, refusal_at, refusal_after, FitsQueue, AreGuards, at}
 use Rattle.psi_guard.proofs.Steps.{names-at}
 
 -- so many different numbers below n are at most n
@@ -19,27 +19,27 @@ few_places n zero f small apart = omega arith
 few_places zero (suc m) f small apart = absurd (let none : f 0 < 0 = small 0 (omega arith) in omega arith)
 few_places (suc n) (suc m) f small apart =
     let rest : m ≤ n = few_places n m (λ i. cond (nat_eq (f i) n) (f m) (f i))
-      (λ i less. elim (cases_eq (f i) n) [
-        | inl e ↦ (let fits : f m < suc n = small m (omega arith) in
-            let other : f m ≡ n → ⊥ = λ top. (let same : i ≡ m = apart i m (omega arith) (omega arith) (e ∙ sym top) in omega arith) in
-            let below : f m < n = elim (cases_eq (f m) n) [ inl top ↦ absurd (other top) | inr ne ↦ omega arith ] in
-            subst (λ v. v < n) (sym (taken (f i) n (f m) e)) below)
-        | inr ne ↦ (let fits : f i < suc n = small i (omega arith) in
-            let below : f i < n = omega arith in
-            subst (λ v. v < n) (sym (left (f i) n (f m) ne)) below)
-      ])
-      (λ i j first second same. elim (cases_eq (f i) n) [
-        | inl e ↦ elim (cases_eq (f j) n) [
-          | inl d ↦ apart i j (omega arith) (omega arith) (e ∙ sym d)
-          | inr other ↦ absurd (let meet : f m ≡ f j = sym (taken (f i) n (f m) e) ∙ (same ∙ left (f j) n (f m) other) in
-              let same_place : m ≡ j = apart m j (omega arith) (omega arith) meet in omega arith)
-        ]
-        | inr ne ↦ elim (cases_eq (f j) n) [
-          | inl d ↦ absurd (let meet : f i ≡ f m = sym (left (f i) n (f m) ne) ∙ (same ∙ taken (f j) n (f m) d) in
-              let same_place : i ≡ m = apart i m (omega arith) (omega arith) meet in omega arith)
-          | inr other ↦ apart i j (omega arith) (omega arith) (sym (left (f i) n (f m) ne) ∙ (same ∙ left (f j) n (f m) other))
-        ]
-      ]) in
+    (λ i less. elim (cases_eq (f i) n) [
+      | inl e ↦ (let fits : f m < suc n = small m (omega arith) in
+          let other : f m ≡ n → ⊥ = λ top. (let same : i ≡ m = apart i m (omega arith) (omega arith) (e ∙ sym top) in omega arith) in
+          let below : f m < n = elim (cases_eq (f m) n) [ inl top ↦ absurd (other top) | inr ne ↦ omega arith ] in
+          subst (λ v. v < n) (sym (taken (f i) n (f m) e)) below)
+      | inr ne ↦ (let fits : f i < suc n = small i (omega arith) in
+          let below : f i < n = omega arith in
+          subst (λ v. v < n) (sym (left (f i) n (f m) ne)) below)
+    ])
+    (λ i j first second same. elim (cases_eq (f i) n) [
+      | inl e ↦ elim (cases_eq (f j) n) [
+        | inl d ↦ apart i j (omega arith) (omega arith) (e ∙ sym d)
+        | inr other ↦ absurd (let meet : f m ≡ f j = sym (taken (f i) n (f m) e) ∙ (same ∙ left (f j) n (f m) other) in
+            let same_place : m ≡ j = apart m j (omega arith) (omega arith) meet in omega arith)
+      ]
+      | inr ne ↦ elim (cases_eq (f j) n) [
+        | inl d ↦ absurd (let meet : f i ≡ f m = sym (left (f i) n (f m) ne) ∙ (same ∙ taken (f j) n (f m) d) in
+            let same_place : i ≡ m = apart i m (omega arith) (omega arith) meet in omega arith)
+        | inr other ↦ apart i j (omega arith) (omega arith) (sym (left (f i) n (f m) ne) ∙ (same ∙ left (f j) n (f m) other))
+      ]
+    ]) in
     omega arith
   where
     taken : (v n w : ℕ) → v ≡ n → cond (nat_eq v n) w v ≡ w

@@ -4,3 +4,4 @@ pub mod Pairs
 pub mod Hulls
 pub mod Steps
 pub mod Accepted
+pub mod Intervals

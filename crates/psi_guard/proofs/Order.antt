@@ -1,6 +1,6 @@
 -- When an event by queues keeps the order of states.
-use Rattle.std.specs.Prelude.{◌≡◌, ℕ, ◌+◌, ◌-◌, ◌<◌, ◌≤◌, min, max, ◌⊎◌, List, length, slice_index, slice_set, refl}
-use Rattle.std.proofs.Common.{inl, inr, ap, sym, ◌∙◌, subst, arith, length-set, get_or-set_same, get_or-set_other}
+use Rattle.std.specs.Prelude.{◌≡◌, ℕ, ◌+◌, ◌-◌, ◌<◌, ◌≤◌, List, length, slice_index, refl}
+use Rattle.std.proofs.Common.{inl, inr, sym, ◌∙◌, subst, arith}
 use Rattle.std.proofs.lemmas.Bool.{cases_lt, cases_eq}
 use Rattle.psi_state.specs.State.{IsBelow}
 use Rattle.psi_state.specs.Boxes.{below-through}
@@ -135,7 +135,7 @@ monotone_without r caps f is none = record {
 }
 
 -- a state whose numbers are all within the guards goes where its queues move, and one with a number outside stays
-allowed_moves : (r : Rule) (x y : List ℕ) (q : ℕ) → Makes r x y → AllowsAll r x → q < r.queues → slice_index y q ≡ r.moves q (slice_index x q)
+pub allowed_moves : (r : Rule) (x y : List ℕ) (q : ℕ) → Makes r x y → AllowsAll r x → q < r.queues → slice_index y q ≡ r.moves q (slice_index x q)
 allowed_moves r x y q made allowed place =
     elim made.turn [
       | inl a ↦ a.1 q place
@@ -144,7 +144,7 @@ allowed_moves r x y q made allowed place =
           elim b.0.out [ inl out ↦ omega arith | inr out ↦ omega arith ])
     ]
 
-refused_stays : (r : Rule) (x y : List ℕ) (q : ℕ) → Makes r x y → RefusesSome r x → q < r.queues → slice_index y q ≡ slice_index x q
+pub refused_stays : (r : Rule) (x y : List ℕ) (q : ℕ) → Makes r x y → RefusesSome r x → q < r.queues → slice_index y q ≡ slice_index x q
 refused_stays r x y q made refused place =
     elim made.turn [
       | inl a ↦ absurd (let low : r.least refused.queue ≤ slice_index x refused.queue = a.0.low refused.queue refused.place in

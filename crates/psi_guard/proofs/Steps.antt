@@ -1,14 +1,14 @@
 -- What the loops over parts and queues know.
-use Rattle.std.specs.Prelude.{◌≡◌, ℕ, zero, suc, ◌+◌, ◌-◌, ◌<◌, ◌≤◌, min, max, Bool, true, false, ◌&&◌, ◌||◌, ◌⊎◌, nat_eq, nat_le, List, [], ◌∷◌, length, map, slice_index, slice_set, Option, Some, None, refl}
-use Rattle.std.proofs.Common.{inl, inr, ap, sym, ◌∙◌, subst, arith, length-set, get_or-set_same, get_or-set_other}
+use Rattle.std.specs.Prelude.{◌≡◌, ℕ, zero, suc, ◌+◌, ◌<◌, ◌≤◌, true, false, ◌⊎◌, nat_eq, nat_le, List, [], ◌∷◌, length, map, slice_index, slice_set, Option, Some, None, refl}
+use Rattle.std.proofs.Common.{inl, inr, ap, sym, ◌∙◌, arith, length-set, get_or-set_same, get_or-set_other}
 use Rattle.std.proofs.lemmas.Bool.{cases_eq, eq-eqb, ne_eqb, and_from, and_left, and_right, or_left, or_right, or_from, le-leb, lt-leb}
 use Rattle.std.proofs.lemmas.List.{ext_get_or}
 use Rattle.psi_state.specs.State.{IsBelow, numbers_from}
 use Rattle.psi_event.specs.Choice.{first_some-found, first_some-none}
 use Rattle.psi_guard.specs.declared.named.Part.{Part}
-use Rattle.psi_guard.specs.Guarding.{moved, allows, all_allow, next, map_places, guarded, free_part, part_of, leasts, over_queues}
-use Rattle.psi_guard.specs.Refusals.{FitsQueue, AreGuards, at, names}
-use Rattle.psi_guard.specs.Places.{IsNamed, IsFree, named_or_free, part_of-at}
+use Rattle.psi_guard.specs.Guarding.{moved, allows, all_allow, guarded, free_part, part_of, leasts, over_queues}
+use Rattle.psi_guard.specs.Refusals.{AreGuards, at, names}
+use Rattle.psi_guard.specs.Places.{named_or_free, part_of-at}
 use Rattle.psi_guard.specs.Rule.{RefusesSome, rule, makes, allowed_place}
 
 pub names-at : (parts : List Part) (q i : ℕ) → i < length parts → (at parts i).queue ≡ q → names parts q ≡ true
@@ -101,14 +101,14 @@ moving-end caps parts x y i guards below allowed moving over =
     let made = makes caps parts x guards below in
     ext_get_or 0 y (guarded parts x) (moving.long ∙ sym made.long)
     (λ q small. (let place : q < length caps = omega (arith, moving.long) in
-        let to : slice_index y q ≡ moved (part_of caps parts q) (slice_index x q) = elim (moving.done q place) [
-          | inl d ↦ d
-          | inr later ↦ (let low : i ≤ later.0 = later.1 in let high : later.0 < length parts = later.2 in absurd (omega arith))
-        ] in
-        elim made.turn [
-          | inl a ↦ to ∙ sym (a.1 q place)
-          | inr b ↦ absurd (refused caps parts x guards below allowed b.0)
-        ]))
+    let to : slice_index y q ≡ moved (part_of caps parts q) (slice_index x q) = elim (moving.done q place) [
+      | inl d ↦ d
+      | inr later ↦ (let low : i ≤ later.0 = later.1 in let high : later.0 < length parts = later.2 in absurd (omega arith))
+    ] in
+    elim made.turn [
+      | inl a ↦ to ∙ sym (a.1 q place)
+      | inr b ↦ absurd (refused caps parts x guards below allowed b.0)
+    ]))
   where
     refused : (caps : List ℕ) (parts : List Part) (x : List ℕ) → AreGuards caps parts → IsBelow x caps → all_allow parts x ≡ true → RefusesSome (rule caps parts) x → ⊥
     refused caps parts x guards below allowed some =

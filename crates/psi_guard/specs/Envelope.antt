@@ -1,5 +1,5 @@
 -- The ends of what a guarded event makes of a box, queue by queue.
-use Rattle.std.specs.Prelude.{◌≡◌, ◌≢◌, ℕ, ◌<◌, ◌≤◌, min, max, Bool, true, false, not, nat_eq, ◌⊎◌, List, slice_index}
+use Rattle.std.specs.Prelude.{◌≡◌, ℕ, ◌<◌, ◌≤◌, min, max, Bool, true, false, not, nat_eq, ◌⊎◌, List, slice_index}
 use Rattle.psi_guard.specs.declared.named.Part.{Part}
 use Rattle.psi_guard.specs.declared.ends.Leaving.{Leaving}
 use Rattle.psi_guard.specs.declared.ends.Leaving.TheVariants.{Nowhere, One, Several}

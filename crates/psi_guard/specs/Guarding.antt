@@ -1,5 +1,5 @@
 -- Guarded events: what they make of a state, and the two states by which they break the order.
-use Rattle.std.specs.Prelude.{◌≡◌, ℕ, suc, ◌+◌, ◌-◌, min, max, ℤ, pos, negsuc, Bool, true, ◌&&◌, not, nat_eq, nat_lt, nat_le, if◌then◌else◌, List, [], ◌∷◌, length, map, slice_index, slice_set, Option, Some, None}
+use Rattle.std.specs.Prelude.{ℕ, suc, ◌+◌, ◌-◌, min, max, ℤ, pos, negsuc, Bool, true, ◌&&◌, not, nat_eq, nat_lt, nat_le, if◌then◌else◌, List, [], ◌∷◌, length, map, slice_index, slice_set, Option, Some, None}
 use Rattle.psi_state.specs.State.{numbers_from}
 use Rattle.psi_event.specs.Choice.{first_or, first_some}
 use Rattle.psi_guard.specs.declared.named.Part.{Part}

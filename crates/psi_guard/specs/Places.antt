@@ -1,10 +1,10 @@
 -- The parts of a guarded event by their queues.
-use Rattle.std.specs.Prelude.{◌≡◌, ◌≢◌, ℕ, zero, suc, ◌+◌, ◌-◌, ◌<◌, ◌≤◌, min, max, pos, negsuc, ℤ, Bool, true, false, cond, ◌&&◌, ◌⊎◌, nat_eq, nat_le, List, [], ◌∷◌, length, slice_index, refl}
-use Rattle.std.proofs.Common.{inl, inr, ap, sym, ◌∙◌, subst, arith}
+use Rattle.std.specs.Prelude.{◌≡◌, ℕ, zero, suc, ◌+◌, ◌<◌, ◌≤◌, pos, negsuc, ℤ, true, false, cond, ◌⊎◌, nat_le, List, [], ◌∷◌, length, slice_index, refl}
+use Rattle.std.proofs.Common.{inl, inr, ap, sym, ◌∙◌, arith}
 use Rattle.std.proofs.lemmas.Bool.{cases_eq, eq-eqb, ne_eqb, and_parts, and_cases, leb-true, leb-false}
 use Rattle.psi_guard.specs.declared.named.Part.{Part}
 use Rattle.psi_guard.specs.Guarding.{shifted, moved, allows, all_allow, next, map_places, free_part, part_of}
-use Rattle.psi_guard.specs.Refusals.{FitsQueue, AreApart, AreGuards, at}
+use Rattle.psi_guard.specs.Refusals.{AreApart, at}
 
 pub apart-tail : (part : Part) (parts : List Part) → AreApart (part ∷ parts) → AreApart parts
 apart-tail part parts apart = record {
@@ -80,10 +80,14 @@ pub all_allow-false : (parts : List Part) (x : List ℕ) → all_allow parts x �
 all_allow-false [] x is = absurd cc
 all_allow-false (part ∷ parts) x is =
     elim (and_cases (allows part (slice_index x part.queue)) (all_allow parts x) is) [
-      | inl here ↦ (0, omega arith, elim (and_cases (nat_le part.least (slice_index x part.queue)) (nat_le (slice_index x part.queue) part.most) here) [
-        | inl low ↦ inl (leb-false part.least (slice_index x part.queue) low)
-        | inr high ↦ inr (leb-false (slice_index x part.queue) part.most high)
-      ])
+      | inl here ↦ (
+        0,
+        omega arith,
+        elim (and_cases (nat_le part.least (slice_index x part.queue)) (nat_le (slice_index x part.queue) part.most) here) [
+          | inl low ↦ inl (leb-false part.least (slice_index x part.queue) low)
+          | inr high ↦ inr (leb-false (slice_index x part.queue) part.most high)
+        ],
+      )
       | inr there ↦ (let found = all_allow-false parts x there in let small : found.0 < length parts = found.1 in (suc found.0, omega arith, found.2))
     ]
 

@@ -1,13 +1,13 @@
 -- A guarded event by its queues: each has a guard, and a function on its numbers that rises slowly.
-use Rattle.std.specs.Prelude.{◌≡◌, ◌≢◌, ℕ, ◌+◌, ◌-◌, ◌<◌, ◌≤◌, min, max, pos, Bool, true, false, cond, ◌⊎◌, List, length, slice_index, refl}
+use Rattle.std.specs.Prelude.{◌≡◌, ℕ, ◌+◌, ◌<◌, ◌≤◌, true, false, cond, ◌⊎◌, List, length, slice_index, refl}
 use Rattle.std.proofs.Common.{inl, inr, ap, sym, ◌∙◌, subst, arith}
 use Rattle.std.proofs.lemmas.Bool.{cases_Bool}
 use Rattle.psi_state.specs.State.{IsBelow}
 use Rattle.psi_event.specs.Law.{IsClosed}
 use Rattle.psi_guard.specs.declared.named.Part.{Part}
-use Rattle.psi_guard.specs.Guarding.{shifted, moved, all_allow, next, map_places, guarded, free_part, part_of}
-use Rattle.psi_guard.specs.Refusals.{FitsQueue, AreApart, AreGuards, at}
-use Rattle.psi_guard.specs.Places.{IsNamed, IsFree, named_or_free, part_of-at, next-part_of, all_allow-true, all_allow-false, length-map_places, slice_index-map_places, shifted-rises, shifted-slow}
+use Rattle.psi_guard.specs.Guarding.{shifted, moved, all_allow, next, map_places, guarded, part_of}
+use Rattle.psi_guard.specs.Refusals.{AreGuards, at}
+use Rattle.psi_guard.specs.Places.{named_or_free, part_of-at, next-part_of, all_allow-true, all_allow-false, length-map_places, slice_index-map_places, shifted-rises, shifted-slow}
 
 -- the queues, their capacities, and for each the least and the most with which the event happens and what it makes of a number
 pub record Rule : Type 0 where
@@ -107,13 +107,16 @@ makes caps parts x guards below =
     elim (cases_Bool (all_allow parts x)) [
       | inl is ↦ subst (λ (y : List ℕ). Makes (rule caps parts) x y) (sym (guarded-moves parts x is)) (record {
         long = length-map_places (next parts) 0 x ∙ below.same_length;
-        turn = inl (record {
-          low = λ p place. (allowed_place caps parts x p below is place).0;
-          high = λ p place. (allowed_place caps parts x p below is place).1;
-        }, λ p place. (let there : p < length x = omega (arith, below.same_length) in
-            let e : 0 + p ≡ p = omega arith in
-            slice_index-map_places (next parts) 0 x p there
-            ∙ (ap (λ q. next parts q (slice_index x p)) e ∙ next-part_of caps parts p (slice_index x p) (below.each p there))));
+        turn = inl (
+          record {
+            low = λ p place. (allowed_place caps parts x p below is place).0;
+            high = λ p place. (allowed_place caps parts x p below is place).1;
+          },
+          λ p place. (let there : p < length x = omega (arith, below.same_length) in
+              let e : 0 + p ≡ p = omega arith in
+              slice_index-map_places (next parts) 0 x p there
+              ∙ (ap (λ q. next parts q (slice_index x p)) e ∙ next-part_of caps parts p (slice_index x p) (below.each p there))),
+        );
       })
       | inr is ↦ subst (λ (y : List ℕ). Makes (rule caps parts) x y) (sym (guarded-keeps parts x is)) (record {
         long = below.same_length;

@@ -127,13 +127,7 @@ fn low_end(part: Part, l: u16, h: u16, moves: bool, stays: bool) -> u16
     let image = moved(part, l.max(part.least));
     match least_kept(part, l, h, stays) {
         None => image,
-        Some(kept) => {
-            if moves && image < kept {
-                image
-            } else {
-                kept
-            }
-        }
+        Some(kept) => { if moves && image < kept { image } else { kept } }
     }
 }
 
@@ -147,13 +141,7 @@ fn high_end(part: Part, l: u16, h: u16, moves: bool, stays: bool) -> u16
     let image = moved(part, h.min(part.most));
     match greatest_kept(part, l, h, stays) {
         None => image,
-        Some(kept) => {
-            if moves && kept < image {
-                image
-            } else {
-                kept
-            }
-        }
+        Some(kept) => { if moves && kept < image { image } else { kept } }
     }
 }
 

@@ -1,7 +1,6 @@
-use Rattle.std.proofs.Common.{◌≡◌, ◌<◌, length, ap, sym, ◌∙◌, arith, below_more}
+use Rattle.std.proofs.Common.{◌<◌, length, ap, sym, ◌∙◌, arith, below_more}
 use Rattle.std.proofs.lemmas.Option.{get_or_from_slice_get}
 use Rattle.psi_guard.specs.Inverse.{no_part}
-use Rattle.psi_guard.specs.Refusals.{at}
 use Rattle.psi_guard.proofs.Steps.{names-at, names-none}
 use Rattle.psi_guard.proofs.shape.names.Goals as goal
 

@@ -1,6 +1,5 @@
-use Rattle.std.proofs.Common.{◌<◌, ◌≤◌, ◌⊎◌, ◌≡◌, slice_index, length, inl, inr, ap, sym, ◌∙◌, subst, arith, below_more}
+use Rattle.std.proofs.Common.{◌<◌, ◌≤◌, ◌⊎◌, ◌≡◌, slice_index, length, inl, inr, sym, subst, arith, below_more}
 use Rattle.psi_guard.specs.declared.named.Part.{Part}
-use Rattle.psi_guard.specs.Refusals.{at}
 use Rattle.psi_guard.proofs.Steps.{all_allow-from, all_allow-out}
 use Rattle.psi_guard.proofs.shape.Guarded.allows.Goals as goal
 

@@ -1,6 +1,5 @@
-use Rattle.std.proofs.Common.{◌≡◌, ◌<◌, ◌≢◌, ℕ, List, length, slice_index, slice_set, ap, sym, ◌∙◌, subst, arith, below_more, length-set, get_or-set_same, get_or-set_other}
+use Rattle.std.proofs.Common.{◌<◌, ◌≢◌, ℕ, List, length, slice_index, ap, ◌∙◌, arith, below_more, length-set, get_or-set_same, get_or-set_other}
 use Rattle.std.proofs.lemmas.List.{length-replicate}
-use Rattle.psi_guard.specs.Guarding.{part_of}
 use Rattle.psi_guard.proofs.Steps.{leasts-from}
 use Rattle.psi_guard.proofs.shape.Guarded.leasts.Goals as goal
 
@@ -23,7 +22,7 @@ loop-q-preserved c =
       long = ap (λ (y : List ℕ). length y) c.set.ensures ∙ (length-set x q c.part_of.result.least ∙ c.loop-q.invariant.long);
       each = below_more _ _
           (λ k small. (let ne : k ≢ q = omega arith in
-              ap (λ (y : List ℕ). slice_index y k) c.set.ensures ∙ (get_or-set_other x q k c.part_of.result.least 0 ne ∙ c.loop-q.invariant.each k small)))
+          ap (λ (y : List ℕ). slice_index y k) c.set.ensures ∙ (get_or-set_other x q k c.part_of.result.least 0 ne ∙ c.loop-q.invariant.each k small)))
           (ap (λ (y : List ℕ). slice_index y q) c.set.ensures ∙ (get_or-set_same x q c.part_of.result.least 0 place ∙ ap (λ p. p.least) c.part_of.ensures.value));
     }
 

@@ -1,5 +1,4 @@
-use Rattle.std.proofs.Common.{◌+◌, ◌<◌, ◌≤◌, ◌≡◌, slice_index, length, sym, ◌∙◌, subst, arith}
-use Rattle.psi_guard.specs.Refusals.{at}
+use Rattle.std.proofs.Common.{◌+◌, sym, subst, arith}
 use Rattle.psi_guard.proofs.Steps.{IsMoving, moving-start, moving-step, moving-end}
 use Rattle.psi_guard.proofs.shape.Guarded.move_each.Goals as goal
 

@@ -1,8 +1,8 @@
-use Rattle.std.proofs.Common.{◌≡◌, ◌<◌, ◌≤◌, ℕ, suc, ◌+◌, List, [], ◌∷◌, ◌++◌, None, length, take, drop, ap, sym, ◌∙◌, subst, refl, arith, take-suc, take_all, drop_of_length-le}
+use Rattle.std.proofs.Common.{◌≡◌, ◌≤◌, ℕ, suc, ◌+◌, List, [], ◌∷◌, ◌++◌, length, take, drop, ap, sym, ◌∙◌, subst, arith, take-suc, take_all, drop_of_length-le}
 use Rattle.psi_guard.specs.declared.named.Part.{Part}
 use Rattle.psi_guard.specs.Guarding.{guarded, upset_of}
 use Rattle.psi_guard.specs.Inverse.{no_part}
-use Rattle.psi_guard.specs.Refusals.{AreGuards, refusal_after, refusal_of, at}
+use Rattle.psi_guard.specs.Refusals.{AreGuards, refusal_after, at}
 use Rattle.psi_guard.proofs.Accepted.{guards-empty, guards-push, kept-room, refusal-found, refusal-later}
 use Rattle.psi_guard.proofs.shape.Guarded.new.Goals as goal
 

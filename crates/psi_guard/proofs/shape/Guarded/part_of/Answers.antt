@@ -1,4 +1,4 @@
-use Rattle.std.proofs.Common.{◌≡◌, ◌<◌, length, inl, inr, ap, sym, ◌∙◌, subst, arith, below_more}
+use Rattle.std.proofs.Common.{◌≡◌, ◌<◌, length, inl, inr, ap, sym, ◌∙◌, arith, below_more}
 use Rattle.psi_guard.specs.Guarding.{part_of, free_part}
 use Rattle.psi_guard.specs.Refusals.{at}
 use Rattle.psi_guard.specs.Places.{part_of-at, named_or_free}
