@@ -1,0 +1,8 @@
+mod Judged
+mod Taking
+mod Chosen
+mod Routes
+mod Guards
+mod Fitting
+mod Does
+mod Accepting

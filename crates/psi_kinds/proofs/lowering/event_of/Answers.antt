@@ -1,0 +1,63 @@
+use Rattle.std.proofs.Common.{◌≡◌, List, [], ℕ, None, Some, refl, ap, sym, ◌∙◌, subst}
+use Rattle.psi_guard.specs.Refusals as guard
+use Rattle.psi_route.specs.Accepted.{shape}
+use Rattle.psi_route.specs.Refusals as shapes
+use Rattle.psi_route.specs.declared.Full.TheVariants.{Lost}
+use Rattle.psi_kinds.specs.declared.kinds.Kind.{Kind}
+use Rattle.psi_kinds.specs.Kinds.{IsKindOf}
+use Rattle.psi_kinds.specs.Refusals.{IsUnrefused}
+use Rattle.psi_kinds.proofs.Accepting.{shape-accepted, listed-accepted, tables-fit, table-some, table-few}
+use Rattle.psi_kinds.proofs.Fitting.{negative-fits, fork-fits, join-fits}
+use Rattle.psi_kinds.proofs.lowering.event_of.Goals as goal
+
+pub listed_route-requires-clause-accepted : goal.listed_route-requires-clause-accepted
+listed_route-requires-clause-accepted c =
+    let named = subst (λ (k : Kind). IsKindOf c.args.caps k) c.in-Arrival.is c.requires.named in
+    let free = subst (λ (k : Kind). IsUnrefused c.args.caps k) c.in-Arrival.is c.requires.unrefused in
+    listed-accepted c.args.caps None c.in-Arrival.to Lost c.requires.caps named refl free.once
+
+pub listed_route-requires-in-Service-clause-accepted :
+    goal.listed_route-requires-in-Service-clause-accepted
+listed_route-requires-in-Service-clause-accepted c =
+    let named = subst (λ (k : Kind). IsKindOf c.args.caps k) c.in-Service.is c.requires.named in
+    let free = subst (λ (k : Kind). IsUnrefused c.args.caps k) c.in-Service.is c.requires.unrefused in
+    listed-accepted c.args.caps (Some c.in-Service.from) c.in-Service.to c.in-Service.full c.requires.caps named.1 free.away free.once
+
+pub index_tables-requires-clause-some : goal.index_tables-requires-clause-some
+index_tables-requires-clause-some c =
+    let named = subst (λ (k : Kind). IsKindOf c.args.caps k) c.in-Index.is c.requires.named in
+    let free = subst (λ (k : Kind). IsUnrefused c.args.caps k) c.in-Index.is c.requires.unrefused in
+    λ i small. table-some c.args.caps c.in-Index.to c.in-Index.table i c.requires.caps named.1 free.tables small
+
+pub index_tables-requires-clause-few : goal.index_tables-requires-clause-few
+index_tables-requires-clause-few c =
+    let named = subst (λ (k : Kind). IsKindOf c.args.caps k) c.in-Index.is c.requires.named in
+    let free = subst (λ (k : Kind). IsUnrefused c.args.caps k) c.in-Index.is c.requires.unrefused in
+    λ i small. table-few c.args.caps c.in-Index.to c.in-Index.table i c.requires.caps named.1 free.tables small
+
+pub route-requires-clause-accepted : goal.route-requires-clause-accepted
+route-requires-clause-accepted c =
+    let free = subst (λ (k : Kind). IsUnrefused c.args.caps k) c.in-Index.is c.requires.unrefused in
+    ap (λ (t : List (List ℕ)). shapes.refusal_of (shape c.args.caps c.in-Index.from c.in-Index.size c.in-Index.to t c.in-Index.full)) c.in_ok-tables-in-Index.ensures.tables
+    ∙ shape-accepted c.args.caps c.in-Index.from c.in-Index.size c.in-Index.to c.in-Index.table c.in-Index.full
+    free.away free.once (tables-fit c.args.caps c.in-Index.to c.in-Index.table free.tables) free.size
+
+pub listed_route-requires-in-Batch-clause-accepted :
+    goal.listed_route-requires-in-Batch-clause-accepted
+listed_route-requires-in-Batch-clause-accepted c =
+    let free = subst (λ (k : Kind). IsUnrefused c.args.caps k) c.in-Batch.is c.requires.unrefused in
+    shape-accepted c.args.caps None c.in-Batch.size c.in-Batch.to [] Lost refl free.once refl free.size
+
+pub guarded-requires-in-Fork-clause-accepted : goal.guarded-requires-in-Fork-clause-accepted
+guarded-requires-in-Fork-clause-accepted c =
+    let named = subst (λ (k : Kind). IsKindOf c.args.caps k) c.in-Fork.is c.requires.named in
+    let free = subst (λ (k : Kind). IsUnrefused c.args.caps k) c.in-Fork.is c.requires.unrefused in
+    ap (λ parts. guard.refusal_of c.args.caps parts) (c.as_slice-in-Fork.ensures.value ∙ c.in_ok-parts-in-Fork.ensures.parts)
+    ∙ fork-fits c.args.caps c.in-Fork.from c.in-Fork.to named.0 named.1 free.once free.away
+
+pub guarded-requires-in-Join-clause-accepted : goal.guarded-requires-in-Join-clause-accepted
+guarded-requires-in-Join-clause-accepted c =
+    let named = subst (λ (k : Kind). IsKindOf c.args.caps k) c.in-Join.is c.requires.named in
+    let free = subst (λ (k : Kind). IsUnrefused c.args.caps k) c.in-Join.is c.requires.unrefused in
+    ap (λ parts. guard.refusal_of c.args.caps parts) (c.as_slice-in-Join.ensures.value ∙ c.in_ok-parts-in-Join.ensures.parts)
+    ∙ join-fits c.args.caps c.in-Join.from c.in-Join.to c.requires.caps named.0 named.1 free.once free.away

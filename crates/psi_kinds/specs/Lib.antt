@@ -1,0 +1,4 @@
+pub mod Kinds
+pub mod Refusals
+pub mod Forms
+pub mod Events

@@ -1,0 +1,23 @@
+//! The kinds of events of a queueing network, and the event that each of them is.
+//!
+//! A `Kind` says in the terms of queueing what an event does: an arrival, a service, a choice by index, a
+//! batch, a negative customer, a fork, a join or a guarded event. `lower` makes of it an event of one of
+//! two forms, a route or a guarded event, that does the same to every state.
+#![tactic(auto)]
+
+mod event;
+mod judging;
+mod kinds;
+mod lowering;
+mod parting;
+mod refusals;
+mod tables;
+
+pub use event::Event;
+pub use kinds::Kind;
+pub use lowering::lower;
+pub use refusals::{KindRefusal, OutOfMemory};
+pub use tables::Tables;
+
+#[cfg(test)]
+mod tests;

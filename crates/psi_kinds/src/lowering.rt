@@ -1,0 +1,190 @@
+//! The event of a kind.
+
+ghost use Rattle.std.specs.Prelude.{◌≡◌, ◌<◌, ◌≤◌, ℕ, [], length, slice_index, slice_index_or, None, IfOk, IfErr, OnOk, IfSome};
+ghost use Rattle.std.specs.Option.{option_map};
+ghost use Rattle.psi_state.specs.State.{AreCapacities};
+ghost use Rattle.psi_guard.specs.Guarding.{guarded};
+ghost use Rattle.psi_guard.specs.Guarding.{upset_of as upset_of_parts};
+ghost use Rattle.psi_guard.specs.Refusals.{refusal_of as parts_refusal};
+ghost use Rattle.psi_route.specs.Accepted.{shape};
+ghost use Rattle.psi_route.specs.Routing.{routed};
+ghost use Rattle.psi_route.specs.Routing.{upset_of as upset_of_shape};
+ghost use Rattle.psi_route.specs.Refusals.{refusal_of as shape_refusal};
+ghost use Rattle.psi_kinds.specs.Kinds.{AreQueues, IsSource, IsKindOf, Does};
+ghost use Rattle.psi_kinds.specs.Forms.{form_of, function_of, pair_of, upset_of};
+ghost use Rattle.psi_kinds.specs.Refusals.{IsKindRefusal, IsShort, IsUnrefused, of_parts, refusal_of, refusal_of_parts};
+
+use crate::judging::listed_refusal;
+use crate::parting::{fork_parts, join_parts, listed_parts, negative_parts};
+use crate::{Event, Kind, KindRefusal, Tables};
+use psi_event::EventLaw;
+use psi_guard::{Guarded, Part, Parts};
+use psi_index::IndexTable;
+use psi_route::{Full, Route, Source};
+use psi_state::{Queues, State};
+use std::alloc::Global;
+
+/// The event of a kind in a network of these capacities: it does to every state what the kind does.
+///
+/// `caps` are capacities, 1 to 32 queues with room for 1 to 65,535 customers each. Every queue and source
+/// that the kind names is one of these queues, and a source serves from 1 customer on, up to as many as its
+/// queue can hold; the parts of a guarded kind may name any.
+///
+/// The refusals come in this order: `Empty`, `Repeated`, `SelfTarget`, `TableLength`, `SizeRange`. Then,
+/// part by part, come `PartRange`, `Repeated` and `EmptyGuard`. `OutOfMemory` comes only where memory runs
+/// out.
+pub fn lower(alloc: Global, caps: State, kind: &Kind) -> Result<Event, KindRefusal>
+    requires caps { AreCapacities caps }
+    requires named { IsKindOf caps kind.now }
+    ensures caps { IfOk result (λ event. ⟦<Event as EventLaw>⟧.capacities event ≡ caps) }
+    ensures does { IfOk result (λ event. Does caps (⟦<Event as EventLaw>⟧.function event) kind.now) }
+    ensures upset { IfOk result (λ event. ⟦<Event as EventLaw>⟧.upset_pair event ≡ upset_of caps kind.now) }
+    ensures accepted { OnOk result (refusal_of caps kind.now ≡ None) }
+    ensures refused { IfErr result (λ refusal. IsKindRefusal refusal (refusal_of caps kind.now)) }
+{
+    note_length(kind);
+    match listed_refusal(&caps, kind) {
+        Some(refusal) => Err(refusal),
+        None => event_of(alloc, caps, kind),
+    }
+}
+
+// The list of an index event is one of at most 32 queues.
+fn note_length(kind: &Kind)
+    ensures { IsShort kind.now }
+{
+    if let Kind::Index { to, .. } = kind {
+        let _few = to.len();
+    }
+}
+
+// The event of a kind whose lists and numbers aren't refused.
+fn event_of(alloc: Global, caps: State, kind: &Kind) -> Result<Event, KindRefusal>
+    requires caps { AreCapacities caps }
+    requires named { IsKindOf caps kind.now }
+    requires unrefused { IsUnrefused caps kind.now }
+    ensures caps { IfOk result (λ event. ⟦<Event as EventLaw>⟧.capacities event ≡ caps) }
+    ensures function { IfOk result (λ event. ⟦<Event as EventLaw>⟧.function event ≡ function_of (form_of caps kind.now)) }
+    ensures upset { IfOk result (λ event. ⟦<Event as EventLaw>⟧.upset_pair event ≡ pair_of caps (form_of caps kind.now)) }
+    ensures accepted { OnOk result (refusal_of_parts caps kind.now ≡ None) }
+    ensures refused { IfErr result (λ refusal. IsKindRefusal refusal (refusal_of_parts caps kind.now)) }
+{
+    match kind {
+        Kind::Arrival { to } => Ok(listed_route(alloc, caps, None, 1, *to, Full::Lost)),
+        Kind::Service { from, to, full } => {
+            Ok(listed_route(alloc, caps, Some(*from), 1, *to, *full))
+        }
+        Kind::Index {
+            from,
+            to,
+            table,
+            full,
+            size,
+        } => {
+            let tables = index_tables(alloc, table)?;
+            Ok(route(caps, *from, *size, *to, tables, *full))
+        }
+        Kind::Batch { to, size } => Ok(listed_route(alloc, caps, None, *size, *to, Full::Lost)),
+        Kind::Negative { from, on, amount } => {
+            let parts = negative_parts(alloc, &caps, *from, *on, *amount)?;
+            Ok(guarded(caps, parts.as_slice()))
+        }
+        Kind::Fork { from, to } => {
+            let parts = fork_parts(alloc, &caps, *from, to)?;
+            Ok(guarded(caps, parts.as_slice()))
+        }
+        Kind::Join { from, to } => {
+            let parts = join_parts(alloc, &caps, from, *to)?;
+            Ok(guarded(caps, parts.as_slice()))
+        }
+        Kind::Guarded { parts } => judged(alloc, caps, parts),
+    }
+}
+
+// The route to the first queue of a list with room.
+fn listed_route(
+    alloc: Global,
+    caps: State,
+    source: Option<Source>,
+    size: u16,
+    targets: Queues,
+    full: Full,
+) -> Event
+    requires caps { AreCapacities caps }
+    requires source { IfSome source (λ source. IsSource caps source) }
+    requires queues { AreQueues caps targets }
+    requires accepted { shape_refusal (shape caps source size targets [] full) ≡ None }
+    ensures caps { ⟦<Event as EventLaw>⟧.capacities result ≡ caps }
+    ensures function { ⟦<Event as EventLaw>⟧.function result ≡ routed (shape caps source size targets [] full) }
+    ensures upset { ⟦<Event as EventLaw>⟧.upset_pair result ≡ upset_of_shape (shape caps source size targets [] full) }
+{
+    route(caps, source, size, targets, Vec::new(alloc), full)
+}
+
+// The route of these parts.
+fn route(
+    caps: State,
+    source: Option<Source>,
+    size: u16,
+    targets: Queues,
+    tables: Vec<IndexTable>,
+    full: Full,
+) -> Event
+    requires caps { AreCapacities caps }
+    requires source { IfSome source (λ source. IsSource caps source) }
+    requires queues { AreQueues caps targets }
+    requires accepted { shape_refusal (shape caps source size targets tables.items full) ≡ None }
+    ensures caps { ⟦<Event as EventLaw>⟧.capacities result ≡ caps }
+    ensures function { ⟦<Event as EventLaw>⟧.function result ≡ routed (shape caps source size targets tables.items full) }
+    ensures upset { ⟦<Event as EventLaw>⟧.upset_pair result ≡ upset_of_shape (shape caps source size targets tables.items full) }
+{
+    match Route::new(caps, source, size, targets, tables, full) {
+        Ok(route) => Event::Route(route),
+        Err(_) => unreachable!(),
+    }
+}
+
+// The tables of an index event, each with its least and greatest values at hand.
+fn index_tables(alloc: Global, tables: &Tables) -> Result<Vec<IndexTable>, KindRefusal>
+    requires some { (i : ℕ) → i < length tables.now → 1 ≤ length (slice_index_or tables.now i []) }
+    requires few { (i : ℕ) → i < length tables.now → length (slice_index_or tables.now i []) ≤ 65535 }
+    ensures tables { IfOk result (λ list. list.items ≡ tables.now) }
+    ensures memory { IfErr result (λ refusal. refusal ≡ KindRefusal.OutOfMemory) }
+{
+    let mut list = Vec::new(alloc);
+    for i in 0..tables.len() {
+        let values = Vec::from_slice(alloc, tables.row(i))?;
+        list.push(IndexTable::new(alloc, values)?)?;
+    }
+    Ok(list)
+}
+
+// The guarded event of parts that aren't refused.
+fn guarded(caps: State, parts: &[Part]) -> Event
+    requires caps { AreCapacities caps }
+    requires accepted { parts_refusal caps parts.now ≡ None }
+    ensures caps { ⟦<Event as EventLaw>⟧.capacities result ≡ caps }
+    ensures function { ⟦<Event as EventLaw>⟧.function result ≡ guarded parts.now }
+    ensures upset { ⟦<Event as EventLaw>⟧.upset_pair result ≡ upset_of_parts caps parts.now }
+{
+    match Guarded::new(caps, parts) {
+        Ok(event) => Event::Guarded(event),
+        Err(_) => unreachable!(),
+    }
+}
+
+// The guarded event of parts that may be refused.
+fn judged(alloc: Global, caps: State, parts: &Parts) -> Result<Event, KindRefusal>
+    requires { AreCapacities caps }
+    ensures caps { IfOk result (λ event. ⟦<Event as EventLaw>⟧.capacities event ≡ caps) }
+    ensures function { IfOk result (λ event. ⟦<Event as EventLaw>⟧.function event ≡ guarded parts.now) }
+    ensures upset { IfOk result (λ event. ⟦<Event as EventLaw>⟧.upset_pair event ≡ upset_of_parts caps parts.now) }
+    ensures accepted { OnOk result (parts_refusal caps parts.now ≡ None) }
+    ensures refused { IfErr result (λ refusal. IsKindRefusal refusal (option_map of_parts (parts_refusal caps parts.now))) }
+{
+    let list = listed_parts(alloc, parts)?;
+    match Guarded::new(caps, list.as_slice()) {
+        Ok(event) => Ok(Event::Guarded(event)),
+        Err(refusal) => Err(KindRefusal::of_parts(refusal)),
+    }
+}

@@ -1,0 +1,79 @@
+//! Why a kind makes no event.
+
+ghost use Rattle.std.specs.Prelude.{◌≡◌};
+
+use psi_guard::GuardRefusal;
+use std::alloc::{AllocError, AllocFailed};
+
+/// Why a kind of event can't be lowered.
+#[derive(Clone, Copy, PartialEq, Eq, Debug)]
+pub enum KindRefusal {
+    /// The source is in the list of queues that are joined, or is the queue that loses customers; or the
+    /// queue that a join leads to is in its list.
+    SelfTarget,
+    /// A queue stands twice in a list, or an earlier part names the queue of a part.
+    Repeated,
+    /// The number of tables isn't that of the queues of the list, or the length of a table isn't the
+    /// capacity of its queue.
+    TableLength,
+    /// The size is 0, or above the capacity of a queue of the list, or 2 or more with a source; or the
+    /// amount is 0.
+    SizeRange,
+    /// The list, which may not be empty, is, or there is no part.
+    Empty,
+    /// A part names no queue of the network, or a number or shift out of range.
+    PartRange,
+    /// The least number of a part is above its most, or its floor above its ceiling.
+    EmptyGuard,
+    /// There is no memory for the event.
+    OutOfMemory,
+}
+
+/// There is no memory.
+#[derive(Clone, Copy, PartialEq, Eq, Debug)]
+pub struct OutOfMemory;
+
+impl KindRefusal {
+    ghost use Rattle.psi_kinds.specs.Refusals.{of_parts};
+
+    // The refusal of a part as that of a kind.
+    pub(crate) fn of_parts(refusal: GuardRefusal) -> KindRefusal
+        ensures { result ≡ of_parts refusal }
+    {
+        match refusal {
+            GuardRefusal::Empty => KindRefusal::EmptyGuard,
+            GuardRefusal::Repeated => KindRefusal::Repeated,
+            GuardRefusal::OutOfRange => KindRefusal::PartRange,
+        }
+    }
+}
+
+impl From<AllocError> for KindRefusal {
+    ghost use Rattle.psi_kinds.specs.declared.refusals.KindRefusal.TheVariants.{OutOfMemory};
+
+    ghost from_gives = { λ _ refusal. refusal ≡ OutOfMemory };
+
+    fn from(_error: AllocError) -> KindRefusal {
+        KindRefusal::OutOfMemory
+    }
+}
+
+impl<T: Drop> From<AllocFailed<T>> for KindRefusal {
+    ghost use Rattle.psi_kinds.specs.declared.refusals.KindRefusal.TheVariants.{OutOfMemory};
+
+    ghost from_gives = { λ _ refusal. refusal ≡ OutOfMemory };
+
+    fn from(_error: AllocFailed<T>) -> KindRefusal {
+        KindRefusal::OutOfMemory
+    }
+}
+
+impl From<psi_index::OutOfMemory> for KindRefusal {
+    ghost use Rattle.psi_kinds.specs.declared.refusals.KindRefusal.TheVariants.{OutOfMemory};
+
+    ghost from_gives = { λ _ refusal. refusal ≡ OutOfMemory };
+
+    fn from(_error: psi_index::OutOfMemory) -> KindRefusal {
+        KindRefusal::OutOfMemory
+    }
+}
