@@ -1,3 +1,4 @@
 pub mod Runs
+pub mod Agreeing
 pub mod Planned
 pub mod Kept

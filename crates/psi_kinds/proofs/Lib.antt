@@ -6,3 +6,4 @@ mod Guards
 mod Fitting
 mod Does
 mod Accepting
+pub mod Closing

@@ -72,6 +72,14 @@ functions-closed {E} capacities function system words closed same = record {
       (record { each = λ x within. within });
 }
 
+-- each time's function makes states of states, if each event's does
+pub function_at-closed : (caps : List ℕ) (functions : List (List ℕ → List ℕ)) (rates : List ℕ) (words : ℕ → ℕ) → All (λ f. IsClosed caps f) functions
+    → AreClosed caps (function_at functions rates words)
+function_at-closed caps functions rates words closed = record {
+  each = λ t.
+      picked-each (IsClosed caps) functions rates (words (t - 1)) closed (record { each = λ x within. within });
+}
+
 -- each time's function is monotone, if each event's is
 pub function_at-monotone : (caps : List ℕ) (functions : List (List ℕ → List ℕ)) (rates : List ℕ) (words : ℕ → ℕ) → All (λ f. IsMonotone caps f) functions
     → AreMonotone caps (function_at functions rates words)

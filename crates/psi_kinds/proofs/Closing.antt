@@ -1,0 +1,114 @@
+-- What an accepted kind of event does makes states of states.
+use Rattle.std.specs.Prelude.{◌≡◌, ℕ, zero, suc, ◌-◌, ◌<◌, ◌≤◌, List, [], ◌∷◌, ◌++◌, length, Bool, true, false, cond, if◌then◌else◌, Option, Some, None, IfSome, slice_index, slice_set, refl}
+use Rattle.std.specs.Option.{option_map}
+use Rattle.std.proofs.Common.{inl, inr, ap, sym, ◌∙◌, subst, arith, append_assoc, length-set}
+use Rattle.psi_state.specs.State.{IsBelow, AreCapacities}
+use Rattle.psi_event.specs.Law.{IsClosed}
+use Rattle.psi_event.specs.Choice.{first_or}
+use Rattle.psi_guard.specs.declared.Part.{Part}
+use Rattle.psi_guard.specs.declared.GuardRefusal.{GuardRefusal}
+use Rattle.psi_guard.specs.Refusals.{AreGuards, refusal_at, refusal_after}
+use Rattle.psi_guard.specs.Refusals as guard
+use Rattle.psi_guard.specs.Rule.{guarded-closed}
+use Rattle.psi_guard.proofs.Accepted.{few_places, guards-empty, guards-push}
+use Rattle.psi_route.specs.declared.Source.{Source}
+use Rattle.psi_route.specs.declared.Full.TheVariants.{Lost}
+use Rattle.psi_route.specs.Accepted.{apart-from_repeats}
+use Rattle.psi_route.specs.Closed.{routed-closed}
+use Rattle.psi_kinds.specs.declared.kinds.Kind.{Kind}
+use Rattle.psi_kinds.specs.declared.kinds.Kind.TheVariants.{Arrival, Service, Index, Batch, Negative, Fork, Join, Guarded}
+use Rattle.psi_kinds.specs.declared.refusals.KindRefusal.{KindRefusal}
+use Rattle.psi_kinds.specs.Kinds.{lose, leave, may_serve, do_kind, IsKindOf, Does}
+use Rattle.psi_kinds.specs.Refusals.{refusal_of, refusal_of_parts, listed_refusal, of_parts, IsUnrefused, IsShort}
+use Rattle.psi_kinds.specs.Forms.{fork_parts, join_parts, form_of, function_of}
+use Rattle.psi_kinds.proofs.Does.{unrefused, form-does}
+use Rattle.psi_kinds.proofs.Fitting.{fork-fits, join-fits}
+use Rattle.psi_kinds.proofs.Guards.{lose-less}
+
+-- where neither of two causes is there, each is absent
+first_or-none : {A : Type 0} (a b : Option A) → first_or a b ≡ None → (a ≡ None) × (b ≡ None)
+first_or-none None b is = (refl, is)
+first_or-none (Some a) b is = absurd cc
+
+map-none : {A B : Type 0} (f : A → B) (o : Option A) → option_map f o ≡ None → o ≡ None
+map-none f None is = refl
+map-none f (Some a) is = absurd cc
+
+-- parts that aren't refused are those of a guarded event
+guards-after : (caps : List ℕ) (kept parts : List Part) → AreGuards caps kept → refusal_after caps kept parts ≡ None → AreGuards caps (kept ++ parts)
+guards-after caps kept [] guards is = subst (λ (p : List Part). AreGuards caps p) (sym (append_nil kept)) guards
+  where
+    append_nil : (xs : List Part) → xs ++ [] ≡ xs
+    append_nil [] = refl
+    append_nil (x ∷ xs) = ap (λ (ys : List Part). x ∷ ys) (append_nil xs)
+guards-after caps kept (part ∷ parts) guards is =
+    let both = first_or-none (refusal_at caps kept part) (refusal_after caps (kept ++ part ∷ []) parts) is in
+    subst (λ (p : List Part). AreGuards caps p) (append_assoc kept (part ∷ []) parts)
+    (guards-after caps (kept ++ part ∷ []) parts (guards-push caps kept part guards both.0) both.1)
+
+guards-accepted : (caps : List ℕ) (parts : List Part) → guard.refusal_of caps parts ≡ None → AreGuards caps parts
+guards-accepted caps parts is = guards-after caps [] parts (guards-empty caps) is
+
+lose-closed : (caps : List ℕ) (q b : ℕ) (x : List ℕ) → IsBelow x caps → IsBelow (lose q b x) caps
+lose-closed caps q b x below = record {
+  same_length = length-set {A = ℕ} x q (slice_index x q - b) ∙ below.same_length;
+  each = λ i small. (let count : length (lose q b x) ≡ length x = length-set {A = ℕ} x q (slice_index x q - b) in
+      let less : slice_index (lose q b x) i ≤ slice_index x i = lose-less q b x i in
+      let old : slice_index x i ≤ slice_index caps i = below.each i (omega arith) in omega arith);
+}
+
+leave-closed : (caps : List ℕ) (from : Option Source) (x : List ℕ) → IsBelow x caps → IsBelow (leave from x) caps
+leave-closed caps None x below = below
+leave-closed caps (Some source) x below = lose-closed caps source.queue 1 x below
+
+negative-closed : (caps : List ℕ) (from : Option Source) (on amount : ℕ) (x : List ℕ) (b : Bool) → IsBelow x caps
+    → IsBelow (if b then lose on amount (leave from x) else x) caps
+negative-closed caps from on amount x true below = lose-closed caps on amount (leave from x) (leave-closed caps from x below)
+negative-closed caps from on amount x false below = below
+
+-- a list of an accepted index event is no longer than there are queues
+kind-short : (caps : List ℕ) (kind : Kind) → AreCapacities caps → IsKindOf caps kind → IsUnrefused caps kind → IsShort kind
+kind-short caps (Arrival to) valid named free = tt
+kind-short caps (Service from to full) valid named free = tt
+kind-short caps (Index from to table full size) valid named free =
+    let few : length to ≤ length caps = few_places (length caps) (length to) (λ i. slice_index to i) named.1 (λ i j first second same. apart-from_repeats to i j free.once first second same) in
+    let most : length caps ≤ 32 = valid.few in
+    omega arith
+kind-short caps (Batch to size) valid named free = tt
+kind-short caps (Negative from on amount) valid named free = tt
+kind-short caps (Fork from to) valid named free = tt
+kind-short caps (Join from to) valid named free = tt
+kind-short caps (Guarded parts) valid named free = tt
+
+by-form : (caps : List ℕ) (kind : Kind) → Does caps (function_of (form_of caps kind)) kind → IsClosed caps (function_of (form_of caps kind)) → IsClosed caps (do_kind caps kind)
+by-form caps kind does closed = record {
+  each = λ x below. subst (λ (y : List ℕ). IsBelow y caps) (does.each x below) (closed.each x below);
+}
+
+-- whatever an accepted kind is, it makes states of states
+closed-cases : (caps : List ℕ) (kind : Kind) → AreCapacities caps → IsKindOf caps kind → IsUnrefused caps kind → refusal_of_parts caps kind ≡ None
+    → Does caps (function_of (form_of caps kind)) kind → IsClosed caps (do_kind caps kind)
+unfolding do_kind
+closed-cases caps (Arrival to) valid named free parts does =
+    by-form caps (Arrival to) does (routed-closed (record { caps = caps; source = None; size = 1; targets = to; tables = []; full = Lost }))
+closed-cases caps (Service from to full) valid named free parts does =
+    by-form caps (Service from to full) does (routed-closed (record { caps = caps; source = Some from; size = 1; targets = to; tables = []; full = full }))
+closed-cases caps (Index from to table full size) valid named free parts does =
+    by-form caps (Index from to table full size) does (routed-closed (record { caps = caps; source = from; size = size; targets = to; tables = table; full = full }))
+closed-cases caps (Batch to size) valid named free parts does =
+    by-form caps (Batch to size) does (routed-closed (record { caps = caps; source = None; size = size; targets = to; tables = []; full = Lost }))
+closed-cases caps (Negative from on amount) valid named free parts does =
+    record { each = λ x below. negative-closed caps from on amount x (may_serve from x) below }
+closed-cases caps (Fork from to) valid named free parts does =
+    by-form caps (Fork from to) does (guarded-closed caps (fork_parts caps from to) (guards-accepted caps (fork_parts caps from to) (fork-fits caps from to named.0 named.1 free.once free.away)))
+closed-cases caps (Join from to) valid named free parts does =
+    by-form caps (Join from to) does (guarded-closed caps (join_parts caps from to) (guards-accepted caps (join_parts caps from to) (join-fits caps from to valid named.0 named.1 free.once free.away)))
+closed-cases caps (Guarded parts) valid named free refused does =
+    by-form caps (Guarded parts) does (guarded-closed caps parts (guards-accepted caps parts (map-none of_parts (guard.refusal_of caps parts) refused)))
+
+pub kind-closed : (caps : List ℕ) (kind : Kind) → AreCapacities caps → IsKindOf caps kind → refusal_of caps kind ≡ None → IsClosed caps (do_kind caps kind)
+unfolding refusal_of
+kind-closed caps kind valid named is =
+    let both = first_or-none (listed_refusal caps kind) (refusal_of_parts caps kind) is in
+    let free = unrefused caps kind both.0 in
+    closed-cases caps kind valid named free both.1 (form-does caps kind valid named (kind-short caps kind valid named free) free)
