@@ -1,6 +1,6 @@
 -- A set whose states are within capacities stays so.
 use Rattle.std.proofs.Common.{◌≡◌, ℕ, List, ◌∷◌, inl, inr, ap, sym, ◌∙◌, subst, refl}
-use Rattle.psi_state.specs.State.{IsBelow, box, zeros, all_states, Corners}
+use Rattle.psi_state.specs.State.{IsBelow, box, zeros, Corners}
 use Rattle.psi_state.specs.Members.{In}
 use Rattle.psi_state.specs.Boxes.{In-of_all_states}
 use Rattle.psi_state.specs.Sets.{insert_state, image, In-of_insert_state, In-of_image}

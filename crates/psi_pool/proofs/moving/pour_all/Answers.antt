@@ -1,4 +1,4 @@
-use Rattle.std.proofs.Common.{◌≡◌, ◌≤◌, arith}
+use Rattle.std.proofs.Common.{◌≡◌, arith}
 use Rattle.psi_pool.specs.Gathering.{gathering-none, gathering-more, gathering-all}
 use Rattle.psi_pool.proofs.moving.pour_all.Goals as goal
 

@@ -1,4 +1,4 @@
-use Rattle.std.proofs.Common.{◌≡◌, ℕ, List, ap, sym, ◌∙◌, subst, arith, vec_capacity}
+use Rattle.std.proofs.Common.{◌≡◌, ℕ, List, ap, sym, subst, arith, vec_capacity}
 use Rattle.psi_state.specs.Members.{In}
 use Rattle.psi_state.specs.Sets.{ascending}
 use Rattle.psi_pool.specs.Chains.{chain}
