@@ -14,7 +14,7 @@ use Rattle.psi_route.specs.declared.Source.{Source}
 use Rattle.psi_route.specs.Refusals.{is_self_target, repeats}
 use Rattle.psi_kinds.specs.Kinds.{IsSource, AreQueues}
 use Rattle.psi_kinds.specs.Refusals.{has_given}
-use Rattle.psi_kinds.specs.Forms.{losing_part, gaining_part, source_parts, joined_parts, negative_parts, fork_parts, join_parts}
+use Rattle.psi_kinds.specs.Forms.{losing_part, gaining_part, source_parts, joined_parts, fork_parts, join_parts}
 use Rattle.psi_kinds.proofs.Guards.{AreSingle, AreApart, names-map, names-append, single-map, single-append, apart-map}
 
 -- each part fits its queue
@@ -97,27 +97,12 @@ single-source : (n : ℕ) (caps : List ℕ) (from : Option Source) (parts : List
 single-source n caps None parts long is away single = single
 single-source n caps (Some s) parts long is away single = (let small : s.queue < length caps = is.queue in (omega arith, away, single))
 
-away-negative : (caps : List ℕ) (from : Option Source) (on amount : ℕ) → is_self_target from (on ∷ []) ≡ false
-    → IfSome from (λ s. names (losing_part caps 0 on amount ∷ []) s.queue ≡ false)
-away-negative caps None on amount away = tt
-away-negative caps (Some s) on amount away = away
-
--- the parts of a negative customer aren't refused
-pub negative-fits : (caps : List ℕ) (from : Option Source) (on amount : ℕ) → IfSome from (λ s. IsSource caps s) → on < length caps → amount ≤ 65535
-    → is_self_target from (on ∷ []) ≡ false → guard.refusal_of caps (negative_parts caps from on amount) ≡ None
-negative-fits caps from on amount source place most away =
-    refusal_after-none caps (length caps) [] (negative_parts caps from on amount)
-    (fit-append caps (source_parts caps from) (losing_part caps 0 on amount ∷ []) (fit-source caps from source)
-    (losing-fits caps 0 on amount place (omega arith) most, tt))
-    (single-source (length caps) caps from (losing_part caps 0 on amount ∷ []) refl source (away-negative caps from on amount away) (place, refl, tt))
-    (new-none (negative_parts caps from on amount))
-
 away-fork : (caps : List ℕ) (from : Option Source) (to : List ℕ) → is_self_target from to ≡ false
     → IfSome from (λ s. names (map (gaining_part caps) to) s.queue ≡ false)
 away-fork caps None to away = tt
 away-fork caps (Some s) to away = names-map (gaining_part caps) (λ q. refl) to s.queue ∙ away
 
--- nor those of a fork
+-- the parts of a fork aren't refused
 pub fork-fits : (caps : List ℕ) (from : Option Source) (to : List ℕ) → IfSome from (λ s. IsSource caps s) → AreQueues caps to
     → repeats to ≡ false → is_self_target from to ≡ false → guard.refusal_of caps (fork_parts caps from to) ≡ None
 fork-fits caps from to source places once away =

@@ -4,6 +4,7 @@ ghost use Rattle.std.specs.Prelude.{◌≡◌, ◌≤◌, ◌<◌, length, slice
 ghost use Rattle.psi_state.specs.State.{AreCapacities};
 ghost use Rattle.psi_kinds.specs.Kinds.{AreQueues, IsSource, IsKindOf};
 
+use super::plain::with;
 use crate::{Event, Kind, KindRefusal, Tables, lower};
 use psi_event::EventLaw;
 use psi_guard::{Part, Parts};
@@ -17,8 +18,8 @@ pub(crate) fn state(numbers: &[u16]) -> State {
     let len = numbers.len().min(32).max(1) as u8;
     let mut state = State::zero(len);
     for (queue, number) in numbers.iter().enumerate() {
-        if queue < len as usize {
-            state.set(queue as u8, *number);
+        if queue < 32 {
+            state = with(&state, queue as u8, *number);
         }
     }
     state

@@ -163,13 +163,20 @@ fn guarded_kinds_jump_and_reset(rt: HostRuntime) {
         ceiling: 0,
         ..part(0, 5, 0)
     };
+    let jump = Kind::Guarded {
+        parts: parts(&[up]),
+    };
     let pair = Some((state(&[2]), state(&[3])));
-    for (part, pair) in [(up, pair), (down, pair), (reset, None)] {
-        let kind = Kind::Guarded {
-            parts: parts(&[part]),
-        };
-        assert_pair(&rt, alloc, &[5], &kind, pair);
-    }
+    assert_pair(&rt, alloc, &[5], &jump, pair);
+    let clear = Kind::Guarded {
+        parts: parts(&[down]),
+    };
+    let pair = Some((state(&[2]), state(&[3])));
+    assert_pair(&rt, alloc, &[5], &clear, pair);
+    let empty = Kind::Guarded {
+        parts: parts(&[reset]),
+    };
+    assert_pair(&rt, alloc, &[5], &empty, None);
 }
 
 // Why two queues with room for 2 and 3 customers have no event of this kind, if they have none.
