@@ -1,5 +1,5 @@
 -- Falls of a key past another one, and the least of them that are found so far.
-use Rattle.std.specs.Prelude.{◌≡◌, ℕ, ◌+◌, ◌<◌, ◌≤◌, List, slice_index, Option, MatchOption, true, false}
+use Rattle.std.specs.Prelude.{◌≡◌, ℕ, ◌<◌, Option, MatchOption, true, false}
 use Rattle.psi_route.specs.Routing.{Shape, routing, crosses}
 
 -- no number of customers at place a lets its key fall past that of place b with w customers

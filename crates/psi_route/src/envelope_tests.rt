@@ -1,32 +1,14 @@
 //! Envelopes of small routes, worked out by hand over all states of the box.
 
-ghost use Rattle.std.specs.Prelude.{◌≡◌, ℕ, ◌<◌, ◌≤◌, ◌∷◌, [], length, slice_index, EachIndex};
+ghost use Rattle.std.specs.Prelude.{◌≡◌, ℕ, ◌<◌, ◌≤◌, length, slice_index, EachIndex};
 ghost use Rattle.psi_state.specs.State.{AreCapacities};
 
+use crate::tests::{one, pair};
 use crate::{Full, Route, Source};
 use psi_event::EventLaw;
 use psi_index::IndexTable;
 use psi_state::{Bounds, Queues, State};
 use std::test::Fail;
-
-// One queue that holds `count` customers.
-fn one(count: u16) -> State
-    ensures { result ≡ count ∷ [] }
-{
-    let mut state = State::zero(1);
-    state.set(0, count);
-    state
-}
-
-// Two queues that hold `first` and `second` customers.
-fn pair(first: u16, second: u16) -> State
-    ensures { result ≡ first ∷ second ∷ [] }
-{
-    let mut state = State::zero(2);
-    state.set(0, first);
-    state.set(1, second);
-    state
-}
 
 // So many queues that hold `count` customers each.
 fn alike(queues: u8, count: u16) -> State

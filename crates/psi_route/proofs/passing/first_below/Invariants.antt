@@ -1,4 +1,4 @@
-use Rattle.std.proofs.Common.{◌≡◌, ◌<◌, ◌≤◌, ◌-◌, ℕ, length, slice_index}
+use Rattle.std.proofs.Common.{◌<◌, ◌≤◌, ◌-◌, ℕ, length, slice_index}
 use Rattle.psi_route.proofs.passing.first_below.Given as goal
 
 abbrev pub invariant-loop-low : goal.invariant-loop-low

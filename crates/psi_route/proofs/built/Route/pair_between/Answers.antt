@@ -1,4 +1,4 @@
-use Rattle.std.proofs.Common.{ℕ, List, Option, Some, ap, ◌∙◌, arith}
+use Rattle.std.proofs.Common.{ℕ, List, Some, ap, ◌∙◌, arith}
 use Rattle.psi_route.specs.Route.{shape_of}
 use Rattle.psi_route.proofs.Falling.{between-none, between-some, found-none, found-some}
 use Rattle.psi_route.proofs.built.Route.pair_between.Goals as goal
