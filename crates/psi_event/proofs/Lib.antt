@@ -1,3 +1,1 @@
-mod Changes
 mod Envelopes
-mod Worked

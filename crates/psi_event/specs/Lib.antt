@@ -1,5 +1,3 @@
 pub mod Law
 pub mod Choice
 pub mod Idle
-pub mod Single
-pub mod Change

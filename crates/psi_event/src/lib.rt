@@ -7,10 +7,8 @@
 
 mod idleness;
 mod law;
-mod one_customer;
 #[cfg(test)]
 mod tests;
 
 pub use idleness::Idle;
 pub use law::EventLaw;
-pub use one_customer::Single;

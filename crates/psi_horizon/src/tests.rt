@@ -1,10 +1,11 @@
 //! Samples and runs of small networks of one queue, worked out by hand from the words.
 
-ghost use Rattle.std.specs.Prelude.{◌≡◌, ◌≤◌, ◌∷◌, []};
+ghost use Rattle.std.specs.Prelude.{◌≡◌, ◌≤◌, ◌∷◌, [], IfOk};
 ghost use Rattle.psi_state.specs.State.{AreCapacities};
 
 use crate::Plan;
-use psi_event::{EventLaw, Single};
+use psi_event::EventLaw;
+use psi_guard::{GuardRefusal, Guarded, Part};
 use psi_past::{ListPast, Past, SeedPast};
 use psi_rate::{System, Wheel};
 use psi_state::{Outcome, State, Step};
@@ -27,6 +28,38 @@ fn capacities(capacity: u16) -> State
     ensures valid { AreCapacities result }
 {
     holding(capacity)
+}
+
+// One customer joins queue `queue`, which has room for `most` customers.
+fn joining(caps: State, queue: u8, most: u16) -> Result<Guarded, GuardRefusal>
+    requires { AreCapacities caps }
+    ensures caps { IfOk result (λ event. ⟦<Guarded as EventLaw>⟧.capacities event ≡ caps) }
+{
+    let part = Part {
+        queue,
+        least: 0,
+        most: most.saturating_sub(1),
+        shift: 1,
+        floor: 0,
+        ceiling: most,
+    };
+    Guarded::new(caps, &[part])
+}
+
+// One customer leaves queue `queue`, which has room for `most` customers, where it holds at least `k`.
+fn leaving(caps: State, queue: u8, most: u16, k: u16) -> Result<Guarded, GuardRefusal>
+    requires { AreCapacities caps }
+    ensures caps { IfOk result (λ event. ⟦<Guarded as EventLaw>⟧.capacities event ≡ caps) }
+{
+    let part = Part {
+        queue,
+        least: k,
+        most,
+        shift: -1,
+        floor: 0,
+        ceiling: most,
+    };
+    Guarded::new(caps, &[part])
 }
 
 // The outcome of a sample that is met.
@@ -55,7 +88,7 @@ fn sample_of_one_server<P: Past + Drop>(
     requires limit { limit ≤ 22 }
 {
     let caps = capacities(capacity);
-    let events = [Single::join(caps, 0), Single::leave(caps, 0, 1)];
+    let events = [joining(caps, 0, capacity)?, leaving(caps, 0, capacity, 1)?];
     let wheel = Wheel::new(alloc, &[arrival, service])?;
     let system = System::new(caps, &events, &wheel, limit, 256);
     let mut plan = Plan::new(alloc, system, past)?;
@@ -107,9 +140,9 @@ fn sample_of_two_servers<P: Past + Drop>(
 {
     let caps = capacities(capacity);
     let events = [
-        Single::join(caps, 0),
-        Single::leave(caps, 0, 1),
-        Single::leave(caps, 0, 2),
+        joining(caps, 0, capacity)?,
+        leaving(caps, 0, capacity, 1)?,
+        leaving(caps, 0, capacity, 2)?,
     ];
     let wheel = Wheel::new(alloc, &[1, 1, 1])?;
     let system = System::new(caps, &events, &wheel, 18, split);
@@ -134,7 +167,7 @@ fn sample_of_arrivals(alloc: Global, capacity: u16, split: u16) -> Result<Outcom
     requires few { split ≤ 4096 }
 {
     let caps = capacities(capacity);
-    let events = [Single::join(caps, 0)];
+    let events = [joining(caps, 0, capacity)?];
     let wheel = Wheel::new(alloc, &[1])?;
     let system = System::new(caps, &events, &wheel, 18, split);
     let mut plan = Plan::new(alloc, system, SeedPast::new(0, 0))?;
@@ -199,7 +232,7 @@ fn run_of_one_server<P: Past + Drop>(
     requires few { split ≤ 4096 }
 {
     let caps = capacities(capacity);
-    let events = [Single::join(caps, 0), Single::leave(caps, 0, 1)];
+    let events = [joining(caps, 0, capacity)?, leaving(caps, 0, capacity, 1)?];
     let wheel = Wheel::new(alloc, &[1, service])?;
     let system = System::new(caps, &events, &wheel, 2, split);
     let mut plan = Plan::new(alloc, system, past)?;
@@ -280,7 +313,7 @@ fn a_run_shows_its_idle_steps(rt: HostRuntime) -> Result<(), Fail> {
 fn other_words_serve_the_same_plan(rt: HostRuntime) -> Result<(), Fail> {
     let alloc = rt.alloc();
     let caps = capacities(2);
-    let events = [Single::join(caps, 0), Single::leave(caps, 0, 1)];
+    let events = [joining(caps, 0, 2)?, leaving(caps, 0, 2, 1)?];
     let wheel = Wheel::new(alloc, &[1, 2])?;
     let system = System::new(caps, &events, &wheel, 2, 2);
     let mut plan = Plan::new(alloc, system, ListPast::new([2, 0, 0, 3].to_vec(alloc)?))?;

@@ -5,7 +5,8 @@ ghost use Rattle.psi_state.specs.State.{AreCapacities, IsBelow};
 ghost use Rattle.psi_state.specs.Members.{In};
 
 use super::*;
-use psi_event::{EventLaw, Idle, Single};
+use psi_event::{EventLaw, Idle};
+use psi_guard::{GuardRefusal, Guarded, Part};
 use psi_state::{Bounds, State};
 use std::alloc::Global;
 use std::test::Fail;
@@ -27,6 +28,38 @@ fn capacities(most: u16) -> State
     ensures valid { AreCapacities result }
 {
     pair(most, most)
+}
+
+// One customer joins queue `queue`, which has room for `most` customers.
+fn joining(caps: State, queue: u8, most: u16) -> Result<Guarded, GuardRefusal>
+    requires { AreCapacities caps }
+    ensures caps { IfOk result (λ event. ⟦<Guarded as EventLaw>⟧.capacities event ≡ caps) }
+{
+    let part = Part {
+        queue,
+        least: 0,
+        most: most.saturating_sub(1),
+        shift: 1,
+        floor: 0,
+        ceiling: most,
+    };
+    Guarded::new(caps, &[part])
+}
+
+// One customer leaves queue `queue`, which has room for `most` customers, where it holds at least `k`.
+fn leaving(caps: State, queue: u8, most: u16, k: u16) -> Result<Guarded, GuardRefusal>
+    requires { AreCapacities caps }
+    ensures caps { IfOk result (λ event. ⟦<Guarded as EventLaw>⟧.capacities event ≡ caps) }
+{
+    let part = Part {
+        queue,
+        least: k,
+        most,
+        shift: -1,
+        floor: 0,
+        ceiling: most,
+    };
+    Guarded::new(caps, &[part])
 }
 
 // Puts the state in where there is room.
@@ -71,7 +104,7 @@ fn states_that_become_one_leave_room(rt: HostRuntime) -> Result<(), Fail> {
     let mut pool = Pool::reserve(rt.alloc(), 4)?;
     fill(&mut pool, &caps, 4);
     assert_eq!(rt; pool.len(), 4);
-    moved(&mut pool, &Single::join(caps, 0), &caps);
+    moved(&mut pool, &joining(caps, 0, 1)?, &caps);
     assert_eq!(rt; pool.len(), 2);
     assert_eq!(rt; pool.walk(), [pair(1, 0), pair(1, 1)].as_slice());
     assert!(rt; !put(&mut pool, pair(1, 0), &caps, 4));
@@ -95,7 +128,7 @@ fn a_set_of_4096_states_moves_on(rt: HostRuntime) -> Result<(), Fail> {
     let mut pool = Pool::reserve(rt.alloc(), 4096)?;
     fill(&mut pool, &caps, 4096);
     assert_eq!(rt; pool.len(), 4096);
-    moved(&mut pool, &Single::join(caps, 0), &caps);
+    moved(&mut pool, &joining(caps, 0, 63)?, &caps);
     assert_eq!(rt; pool.len(), 4032);
     let states = pool.walk();
     assert_eq!(rt; states.len(), 4032);
@@ -127,7 +160,7 @@ fn one_state_is_the_only_one(rt: HostRuntime) -> Result<(), Fail> {
     assert!(rt; put(&mut pool, pair(2, 3), &caps, 1));
     assert!(rt; !put(&mut pool, pair(3, 3), &caps, 1));
     assert_eq!(rt; pool.only(), Some(pair(2, 3)));
-    moved(&mut pool, &Single::leave(caps, 1, 3), &caps);
+    moved(&mut pool, &leaving(caps, 1, 3, 3)?, &caps);
     assert_eq!(rt; pool.only(), Some(pair(2, 2)));
     pool.clear();
     assert_eq!(rt; (pool.len(), pool.only()), (0, None));

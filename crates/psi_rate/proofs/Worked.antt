@@ -1,7 +1,6 @@
 -- The definitions on small inputs, worked out by hand and computed by the checker.
-use Rattle.std.proofs.Common.{◌≡◌, ℕ, List, [], ◌∷◌, slice_index, Some, None, refl, ◌*◌, nat_lt, if◌then◌else◌}
+use Rattle.std.proofs.Common.{◌≡◌, ℕ, ◌+◌, ◌-◌, min, List, [], ◌∷◌, slice_index, Some, None, refl, ◌*◌, nat_lt, if◌then◌else◌}
 use Rattle.psi_state.specs.declared.Outcome.TheVariants.{Met, NotMet}
-use Rattle.psi_event.specs.Single.{joined, left}
 use Rattle.psi_rate.specs.Rates.{least_power, event_of}
 use Rattle.psi_rate.specs.Composition.{function_at, compose, image_at}
 use Rattle.psi_rate.specs.Doubling.{first_answer}
@@ -20,26 +19,34 @@ events = refl
 abbrev caps : List ℕ
 caps = 2 ∷ []
 
+abbrev joined : List ℕ → List ℕ
+joined [] = []
+joined (v ∷ x) = (min 2 (v + 1)) ∷ x
+
+abbrev left : List ℕ → List ℕ
+left [] = []
+left (v ∷ x) = (v - 1) ∷ x
+
 -- backwards in time: out, in, in, idle
 abbrev f : ℕ → List ℕ → List ℕ
-f = function_at (joined caps 0 ∷ left 0 1 ∷ []) (1 ∷ 2 ∷ []) (slice_index (2 ∷ 0 ∷ 0 ∷ 3 ∷ []))
+f = function_at (joined ∷ left ∷ []) (1 ∷ 2 ∷ []) (slice_index (2 ∷ 0 ∷ 0 ∷ 3 ∷ []))
 
 -- the oldest event comes first: from none, idle, in, in and out leave one
 from_none : compose f 4 (0 ∷ []) ≡ 1 ∷ []
-unfolding event_of least_power joined left
+unfolding event_of least_power
 from_none = refl
 
 images : image_at f caps 1 ∷ image_at f caps 2 ∷ image_at f caps 4 ∷ []
     ≡ ((0 ∷ []) ∷ (1 ∷ []) ∷ []) ∷ ((0 ∷ []) ∷ (1 ∷ []) ∷ []) ∷ ((1 ∷ []) ∷ []) ∷ []
-unfolding event_of least_power joined left
+unfolding event_of least_power
 images = refl
 
 met_at_four : outcome_within (meeting_at f caps) 18 ≡ Met 4 (1 ∷ [])
-unfolding outcome_within first_answer event_of least_power joined left
+unfolding outcome_within first_answer event_of least_power
 met_at_four = refl
 
 not_met_within_two : outcome_within (meeting_at f caps) 1 ≡ NotMet 1
-unfolding outcome_within first_answer event_of least_power joined left
+unfolding outcome_within first_answer event_of least_power
 not_met_within_two = refl
 
 -- the first of 1, 2, 4 and 8 that is above 3

@@ -4,7 +4,7 @@ ghost use Rattle.std.specs.Prelude.{◌≡◌, ◌≤◌, ◌∷◌, [], length}
 ghost use Rattle.psi_state.specs.State.{AreCapacities};
 
 use crate::{RateRefusal, System, Wheel};
-use psi_event::{EventLaw, Single};
+use psi_event::{EventLaw, Idle};
 use psi_past::{Past, SeedPast};
 use psi_state::State;
 use std::process::Abort;
@@ -73,7 +73,7 @@ fn capacities(capacity: u16) -> State
 #[test]
 fn a_system_reads_its_parts_back(rt: HostRuntime) -> Result<(), Fail> {
     let caps = capacities(3);
-    let events = [Single::join(caps, 0)];
+    let events = [Idle::new(caps)];
     let wheel = Wheel::new(rt.alloc(), &[5])?;
     assert_eq!(rt; wheel.events(), 1);
     let system = System::new(caps, &events, &wheel, 18, 256);

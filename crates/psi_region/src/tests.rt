@@ -5,7 +5,8 @@ ghost use Rattle.psi_state.specs.State.{AreCapacities};
 ghost use Rattle.psi_region.specs.Region.{IsArea};
 
 use crate::{Region, covers_image};
-use psi_event::{EventLaw, Idle, Single};
+use psi_event::{EventLaw, Idle};
+use psi_guard::{GuardRefusal, Guarded, Part};
 use psi_state::{Bounds, State};
 use std::alloc::Global;
 use std::test::Fail;
@@ -59,6 +60,22 @@ fn stretch(alloc: Global, least: u16, greatest: u16) -> Result<Vec<State>, Fail>
     Ok(states)
 }
 
+// One customer joins queue `queue`, which has room for `most` customers.
+fn joining(caps: State, queue: u8, most: u16) -> Result<Guarded, GuardRefusal>
+    requires { AreCapacities caps }
+    ensures caps { IfOk result (λ event. ⟦<Guarded as EventLaw>⟧.capacities event ≡ caps) }
+{
+    let part = Part {
+        queue,
+        least: 0,
+        most: most.saturating_sub(1),
+        shift: 1,
+        floor: 0,
+        ceiling: most,
+    };
+    Guarded::new(caps, &[part])
+}
+
 #[test]
 fn a_fresh_region_is_a_small_box(rt: HostRuntime) -> Result<(), Fail> {
     let mut region = Region::reserve(rt.alloc(), 4096)?;
@@ -73,7 +90,7 @@ fn a_fresh_region_is_a_small_box(rt: HostRuntime) -> Result<(), Fail> {
 #[test]
 fn arrivals_fill_a_queue(rt: HostRuntime) -> Result<(), Fail> {
     let alloc = rt.alloc();
-    let event = Single::join(capacities(3), 0);
+    let event = joining(capacities(3), 0, 3)?;
     let cases = [
         (4, 0, false, 0, 3),
         (4, 1, true, 1, 3),
@@ -111,8 +128,8 @@ fn an_idle_step_splits_a_small_region(rt: HostRuntime) -> Result<(), Fail> {
 }
 
 #[test]
-fn a_box_covers_what_an_arrival_makes_of_another(rt: HostRuntime) {
-    let event = Single::join(capacities(3), 0);
+fn a_box_covers_what_an_arrival_makes_of_another(rt: HostRuntime) -> Result<(), Fail> {
+    let event = joining(capacities(3), 0, 3)?;
     let whole = Bounds::new(holding(0), holding(3));
     let upper = Bounds::new(holding(1), holding(3));
     let top = Bounds::new(holding(2), holding(3));
@@ -121,4 +138,5 @@ fn a_box_covers_what_an_arrival_makes_of_another(rt: HostRuntime) {
     assert!(rt; !covers_image(&event, &whole, &top));
     assert!(rt; covers_image(&event, &upper, &top));
     assert!(rt; covers_image(&event, &top, &Bounds::new(holding(3), holding(3))));
+    Ok(())
 }
