@@ -1,13 +1,12 @@
 -- What isn't refused of a kind isn't refused of its form.
-use Rattle.std.specs.Prelude.{◌≡◌, ℕ, zero, suc, ◌<◌, ◌≤◌, List, [], ◌∷◌, length, Bool, true, false, cond, not, ◌&&◌, ◌||◌, nat_eq, nat_le, nat_lt, get_or, is_some, Option, Some, None, Result, Ok, Err, IfOk, IfErr, OnOk, slice_index, refl}
+use Rattle.std.specs.Prelude.{◌≡◌, ℕ, suc, ◌<◌, ◌≤◌, List, [], ◌∷◌, length, Bool, true, false, cond, not, ◌&&◌, ◌||◌, nat_eq, nat_le, nat_lt, get_or, is_some, Option, Some, None, Result, Ok, Err, IfOk, IfErr, OnOk, slice_index, refl}
 use Rattle.std.specs.List.{list_any}
-use Rattle.std.proofs.Common.{ap, sym, ◌∙◌, subst, arith}
+use Rattle.std.proofs.Common.{ap, sym, arith}
 use Rattle.std.proofs.lemmas.Bool.{le-ltb, or_from}
 use Rattle.psi_state.specs.State.{AreCapacities}
 use Rattle.psi_event.specs.Choice.{first_or}
 use Rattle.psi_route.specs.declared.Source.{Source}
 use Rattle.psi_route.specs.declared.Full.{Full}
-use Rattle.psi_route.specs.declared.RouteRefusal.{RouteRefusal}
 use Rattle.psi_route.specs.declared.RouteRefusal.TheVariants as route
 use Rattle.psi_route.specs.Accepted.{shape, are_tables-true}
 use Rattle.psi_route.specs.Refusals as shapes

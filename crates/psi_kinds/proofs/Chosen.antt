@@ -1,9 +1,9 @@
 -- The queue that is chosen of a list: the first with room, and the one with the least pair of value and place.
-use Rattle.std.specs.Prelude.{◌≡◌, ◌≢◌, ℕ, zero, suc, ◌+◌, ◌*◌, ◌<◌, ◌≤◌, List, [], ◌∷◌, length, Bool, true, false, ◌&&◌, ◌||◌, cond, nat_lt, nat_eq, Option, Some, None, slice_index, slice_index_or, ◌⊎◌, refl}
+use Rattle.std.specs.Prelude.{◌≡◌, ◌≢◌, ℕ, zero, suc, ◌+◌, ◌*◌, ◌<◌, ◌≤◌, List, [], ◌∷◌, length, true, false, cond, Some, None, slice_index, slice_index_or, ◌⊎◌, refl}
 use Rattle.std.proofs.Common.{inl, inr, ap, sym, ◌∙◌, subst, arith}
 use Rattle.std.proofs.lemmas.Bool.{cases_lt, cases_eq, cases_Bool, le-leb, lt-leb}
 use Rattle.std.proofs.lemmas.Bool.Decides.{nat_tests}
-use Rattle.psi_kinds.specs.Kinds.{has_room, first_with_room, Offer, is_less, offers, lesser, least_of, best}
+use Rattle.psi_kinds.specs.Kinds.{has_room, first_with_room, Offer, is_less, offers, lesser, least_of}
 
 -- a queue lacks room for b
 abbrev pub Lacking : List ℕ → List ℕ → ℕ → ℕ → Type 0
@@ -39,18 +39,25 @@ pub first_cases : (caps queues x : List ℕ) (b : ℕ)
 first_cases caps [] x b = inr (refl, record { each = λ i small. absurd (omega arith) })
 first_cases caps (q ∷ queues) x b =
     elim (cases_lt (slice_index caps q) (slice_index x q + b)) [
-      | inr room ↦ inl (q, ap (λ t. cond t (Some q) (first_with_room caps queues b x)) (room-true caps x b q room),
-          record { place = 0; small = omega arith; queue = refl; room = room; before = λ i small. absurd (omega arith) })
+      | inr room ↦ inl (
+        q,
+        ap (λ t. cond t (Some q) (first_with_room caps queues b x)) (room-true caps x b q room),
+        record { place = 0; small = omega arith; queue = refl; room = room; before = λ i small. absurd (omega arith) },
+      )
       | inl lacks ↦ (let step = ap (λ t. cond t (Some q) (first_with_room caps queues b x)) (room-false caps x b q lacks) in
           elim (first_cases caps queues x b) [
             | inl found ↦ (let small : found.2.place < length queues = found.2.small in
-                inl (found.0, step ∙ found.1, record {
-                  place = suc found.2.place;
-                  small = omega arith;
-                  queue = found.2.queue;
-                  room = found.2.room;
-                  before = lacking_more caps queues x b q found.2.place lacks found.2.before;
-                }))
+                inl (
+                  found.0,
+                  step ∙ found.1,
+                  record {
+                    place = suc found.2.place;
+                    small = omega arith;
+                    queue = found.2.queue;
+                    room = found.2.room;
+                    before = lacking_more caps queues x b q found.2.place lacks found.2.before;
+                  },
+                ))
             | inr none ↦ inr (step ∙ none.0, record { each = lacking_more caps queues x b q (length queues) lacks none.1.each })
           ])
     ]
@@ -72,8 +79,8 @@ pub record IsLeast (caps queues : List ℕ) (tables : List (List ℕ)) (x : List
   pub value : o.value ≡ value_at tables (p + place) (slice_index x o.queue)
   pub room : slice_index x o.queue + b ≤ slice_index caps o.queue
   pub others : (i : ℕ) → i < length queues → i ≢ place
-    → Lacking caps x b (slice_index queues i)
-    ⊎ (key_of o.value o.place < key_of (value_at tables (p + i) (slice_index x (slice_index queues i))) (p + i))
+      → Lacking caps x b (slice_index queues i)
+      ⊎ (key_of o.value o.place < key_of (value_at tables (p + i) (slice_index x (slice_index queues i))) (p + i))
 
 less-true : (a b : Offer) → a.place < 32 → b.place < 32 → is_less a b ≡ true → key_of a.value a.place < key_of b.value b.place
 less-true a b first second is = grind (arith, nat_tests)
@@ -167,16 +174,19 @@ least_cases caps [] tables x b p few = inr (refl, record { each = λ i small. ab
 least_cases caps (q ∷ queues) tables x b p few =
     elim (cases_lt (slice_index caps q) (slice_index x q + b)) [
       | inl lacks ↦ (let step = ap (λ t. least_of (cond t (offer_of tables x p q ∷ offers caps queues tables b x (suc p)) (offers caps queues tables b x (suc p))))
-            (room-false caps x b q lacks) in
+          (room-false caps x b q lacks) in
           elim (least_cases caps queues tables x b (suc p) (omega arith)) [
             | inl found ↦ inl (found.0, step ∙ found.1, least-later caps queues tables x b p q found.0 found.2 (inl lacks))
             | inr full ↦ inr (step ∙ full.0, record { each = lacking_more caps queues x b q (length queues) lacks full.1.each })
           ])
       | inr room ↦ (let step = ap (λ t. least_of (cond t (offer_of tables x p q ∷ offers caps queues tables b x (suc p)) (offers caps queues tables b x (suc p))))
-            (room-true caps x b q room) in
+          (room-true caps x b q room) in
           elim (least_cases caps queues tables x b (suc p) (omega arith)) [
-            | inr full ↦ inl (offer_of tables x p q, step ∙ ap (λ o. lesser (offer_of tables x p q) o) full.0,
-                least-here caps queues tables x b p q room (λ i small. inl (full.1.each i small)))
+            | inr full ↦ inl (
+              offer_of tables x p q,
+              step ∙ ap (λ o. lesser (offer_of tables x p q) o) full.0,
+              least-here caps queues tables x b p q room (λ i small. inl (full.1.each i small)),
+            )
             | inl found ↦ (let o = found.0 in
                 let least = found.2 in
                 let small : least.place < length queues = least.small in
@@ -184,10 +194,16 @@ least_cases caps (q ∷ queues) tables x b p few =
                 let apart : o.place ≢ p = λ e. absurd (omega arith) in
                 let joined = step ∙ ap (λ r. lesser (offer_of tables x p q) r) found.1 in
                 elim (cases_Bool (is_less o (offer_of tables x p q))) [
-                  | inl less ↦ inl (o, joined ∙ ap (λ t. cond t (Some o) (Some (offer_of tables x p q))) less,
-                      least-later caps queues tables x b p q o least (inr (less-true o (offer_of tables x p q) (omega arith) (omega arith) less)))
-                  | inr more ↦ inl (offer_of tables x p q, joined ∙ ap (λ t. cond t (Some o) (Some (offer_of tables x p q))) more,
-                      least-first caps queues tables x b p q o room least (less-false o (offer_of tables x p q) (omega arith) (omega arith) apart more))
+                  | inl less ↦ inl (
+                    o,
+                    joined ∙ ap (λ t. cond t (Some o) (Some (offer_of tables x p q))) less,
+                    least-later caps queues tables x b p q o least (inr (less-true o (offer_of tables x p q) (omega arith) (omega arith) less)),
+                  )
+                  | inr more ↦ inl (
+                    offer_of tables x p q,
+                    joined ∙ ap (λ t. cond t (Some o) (Some (offer_of tables x p q))) more,
+                    least-first caps queues tables x b p q o room least (less-false o (offer_of tables x p q) (omega arith) (omega arith) apart more),
+                  )
                 ])
           ])
     ]

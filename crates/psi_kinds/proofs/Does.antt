@@ -1,12 +1,11 @@
 -- The form of each kind does to every state what the kind does.
-use Rattle.std.specs.Prelude.{◌≡◌, ◌≢◌, ℕ, zero, suc, ◌+◌, ◌-◌, ◌<◌, ◌≤◌, List, [], ◌∷◌, ◌++◌, length, map, Bool, true, false, cond, ◌&&◌, ◌||◌, nat_eq, nat_le, Option, Some, None, slice_index, slice_set, IfSome, refl}
+use Rattle.std.specs.Prelude.{◌≡◌, ℕ, ◌+◌, ◌<◌, ◌≤◌, List, [], ◌∷◌, ◌++◌, length, map, Bool, true, false, ◌&&◌, nat_eq, Option, Some, None, slice_index, slice_set, IfSome, refl}
 use Rattle.std.specs.List.{list_any, list_all}
-use Rattle.std.proofs.Common.{ap, sym, ◌∙◌, subst, arith, length-set, get_or-set_same, get_or-set_other}
-use Rattle.std.proofs.lemmas.Bool.{le-leb, leb-true, or_from, and_parts}
+use Rattle.std.proofs.Common.{ap, ◌∙◌, arith}
+use Rattle.std.proofs.lemmas.Bool.{le-leb, leb-true, and_parts}
 use Rattle.psi_state.specs.State.{IsBelow, AreCapacities}
 use Rattle.psi_guard.specs.declared.Part.{Part}
 use Rattle.psi_guard.specs.Guarding.{moved, allows, all_allow, guarded}
-use Rattle.psi_guard.specs.Refusals.{names}
 use Rattle.psi_route.specs.declared.Source.{Source}
 use Rattle.psi_route.specs.declared.Full.{Full}
 use Rattle.psi_route.specs.declared.Full.TheVariants.{Lost}
@@ -14,14 +13,13 @@ use Rattle.psi_route.specs.Routing.{routed}
 use Rattle.psi_route.specs.Refusals.{is_self_target, repeats}
 use Rattle.psi_kinds.specs.declared.kinds.Kind.{Kind}
 use Rattle.psi_kinds.specs.declared.kinds.Kind.TheVariants.{Arrival, Service, Index, Batch, Negative, Fork, Join, Guarded}
-use Rattle.psi_kinds.specs.Kinds.{has_room, is_held, serves, first_with_room, best, gain, lose, gain_chosen, go_on, may_serve, leave, may_join, gain_each, lose_each, do_kind, IsSource, AreQueues, IsKindOf, Does}
+use Rattle.psi_kinds.specs.Kinds.{has_room, is_held, serves, first_with_room, best, gain, lose, gain_each, lose_each, do_kind, IsSource, AreQueues, IsKindOf, Does}
 use Rattle.psi_event.specs.Choice.{first_or}
-use Rattle.psi_kinds.specs.declared.refusals.KindRefusal.{KindRefusal}
 use Rattle.psi_kinds.specs.declared.refusals.KindRefusal.TheVariants.{SelfTarget, Repeated, TableLength, SizeRange, Empty}
 use Rattle.psi_kinds.specs.Refusals.{IsUnrefused, IsShort, refused_where, listed_refusal, lacks_queues, repeats_queue, targets_itself, lacks_tables, is_out_of_size, has_given}
 use Rattle.psi_kinds.specs.Forms.{losing_part, gaining_part, source_parts, joined_parts, form_of, function_of}
 use Rattle.psi_kinds.proofs.Routes.{first-choice, best-choice, without, with, routed-without, routed-with, absent}
-use Rattle.psi_kinds.proofs.Guards.{move_each, AreSingle, AreApart, guarded-by, allows-losing, allows-gaining, moved-losing, moved-gaining, all_allow-append, move_each-append, all_allow-gaining, all_allow-losing, HoldAtMost, HaveCaps, lose-less, lose_each-less, move_each-losing, move_each-gaining, room-all, names-map, single-map, single-append, apart-map}
+use Rattle.psi_kinds.proofs.Guards.{move_each, AreApart, guarded-by, allows-losing, allows-gaining, moved-losing, moved-gaining, all_allow-append, move_each-append, all_allow-gaining, all_allow-losing, HoldAtMost, HaveCaps, lose-less, lose_each-less, move_each-losing, move_each-gaining, room-all, names-map, single-map, single-append, apart-map}
 
 -- ---- routes
 
@@ -114,9 +112,11 @@ fork-does caps None to x valid below source places once away =
     (λ is. move_each-gaining caps to x once (room-all caps to x is))
 fork-does caps (Some from) to x valid below source places once away =
     let long : length x ≡ length caps = below.same_length in
-    guarded-by (losing_part caps from.k from.queue 1 ∷ map (gaining_part caps) to) x (gain_each to (lose from.queue 1 x)) (serves from x && list_all (has_room caps 1 x) to)
-    (omega arith, names-map (gaining_part caps) (λ q. refl) to from.queue ∙ away,
-      single-map (gaining_part caps) (λ q. refl) (length x) to (λ i small. (let place : slice_index to i < length caps = places i small in omega arith)) once)
+    guarded-by (losing_part caps from.k from.queue 1 ∷ map (gaining_part caps) to) x (gain_each to (lose from.queue 1 x)) (serves from x && list_all (has_room caps 1 x) to) (
+      omega arith,
+      names-map (gaining_part caps) (λ q. refl) to from.queue ∙ away,
+      single-map (gaining_part caps) (λ q. refl) (length x) to (λ i small. (let place : slice_index to i < length caps = places i small in omega arith)) once,
+    )
     (and-both (allows (losing_part caps from.k from.queue 1) (slice_index x from.queue)) (all_allow (map (gaining_part caps) to) x)
     (serves from x) (list_all (has_room caps 1 x) to)
     (allows-losing caps from.k from.queue 1 (slice_index x from.queue) (at_most caps x from.queue below source))
@@ -179,7 +179,7 @@ unrefused caps kind is =
   where
     all_false : (a b c d e : Bool)
         → first_or (refused_where a Empty) (first_or (refused_where b Repeated) (first_or (refused_where c SelfTarget)
-          (first_or (refused_where d TableLength) (refused_where e SizeRange)))) ≡ None
+        (first_or (refused_where d TableLength) (refused_where e SizeRange)))) ≡ None
         → (a ≡ false) × (b ≡ false) × (c ≡ false) × (d ≡ false) × (e ≡ false)
     all_false true b c d e is = absurd cc
     all_false false true c d e is = absurd cc

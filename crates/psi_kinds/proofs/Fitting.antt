@@ -1,12 +1,10 @@
 -- The parts that kinds are lowered to are those of a guarded event.
-use Rattle.std.specs.Prelude.{◌≡◌, ℕ, zero, suc, ◌+◌, ◌-◌, ◌<◌, ◌≤◌, List, [], ◌∷◌, ◌++◌, length, map, Bool, true, false, cond, ◌||◌, nat_eq, nat_le, nat_lt, pos, neg_ℤ, unsigned_abs, Option, Some, None, slice_index, IfSome, refl}
-use Rattle.std.specs.List.{list_any}
-use Rattle.std.proofs.Common.{ap, sym, ◌∙◌, subst, arith}
+use Rattle.std.specs.Prelude.{◌≡◌, ℕ, zero, suc, ◌<◌, ◌≤◌, List, [], ◌∷◌, ◌++◌, length, map, Bool, true, false, cond, ◌||◌, nat_eq, nat_le, nat_lt, pos, neg_ℤ, unsigned_abs, Option, Some, None, slice_index, IfSome, refl}
+use Rattle.std.proofs.Common.{ap, sym, ◌∙◌, arith}
 use Rattle.std.proofs.lemmas.Bool.{lt-leb, le-ltb, ne_eqb, eqb-false, or_parts, or_from}
 use Rattle.psi_state.specs.State.{AreCapacities}
 use Rattle.psi_event.specs.Choice.{first_or}
 use Rattle.psi_guard.specs.declared.Part.{Part}
-use Rattle.psi_guard.specs.declared.GuardRefusal.{GuardRefusal}
 use Rattle.psi_guard.specs.declared.GuardRefusal.TheVariants.{Empty, Repeated, OutOfRange}
 use Rattle.psi_guard.specs.Refusals as guard
 use Rattle.psi_guard.specs.Refusals.{is_out, names, is_empty, refusal_at, refusal_after, FitsQueue}
@@ -14,7 +12,7 @@ use Rattle.psi_route.specs.declared.Source.{Source}
 use Rattle.psi_route.specs.Refusals.{is_self_target, repeats}
 use Rattle.psi_kinds.specs.Kinds.{IsSource, AreQueues}
 use Rattle.psi_kinds.specs.Refusals.{has_given}
-use Rattle.psi_kinds.specs.Forms.{losing_part, gaining_part, source_parts, joined_parts, fork_parts, join_parts}
+use Rattle.psi_kinds.specs.Forms.{losing_part, gaining_part, source_parts, fork_parts, join_parts}
 use Rattle.psi_kinds.proofs.Guards.{AreSingle, AreApart, names-map, names-append, single-map, single-append, apart-map}
 
 -- each part fits its queue
@@ -50,10 +48,11 @@ fits-at caps earlier part fits new =
 new-more : (earlier : List Part) (part : Part) (parts : List Part) → AreNew earlier parts → names parts part.queue ≡ false → AreNew (earlier ++ part ∷ []) parts
 new-more earlier part [] new alone = tt
 new-more earlier part (next ∷ parts) new alone =
-    let both = or_parts (nat_eq next.queue part.queue) (names parts part.queue) alone in
-    (names-append earlier (part ∷ []) next.queue new.0
-      (or_from (nat_eq part.queue next.queue) false (ne_eqb part.queue next.queue (λ e. eqb-false next.queue part.queue both.0 (sym e))) refl),
-      new-more earlier part parts new.1 both.1)
+    let both = or_parts (nat_eq next.queue part.queue) (names parts part.queue) alone in (
+      names-append earlier (part ∷ []) next.queue new.0
+          (or_from (nat_eq part.queue next.queue) false (ne_eqb part.queue next.queue (λ e. eqb-false next.queue part.queue both.0 (sym e))) refl),
+      new-more earlier part parts new.1 both.1,
+    )
 
 -- parts that fit, of different queues, aren't refused
 pub refusal_after-none : (caps : List ℕ) (n : ℕ) (earlier parts : List Part) → AreFit caps parts → AreSingle n parts → AreNew earlier parts

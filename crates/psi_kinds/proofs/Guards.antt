@@ -1,20 +1,18 @@
 -- What guarded events do to a state, in the words of the kinds that they are the form of.
-use Rattle.std.specs.Prelude.{◌≡◌, ◌≢◌, ℕ, zero, suc, ◌+◌, ◌-◌, ◌<◌, ◌≤◌, List, [], ◌∷◌, ◌++◌, length, map, Bool, true, false, cond, ◌&&◌, ◌||◌, nat_eq, nat_le, pos, neg_ℤ, Option, Some, None, slice_index, slice_set, ◌⊎◌, refl}
+use Rattle.std.specs.Prelude.{◌≡◌, ℕ, zero, suc, ◌+◌, ◌-◌, ◌<◌, ◌≤◌, List, [], ◌∷◌, ◌++◌, length, map, Bool, true, false, cond, ◌&&◌, ◌||◌, nat_eq, nat_le, slice_index, slice_set, refl}
 use Rattle.std.specs.List.{list_any, list_all}
 use Rattle.std.proofs.Common.{inl, inr, ap, sym, ◌∙◌, subst, arith, length-set, get_or-set_same, get_or-set_other}
 use Rattle.std.proofs.lemmas.List.{set_past}
-use Rattle.std.proofs.lemmas.Bool.{cases_lt, cases_eq, cases_Bool, le-leb, lt-leb, leb-true, leb-false, eq-eqb, ne_eqb, eqb-false, or_parts, or_from, and_parts}
-use Rattle.psi_state.specs.State.{IsBelow}
+use Rattle.std.proofs.lemmas.Bool.{cases_lt, cases_eq, le-leb, lt-leb, leb-true, eq-eqb, ne_eqb, eqb-false, or_parts, or_from, and_parts}
 use Rattle.psi_state.specs.Boxes.{same-from_below}
 use Rattle.psi_guard.specs.declared.Part.{Part}
-use Rattle.psi_guard.specs.Guarding.{shifted, moved, allows, all_allow, next, map_places, guarded}
+use Rattle.psi_guard.specs.Guarding.{moved, allows, all_allow, next, map_places, guarded}
 use Rattle.psi_guard.specs.Refusals.{names}
 use Rattle.psi_guard.specs.Places.{length-map_places, slice_index-map_places}
 use Rattle.psi_guard.specs.Rule.{guarded-moves, guarded-keeps}
-use Rattle.psi_route.specs.declared.Source.{Source}
-use Rattle.psi_route.specs.Refusals.{is_self_target, repeats}
-use Rattle.psi_kinds.specs.Kinds.{has_room, is_held, serves, gain, lose, gain_chosen, may_serve, leave, may_join, gain_each, lose_each}
-use Rattle.psi_kinds.specs.Forms.{losing_part, gaining_part, source_parts, joined_parts}
+use Rattle.psi_route.specs.Refusals.{repeats}
+use Rattle.psi_kinds.specs.Kinds.{has_room, is_held, gain, lose, gain_each, lose_each}
+use Rattle.psi_kinds.specs.Forms.{losing_part, gaining_part}
 use Rattle.psi_kinds.proofs.Routes.{absent}
 
 -- ---- parts one after another
@@ -221,10 +219,11 @@ pub single-map : (f : ℕ → Part) → ((q : ℕ) → (f q).queue ≡ q) → (n
     → AreSingle n (map f queues)
 single-map f own n [] places once = tt
 single-map f own n (q ∷ queues) places once =
-    let apart = or_parts (list_any (λ p. nat_eq p q) queues) (repeats queues) once in
-    (subst (λ p. p < n) (sym (own q)) (places 0 (omega arith)),
+    let apart = or_parts (list_any (λ p. nat_eq p q) queues) (repeats queues) once in (
+      subst (λ p. p < n) (sym (own q)) (places 0 (omega arith)),
       subst (λ p. names (map f queues) p ≡ false) (sym (own q)) (names-map f own queues q ∙ apart.0),
-      single-map f own n queues (λ i small. places (suc i) (omega arith)) apart.1)
+      single-map f own n queues (λ i small. places (suc i) (omega arith)) apart.1,
+    )
 
 -- no part of the first list is named by the second
 abbrev pub AreApart : List Part → List Part → Type 0
@@ -240,7 +239,8 @@ pub apart-map : (f : ℕ → Part) → ((q : ℕ) → (f q).queue ≡ q) → (qu
     → AreApart (map f queues) (part ∷ [])
 apart-map f own [] part away = tt
 apart-map f own (q ∷ queues) part away =
-    let both = or_parts (nat_eq q part.queue) (list_any (λ p. nat_eq p part.queue) queues) away in
-    (subst (λ p. names (part ∷ []) p ≡ false) (sym (own q))
-      (or_from (nat_eq part.queue q) false (ne_eqb part.queue q (λ e. eqb-false q part.queue both.0 (sym e))) refl),
-      apart-map f own queues part both.1)
+    let both = or_parts (nat_eq q part.queue) (list_any (λ p. nat_eq p part.queue) queues) away in (
+      subst (λ p. names (part ∷ []) p ≡ false) (sym (own q))
+          (or_from (nat_eq part.queue q) false (ne_eqb part.queue q (λ e. eqb-false q part.queue both.0 (sym e))) refl),
+      apart-map f own queues part both.1,
+    )

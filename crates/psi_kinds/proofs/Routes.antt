@@ -1,16 +1,16 @@
 -- What routes do to a state, in the words of the kinds that they are the form of.
-use Rattle.std.specs.Prelude.{◌≡◌, ◌≢◌, ℕ, zero, suc, ◌+◌, ◌-◌, ◌*◌, ◌<◌, ◌≤◌, List, [], ◌∷◌, length, Bool, true, false, cond, ◌||◌, nat_eq, nat_le, Option, Some, None, slice_index, slice_set, ◌⊎◌, refl}
+use Rattle.std.specs.Prelude.{◌≡◌, ◌≢◌, ℕ, zero, suc, ◌+◌, ◌-◌, ◌<◌, ◌≤◌, List, [], ◌∷◌, length, false, cond, nat_eq, Option, Some, None, slice_index, slice_set, ◌⊎◌, refl}
 use Rattle.std.specs.List.{list_any}
 use Rattle.std.specs.Option.{option_map}
 use Rattle.std.proofs.Common.{inl, inr, ap, sym, ◌∙◌, subst, arith, get_or-set_other}
-use Rattle.std.proofs.lemmas.Bool.{cases_lt, cases_eq, cases_Bool, le-leb, lt-leb, or_parts, eqb-false}
+use Rattle.std.proofs.lemmas.Bool.{cases_lt, cases_eq, le-leb, lt-leb, or_parts, eqb-false}
 use Rattle.psi_route.specs.declared.Source.{Source}
 use Rattle.psi_route.specs.declared.Full.{Full}
 use Rattle.psi_route.specs.declared.Full.TheVariants.{Lost, Stay}
-use Rattle.psi_route.specs.Routing.{Shape, Routing, routing, routed, taken, IsBest}
+use Rattle.psi_route.specs.Routing.{Shape, routing, routed, IsBest}
 use Rattle.psi_route.specs.Acting.{NoRoom, act-idle, act-some, act-lost, act-stay, taken-past}
-use Rattle.psi_kinds.specs.Kinds.{first_with_room, best, Offer, least_of, offers, serves, gain, lose, gain_chosen, go_on}
-use Rattle.psi_kinds.proofs.Chosen.{AreFull, IsFirst, first_cases, value_at, key_of, IsLeast, least_cases}
+use Rattle.psi_kinds.specs.Kinds.{first_with_room, best, Offer, serves, gain, lose, gain_chosen, go_on}
+use Rattle.psi_kinds.proofs.Chosen.{IsFirst, first_cases, value_at, IsLeast, least_cases}
 
 -- ---- the chosen queue is the route's
 
@@ -127,7 +127,7 @@ routed-with caps source size targets tables full x o apart choice =
       | inr serve ↦ (let step = ap (λ t. cond t (go_on source targets full size o x) x) (sym (le-leb source.k (slice_index x source.queue) serve)) in
           elim choice [
             | inl found ↦ (let other : slice_index (lose source.queue 1 x) (slice_index targets found.1) ≡ slice_index x (slice_index targets found.1) =
-                  get_or-set_other {A = ℕ} x source.queue (slice_index targets found.1) (slice_index x source.queue - 1) 0 (apart found.1 found.3.place) in
+                get_or-set_other {A = ℕ} x source.queue (slice_index targets found.1) (slice_index x source.queue - 1) 0 (apart found.1 found.3.place) in
                 act-some r x found.1 serve found.3
                 ∙ (ap (λ v. slice_set (lose source.queue 1 x) (slice_index targets found.1) (v + size)) (sym other)
                 ∙ (ap (λ q. gain q size (lose source.queue 1 x)) found.4

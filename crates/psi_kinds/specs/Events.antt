@@ -1,5 +1,4 @@
 -- What an event of one of the forms stands for: what its form does.
-use Rattle.std.specs.Prelude.{ℕ, List}
 use Rattle.psi_event.specs.Law.{IsClosed}
 use Rattle.psi_event.specs.Idle.{unchanged, unchanged-closed}
 use Rattle.psi_event.specs.declared.Idle.{Idle}

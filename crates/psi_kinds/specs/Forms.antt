@@ -1,5 +1,5 @@
 -- The two forms of events, routes and guarded events, and which of them each kind is.
-use Rattle.std.specs.Prelude.{ℕ, suc, ◌-◌, List, [], ◌∷◌, ◌++◌, map, ℤ, pos, neg_ℤ, Option, Some, None, slice_index}
+use Rattle.std.specs.Prelude.{ℕ, ◌-◌, List, [], ◌∷◌, ◌++◌, map, pos, neg_ℤ, Option, Some, None, slice_index}
 use Rattle.psi_guard.specs.Guarding as guard
 use Rattle.psi_guard.specs.declared.Part.{Part}
 use Rattle.psi_route.specs.Routing as route

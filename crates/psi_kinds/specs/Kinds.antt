@@ -1,5 +1,5 @@
 -- What each kind of event does to a state, under the capacities of the network's queues.
-use Rattle.std.specs.Prelude.{◌≡◌, ℕ, zero, suc, ◌+◌, ◌-◌, List, [], ◌∷◌, Bool, true, false, ◌&&◌, ◌||◌, nat_le, nat_lt, nat_eq, if◌then◌else◌, Option, Some, None, IfSome, slice_index, slice_index_or, slice_set, EachIndex, ◌<◌, ◌≤◌, length}
+use Rattle.std.specs.Prelude.{◌≡◌, ℕ, suc, ◌+◌, ◌-◌, List, [], ◌∷◌, Bool, true, ◌&&◌, ◌||◌, nat_le, nat_lt, nat_eq, if◌then◌else◌, Option, Some, None, IfSome, slice_index, slice_index_or, slice_set, EachIndex, ◌<◌, ◌≤◌, length}
 use Rattle.std.specs.List.{list_all}
 use Rattle.std.specs.Option.{option_map}
 use Rattle.psi_state.specs.State.{IsBelow}

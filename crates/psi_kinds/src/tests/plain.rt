@@ -46,13 +46,7 @@ fn value(tables: &Tables, place: usize, number: u16) -> u32 {
 }
 
 // The queue with room whose value is the least, the first of these; the first with room without tables.
-fn chosen(
-    caps: &State,
-    x: &State,
-    to: &Queues,
-    tables: Option<&Tables>,
-    size: u16,
-) -> Option<u8> {
+fn chosen(caps: &State, x: &State, to: &Queues, tables: Option<&Tables>, size: u16) -> Option<u8> {
     let mut best: Option<(u32, u8)> = None;
     for place in 0..to.len() {
         let queue = to.get(place);

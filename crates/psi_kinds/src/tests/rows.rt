@@ -11,18 +11,34 @@ use std::process::Abort;
 use std::test::Fail;
 
 // The images of states, one after another.
-fn assert_images(rt: &impl Abort, alloc: Global, sizes: &[u16], kind: &Kind, images: &[([u16; 2], [u16; 2])]) {
+fn assert_images(
+    rt: &impl Abort,
+    alloc: Global,
+    sizes: &[u16],
+    kind: &Kind,
+    images: &[([u16; 2], [u16; 2])],
+) {
     let event = match lowered(alloc, &state(sizes), kind) {
         Some(Ok(event)) => event,
         _ => panic!(rt; "{kind:?} is refused"),
     };
     for (from, to) in images {
-        assert_eq!(rt; image(&event, &state(from)), Some(state(to)), "{kind:?} from {from:?}");
+        assert_eq!(rt;
+            image(&event, &state(from)),
+            Some(state(to)),
+            "{kind:?} from {from:?}"
+        );
     }
 }
 
 // The pair that shows that the order isn't kept.
-fn assert_pair(rt: &impl Abort, alloc: Global, sizes: &[u16], kind: &Kind, pair: Option<(State, State)>) {
+fn assert_pair(
+    rt: &impl Abort,
+    alloc: Global,
+    sizes: &[u16],
+    kind: &Kind,
+    pair: Option<(State, State)>,
+) {
     let event = match lowered(alloc, &state(sizes), kind) {
         Some(Ok(event)) => event,
         _ => panic!(rt; "{kind:?} is refused"),
@@ -32,14 +48,25 @@ fn assert_pair(rt: &impl Abort, alloc: Global, sizes: &[u16], kind: &Kind, pair:
 }
 
 // The envelope of all states.
-fn assert_whole(rt: &impl Abort, alloc: Global, sizes: &[u16], kind: &Kind, lo: &[u16], hi: &[u16]) {
+fn assert_whole(
+    rt: &impl Abort,
+    alloc: Global,
+    sizes: &[u16],
+    kind: &Kind,
+    lo: &[u16],
+    hi: &[u16],
+) {
     let event = match lowered(alloc, &state(sizes), kind) {
         Some(Ok(event)) => event,
         _ => panic!(rt; "{kind:?} is refused"),
     };
     let caps = state(sizes);
     let around = envelope(&event, &State::zero(caps.len()), &caps);
-    assert_eq!(rt; around.map(|b| (b.lo(), b.hi())), Some((state(lo), state(hi))), "{kind:?}");
+    assert_eq!(rt;
+        around.map(|b| (b.lo(), b.hi())),
+        Some((state(lo), state(hi))),
+        "{kind:?}"
+    );
 }
 
 // A part that moves every number of its queue within 0 and the capacity.
@@ -93,11 +120,7 @@ fn a_negative_customer_leaves_its_source(rt: HostRuntime) {
         on: 1,
         amount: 1,
     };
-    let images = [
-        ([0, 1], [0, 1]),
-        ([1, 0], [0, 0]),
-        ([1, 1], [0, 0]),
-    ];
+    let images = [([0, 1], [0, 1]), ([1, 0], [0, 0]), ([1, 1], [0, 0])];
     assert_images(&rt, rt.alloc(), &[1, 1], &negative, &images);
     let pair = Some((state(&[0, 1]), state(&[1, 1])));
     assert_pair(&rt, rt.alloc(), &[1, 1], &negative, pair);
@@ -199,7 +222,15 @@ fn lists_are_judged_before_sources(rt: HostRuntime) {
         (list(&[1]), None),
     ] {
         assert_refusal(&rt, alloc, &Kind::Fork { from: first, to }, refusal);
-        assert_refusal(&rt, alloc, &Kind::Join { from: to, to: Some(0) }, refusal);
+        assert_refusal(
+            &rt,
+            alloc,
+            &Kind::Join {
+                from: to,
+                to: Some(0),
+            },
+            refusal,
+        );
     }
     for (to, refusal) in [
         (list(&[]), None),
@@ -266,24 +297,43 @@ fn assert_index(
 }
 
 #[test]
-fn tables_are_judged_before_sizes(rt: HostRuntime) -> Result<(), Fail> {
+fn lists_are_judged_before_tables(rt: HostRuntime) -> Result<(), Fail> {
     let alloc = rt.alloc();
     let second = Some(Source { queue: 1, k: 1 });
+    let empty = Some(KindRefusal::Empty);
+    let twice = Some(KindRefusal::Repeated);
     let itself = Some(KindRefusal::SelfTarget);
-    let length = Some(KindRefusal::TableLength);
-    let range = Some(KindRefusal::SizeRange);
-    assert_index(&rt, alloc, None, &[], tables(alloc, &[])?, 0, Some(KindRefusal::Empty));
-    assert_index(&rt, alloc, second, &[1, 1], tables(alloc, &[])?, 0, Some(KindRefusal::Repeated));
+    assert_index(&rt, alloc, None, &[], tables(alloc, &[])?, 0, empty);
+    assert_index(&rt, alloc, second, &[1, 1], tables(alloc, &[])?, 0, twice);
     assert_index(&rt, alloc, second, &[1], tables(alloc, &[])?, 0, itself);
+    Ok(())
+}
+
+#[test]
+fn tables_are_judged_before_sizes(rt: HostRuntime) -> Result<(), Fail> {
+    let alloc = rt.alloc();
+    let length = Some(KindRefusal::TableLength);
+    let long = tables(alloc, &[&[7, 7, 7]])?;
+    let many = tables(alloc, &[&[7, 7], &[7, 7, 7]])?;
     assert_index(&rt, alloc, None, &[0], tables(alloc, &[])?, 0, length);
     assert_index(&rt, alloc, None, &[0], tables(alloc, &[&[7]])?, 0, length);
-    assert_index(&rt, alloc, None, &[0], tables(alloc, &[&[7, 7, 7]])?, 0, length);
-    assert_index(&rt, alloc, None, &[0], tables(alloc, &[&[7, 7], &[7, 7, 7]])?, 0, length);
+    assert_index(&rt, alloc, None, &[0], long, 0, length);
+    assert_index(&rt, alloc, None, &[0], many, 0, length);
+    Ok(())
+}
+
+#[test]
+fn sizes_are_from_one_to_each_capacity(rt: HostRuntime) -> Result<(), Fail> {
+    let alloc = rt.alloc();
+    let second = Some(Source { queue: 1, k: 1 });
+    let range = Some(KindRefusal::SizeRange);
+    let two = tables(alloc, &[&[7, 7]])?;
+    let one = tables(alloc, &[&[7, 7]])?;
     assert_index(&rt, alloc, None, &[0], tables(alloc, &[&[7, 7]])?, 0, range);
     assert_index(&rt, alloc, None, &[0], tables(alloc, &[&[7, 7]])?, 3, range);
-    assert_index(&rt, alloc, second, &[0], tables(alloc, &[&[7, 7]])?, 2, range);
     assert_index(&rt, alloc, None, &[0], tables(alloc, &[&[7, 7]])?, 2, None);
-    assert_index(&rt, alloc, second, &[0], tables(alloc, &[&[7, 7]])?, 1, None);
+    assert_index(&rt, alloc, second, &[0], two, 2, range);
+    assert_index(&rt, alloc, second, &[0], one, 1, None);
     Ok(())
 }
 

@@ -114,7 +114,10 @@ fn compare_marks(rt: &impl Abort, event: &Event, caps: &State, kind: &Kind, is_u
     match event.upset() {
         None => assert!(rt; !is_upset, "{kind:?}"),
         Some((x, y)) => {
-            assert!(rt; is_upset && is_below(&x, &y) && is_below(&y, caps), "{kind:?}");
+            assert!(rt;
+                is_upset && is_below(&x, &y) && is_below(&y, caps),
+                "{kind:?}"
+            );
             let (fx, fy) = (outcome(caps, kind, &x), outcome(caps, kind, &y));
             assert!(rt; !is_below(&fx, &fy), "{kind:?} at {x:?} and {y:?}");
         }
@@ -159,7 +162,11 @@ fn compare_envelopes(rt: &impl Abort, event: &Event, kind: &Kind, pairs: &[(Stat
         for (hi, _) in pairs {
             if is_below(lo, hi) {
                 let around = envelope(event, lo, hi).map(|b| (b.lo(), b.hi()));
-                assert_eq!(rt; around, hull(pairs, lo, hi), "{kind:?} from {lo:?} to {hi:?}");
+                assert_eq!(rt;
+                    around,
+                    hull(pairs, lo, hi),
+                    "{kind:?} from {lo:?} to {hi:?}"
+                );
             }
         }
     }

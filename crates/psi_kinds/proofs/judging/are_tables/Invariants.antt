@@ -1,4 +1,4 @@
-use Rattle.std.proofs.Common.{◌≡◌, ◌<◌, ◌≤◌, ℕ, [], slice_index, get_or, length}
+use Rattle.std.proofs.Common.{◌≡◌, ◌<◌, ℕ, [], slice_index, get_or, length}
 use Rattle.psi_kinds.proofs.judging.are_tables.Given as goal
 
 abbrev pub invariant-loop-i : goal.invariant-loop-i

@@ -1,4 +1,4 @@
-use Rattle.std.proofs.Common.{◌≡◌, ◌<◌, ◌≤◌, ℕ, slice_index, nat_lt, false}
+use Rattle.std.proofs.Common.{◌≡◌, ◌<◌, ℕ, slice_index, nat_lt, false}
 use Rattle.psi_kinds.proofs.judging.is_above_a_queue.Given as goal
 
 abbrev pub invariant-loop-i : goal.invariant-loop-i

@@ -1,4 +1,4 @@
-use Rattle.std.proofs.Common.{◌≡◌, ◌<◌, ◌+◌, ℕ, suc, true, length, drop, slice_index, nat_eq, sym, ◌∙◌, ap, arith}
+use Rattle.std.proofs.Common.{◌≡◌, ◌<◌, ◌+◌, suc, true, length, drop, slice_index, nat_eq, sym, ◌∙◌, ap, arith}
 use Rattle.std.specs.List.{list_any}
 use Rattle.psi_kinds.proofs.Judged.{repeats-at, repeats-none}
 use Rattle.psi_kinds.proofs.judging.repeats.Goals as goal

@@ -1,4 +1,4 @@
-use Rattle.std.proofs.Common.{◌≡◌, ◌<◌, ◌≤◌, ℕ, suc, drop, slice_index, nat_eq, false}
+use Rattle.std.proofs.Common.{◌≡◌, ◌<◌, ℕ, suc, drop, slice_index, nat_eq, false}
 use Rattle.std.specs.List.{list_any}
 use Rattle.psi_kinds.proofs.judging.repeats.Given as goal
 

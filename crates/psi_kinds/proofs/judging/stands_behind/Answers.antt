@@ -1,4 +1,4 @@
-use Rattle.std.proofs.Common.{◌≡◌, ◌<◌, ◌≤◌, ℕ, length, slice_index, nat_eq, false, sym, arith}
+use Rattle.std.proofs.Common.{◌≡◌, ◌<◌, length, slice_index, nat_eq, sym, arith}
 use Rattle.std.proofs.lemmas.Bool.{eq-eqb}
 use Rattle.psi_kinds.proofs.Judged.{any-at, any-none}
 use Rattle.psi_kinds.proofs.judging.stands_behind.Goals as goal

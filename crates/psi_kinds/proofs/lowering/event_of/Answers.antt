@@ -1,4 +1,4 @@
-use Rattle.std.proofs.Common.{◌≡◌, List, [], ℕ, None, Some, refl, ap, sym, ◌∙◌, subst}
+use Rattle.std.proofs.Common.{List, [], ℕ, None, Some, refl, ap, ◌∙◌, subst}
 use Rattle.psi_guard.specs.Refusals as guard
 use Rattle.psi_route.specs.Accepted.{shape}
 use Rattle.psi_route.specs.Refusals as shapes

@@ -1,8 +1,8 @@
-use Rattle.std.proofs.Common.{◌≡◌, List, ℕ, None, Some, refl, ap, sym, ◌∙◌, subst}
+use Rattle.std.proofs.Common.{List, ℕ, sym, ◌∙◌, subst}
 use Rattle.std.specs.Prelude.{Option}
 use Rattle.psi_kinds.specs.declared.refusals.KindRefusal.{KindRefusal}
 use Rattle.psi_kinds.specs.Kinds.{Does}
-use Rattle.psi_kinds.specs.Forms.{form_of, function_of, pair_of, upset_of}
+use Rattle.psi_kinds.specs.Forms.{upset_of}
 use Rattle.psi_kinds.specs.Refusals.{IsKindRefusal}
 use Rattle.psi_kinds.proofs.Accepting.{refused-listed, refusal-parts, if_ok-map, if_err-map, on_ok-map}
 use Rattle.psi_kinds.proofs.Does.{form-does, unrefused}

@@ -1,4 +1,4 @@
-use Rattle.std.proofs.Common.{◌≡◌, ◌++◌, map, take}
+use Rattle.std.proofs.Common.{◌≡◌, map, take}
 use Rattle.psi_kinds.specs.Forms.{losing_part}
 use Rattle.psi_kinds.proofs.parting.join_parts.Given as goal
 

@@ -1,4 +1,3 @@
-use Rattle.std.proofs.Common.{◌≡◌, ◌<◌, ◌+◌, ◌++◌, ◌∷◌, [], List, ℕ, length, take, slice_get, Some, get_or, ap, sym, ◌∙◌, arith}
 use Rattle.psi_kinds.proofs.Taking.{take-get}
 use Rattle.psi_kinds.proofs.parting.listed_parts.Goals as goal
 
