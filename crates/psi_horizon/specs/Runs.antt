@@ -46,6 +46,10 @@ abbrev pub DecidesRuns : ℕ → (ℕ → List ℕ → List ℕ) → List ℕ �
 DecidesRuns most f caps limit (Met t s) = (later : ℕ) → t ≤ later → (run most f caps later).states ≡ s ∷ []
 DecidesRuns most f caps limit (NotMet l) = (t : ℕ) → t ≤ 2 ^ limit → ending_at most f caps t ≡ None
 
+-- where there are at most the split number of states, the run of each horizon from 1 on is split, and is the image of all states
+pub record AreExact (most : ℕ) (f : ℕ → List ℕ → List ℕ) (caps : List ℕ) : Type 0 where
+  pub each : (t : ℕ) → 1 ≤ t → run most f caps t ≡ record { is_split = true; states = image_at f caps t }
+
 pub follow-area : (most : ℕ) (caps : List ℕ) (f : ℕ → List ℕ → List ℕ) (t : ℕ) (a : Area) → AreClosed caps f → IsArea caps a → IsArea caps (follow most f t a)
 follow-area most caps f zero a closed is = is
 follow-area most caps f (suc t) a closed is =
@@ -231,6 +235,9 @@ pub outcome-exact : (most : ℕ) (caps : List ℕ) (f : ℕ → List ℕ → Lis
 outcome-exact most caps f limit o few is =
     outcome-agree (ending_at most f caps) (meeting_at f caps) limit o
     (λ t some. ap (λ (a : Area). single a.states) (run-exact most caps f t few some)) is
+
+pub runs-exact : (most : ℕ) (caps : List ℕ) (f : ℕ → List ℕ → List ℕ) → length (all_states caps) ≤ most → AreExact most f caps
+runs-exact most caps f few = record { each = λ t some. run-exact most caps f t few some }
 
 -- the regions of a run, one after the other, are regions, and what is left of the steps makes of each the end of the run
 pub region_after-area : (most : ℕ) (caps : List ℕ) (f : ℕ → List ℕ → List ℕ) (horizon done : ℕ) → AreClosed caps f

@@ -9,7 +9,7 @@ ghost use Rattle.psi_rate.specs.Rates.{event_of};
 ghost use Rattle.psi_rate.specs.Composition.{functions_of};
 ghost use Rattle.psi_rate.specs.Outcomes.{meeting_at, outcome_within, IsOutcome, ReachesOutcome};
 ghost use Rattle.psi_region.specs.Region.{ShowsBox};
-ghost use Rattle.psi_horizon.specs.Runs.{run, ending_at, region_after, AreOrdered, DecidesRuns};
+ghost use Rattle.psi_horizon.specs.Runs.{run, ending_at, region_after, AreOrdered, AreExact, DecidesRuns};
 ghost use Rattle.psi_horizon.specs.Planned.{IsOver, onward};
 ghost use Rattle.psi_horizon.specs.contracts.coupling.Plan.{the_row};
 ghost use mir.Syntax.{named};
@@ -115,6 +115,9 @@ impl<'n, E: EventLaw, P: Past + Drop> Plan<'n, E, P> {
         ensures small { let f = functions_of E.function self.old.system (P.words self.old.past) in
             length (all_states self.old.system.caps) ≤ self.old.system.split
             → IsOutcome (meeting_at f self.old.system.caps) self.old.system.limit result }
+        ensures exact { let f = functions_of E.function self.old.system (P.words self.old.past) in
+            length (all_states self.old.system.caps) ≤ self.old.system.split
+            → AreExact self.old.system.split f self.old.system.caps }
         ensures later { let f = functions_of E.function self.old.system (P.words self.old.past) in
             DecidesRuns self.old.system.split f self.old.system.caps self.old.system.limit result }
         ensures order { let f = functions_of E.function self.old.system (P.words self.old.past) in

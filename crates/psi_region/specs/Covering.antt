@@ -1,7 +1,7 @@
 -- When a box holds the image of another.
 use Rattle.std.specs.Prelude.{◌≡◌, ℕ, List, length}
 use Rattle.std.proofs.Common.{sym, ◌∙◌, subst}
-use Rattle.psi_state.specs.State.{Corners, IsBelow, box}
+use Rattle.psi_state.specs.State.{IsBelow, box}
 use Rattle.psi_state.specs.Members.{In, AreAmong}
 use Rattle.psi_state.specs.Sets.{image, In-image, In-of_image}
 use Rattle.psi_state.specs.Boxes.{IsBetween, In-box, In-of_box, AreAmong-box}

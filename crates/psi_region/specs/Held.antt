@@ -1,5 +1,5 @@
 -- How a region is held: the corners of a box, and a set of states that is used once the region is split.
-use Rattle.std.specs.Prelude.{◌≡◌, ℕ, ◌≤◌, List, [], Bool, true, false}
+use Rattle.std.specs.Prelude.{◌≡◌, ℕ, List, [], Bool, true, false}
 use Rattle.psi_state.specs.State.{Corners, box}
 use Rattle.psi_state.specs.Members.{In}
 use Rattle.psi_pool.specs.Pooled.{Pooled}

@@ -1,14 +1,14 @@
 -- Regions of states: a box followed by its hulls (Bušić, Gaujal and Vincent 2008), and from few states on the set of
 -- the states themselves.
-use Rattle.std.specs.Prelude.{◌≡◌, ℕ, ◌<◌, ◌≤◌, List, [], ◌∷◌, length, slice_index, Bool, true, false, nat_le, ◌||◌, Option, Some, None, refl}
+use Rattle.std.specs.Prelude.{◌≡◌, ℕ, ◌≤◌, List, length, slice_index, Bool, true, false, nat_le, ◌||◌, Option, Some, None, refl}
 use Rattle.std.proofs.Common.{inl, inr, ap, sym, ◌∙◌, subst, arith}
-use Rattle.std.proofs.lemmas.Bool.{true≢false, or_cases, or_left, or_right, or_from, leb-true, le-leb, lt-leb}
+use Rattle.std.proofs.lemmas.Bool.{true≢false, or_cases, or_left, or_right, leb-true, le-leb}
 use Rattle.psi_state.specs.State.{Corners, IsBelow, box, zeros, all_states}
 use Rattle.psi_state.specs.Members.{In, AreAmong}
-use Rattle.psi_state.specs.Sets.{image, single, In-image, In-of_image}
-use Rattle.psi_state.specs.Boxes.{IsBetween, In-box, In-of_box, In-of_all_states, below-through, below-itself, zeros-below}
-use Rattle.psi_state.specs.Hull.{lows, highs, corners, hull, HaveLength, IsTight, corners-tight}
-use Rattle.psi_state.specs.States.{In-zeros, In-caps}
+use Rattle.psi_state.specs.Sets.{image, In-image, In-of_image}
+use Rattle.psi_state.specs.Boxes.{IsBetween, In-box, In-of_box, In-of_all_states, below-through, zeros-below}
+use Rattle.psi_state.specs.Hull.{lows, highs, hull, HaveLength, IsTight, corners-tight}
+use Rattle.psi_state.specs.States.{In-caps}
 use Rattle.psi_state.specs.Ascending.{IsRising, box-rising, image-rising, rising-distinct, length-among}
 use Rattle.psi_event.specs.Law.{IsClosed}
 

@@ -1,5 +1,4 @@
-use Rattle.std.proofs.Common.{◌≡◌, ◌≤◌, length, ap, ◌∙◌, arith}
-use Rattle.psi_state.specs.State.{box}
+use Rattle.std.proofs.Common.{◌∙◌}
 use Rattle.psi_region.proofs.Steps.{filled-next}
 use Rattle.psi_region.proofs.following.fill.Goals as goal
 

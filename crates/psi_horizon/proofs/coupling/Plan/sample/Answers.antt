@@ -5,7 +5,7 @@ use Rattle.psi_rate.specs.Composition.{functions_of, AreClosed, AreMonotone}
 use Rattle.psi_rate.specs.Outcomes.{meeting_at, outcome_within-only, IsOutcome, functions-closed, functions-monotone}
 use Rattle.psi_rate.specs.System.{IsSystem}
 use Rattle.psi_horizon.specs.Planned.{Planned}
-use Rattle.psi_horizon.specs.Runs.{ending_at, outcome-reached, outcome-monotone, outcome-exact, outcome-decides, run-within}
+use Rattle.psi_horizon.specs.Runs.{ending_at, outcome-reached, outcome-monotone, outcome-exact, outcome-decides, run-within, runs-exact}
 use Rattle.psi_horizon.proofs.coupling.Plan.sample.Goals as goal
 
 pub returns-clause-least : goal.returns-clause-least
@@ -42,6 +42,11 @@ returns-clause-small g c = λ few.
     (let plan = c.args.self.now in
     outcome-exact plan.system.split plan.system.caps (functions_of g.E.EventLaw.function plan.system (g.P.Past.words plan.past)) plan.system.limit c.first_ending.result
     few (returns-clause-least g c))
+
+pub returns-clause-exact : goal.returns-clause-exact
+returns-clause-exact g c = λ few.
+    (let plan = c.args.self.now in
+    runs-exact plan.system.split plan.system.caps (functions_of g.E.EventLaw.function plan.system (g.P.Past.words plan.past)) few)
 
 pub returns-clause-later : goal.returns-clause-later
 returns-clause-later g c =
