@@ -10,7 +10,7 @@ use psi_state::Queues;
 /// A queue has room for b where its capacity is at least b above what it holds. A source is a queue with
 /// the least number of customers at which one of its servers works; it serves where the queue holds as
 /// many.
-#[derive(Drop)]
+#[derive(Drop, Debug)]
 pub enum Kind {
     /// One customer joins the first queue of the list that has room; if none has, nothing changes.
     Arrival {

@@ -18,3 +18,6 @@ pub use kinds::Kind;
 pub use lowering::lower;
 pub use refusals::{KindRefusal, OutOfMemory};
 pub use tables::Tables;
+
+#[cfg(test)]
+mod tests;

@@ -9,7 +9,7 @@ use std::marker::Model;
 /// One table for each queue of a list: what the index of the queue is where it holds 0, 1, 2, .. customers.
 ///
 /// It is seen as the list of these lists of numbers of 32 bits.
-#[derive(Drop)]
+#[derive(Drop, Debug)]
 pub struct Tables {
     rows: Vec<Vec<u32>>,
 }

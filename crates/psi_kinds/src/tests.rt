@@ -1,0 +1,6 @@
+//! Kinds of events against a plain program that lists states, and small events worked out by hand.
+
+mod checks;
+mod plain;
+mod rows;
+mod table;
