@@ -1,0 +1,7 @@
+mod Whole
+mod Extents
+mod Listing
+mod Adding
+mod Rising
+mod Fitting
+mod Accepted

@@ -1,0 +1,6 @@
+pub mod Held
+pub mod Sums
+pub mod Ranges
+pub mod Spans
+pub mod Worth
+pub mod Refusing
