@@ -1,16 +1,22 @@
 -- The parts of a network, as loops make them.
-use Rattle.std.proofs.Common.{◌≡◌, ℕ, suc, ◌+◌, ◌<◌, ◌≤◌, List, [], ◌∷◌, ◌++◌, length, map, take, slice_index, slice_set, get_or, All, inl, inr, ap, sym, ◌∙◌, subst, arith, get_or-set_same, get_or-set_other, refl}
-use Rattle.std.proofs.lemmas.List.Elements.{All-push}
+use Rattle.std.proofs.Common.{◌≡◌, ℕ, zero, suc, ◌+◌, ◌<◌, ◌≤◌, List, [], ◌∷◌, ◌++◌, length, map, take, slice_index, slice_set, get_or, All, Option, Some, None, inl, inr, ap, sym, ◌∙◌, subst, arith, get_or-set_same, get_or-set_other, refl}
+use Rattle.std.specs.List.{slice_get}
+use Rattle.std.proofs.lemmas.List.Elements.{All-push, All-nil}
 use Rattle.std.proofs.lemmas.Bool.{cases_eq}
 use Rattle.std.proofs.lemmas.List.{ext_get_or, get_or-map, length-map, map_push, take_more, take_all}
-use Rattle.psi_event.specs.Law.{IsMonotone}
 use Rattle.psi_rate.specs.Rates.{AreRates, PassesAt, total, greatest_total}
 use Rattle.psi_rate.specs.Totals.{total-take_order}
-use Rattle.psi_net.specs.Network.{done}
+use Rattle.psi_kinds.specs.Kinds.{Does}
+use Rattle.psi_kinds.specs.Forms.{upset_of}
+use Rattle.psi_kinds.specs.Refusals.{refusal_of}
+use Rattle.psi_kinds.specs.declared.Kind.{Kind}
+use Rattle.psi_kinds.specs.declared.KindRefusal.{KindRefusal}
+use Rattle.psi_net.specs.Kept.{IsAccepted}
+use Rattle.psi_net.specs.Made.{EachDoes, AreMade}
+use Rattle.psi_net.specs.Draft.{named}
 use Rattle.psi_net.specs.declared.entries.Queue.{Queue}
-use Rattle.psi_net.specs.declared.entries.Event.{Event}
-use Rattle.psi_event.specs.Change.{changed}
-use Rattle.psi_event.specs.declared.one_customer.Single.{Single}
+use Rattle.psi_net.specs.declared.entries.NamedEvent.{NamedEvent}
+use Rattle.psi_net.specs.declared.entries.NamedValue.{NamedValue}
 
 -- the capacities set so far are those of the queues
 pub record AreSet (caps : List ℕ) (queues : List Queue) (i : ℕ) : Type 0 where
@@ -40,40 +46,54 @@ all_set caps queues i past set =
     let sized : length (map (λ (q : Queue). q.capacity) queues) ≡ length queues = length-map queues (λ (q : Queue). q.capacity) in
     ext_get_or 0 caps (map (λ q. q.capacity) queues) (set.sized ∙ sym sized) (λ k small. set.each k (omega (arith, set.sized)))
 
--- what an event of one customer stands for
-abbrev pub capacities : Single → List ℕ
-capacities single = single.caps
+-- what is accepted isn't refused
+pub never_refused : (caps : List ℕ) (kind : Kind) (refusal : KindRefusal) → IsAccepted caps kind → refusal_of caps kind ≡ Some refusal → ⊥
+never_refused caps kind refusal kept h = (let e : ◌≡◌ {A = Option KindRefusal} None (Some refusal) = sym kept.accepted ∙ h in absurd cc)
 
-abbrev pub function : Single → List ℕ → List ℕ
-function single = changed single.caps single.queue single.change
+does_more : (caps : List ℕ) (fs : List (List ℕ → List ℕ)) (events : List NamedEvent) (f : List ℕ → List ℕ) (event : NamedEvent) → EachDoes caps fs events → Does caps f event.kind
+    → EachDoes caps (fs ++ f ∷ []) (events ++ event ∷ [])
+does_more caps [] [] f event all one = (one, tt)
+does_more caps [] (e ∷ events) f event all one = absurd all
+does_more caps (g ∷ fs) [] f event all one = absurd all
+does_more caps (g ∷ fs) (e ∷ events) f event all one = (all.0, does_more caps fs events f event all.1 one)
 
--- the events made so far are those of these entries
-pub record AreMade (caps : List ℕ) (events : List Event) (singles : List Single) : Type 0 where
-  pub same_caps : All (λ s. capacities s ≡ caps) singles
-  pub functions : map function singles ≡ map (λ e. done caps e.kind) events
-  pub monotone : All (λ s. IsMonotone (capacities s) (function s)) singles
+module _ {E : Type 0} (capacities : E → List ℕ) (function : E → List ℕ → List ℕ) (upset_pair : E → Option (List ℕ × List ℕ)) (caps : List ℕ) where
+  pub none_made : AreMade capacities function upset_pair caps [] []
+  none_made = record { same_caps = All-nil (λ e. capacities e ≡ caps); functions = tt; marks = refl }
 
-pub none_made : (caps : List ℕ) → AreMade caps [] []
-none_made caps = record { same_caps = λ k d small. absurd (omega arith); functions = refl; monotone = λ k d small. absurd (omega arith) }
+  pub made_more : (events : List NamedEvent) (i : ℕ) (event : NamedEvent) (made : List E) (one : E) → i < length events → event ≡ get_or events i event
+      → capacities one ≡ caps → Does caps (function one) event.kind → upset_pair one ≡ upset_of caps event.kind
+      → AreMade capacities function upset_pair caps (take i events) made → AreMade capacities function upset_pair caps (take (i + 1) events) (made ++ one ∷ [])
+  made_more events i event made one small is same does mark so =
+      let front : take (i + 1) events ≡ take i events ++ get_or events i event ∷ [] = take_more events i event small in
+      let last : take i events ++ get_or events i event ∷ [] ≡ take i events ++ event ∷ [] = ap (λ (e : NamedEvent). take i events ++ e ∷ []) (sym is) in
+      subst (λ (es : List NamedEvent). AreMade capacities function upset_pair caps es (made ++ one ∷ [])) (sym (front ∙ last)) (record {
+        same_caps = All-push (λ (e : E). capacities e ≡ caps) made one so.same_caps same;
+        functions = subst (λ (fs : List (List ℕ → List ℕ)). EachDoes caps fs (take i events ++ event ∷ [])) (sym (map_push function made one))
+            (does_more caps (map function made) (take i events) (function one) event so.functions does);
+        marks = map_push upset_pair made one
+            ∙ (ap (λ (ps : List (Option (List ℕ × List ℕ))). ps ++ upset_pair one ∷ []) so.marks
+            ∙ (ap (λ (p : Option (List ℕ × List ℕ)). map (λ (e : NamedEvent). upset_of caps e.kind) (take i events) ++ p ∷ []) mark
+            ∙ sym (map_push (λ (e : NamedEvent). upset_of caps e.kind) (take i events) event)));
+      })
 
-pub made_more : (caps : List ℕ) (events : List Event) (i : ℕ) (event : Event) (singles : List Single) (single : Single) → i < length events → event ≡ get_or events i event
-    → capacities single ≡ caps → function single ≡ done caps event.kind → IsMonotone (capacities single) (function single)
-    → AreMade caps (take i events) singles → AreMade caps (take (i + 1) events) (singles ++ single ∷ [])
-made_more caps events i event singles single small is same_caps same mono made =
-    let front : take (i + 1) events ≡ take i events ++ get_or events i event ∷ [] = take_more events i event small in
-    let last : take i events ++ get_or events i event ∷ [] ≡ take i events ++ event ∷ [] = ap (λ (e : Event). take i events ++ e ∷ []) (sym is) in
-    subst (λ (es : List Event). AreMade caps es (singles ++ single ∷ [])) (sym (front ∙ last)) (record {
-      same_caps = All-push (λ (s : Single). capacities s ≡ caps) singles single made.same_caps same_caps;
-      functions = map_push function singles single
-          ∙ (ap (λ (fs : List (List ℕ → List ℕ)). fs ++ function single ∷ []) made.functions
-          ∙ (ap (λ (f : List ℕ → List ℕ). map (λ (e : Event). done caps e.kind) (take i events) ++ f ∷ []) same
-          ∙ sym (map_push (λ (e : Event). done caps e.kind) (take i events) event)));
-      monotone = All-push (λ (s : Single). IsMonotone (capacities s) (function s)) singles single made.monotone mono;
-    })
+  pub all_made : (events : List NamedEvent) (i : ℕ) (made : List E) → length events ≤ i → AreMade capacities function upset_pair caps (take i events) made → AreMade capacities function upset_pair caps events made
+  all_made events i made past so = subst (λ (es : List NamedEvent). AreMade capacities function upset_pair caps es made) (take_all i events past) so
 
--- a function that is monotone under the same capacities
-pub monotone_of : (caps c : List ℕ) (f g : List ℕ → List ℕ) → c ≡ caps → g ≡ f → IsMonotone caps f → IsMonotone c g
-monotone_of caps c f g same_caps same mono = subst (λ (x : List ℕ). IsMonotone x g) (sym same_caps) (subst (λ (h : List ℕ → List ℕ). IsMonotone caps h) (sym same) mono)
+  pub made_count : (events : List NamedEvent) (made : List E) (rates : List ℕ) → AreMade capacities function upset_pair caps events made → rates ≡ map (λ e. e.rate) events → length rates ≡ length made
+  made_count events made rates so is =
+      let pairs : length (map upset_pair made) ≡ length (map (λ (e : NamedEvent). upset_of caps e.kind) events) = ap (λ (ps : List (Option (List ℕ × List ℕ))). length ps) so.marks in
+      let all : length (map upset_pair made) ≡ length made = length-map made upset_pair in
+      let listed : length (map (λ (e : NamedEvent). upset_of caps e.kind) events) ≡ length events = length-map events (λ (e : NamedEvent). upset_of caps e.kind) in
+      let rated : length rates ≡ length (map (λ (e : NamedEvent). e.rate) events) = ap (λ (rs : List ℕ). length rs) is in
+      let counted : length (map (λ (e : NamedEvent). e.rate) events) ≡ length events = length-map events (λ (e : NamedEvent). e.rate) in
+      omega arith
+
+-- a reward at its place
+pub got_named : (values : List NamedValue) (i : ℕ) (value : NamedValue) → slice_get values i ≡ Some value → slice_get (map named values) i ≡ Some (named value)
+got_named [] i value h = absurd cc
+got_named (v ∷ values) zero value h = (let e : v ≡ value = cc in ap (λ (x : NamedValue). Some (named x)) e)
+got_named (v ∷ values) (suc i) value h = got_named values i value h
 
 -- rates that make a wheel are some
 pub some_rates : (rates : List ℕ) → AreRates rates → rates ≡ [] → ⊥

@@ -3,7 +3,7 @@ use Rattle.std.proofs.Common.{◌≡◌, ℕ, ◌+◌, ◌<◌, ◌≤◌, List,
 use Rattle.std.proofs.lemmas.List.{drop_more}
 use Rattle.std.proofs.Math.ListN.{drop_of_length-le}
 use Rattle.toml.specs.Data.{Data}
-use Rattle.psi_net.specs.Reading.{each}
+use Rattle.psi_net.specs.Values.{each}
 use Rattle.psi_net.specs.Refusal.{IsNetError}
 use Rattle.psi_net.specs.declared.refusals.NetRefusal.{NetRefusal}
 use Rattle.psi_net.specs.declared.refusals.NetError.{NetError}

@@ -3,11 +3,12 @@ use Rattle.std.specs.Prelude.{◌≡◌, ℕ, ◌<◌, List, length, take, Err, 
 use Rattle.std.proofs.Common.{inl, inr, ap, sym, ◌∙◌, arith}
 use Rattle.std.proofs.lemmas.Bool.{cases_lt, lt-leb}
 use Rattle.std.proofs.lemmas.List.{take_all, length-take-le}
-use Rattle.psi_net.specs.Refusal.{too_long}
+use Rattle.psi_net.specs.Refusal.{at_place, top}
+use Rattle.psi_net.specs.declared.refusals.Cause.TheVariants.{TooLong}
 use Rattle.psi_net.specs.Reading.{file_text, network_of}
 
 -- a file of more bytes is too long, whatever they are
-pub network_of-long : (bytes : List ℕ) → 1048576 < length bytes → network_of bytes ≡ Err too_long
+pub network_of-long : (bytes : List ℕ) → 1048576 < length bytes → network_of bytes ≡ Err (at_place TooLong top)
 unfolding network_of file_text
 network_of-long bytes long = rw (lt-leb (length bytes) 1048576 long) refl
 

@@ -1,21 +1,35 @@
 //! Making the parts of a network from what its file says.
 
-ghost use Rattle.std.specs.Prelude.{◌≡◌, map, All, IfOk, IfErr};
+ghost use Rattle.std.specs.Prelude.{◌≡◌, ◌≤◌, map, All, IfOk, IfErr, Some, None};
 ghost use Rattle.psi_state.specs.State.{AreCapacities};
-ghost use Rattle.psi_event.specs.Law.{IsMonotone};
 ghost use Rattle.psi_rate.specs.Rates.{AreRates};
-ghost use Rattle.psi_net.specs.Network.{IsKindOf, done};
+ghost use Rattle.psi_kinds.specs.Kinds.{Does};
+ghost use Rattle.psi_kinds.specs.Forms.{upset_of};
+ghost use Rattle.psi_net.specs.Kept.{AreListed, IsAccepted};
+ghost use Rattle.psi_net.specs.Made.{AreMade};
 
-use crate::entries::{Event, Kind, Queue};
+use crate::entries::{NamedEvent, Queue};
+use crate::keys::read;
 use crate::refusals::NetError;
-use psi_event::{EventLaw, Single};
+use psi_event::EventLaw;
+use psi_kinds::{Event, Kind, KindRefusal, lower};
 use psi_rate::{RateRefusal, Wheel};
 use psi_state::State;
 use std::alloc::{AllocError, Global};
 
 // The capacities of the queues.
-#[tactic(auto, using(crate::proofs::Parts::set_more))]
+#[tactic(auto, using(crate::proofs::KeptQueues::capacities_kept))]
 pub(crate) fn capacities(queues: &[Queue]) -> State
+    requires { AreListed queues.now }
+    ensures value { result ≡ map (λ q. q.capacity) queues.now }
+    ensures valid { AreCapacities result }
+{
+    all_capacities(queues)
+}
+
+// The capacities of queues that make a state.
+#[tactic(auto, using(crate::proofs::Parts::set_more))]
+fn all_capacities(queues: &[Queue]) -> State
     requires { AreCapacities (map (λ q. q.capacity) queues.now) }
     ensures { result ≡ map (λ q. q.capacity) queues.now }
 {
@@ -26,42 +40,51 @@ pub(crate) fn capacities(queues: &[Queue]) -> State
     caps
 }
 
-// The event of a kind.
-#[tactic(auto, using(crate::proofs::Parts::monotone_of))]
-fn single(caps: State, kind: Kind) -> Single
+// The event of a kind that is accepted.
+#[tactic(auto, using(crate::proofs::Parts::never_refused))]
+fn lowered(alloc: Global, caps: State, kind: &Kind) -> Result<Event, NetError>
     requires valid { AreCapacities caps }
-    requires kind { IsKindOf caps kind }
-    ensures caps { ⟦<Single as EventLaw>⟧.capacities result ≡ caps }
-    ensures function { ⟦<Single as EventLaw>⟧.function result ≡ done caps kind }
-    ensures monotone { IsMonotone (⟦<Single as EventLaw>⟧.capacities result) (⟦<Single as EventLaw>⟧.function result) }
+    requires accepted { IsAccepted caps kind.now }
+    ensures caps { IfOk result (λ event. ⟦<Event as EventLaw>⟧.capacities event ≡ caps) }
+    ensures does { IfOk result (λ event. Does caps (⟦<Event as EventLaw>⟧.function event) kind.now) }
+    ensures upset { IfOk result (λ event. ⟦<Event as EventLaw>⟧.upset_pair event ≡ upset_of caps kind.now) }
+    ensures memory { IfErr result (λ error. error ≡ NetError.OutOfMemory) }
 {
-    match kind {
-        Kind::Arrival { to } => Single::join(caps, to as u8),
-        Kind::Service { from, server } => Single::leave(caps, from as u8, server),
+    match lower(alloc, caps, kind) {
+        Ok(event) => Ok(event),
+        Err(KindRefusal::OutOfMemory) => Err(NetError::OutOfMemory),
+        Err(KindRefusal::SelfTarget) => unreachable!(),
+        Err(KindRefusal::Repeated) => unreachable!(),
+        Err(KindRefusal::TableLength) => unreachable!(),
+        Err(KindRefusal::SizeRange) => unreachable!(),
+        Err(KindRefusal::Empty) => unreachable!(),
+        Err(KindRefusal::PartRange) => unreachable!(),
+        Err(KindRefusal::EmptyGuard) => unreachable!(),
     }
 }
 
-// The events, each as a function on states.
-pub(crate) fn singles(
+// The events, each as what it makes of states.
+#[tactic(auto, using(crate::proofs::Parts::none_made, crate::proofs::Lowered::lowered_more, crate::proofs::Parts::all_made))]
+pub(crate) fn all_lowered(
     alloc: Global,
     caps: State,
-    events: &[Event],
-) -> Result<Vec<Single>, AllocError>
+    events: &[NamedEvent],
+) -> Result<Vec<Event>, NetError>
     requires valid { AreCapacities caps }
-    requires kinds { All (λ e. IsKindOf caps e.kind) events.now }
-    ensures caps { IfOk result (λ singles. All (λ s. ⟦<Single as EventLaw>⟧.capacities s ≡ caps) singles.items) }
-    ensures functions { IfOk result (λ singles. map ⟦<Single as EventLaw>⟧.function singles.items ≡ map (λ e. done caps e.kind) events.now) }
-    ensures monotone { IfOk result (λ singles. All (λ s. IsMonotone (⟦<Single as EventLaw>⟧.capacities s) (⟦<Single as EventLaw>⟧.function s)) singles.items) }
+    requires kinds { All (λ e. IsAccepted caps e.kind) events.now }
+    ensures made { IfOk result (λ made. AreMade ⟦<Event as EventLaw>⟧.capacities ⟦<Event as EventLaw>⟧.function ⟦<Event as EventLaw>⟧.upset_pair caps events.now made.items) }
+    ensures memory { IfErr result (λ error. error ≡ NetError.OutOfMemory) }
 {
-    let mut singles = Vec::new(alloc);
+    let mut made = Vec::new(alloc);
     for event in events {
-        singles.push(single(caps, event.kind))?;
+        let one = read!(lowered(alloc, caps, &event.kind));
+        made.push(one)?;
     }
-    Ok(singles)
+    Ok(made)
 }
 
 // The rates of the events.
-pub(crate) fn rates(alloc: Global, events: &[Event]) -> Result<Vec<u32>, AllocError>
+pub(crate) fn rates(alloc: Global, events: &[NamedEvent]) -> Result<Vec<u32>, AllocError>
     ensures { IfOk result (λ rates. rates.items ≡ map (λ e. e.rate) events.now) }
 {
     events.iter().map(|event| event.rate).collect(alloc)

@@ -1,16 +1,16 @@
-//! The value of each key.
+//! The values of keys: integers, strings, names, arrays and tables.
 
-ghost use Rattle.std.specs.Prelude.{◌≡◌, ◌≤◌, map, position, IfOk};
+ghost use Rattle.std.specs.Prelude.{◌≡◌, ◌≤◌, ◌<◌, ◌^◌, pos, length, map, IfOk};
+ghost use Rattle.std.specs.Int.RustNames.{unsigned_abs};
 ghost use Rattle.std.specs.List.{list_any};
 ghost use Rattle.std.specs.Str.{bytes_eq};
 ghost use Rattle.toml.specs.Data.{get_member};
 ghost use Rattle.toml.specs.View.{view, table_view};
-ghost use Rattle.psi_net.specs.Refusal.{Gives};
-ghost use Rattle.psi_net.specs.Reading.{seen, no_unknown, version_of, number_of, text_of, name_at, array_in, array_of, elements_of, queue_number};
+ghost use Rattle.psi_net.specs.Refusal.{Gives, holds_or, at_key};
+ghost use Rattle.psi_net.specs.Values.{seen, no_unknown, required, optional, number_in, integer_in, text_in, name_in, array_in, elements_in, table_in};
 
-use crate::entries::Queue;
 use crate::naming::{Name, name_of};
-use crate::refusals::NetError;
+use crate::refusals::{Cause, NetError, Place};
 use toml::{Table, Value};
 
 // What a reading gives, or the return of its error. (The operator `?` is not proved at an error that
@@ -25,6 +25,17 @@ macro_rules! read {
 }
 
 pub(crate) use read;
+
+// A rule holds, or the value at the key is refused.
+pub(crate) fn holds_or(holds: bool, cause: Cause, place: Place, key: &str) -> Result<(), NetError>
+    ensures { Gives (λ _. tt) result (holds_or (at_key cause place key.now) holds) }
+{
+    if holds {
+        Ok(())
+    } else {
+        Err(NetError::at_key(cause, place, key))
+    }
+}
 
 // The value at a key of a table.
 pub(crate) fn find<'t>(table: &'t Table, key: &str) -> Option<&'t Value>
@@ -41,120 +52,220 @@ fn is_known(known: &[&str], key: &str) -> bool
 }
 
 // The table has no other keys than these.
-#[tactic(auto, using(crate::proofs::Lists::any_known, crate::proofs::Lists::keys_of_table), unfolding(crate::specs::Reading::no_unknown))]
-pub(crate) fn no_unknown(known: &[&str], table: &Table) -> Result<(), NetError>
-    ensures { Gives (λ _. tt) result (no_unknown (map (λ k. k.now) known.now) (table_view table.now)) }
+#[tactic(auto, using(crate::proofs::Lists::unknown_none, crate::proofs::Lists::keys_of_table), unfolding(crate::specs::Values::no_unknown))]
+pub(crate) fn no_unknown(place: Place, known: &[&str], table: &Table) -> Result<(), NetError>
+    ensures { Gives (λ _. tt) result (no_unknown place (map (λ k. k.now) known.now) (table_view table.now)) }
 {
     for key in table.keys() {
-        if !is_known(known, key.as_str()) {
-            return Err(NetError::not_built());
+        let key = key.as_str();
+        if !is_known(known, key) {
+            return Err(NetError::at_key(Cause::UnknownKey, place, key));
         }
     }
     Ok(())
 }
 
-// `version`: the integer 1.
-#[tactic(auto, unfolding(crate::specs::Reading::version_of))]
-pub(crate) fn version(value: Option<&Value>) -> Result<(), NetError>
-    ensures { Gives (λ _. tt) result (version_of (seen value.entry)) }
+// The value of a required key.
+pub(crate) fn present<'t>(
+    place: Place,
+    key: &str,
+    value: Option<&'t Value>,
+) -> Result<&'t Value, NetError>
+    ensures { Gives (λ value. view value.now) result (required place key.now Ok (seen value.entry)) }
 {
     match value {
-        Some(Value::Integer(number)) if *number == 1 => Ok(()),
-        _ => Err(NetError::not_built()),
+        Some(value) => Ok(value),
+        None => Err(NetError::at_key(Cause::MissingKey, place, key)),
     }
 }
 
 // An integer from `lo` to `hi`.
-#[tactic(auto, unfolding(crate::specs::Reading::number_of))]
-pub(crate) fn number(lo: u32, hi: u32, value: Option<&Value>) -> Result<u32, NetError>
-    ensures value { Gives (λ n. n) result (number_of lo hi (seen value.entry)) }
+#[tactic(auto, unfolding(crate::specs::Values::number_in))]
+pub(crate) fn number_in(
+    place: Place,
+    key: &str,
+    lo: u32,
+    hi: u32,
+    value: &Value,
+) -> Result<u32, NetError>
+    ensures value { Gives (λ n. n) result (number_in place key.now lo hi (view value.now)) }
     ensures range { IfOk result (λ n. (lo ≤ n) × (n ≤ hi)) }
 {
     match value {
-        Some(Value::Integer(number)) => {
+        Value::Integer(number) => {
             if *number >= lo as i64 && *number <= hi as i64 {
                 Ok(*number as u32)
             } else {
-                Err(NetError::not_built())
+                Err(NetError::at_key(Cause::OutOfRange, place, key))
             }
         }
-        _ => Err(NetError::not_built()),
+        _ => Err(NetError::at_key(Cause::WrongType, place, key)),
+    }
+}
+
+// A required integer from `lo` to `hi`.
+pub(crate) fn required_number(
+    place: Place,
+    key: &str,
+    lo: u32,
+    hi: u32,
+    value: Option<&Value>,
+) -> Result<u32, NetError>
+    ensures value { Gives (λ n. n) result (required place key.now (number_in place key.now lo hi) (seen value.entry)) }
+    ensures range { IfOk result (λ n. (lo ≤ n) × (n ≤ hi)) }
+{
+    match value {
+        Some(value) => number_in(place, key, lo, hi, value),
+        None => Err(NetError::at_key(Cause::MissingKey, place, key)),
+    }
+}
+
+// An integer from `lo` to `hi`, or the default, which lies between them.
+pub(crate) fn number_or(
+    place: Place,
+    key: &str,
+    default: u32,
+    lo: u32,
+    hi: u32,
+    value: Option<&Value>,
+) -> Result<u32, NetError>
+    requires least { lo ≤ default }
+    requires most { default ≤ hi }
+    ensures value { Gives (λ n. n) result (optional default (number_in place key.now lo hi) (seen value.entry)) }
+    ensures range { IfOk result (λ n. (lo ≤ n) × (n ≤ hi)) }
+{
+    match value {
+        Some(value) => number_in(place, key, lo, hi, value),
+        None => Ok(default),
+    }
+}
+
+// An integer from `-most` to `most`.
+#[tactic(auto, unfolding(crate::specs::Values::integer_in))]
+pub(crate) fn integer_in(
+    place: Place,
+    key: &str,
+    most: u32,
+    value: &Value,
+) -> Result<i32, NetError>
+    requires { most < 2 ^ 31 }
+    ensures value { Gives (λ z. z) result (integer_in place key.now most (view value.now)) }
+    ensures range { IfOk result (λ z. unsigned_abs z ≤ most) }
+{
+    match value {
+        Value::Integer(number) => {
+            if number.unsigned_abs() <= most as u64 {
+                Ok(*number as i32)
+            } else {
+                Err(NetError::at_key(Cause::OutOfRange, place, key))
+            }
+        }
+        _ => Err(NetError::at_key(Cause::WrongType, place, key)),
+    }
+}
+
+// An integer from `-most` to `most`, 0 by default.
+pub(crate) fn integer_or_zero(
+    place: Place,
+    key: &str,
+    most: u32,
+    value: Option<&Value>,
+) -> Result<i32, NetError>
+    requires { most < 2 ^ 31 }
+    ensures value { Gives (λ z. z) result (optional (pos 0) (integer_in place key.now most) (seen value.entry)) }
+    ensures range { IfOk result (λ z. unsigned_abs z ≤ most) }
+{
+    match value {
+        Some(value) => integer_in(place, key, most, value),
+        None => Ok(0),
     }
 }
 
 // A string.
-#[tactic(auto, unfolding(crate::specs::Reading::text_of))]
-pub(crate) fn text<'t>(value: Option<&'t Value>) -> Result<&'t str, NetError>
-    ensures { Gives (λ text. text.now) result (text_of (seen value.entry)) }
+#[tactic(auto, unfolding(crate::specs::Values::text_in))]
+pub(crate) fn text_in<'t>(
+    place: Place,
+    key: &str,
+    value: &'t Value,
+) -> Result<&'t str, NetError>
+    ensures { Gives (λ text. text.now) result (text_in place key.now (view value.now)) }
 {
     match value {
-        Some(Value::String(text)) => Ok(text.as_str()),
-        _ => Err(NetError::not_built()),
+        Value::String(text) => Ok(text.as_str()),
+        _ => Err(NetError::at_key(Cause::WrongType, place, key)),
     }
 }
 
-// `name`: a string in the form of a name.
-#[tactic(auto, unfolding(crate::specs::Reading::name_at))]
-pub(crate) fn name(value: Option<&Value>) -> Result<Name, NetError>
-    ensures { Gives (λ name. name) result (name_at (seen value.entry)) }
+// A string in the form of a name.
+#[tactic(auto, unfolding(crate::specs::Values::name_in))]
+fn name_in(place: Place, key: &str, value: &Value) -> Result<Name, NetError>
+    ensures { Gives (λ name. name) result (name_in place key.now (view value.now)) }
 {
-    let text = read!(text(value));
+    let text = read!(text_in(place, key, value));
     match name_of(text) {
         Some(name) => Ok(name),
-        None => Err(NetError::not_built()),
+        None => Err(NetError::at_key(Cause::OutOfRange, place, key)),
     }
 }
 
-// A value that is an array.
-#[tactic(auto, unfolding(crate::specs::Reading::array_in))]
-fn array_in(value: &Value) -> Result<&[Value], NetError>
-    ensures { Gives (λ values. map view values.now) result (array_in (view value.now)) }
+// A required string in the form of a name.
+pub(crate) fn required_name(
+    place: Place,
+    key: &str,
+    value: Option<&Value>,
+) -> Result<Name, NetError>
+    ensures { Gives (λ name. name) result (required place key.now (name_in place key.now) (seen value.entry)) }
 {
     match value {
-        Value::Array(values) => Ok(values.as_slice()),
-        _ => Err(NetError::not_built()),
+        Some(value) => name_in(place, key, value),
+        None => Err(NetError::at_key(Cause::MissingKey, place, key)),
     }
 }
 
 // An array.
-#[tactic(auto, unfolding(crate::specs::Reading::array_of))]
-fn array<'t>(value: Option<&'t Value>) -> Result<&'t [Value], NetError>
-    ensures { Gives (λ values. map view values.now) result (array_of (seen value.entry)) }
+#[tactic(auto, unfolding(crate::specs::Values::array_in))]
+pub(crate) fn array_in<'t>(
+    place: Place,
+    key: &str,
+    value: &'t Value,
+) -> Result<&'t [Value], NetError>
+    ensures { Gives (λ values. map view values.now) result (array_in place key.now (view value.now)) }
 {
     match value {
-        Some(value) => array_in(value),
-        None => Err(NetError::not_built()),
+        Value::Array(values) => Ok(values.as_slice()),
+        _ => Err(NetError::at_key(Cause::WrongType, place, key)),
     }
 }
 
-// An array of 1 to `most` elements.
-#[tactic(auto, unfolding(crate::specs::Reading::elements_of))]
-pub(crate) fn elements<'t>(most: usize, value: Option<&'t Value>) -> Result<&'t [Value], NetError>
-    ensures { Gives (λ values. map view values.now) result (elements_of most (seen value.entry)) }
+// An array of 1 to `most` elements, with the cause for one that is empty.
+#[tactic(auto, unfolding(crate::specs::Values::elements_in))]
+pub(crate) fn elements_in<'t>(
+    place: Place,
+    key: &str,
+    empty: Cause,
+    most: usize,
+    value: &'t Value,
+) -> Result<&'t [Value], NetError>
+    ensures value { Gives (λ values. map view values.now) result (elements_in place key.now empty most (view value.now)) }
+    ensures few { IfOk result (λ values. length values.now ≤ most) }
 {
-    let values = read!(array(value));
-    if values.is_empty() || values.len() > most {
-        return Err(NetError::not_built());
+    let values = read!(array_in(place, key, value));
+    if values.is_empty() {
+        return Err(NetError::at_key(empty, place, key));
+    }
+    if values.len() > most {
+        return Err(NetError::at_key(Cause::TooMany, place, key));
     }
     Ok(values)
 }
 
-// The place of the queue that has the name.
-fn place_of(queues: &[Queue], name: &str) -> Option<usize>
-    ensures { result ≡ position (λ q. bytes_eq q.name name.now) queues.now }
+// An element that is a table.
+#[tactic(auto, unfolding(crate::specs::Values::table_in))]
+pub(crate) fn table_in(place: Place, value: &Value) -> Result<&Table, NetError>
+    ensures { Gives (λ table. table_view table.now) result (table_in place (view value.now)) }
 {
-    let name = name.as_bytes();
-    queues.iter().position(|queue| queue.name.bytes() == name)
-}
-
-// The number of the queue that has the name.
-#[tactic(auto, unfolding(crate::specs::Reading::queue_number))]
-pub(crate) fn queue_number(queues: &[Queue], value: Option<&Value>) -> Result<usize, NetError>
-    ensures { Gives (λ n. n) result (queue_number queues.now (seen value.entry)) }
-{
-    let name = read!(text(value));
-    match place_of(queues, name) {
-        Some(number) => Ok(number),
-        None => Err(NetError::not_built()),
+    match value {
+        Value::Table(table) => Ok(table),
+        _ => Err(NetError::at_place(Cause::WrongType, place)),
     }
 }

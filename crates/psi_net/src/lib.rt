@@ -1,10 +1,9 @@
 //! The network file: reading a queueing network from the bytes of a TOML document.
 //!
-//! `net_of` gives the network of a file's bytes, or why they are refused. Its definition,
-//! `specs/Reading.antt`, has one part for each key, table and array of the format, and each part has one
-//! function here that meets it.
-//!
-//! A file describes one queue, its arrivals and, if there is one, its service:
+//! `net_of` gives the network of a file's bytes, or the first refusal. The definition of both,
+//! `specs/Reading.antt` with the files that it names, has one part for each key, table and array of the
+//! format, in the format's order, and each part has one function here that meets it. The events of a
+//! network are expanded over the servers of their sources.
 //!
 //! ```toml
 //! version = 1
@@ -26,14 +25,19 @@
 
 mod building;
 mod entries;
+mod event_tables;
+mod expansion;
 mod keys;
+mod kind_tables;
 mod naming;
 mod network;
+mod part_tables;
+mod queue_tables;
 mod reading;
+mod references;
 mod refusals;
-mod tables;
-#[cfg(test)]
-mod tests;
+mod reward_tables;
+mod words;
 
 pub use naming::Name;
 pub use network::Net;

@@ -1,16 +1,20 @@
-//! Names of queues and events.
+//! Names of queues, events and rewards.
 
 ghost use Rattle.std.specs.Prelude.{◌≡◌, IsTrue, true, Option};
 ghost use Rattle.std.specs.List.{list_all};
 ghost use Rattle.std.specs.Str.{bytes_eq};
 ghost use Rattle.std.specs.Cmp.{partial_equiv_from_equiv};
 ghost use Rattle.std.specs.Cmp.Lexicographic.{nat_list_eq_equiv};
+ghost use Rattle.std.specs.Hash as fed;
+ghost use Rattle.std.specs.Cmp.Rules.{hashing};
+ghost use Rattle.std.proofs.Common.{rules};
 ghost use Rattle.psi_net.specs.Name.{is_name_byte, is_name, name_of};
 
 use std::fmt;
+use std::hash::{Hash, Hasher};
 use std::marker::Model;
 
-/// The name of a queue or of an event: 1 to 32 bytes among the ASCII letters and digits, `_` and `-`.
+/// The name of a queue, an event or a reward: 1 to 32 bytes among the ASCII letters and digits, `_` and `-`.
 ///
 /// It is seen as the list of its bytes. Only the reading of a file makes names.
 #[derive(Clone, Copy)]
@@ -58,6 +62,16 @@ impl PartialEq for Name {
 
 impl Eq for Name {
     ghost laws = { nat_list_eq_equiv };
+}
+
+impl Hash for Name {
+    ghost hash_input = { fed.slice fed.u8 };
+
+    ghost respects_eq = { Prim.search (hashing, rules) };
+
+    fn hash<H: Hasher>(&self, state: &mut H) {
+        self.bytes().hash(state);
+    }
 }
 
 impl fmt::Debug for Name {

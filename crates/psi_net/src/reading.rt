@@ -1,16 +1,89 @@
 //! Reading a file.
 
-ghost use Rattle.std.specs.Prelude.{◌≡◌, take, Ok, IfOk, IfErr};
-ghost use Rattle.psi_net.specs.Refusal.{Gives, IsNetError};
-ghost use Rattle.psi_net.specs.Draft.{drafted};
-ghost use Rattle.psi_net.specs.Reading.{file_text, text_network, network_of};
+ghost use Rattle.std.specs.Prelude.{◌≡◌, ◌≤◌, take, codes, Ok, IfOk, IfErr};
+ghost use Rattle.psi_net.specs.Refusal.{Gives, IsNetError, top};
+ghost use Rattle.toml.specs.View.{view, table_view};
+ghost use Rattle.psi_net.specs.Values.{seen, required};
+ghost use Rattle.psi_net.specs.Draft.{drafted, IsWhole};
+ghost use Rattle.psi_net.specs.Reading.{version_in, most_limit, network_at, file_text, text_network, network_of};
 
+use crate::building::capacities;
 use crate::entries::Draft;
-use crate::keys::read;
+use crate::event_tables::events;
+use crate::keys::{find, no_unknown, number_or, read};
 use crate::network::Net;
-use crate::refusals::NetError;
-use crate::tables::document;
+use crate::queue_tables::queues;
+use crate::refusals::{Cause, NetError, Place};
+use crate::reward_tables::rewards;
 use std::alloc::Global;
+use toml::{Table, Value};
+
+// `version`: the integer 1 or 2.
+#[tactic(auto, unfolding(crate::specs::Reading::version_in))]
+fn version_in(value: &Value) -> Result<u32, NetError>
+    ensures value { Gives (λ n. n) result (version_in (view value.now)) }
+    ensures range { IfOk result (λ n. (1 ≤ n) × (n ≤ 2)) }
+{
+    match value {
+        Value::Integer(number) => {
+            if *number == 1 || *number == 2 {
+                Ok(*number as u32)
+            } else {
+                Err(NetError::at_key(Cause::Version, Place::top(), "version"))
+            }
+        }
+        _ => Err(NetError::at_key(Cause::WrongType, Place::top(), "version")),
+    }
+}
+
+// `version`, which is required.
+fn version(value: Option<&Value>) -> Result<u32, NetError>
+    ensures value { Gives (λ n. n) result (required top (codes "version") version_in (seen value.entry)) }
+    ensures range { IfOk result (λ n. (1 ≤ n) × (n ≤ 2)) }
+{
+    match value {
+        Some(value) => version_in(value),
+        None => Err(NetError::at_key(Cause::MissingKey, Place::top(), "version")),
+    }
+}
+
+// The greatest `limit` in a file of this version.
+fn most_limit(version: u32) -> u32
+    ensures value { result ≡ most_limit version }
+    ensures least { 18 ≤ result }
+    ensures most { result ≤ 22 }
+{
+    if version == 1 { 20 } else { 22 }
+}
+
+// The top of a document, which stands at this place.
+#[tactic(auto, using(crate::proofs::KeptQueues::names_few, crate::proofs::KeptQueues::names_same), unfolding(crate::specs::Reading::network_at))]
+fn document(alloc: Global, place: Place, table: &Table) -> Result<Draft, NetError>
+    ensures network { Gives drafted result (network_at place (table_view table.now)) }
+    ensures whole { IfOk result IsWhole }
+{
+    let version = read!(version(find(table, "version")));
+    let known = &["event", "limit", "queue", "reward", "split", "version"];
+    read!(no_unknown(place, known, table));
+    let most = most_limit(version);
+    let limit = read!(number_or(place, "limit", 18, 0, most, find(table, "limit")));
+    let split = read!(number_or(place, "split", 256, 1, 4096, find(table, "split")));
+    let list = read!(queues(alloc, find(table, "queue")));
+    let queues = list.queues;
+    let names = list.names;
+    let caps = capacities(queues.as_slice());
+    let value = find(table, "event");
+    let events = read!(events(alloc, version, &names, queues.as_slice(), &caps, value));
+    let rewards = read!(rewards(alloc, &names, &caps, find(table, "reward")));
+    Ok(Draft {
+        queues,
+        caps,
+        events,
+        limit: limit as u8,
+        split: split as u16,
+        rewards,
+    })
+}
 
 // The text of a file's bytes: not too many, and UTF-8.
 #[tactic(auto, using(crate::proofs::Texts::valid, crate::proofs::Texts::invalid), unfolding(crate::specs::Reading::file_text))]
@@ -18,26 +91,27 @@ fn file_text(bytes: &[u8]) -> Result<&str, NetError>
     ensures { Gives (λ text. text.now) result (file_text bytes.now) }
 {
     if bytes.len() > 1048576 {
-        return Err(NetError::too_long());
+        return Err(NetError::at_place(Cause::TooLong, Place::top()));
     }
     match std::str::from_utf8(bytes) {
         Ok(text) => Ok(text),
-        Err(_) => Err(NetError::not_toml()),
+        Err(_) => Err(NetError::at_place(Cause::NotToml, Place::top())),
     }
 }
 
 // What a text says. The TOML table is dropped here, so it is gone when the network is made.
 #[tactic(auto, unfolding(crate::specs::Reading::text_network))]
 fn text_draft(alloc: Global, text: &str) -> Result<Draft, NetError>
-    ensures { Gives drafted result (text_network text.now) }
+    ensures network { Gives drafted result (text_network text.now) }
+    ensures whole { IfOk result IsWhole }
 {
     match toml::table_from_str(alloc, text) {
-        Ok(table) => document(alloc, &table),
+        Ok(table) => document(alloc, Place::top(), &table),
         Err(error) => {
             if error.is_memory() {
                 Err(NetError::OutOfMemory)
             } else {
-                Err(NetError::not_toml())
+                Err(NetError::at_place(Cause::NotToml, Place::top()))
             }
         }
     }
@@ -45,20 +119,48 @@ fn text_draft(alloc: Global, text: &str) -> Result<Draft, NetError>
 
 /// The network of a file's bytes: a TOML 1.1 document of at most 1,048,576 bytes.
 ///
-/// The document describes one queue and one or two events.
+/// | Key at the top | Value | Default |
+/// |---|---|---|
+/// | `version` | 1 or 2 | required |
+/// | `limit` | 0 to 20, in version 2 to 22: horizons are at most 2 to the power `limit` steps | 18 |
+/// | `split` | 1 to 4,096: regions of at most so many states are followed state by state | 256 |
+/// | `queue` | array of 1 to 32 tables | required |
+/// | `event` | array of 1 to 1,024 tables | required |
+/// | `reward` | array of at most 64 tables | empty |
 ///
-/// - `version` is 1.
-/// - `queue` is an array of one table with the keys `name` and `capacity` (customers, 1 to 65,535).
-/// - `event` is an array of one or two tables. The first is an arrival, with the keys `kind`
-///   (`"arrival"`), `name`, `rate` and `to`, a list of the queue's name alone. The second is a service,
-///   with the keys `kind` (`"service"`), `name`, `rate` and `from`, the queue's name. Rates are from 1
-///   to 1,048,576; an event happens as often as its rate says beside the others.
-/// - A name is 1 to 32 bytes among the ASCII letters and digits, `_` and `-`. The events' names differ;
-///   an event and the queue may share one.
-/// - There is no other key. The greatest horizon is 2 to the power 18 steps, and the split number 256.
+/// A queue has `name`, `capacity` (customers, 1 to 65,535) and `servers` (1 to the lesser of 64 and the
+/// capacity, default 1). Queues are numbered from 0.
 ///
-/// Errors are `Refused` with code 0 for a file of more than 1,048,576 bytes (judged first), 1 for bytes
-/// that aren't a TOML document, and 17 for a document that isn't of this form; and `OutOfMemory`.
+/// An event has `kind`, `name`, `rate` (1 to 1,048,576: how often it happens beside the others), and the
+/// keys of its kind in this order. Names of events differ; an event and a queue may share one.
+///
+/// | Kind | Keys |
+/// |---|---|
+/// | `arrival` | `to`, list of at least one name |
+/// | `service` | `from`, name; `to`, list, default empty; `full`, `"lost"` (default) or `"stay"` |
+/// | `index` | `from`, optional name; `to`, list of at least one; `table`, a row for each target with as many integers from 0 to 1,000,000,000 as its capacity; `full`; `size`, default 1, and 1 beside `from` |
+/// | `batch` | `to`, list of at least one; `size`, required |
+/// | `negative` | `from`, optional name; `on`, name; `amount`, default 1 |
+/// | `fork` | `from`, optional name; `to`, list of at least one |
+/// | `join` | `from`, list of at least one; `to`, optional name |
+/// | `guarded` (version 2) | `part`, array of 1 to 32 tables with `queue`, `least` (default 0), `most` (default the capacity), `shift` (default 0), `floor` (default 0), `ceiling` (default the capacity) |
+///
+/// `size` and `amount` are from 1 to 65,535 customers. A service, an index, a negative event or a fork
+/// with `from` on a queue of s servers becomes s events of the same rate, one for each server.
+///
+/// A reward has `kind`, `name`, `queues` (list of at least one name), and by its kind `weights`
+/// (`linear`: an integer for each queue), `table` (`table`: a row for each queue, with an integer for 0
+/// customers up to its capacity) or `level` (`above`: 0 to 65,535); `greatest` and `least` have no more.
+/// Weights and table numbers are from -1,000,000,000 to 1,000,000,000.
+///
+/// A name is 1 to 32 bytes among the ASCII letters and digits, `_` and `-`. Other keys are refused.
+///
+/// # Errors
+///
+/// `Refused` with the first refusal in the order of the file's judging (see [`NetRefusal`]):
+/// the length and the document; at the top `version`, unknown keys, `limit`, `split`, `queue`, `event`,
+/// `reward`; in an array its tables in order; in a table unknown keys (of an event or a reward after
+/// `kind`), then the keys as listed. `OutOfMemory` where there is no memory.
 #[tactic(auto, unfolding(crate::specs::Reading::network_of))]
 pub fn net_of(alloc: Global, bytes: &[u8]) -> Result<Net, NetError>
     ensures network { IfOk result (λ net. network_of bytes.now ≡ Ok net) }

@@ -3,7 +3,7 @@
 ghost use Rattle.std.specs.Prelude.{◌≡◌, Option};
 ghost use Rattle.psi_net.specs.declared.refusals.NetError.TheVariants.{Refused, OutOfMemory};
 
-use crate::naming::Name;
+use crate::naming::{Name, name_of};
 use std::alloc::{AllocError, AllocFailed};
 
 /// The part of a network file that a refusal names.
@@ -19,15 +19,30 @@ pub enum Section {
     Reward,
 }
 
-/// Why a network file is refused, and where.
+/// Why a network file is refused, and where: the first refusal in the order in which a file is judged.
 ///
 /// | Code | Name | Cause |
 /// |---|---|---|
 /// | 0 | TooLong | the file has more than 1,048,576 bytes; judged first |
 /// | 1 | NotToml | the bytes aren't UTF-8, or the text isn't a TOML document |
-/// | 17 | NotBuilt | the document isn't a network of the form that is read so far |
+/// | 2 | Version | `version` is an integer other than 1 and 2 |
+/// | 3 | UnknownKey | a table has a key that isn't named for it; the first in byte order is given |
+/// | 4 | MissingKey | a required key is absent, or `queue` is an empty array |
+/// | 5 | WrongType | a value is of another type than named |
+/// | 6 | OutOfRange | a number is out of its range, a name isn't of its form, `full` is another string, a list that needs a name is empty, `part` is empty, or `size` isn't 1 beside `from` |
+/// | 7 | TooMany | more than 32 queues, 1,024 events (listed or expanded over servers), 262,144 index values, 64 rewards, or 32 parts of one event |
+/// | 8 | DuplicateName | an earlier table of the section has the name |
+/// | 9 | UnknownQueue | a name is no queue's |
+/// | 10 | UnknownKind | `kind` is none of the named strings |
+/// | 11 | SelfTarget | a source is among its targets or is `on`, or the `to` of a join is in its `from` |
+/// | 12 | RepeatedTarget | a list names a queue twice, or a part the queue of an earlier part of its event |
+/// | 13 | TableLength | a table, a row or the weights have another length than named |
+/// | 14 | BatchTooLarge | `size` is above a target's capacity |
+/// | 15 | NoEvents | `event` is absent or an empty array |
+/// | 16 | TotalTooLarge | the running total of the expanded rates passes 16,777,216 at this event |
+/// | 18 | EmptyGuard | a part has `least` above `most` (key `least`) or `floor` above `ceiling` (key `floor`) |
 ///
-/// Each of these is at the top: its number is 0, and it has no key.
+/// There is no code 17.
 #[derive(Clone, Copy, PartialEq, Eq, Debug)]
 pub struct NetRefusal {
     /// The cause, by the table above.
@@ -49,40 +64,107 @@ pub enum NetError {
     OutOfMemory,
 }
 
-impl NetError {
-    ghost use Rattle.psi_net.specs.Refusal.{at_top, too_long, not_toml, not_built};
+/// Why a value of a file is refused.
+#[derive(Clone, Copy, Debug)]
+pub(crate) enum Cause {
+    TooLong,
+    NotToml,
+    Version,
+    UnknownKey,
+    MissingKey,
+    WrongType,
+    OutOfRange,
+    TooMany,
+    DuplicateName,
+    UnknownQueue,
+    UnknownKind,
+    SelfTarget,
+    RepeatedTarget,
+    TableLength,
+    BatchTooLarge,
+    NoEvents,
+    TotalTooLarge,
+    EmptyGuard,
+}
 
-    // A refusal of the file as a whole.
-    fn at_top(code: u8) -> NetError
-        ensures { result ≡ Refused (at_top code) }
+impl Cause {
+    ghost use Rattle.psi_net.specs.Refusal.{code_of};
+
+    // The cause's number.
+    fn code(self) -> u8
+        ensures { result ≡ code_of self }
     {
-        NetError::Refused(NetRefusal {
-            code,
+        match self {
+            Cause::TooLong => 0,
+            Cause::NotToml => 1,
+            Cause::Version => 2,
+            Cause::UnknownKey => 3,
+            Cause::MissingKey => 4,
+            Cause::WrongType => 5,
+            Cause::OutOfRange => 6,
+            Cause::TooMany => 7,
+            Cause::DuplicateName => 8,
+            Cause::UnknownQueue => 9,
+            Cause::UnknownKind => 10,
+            Cause::SelfTarget => 11,
+            Cause::RepeatedTarget => 12,
+            Cause::TableLength => 13,
+            Cause::BatchTooLarge => 14,
+            Cause::NoEvents => 15,
+            Cause::TotalTooLarge => 16,
+            Cause::EmptyGuard => 18,
+        }
+    }
+}
+
+/// A place of a file: its top, or a table of one of its arrays.
+#[derive(Clone, Copy, Debug)]
+pub(crate) struct Place {
+    /// The section.
+    pub(crate) section: Section,
+    /// The number of the table in its array, counted from 1; at the top it is 0.
+    pub(crate) number: u32,
+}
+
+impl Place {
+    ghost use Rattle.psi_net.specs.Refusal.{top};
+
+    // The file as a whole.
+    pub(crate) fn top() -> Place
+        ensures { result ≡ top }
+    {
+        Place {
             section: Section::Top,
             number: 0,
-            key: None,
+        }
+    }
+}
+
+impl NetError {
+    ghost use Rattle.psi_net.specs.Refusal.{at_key, at_place};
+
+    // The value at a key is refused.
+    pub(crate) fn at_key(cause: Cause, place: Place, key: &str) -> NetError
+        ensures { result ≡ Refused (at_key cause place key.now) }
+    {
+        NetError::Refused(NetRefusal {
+            code: cause.code(),
+            section: place.section,
+            number: place.number,
+            key: name_of(key),
         })
     }
 
-    // The file has too many bytes.
-    pub(crate) fn too_long() -> NetError
-        ensures { result ≡ Refused too_long }
+    // What stands at a place is refused, without a key.
+    pub(crate) fn at_place(cause: Cause, place: Place) -> NetError
+        ensures { result ≡ Refused (at_place cause place) }
     {
-        NetError::at_top(0)
-    }
-
-    // The bytes aren't a TOML document.
-    pub(crate) fn not_toml() -> NetError
-        ensures { result ≡ Refused not_toml }
-    {
-        NetError::at_top(1)
-    }
-
-    // The document isn't of the form that is read.
-    pub(crate) fn not_built() -> NetError
-        ensures { result ≡ Refused not_built }
-    {
-        NetError::at_top(17)
+        NetError::Refused(NetRefusal {
+            code: cause.code(),
+            section: place.section,
+            number: place.number,
+            key: None,
+        })
     }
 }
 

@@ -1,10 +1,10 @@
 use Rattle.psi_net.specs.Draft.{drafted}
-use Rattle.psi_net.specs.Kept.{text_network-kept}
 use Rattle.psi_net.specs.Front.{network_of-take}
+use Rattle.psi_net.proofs.KeptNetwork.{network_kept}
 use Rattle.psi_net.proofs.reading.net_of.Goals as goal
 
-pub made-requires : goal.made-requires
-made-requires c = text_network-kept c.in-Ok.value.now (drafted c.in-Ok-text_draft.value) c.in-Ok-text_draft.ensures
+pub made-requires-clause-kept : goal.made-requires-clause-kept
+made-requires-clause-kept c = network_kept c.in-Ok.value.now (drafted c.in-Ok-text_draft.value) c.in-Ok-text_draft.ensures.network
 
 pub returns-in-Err-clause-front : goal.returns-in-Err-clause-front
 returns-in-Err-clause-front c = network_of-take c.args.bytes.now

@@ -1,0 +1,55 @@
+-- Looking through a list, as a loop does.
+use Rattle.std.proofs.Common.{◌≡◌, ℕ, zero, suc, ◌+◌, ◌<◌, ◌≤◌, List, [], ◌∷◌, length, slice_index, get_or, drop, Bool, true, false, nat_eq, nat_lt, refl, arith}
+use Rattle.std.specs.List.{list_all, list_any, slice_get}
+use Rattle.std.specs.Prelude.{Some}
+use Rattle.psi_guard.specs.declared.Part.{Part}
+use Rattle.std.proofs.lemmas.Bool.{and_parts, ltb-true}
+use Rattle.std.proofs.lemmas.List.{drop_more}
+use Rattle.std.proofs.Math.ListN.{drop_of_length-le}
+use Rattle.psi_net.specs.References.{is_in}
+use Rattle.psi_net.specs.Targets.{are_below}
+
+-- another queue at this place takes the loop one step on
+pub is_in_turn : (queue : ℕ) (queues : List ℕ) (i : ℕ) → i < length queues → nat_eq queue (slice_index queues i) ≡ false → is_in queue (drop i queues) ≡ is_in queue (drop (i + 1) queues)
+is_in_turn queue queues i small other = rw (drop_more queues i 0 small, other) refl
+
+-- the queue stands at this place
+pub is_in_found : (queue : ℕ) (queues : List ℕ) (i : ℕ) → i < length queues → nat_eq queue (slice_index queues i) ≡ true → is_in queue (drop i queues) ≡ true
+is_in_found queue queues i small same = rw (drop_more queues i 0 small, same) refl
+
+-- behind the last place it doesn't stand
+pub is_in_ends : (queue : ℕ) (queues : List ℕ) (i : ℕ) → length queues ≤ i → is_in queue (drop i queues) ≡ false
+is_in_ends queue queues i past = rw (drop_of_length-le queues past) refl
+
+-- the same of a test of numbers that all have to pass
+pub all_turn : (p : ℕ → Bool) (xs : List ℕ) (i : ℕ) → i < length xs → p (slice_index xs i) ≡ true → list_all p (drop i xs) ≡ list_all p (drop (i + 1) xs)
+all_turn p xs i small passes = rw (drop_more xs i 0 small, passes) refl
+
+pub all_found : (p : ℕ → Bool) (xs : List ℕ) (i : ℕ) → i < length xs → p (slice_index xs i) ≡ false → list_all p (drop i xs) ≡ false
+all_found p xs i small fails = rw (drop_more xs i 0 small, fails) refl
+
+pub all_ends : (p : ℕ → Bool) (xs : List ℕ) (i : ℕ) → length xs ≤ i → list_all p (drop i xs) ≡ true
+all_ends p xs i past = rw (drop_of_length-le xs past) refl
+
+-- each place of numbers below n has one
+pub below_at : (n : ℕ) (xs : List ℕ) (i : ℕ) → are_below n xs ≡ true → i < length xs → slice_index xs i < n
+below_at n [] i below small = absurd (omega arith)
+below_at n (x ∷ xs) zero below small = ltb-true x n (and_parts (nat_lt x n) (list_all (λ y. nat_lt y n) xs) below).0
+below_at n (x ∷ xs) (suc i) below small = below_at n xs i (and_parts (nat_lt x n) (list_all (λ y. nat_lt y n) xs) below).1 (omega arith)
+
+-- the same of a queue that parts name
+at_get : (parts : List Part) (i : ℕ) (p : Part) → slice_get parts i ≡ Some p → get_or parts i p ≡ p
+at_get [] i p is = refl
+at_get (q ∷ parts) zero p is = (let same : q ≡ p = cc in same)
+at_get (q ∷ parts) (suc i) p is = at_get parts i p is
+
+pub part_turn : (queue : ℕ) (parts : List Part) (i : ℕ) (p : Part) → i < length parts → slice_get parts i ≡ Some p → nat_eq queue p.queue ≡ false
+    → list_any (λ q. nat_eq queue q.queue) (drop i parts) ≡ list_any (λ q. nat_eq queue q.queue) (drop (i + 1) parts)
+part_turn queue parts i p small is other = rw (drop_more parts i p small, at_get parts i p is, other) refl
+
+pub part_found : (queue : ℕ) (parts : List Part) (i : ℕ) (p : Part) → i < length parts → slice_get parts i ≡ Some p → nat_eq queue p.queue ≡ true
+    → list_any (λ q. nat_eq queue q.queue) (drop i parts) ≡ true
+part_found queue parts i p small is same = rw (drop_more parts i p small, at_get parts i p is, same) refl
+
+pub part_ends : (queue : ℕ) (parts : List Part) (i : ℕ) → length parts ≤ i → list_any (λ q. nat_eq queue q.queue) (drop i parts) ≡ false
+part_ends queue parts i past = rw (drop_of_length-le parts past) refl

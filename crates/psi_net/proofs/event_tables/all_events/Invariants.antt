@@ -1,0 +1,12 @@
+use Rattle.std.proofs.Common.{◌≡◌, ◌+◌, [], map, drop}
+use Rattle.toml.specs.View.{view}
+use Rattle.psi_net.specs.Values.{each}
+use Rattle.psi_net.specs.EventTables.{event_step}
+use Rattle.psi_net.specs.Counting.{IsCounted}
+use Rattle.psi_net.specs.Listing.{listed}
+use Rattle.psi_net.proofs.event_tables.all_events.Given as goal
+
+abbrev pub invariant-loop-index : goal.invariant-loop-index
+invariant-loop-index l =
+    (each (event_step l.version l.queues) (l.index + 1) (listed l.list) (map view (drop l.index l.values)) ≡ each (event_step l.version l.queues) 1 (record { names = []; events = [] }) (map view l.values))
+    × IsCounted l.list.events.items l.list.values l.list.rates

@@ -1,0 +1,10 @@
+use Rattle.std.proofs.Common.{◌≡◌, ◌+◌, [], length, map, drop}
+use Rattle.toml.specs.View.{view}
+use Rattle.psi_net.specs.Values.{each}
+use Rattle.psi_net.specs.KindTables.{row_step}
+use Rattle.psi_net.proofs.kind_tables.all_rows.Given as goal
+
+abbrev pub invariant-loop-value : goal.invariant-loop-value
+invariant-loop-value l =
+    (each (row_step l.place l.caps l.to) (l.value-index + 1) l.rows (map view (drop l.value-index l.values)) ≡ each (row_step l.place l.caps l.to) 1 [] (map view l.values))
+    × (length l.rows ≡ l.value-index)

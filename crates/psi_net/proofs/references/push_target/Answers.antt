@@ -1,0 +1,13 @@
+use Rattle.std.proofs.Common.{◌≡◌, List, ℕ, length, sym, ◌∙◌, subst}
+use Rattle.psi_net.specs.Targets.{AreTargets}
+use Rattle.psi_net.proofs.Pigeons.{room_for_more, targets_more}
+use Rattle.psi_net.proofs.references.push_target.Goals as goal
+
+pub push-requires : goal.push-requires
+push-requires c = room_for_more (length c.args.names.now.keys) c.args.sources.now c.args.earlier.now c.in-Ok.value c.requires.few c.requires.valid c.in-Ok.ensures.within
+    (sym c.is_in.ensures ∙ c.if-is_in.false)
+
+pub returns-clause-valid : goal.returns-clause-valid
+returns-clause-valid c = subst (λ (qs : List ℕ). AreTargets (length c.args.names.now.keys) c.args.sources.now qs) (sym c.push.ensures)
+    (targets_more (length c.args.names.now.keys) c.args.sources.now c.args.earlier.now c.in-Ok.value c.requires.valid c.in-Ok.ensures.within
+        (sym c.is_in.ensures ∙ c.if-is_in.false) (sym c.is_in-2.ensures ∙ c.if-is_in-2.false))

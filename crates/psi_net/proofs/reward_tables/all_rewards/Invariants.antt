@@ -1,0 +1,12 @@
+use Rattle.std.proofs.Common.{◌≡◌, ◌+◌, [], All, map, drop}
+use Rattle.toml.specs.View.{view}
+use Rattle.psi_net.specs.Values.{each}
+use Rattle.psi_net.specs.Draft.{named}
+use Rattle.psi_net.specs.RewardTables.{reward_step}
+use Rattle.psi_net.proofs.reward_tables.all_rewards.Given as goal
+
+abbrev pub invariant-loop-index : goal.invariant-loop-index
+invariant-loop-index l =
+    (each (reward_step l.names.keys l.caps) (l.index + 1) (map named l.rewards.items) (map view (drop l.index l.values)) ≡ each (reward_step l.names.keys l.caps) 1 [] (map view l.values))
+    × (l.earlier.keys ≡ map (λ r. r.name) (map named l.rewards.items))
+    × All (λ v. v.reward.caps ≡ l.caps) l.rewards.items

@@ -1,0 +1,13 @@
+-- What is counted while events are read.
+use Rattle.std.specs.Prelude.{◌≡◌, ℕ, ◌≤◌, List, length, map}
+use Rattle.psi_rate.specs.Rates.{total}
+use Rattle.psi_net.specs.Expansion.{values_of}
+use Rattle.psi_net.specs.declared.entries.NamedEvent.{NamedEvent}
+
+-- the index values and the total rate of events within their limits
+pub record IsCounted (events : List NamedEvent) (values rates : ℕ) : Type 0 where
+  pub index_values : values ≡ values_of events
+  pub total_rate : rates ≡ total (map (λ e. e.rate) events)
+  pub few : length events ≤ 1024
+  pub small : values ≤ 262144
+  pub light : rates ≤ 16777216

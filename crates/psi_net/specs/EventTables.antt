@@ -1,0 +1,106 @@
+-- The array `event`.
+use Rattle.std.specs.Prelude.{ℕ, List, [], ◌∷◌, ◌++◌, map, length, codes, ◌==◌, nat_le, Option, Some, None, ok_or, Result, Ok, Err, if◌then◌else◌}
+use Rattle.std.specs.Str.{bytes_eq}
+use Rattle.toml.specs.Data.{Data, Members, get_member}
+use Rattle.psi_rate.specs.Rates.{total}
+use Rattle.psi_kinds.specs.declared.Kind.{Kind}
+use Rattle.psi_net.specs.Refusal.{◌>>=◌, holds_or, at_key, top, event_place}
+use Rattle.psi_net.specs.Values.{no_unknown, required, number_in, text_in, name_in, elements_in, table_in, each}
+use Rattle.psi_net.specs.Expansion.{source_of, expanded, values_of, count_key}
+use Rattle.psi_net.specs.QueueTables.{unless_taken}
+use Rattle.psi_net.specs.KindTables.{arrival_of, service_of, index_of, batch_of, negative_of, fork_of, join_of}
+use Rattle.psi_net.specs.PartTables.{guarded_of}
+use Rattle.psi_net.specs.declared.refusals.Cause.TheVariants.{UnknownKind, TooMany, NoEvents, TotalTooLarge}
+use Rattle.psi_net.specs.declared.refusals.Place.{Place}
+use Rattle.psi_net.specs.declared.refusals.NetRefusal.{NetRefusal}
+use Rattle.psi_net.specs.declared.entries.Queue.{Queue}
+use Rattle.psi_net.specs.declared.entries.NamedEvent.{NamedEvent}
+use Rattle.psi_net.specs.declared.words.KindWord.{KindWord}
+use Rattle.psi_net.specs.declared.words.KindWord.TheVariants as word
+
+-- the kind that a text names in a file of this version: `guarded` is one in version 2 alone
+abbrev pub kind_named : ℕ → List ℕ → Option KindWord
+kind_named version text =
+    if bytes_eq text (codes "arrival") then Some word.Arrival
+    else if bytes_eq text (codes "service") then Some word.Service
+    else if bytes_eq text (codes "index") then Some word.Index
+    else if bytes_eq text (codes "batch") then Some word.Batch
+    else if bytes_eq text (codes "negative") then Some word.Negative
+    else if bytes_eq text (codes "fork") then Some word.Fork
+    else if bytes_eq text (codes "join") then Some word.Join
+    else if bytes_eq text (codes "guarded") then (if version == 2 then Some word.Guarded else None)
+    else None
+
+-- `kind`
+unfoldable pub kind_in : Place → ℕ → Data → Result KindWord NetRefusal
+kind_in place version d = do
+  text ← text_in place (codes "kind") d
+  ok_or (kind_named version text) (at_key UnknownKind place (codes "kind"))
+
+-- the keys of the table of an event of this kind
+abbrev pub event_keys : KindWord → List (List ℕ)
+event_keys word.Arrival = codes "kind" ∷ codes "name" ∷ codes "rate" ∷ codes "to" ∷ []
+event_keys word.Service = codes "from" ∷ codes "full" ∷ codes "kind" ∷ codes "name" ∷ codes "rate" ∷ codes "to" ∷ []
+event_keys word.Index = codes "from" ∷ codes "full" ∷ codes "kind" ∷ codes "name" ∷ codes "rate" ∷ codes "size" ∷ codes "table" ∷ codes "to" ∷ []
+event_keys word.Batch = codes "kind" ∷ codes "name" ∷ codes "rate" ∷ codes "size" ∷ codes "to" ∷ []
+event_keys word.Negative = codes "amount" ∷ codes "from" ∷ codes "kind" ∷ codes "name" ∷ codes "on" ∷ codes "rate" ∷ []
+event_keys word.Fork = codes "from" ∷ codes "kind" ∷ codes "name" ∷ codes "rate" ∷ codes "to" ∷ []
+event_keys word.Join = codes "from" ∷ codes "kind" ∷ codes "name" ∷ codes "rate" ∷ codes "to" ∷ []
+event_keys word.Guarded = codes "kind" ∷ codes "name" ∷ codes "part" ∷ codes "rate" ∷ []
+
+-- the keys of its own that a kind has
+unfoldable pub kind_of : Place → KindWord → List (List ℕ) → List ℕ → Members → Result Kind NetRefusal
+kind_of place word.Arrival names caps ms = arrival_of place names ms
+kind_of place word.Service names caps ms = service_of place names ms
+kind_of place word.Index names caps ms = index_of place names caps ms
+kind_of place word.Batch names caps ms = batch_of place names caps ms
+kind_of place word.Negative names caps ms = negative_of place names ms
+kind_of place word.Fork names caps ms = fork_of place names ms
+kind_of place word.Join names caps ms = join_of place names ms
+kind_of place word.Guarded names caps ms = guarded_of place names caps ms
+
+-- an event's table, with its place and the names of the events before it; the first server of its source stands for all
+unfoldable pub event_of : Place → ℕ → List (List ℕ) → List (List ℕ) → List ℕ → Members → Result NamedEvent NetRefusal
+event_of place version earlier names caps ms = do
+  word ← required place (codes "kind") (kind_in place version) (get_member (codes "kind") ms)
+  known ← no_unknown place (event_keys word) ms
+  name ← required place (codes "name") (name_in place (codes "name")) (get_member (codes "name") ms)
+  fresh ← unless_taken place earlier name
+  rate ← required place (codes "rate") (number_in place (codes "rate") 1 1048576) (get_member (codes "rate") ms)
+  kind ← kind_of place word names caps ms
+  Ok (record { name = name; server = 1; rate = rate; kind = kind })
+
+-- the names of the tables read so far, and their events expanded over servers
+pub record Listed : Type 0 where
+  pub names : List (List ℕ)
+  pub events : List NamedEvent
+
+-- so many expanded events, index values and numbers of rates are within their limits
+unfoldable pub within_limits : Place → List ℕ → ℕ → ℕ → ℕ → Result (Unit {0}) NetRefusal
+within_limits place key events values rates = do
+  few ← holds_or (at_key TooMany place key) (nat_le events 1024)
+  small ← holds_or (at_key TooMany place (codes "table")) (nat_le values 262144)
+  holds_or (at_key TotalTooLarge place (codes "rate")) (nat_le rates 16777216)
+
+-- the events so far, the last ones those of this event, are within their limits
+unfoldable pub are_within : Place → NamedEvent → List NamedEvent → Result (Unit {0}) NetRefusal
+are_within place event events = within_limits place (count_key (source_of event.kind)) (length events) (values_of events) (total (map (λ e. e.rate) events))
+
+-- one element of the array, with its number and what was read before it
+unfoldable pub event_step : ℕ → List Queue → ℕ → Listed → Data → Result Listed NetRefusal
+event_step version queues n earlier d = do
+  ms ← table_in (event_place n) d
+  event ← event_of (event_place n) version earlier.names (map (λ q. q.name) queues) (map (λ q. q.capacity) queues) ms
+  within ← are_within (event_place n) event (earlier.events ++ expanded queues event)
+  Ok (record { names = earlier.names ++ event.name ∷ []; events = earlier.events ++ expanded queues event })
+
+-- `event`: an array of 1 to 1,024 tables
+unfoldable pub events_in : ℕ → List Queue → Data → Result (List NamedEvent) NetRefusal
+events_in version queues d = do
+  tables ← elements_in top (codes "event") NoEvents 1024 d
+  read ← each (event_step version queues) 1 (record { names = []; events = [] }) tables
+  Ok read.events
+
+abbrev pub events_of : ℕ → List Queue → Option Data → Result (List NamedEvent) NetRefusal
+events_of version queues None = Err (at_key NoEvents top (codes "event"))
+events_of version queues (Some d) = events_in version queues d

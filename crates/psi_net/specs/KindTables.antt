@@ -1,0 +1,118 @@
+-- The keys of each kind of event, in the order in which they are read.
+use Rattle.std.specs.Prelude.{ℕ, ◌+◌, ℤ, pos, List, [], ◌∷◌, ◌++◌, map, length, slice_index, codes, Bool, true, false, not, ◌||◌, ◌==◌, nat_le, Option, Some, None, is_some, Result, Ok, Err, if◌then◌else◌}
+use Rattle.std.specs.List.{list_all, list_any}
+use Rattle.std.specs.Str.{bytes_eq}
+use Rattle.toml.specs.Data.{Data, string, Members, get_member}
+use Rattle.psi_guard.specs.declared.Part.{Part}
+use Rattle.psi_route.specs.declared.Source.{Source}
+use Rattle.psi_route.specs.declared.Full.{Full}
+use Rattle.psi_route.specs.declared.Full.TheVariants.{Lost, Stay}
+use Rattle.psi_kinds.specs.declared.Kind.{Kind}
+use Rattle.psi_kinds.specs.declared.Kind.TheVariants as kind
+use Rattle.psi_net.specs.Refusal.{◌>>=◌, holds_or, at_key}
+use Rattle.psi_net.specs.Values.{no_unknown, required, optional, number_in, integer_in, array_in, elements_in, each, number_step}
+use Rattle.psi_net.specs.References.{is_in, queue_in, target_in, targets_in, some_targets_in}
+use Rattle.psi_net.specs.declared.refusals.Cause.TheVariants.{WrongType, OutOfRange, RepeatedTarget, TableLength, BatchTooLarge, EmptyGuard}
+use Rattle.psi_net.specs.declared.refusals.Place.{Place}
+use Rattle.psi_net.specs.declared.refusals.NetRefusal.{NetRefusal}
+use Rattle.psi_net.specs.declared.words.KindWord.{KindWord}
+use Rattle.psi_net.specs.declared.words.KindWord.TheVariants as word
+
+-- a source with its first server
+abbrev pub first_server : ℕ → Source
+first_server queue = record { queue = queue; k = 1 }
+
+-- `from`, where it is optional
+unfoldable pub source_in : Place → List (List ℕ) → Data → Result (Option Source) NetRefusal
+source_in place names d = do
+  queue ← queue_in place (codes "from") names d
+  Ok (Some (first_server queue))
+
+-- the queue of a source may not be among the targets
+abbrev pub queue_of_source : Option Source → List ℕ
+queue_of_source None = []
+queue_of_source (Some source) = source.queue ∷ []
+
+-- `full`: "lost" or "stay"
+unfoldable pub full_in : Place → Data → Result Full NetRefusal
+full_in place (string text) =
+    if bytes_eq text (codes "lost") then Ok Lost
+    else if bytes_eq text (codes "stay") then Ok Stay
+    else Err (at_key OutOfRange place (codes "full"))
+full_in place d = Err (at_key WrongType place (codes "full"))
+
+-- one row of an index's table, with the rows before it: as many integers as the next target's capacity
+unfoldable pub row_step : Place → List ℕ → List ℕ → ℕ → List (List ℕ) → Data → Result (List (List ℕ)) NetRefusal
+row_step place caps to n rows d = do
+  elements ← array_in place (codes "table") d
+  fits ← holds_or (at_key TableLength place (codes "table")) (length elements == slice_index caps (slice_index to (length rows)))
+  row ← each (number_step place (codes "table") 0 1000000000) 1 [] elements
+  Ok (rows ++ row ∷ [])
+
+-- `table` of an index: one row for each target
+unfoldable pub table_of : Place → List ℕ → List ℕ → Data → Result (List (List ℕ)) NetRefusal
+table_of place caps to d = do
+  elements ← array_in place (codes "table") d
+  fits ← holds_or (at_key TableLength place (codes "table")) (length elements == length to)
+  each (row_step place caps to) 1 [] elements
+
+-- `size`: 1 beside a source, and at most every target's capacity
+unfoldable pub size_fits : Place → List ℕ → Bool → List ℕ → ℕ → Result ℕ NetRefusal
+size_fits place caps sourced to size = do
+  single ← holds_or (at_key OutOfRange place (codes "size")) (not sourced || size == 1)
+  roomy ← holds_or (at_key BatchTooLarge place (codes "size")) (list_all (λ q. nat_le size (slice_index caps q)) to)
+  Ok size
+
+unfoldable pub arrival_of : Place → List (List ℕ) → Members → Result Kind NetRefusal
+arrival_of place names ms = do
+  to ← required place (codes "to") (some_targets_in place (codes "to") names []) (get_member (codes "to") ms)
+  Ok (kind.Arrival to)
+
+unfoldable pub service_of : Place → List (List ℕ) → Members → Result Kind NetRefusal
+service_of place names ms = do
+  from ← required place (codes "from") (queue_in place (codes "from") names) (get_member (codes "from") ms)
+  to ← optional [] (targets_in place (codes "to") names (from ∷ [])) (get_member (codes "to") ms)
+  full ← optional Lost (full_in place) (get_member (codes "full") ms)
+  Ok (kind.Service (first_server from) to full)
+
+unfoldable pub index_of : Place → List (List ℕ) → List ℕ → Members → Result Kind NetRefusal
+index_of place names caps ms = do
+  from ← optional None (source_in place names) (get_member (codes "from") ms)
+  to ← required place (codes "to") (some_targets_in place (codes "to") names (queue_of_source from)) (get_member (codes "to") ms)
+  table ← required place (codes "table") (table_of place caps to) (get_member (codes "table") ms)
+  full ← optional Lost (full_in place) (get_member (codes "full") ms)
+  size ← optional 1 (number_in place (codes "size") 1 65535) (get_member (codes "size") ms)
+  fitting ← size_fits place caps (is_some from) to size
+  Ok (kind.Index from to table full fitting)
+
+unfoldable pub batch_of : Place → List (List ℕ) → List ℕ → Members → Result Kind NetRefusal
+batch_of place names caps ms = do
+  to ← required place (codes "to") (some_targets_in place (codes "to") names []) (get_member (codes "to") ms)
+  size ← required place (codes "size") (number_in place (codes "size") 1 65535) (get_member (codes "size") ms)
+  fitting ← size_fits place caps false to size
+  Ok (kind.Batch to fitting)
+
+unfoldable pub negative_of : Place → List (List ℕ) → Members → Result Kind NetRefusal
+negative_of place names ms = do
+  from ← optional None (source_in place names) (get_member (codes "from") ms)
+  on ← required place (codes "on") (target_in place (codes "on") names (queue_of_source from)) (get_member (codes "on") ms)
+  amount ← optional 1 (number_in place (codes "amount") 1 65535) (get_member (codes "amount") ms)
+  Ok (kind.Negative from on amount)
+
+unfoldable pub fork_of : Place → List (List ℕ) → Members → Result Kind NetRefusal
+fork_of place names ms = do
+  from ← optional None (source_in place names) (get_member (codes "from") ms)
+  to ← required place (codes "to") (some_targets_in place (codes "to") names (queue_of_source from)) (get_member (codes "to") ms)
+  Ok (kind.Fork from to)
+
+-- `to` of a join
+unfoldable pub joined_in : Place → List (List ℕ) → List ℕ → Data → Result (Option ℕ) NetRefusal
+joined_in place names from d = do
+  queue ← target_in place (codes "to") names from d
+  Ok (Some queue)
+
+unfoldable pub join_of : Place → List (List ℕ) → Members → Result Kind NetRefusal
+join_of place names ms = do
+  from ← required place (codes "from") (some_targets_in place (codes "from") names []) (get_member (codes "from") ms)
+  to ← optional None (joined_in place names from) (get_member (codes "to") ms)
+  Ok (kind.Join from to)

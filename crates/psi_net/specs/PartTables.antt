@@ -1,0 +1,61 @@
+-- The array `part` of a guarded event.
+use Rattle.std.specs.Prelude.{ℕ, pos, List, [], ◌∷◌, ◌++◌, slice_index, codes, not, nat_le, nat_eq, Result, Ok, Err}
+use Rattle.std.specs.List.{list_any}
+use Rattle.toml.specs.Data.{Data, table, Members, get_member}
+use Rattle.psi_guard.specs.declared.Part.{Part}
+use Rattle.psi_kinds.specs.declared.Kind.{Kind}
+use Rattle.psi_kinds.specs.declared.Kind.TheVariants as kind
+use Rattle.psi_net.specs.Refusal.{◌>>=◌, holds_or, at_key}
+use Rattle.psi_net.specs.Values.{no_unknown, required, optional, number_in, integer_in, elements_in, each}
+use Rattle.psi_net.specs.References.{queue_in}
+use Rattle.psi_net.specs.declared.refusals.Cause.TheVariants.{WrongType, OutOfRange, RepeatedTarget, EmptyGuard}
+use Rattle.psi_net.specs.declared.refusals.Place.{Place}
+use Rattle.psi_net.specs.declared.refusals.NetRefusal.{NetRefusal}
+
+-- an element that is a table; another one is refused at the key `part`
+unfoldable pub part_table : Place → Data → Result Members NetRefusal
+part_table place (table ms) = Ok ms
+part_table place d = Err (at_key WrongType place (codes "part"))
+
+-- the keys of a part's table
+abbrev pub part_keys : List (List ℕ)
+part_keys = codes "ceiling" ∷ codes "floor" ∷ codes "least" ∷ codes "most" ∷ codes "queue" ∷ codes "shift" ∷ []
+
+-- the queue of a part, which no earlier part names
+unfoldable pub part_queue : Place → List (List ℕ) → List Part → Data → Result ℕ NetRefusal
+part_queue place names earlier d = do
+  queue ← queue_in place (codes "queue") names d
+  fresh ← holds_or (at_key RepeatedTarget place (codes "queue")) (not (list_any (λ p. nat_eq queue p.queue) earlier))
+  Ok queue
+
+-- a part's table, with the parts before it
+unfoldable pub part_of : Place → List (List ℕ) → List ℕ → List Part → Members → Result Part NetRefusal
+part_of place names caps earlier ms = do
+  known ← no_unknown place part_keys ms
+  queue ← required place (codes "queue") (part_queue place names earlier) (get_member (codes "queue") ms)
+  least ← optional 0 (number_in place (codes "least") 0 (slice_index caps queue)) (get_member (codes "least") ms)
+  most ← optional (slice_index caps queue) (number_in place (codes "most") 0 (slice_index caps queue)) (get_member (codes "most") ms)
+  shift ← optional (pos 0) (integer_in place (codes "shift") 65535) (get_member (codes "shift") ms)
+  floor ← optional 0 (number_in place (codes "floor") 0 (slice_index caps queue)) (get_member (codes "floor") ms)
+  ceiling ← optional (slice_index caps queue) (number_in place (codes "ceiling") 0 (slice_index caps queue)) (get_member (codes "ceiling") ms)
+  guarded ← holds_or (at_key EmptyGuard place (codes "least")) (nat_le least most)
+  bounded ← holds_or (at_key EmptyGuard place (codes "floor")) (nat_le floor ceiling)
+  Ok (record { queue = queue; least = least; most = most; shift = shift; floor = floor; ceiling = ceiling })
+
+-- one element of the array, with the parts before it
+unfoldable pub part_step : Place → List (List ℕ) → List ℕ → ℕ → List Part → Data → Result (List Part) NetRefusal
+part_step place names caps n earlier d = do
+  ms ← part_table place d
+  part ← part_of place names caps earlier ms
+  Ok (earlier ++ part ∷ [])
+
+-- `part`: an array of 1 to 32 tables
+unfoldable pub parts_in : Place → List (List ℕ) → List ℕ → Data → Result (List Part) NetRefusal
+parts_in place names caps d = do
+  tables ← elements_in place (codes "part") OutOfRange 32 d
+  each (part_step place names caps) 1 [] tables
+
+unfoldable pub guarded_of : Place → List (List ℕ) → List ℕ → Members → Result Kind NetRefusal
+guarded_of place names caps ms = do
+  parts ← required place (codes "part") (parts_in place names caps) (get_member (codes "part") ms)
+  Ok (kind.Guarded parts)

@@ -1,0 +1,45 @@
+-- The array `queue`.
+use Rattle.std.specs.Prelude.{ℕ, List, [], ◌∷◌, ◌++◌, map, min, not, codes, Option, Result, Ok}
+use Rattle.std.specs.List.{list_any}
+use Rattle.std.specs.Str.{bytes_eq}
+use Rattle.toml.specs.Data.{Data, Members, get_member}
+use Rattle.psi_net.specs.Refusal.{◌>>=◌, holds_or, at_key, top, queue_place}
+use Rattle.psi_net.specs.Values.{no_unknown, required, optional, number_in, name_in, elements_in, table_in, each}
+use Rattle.psi_net.specs.declared.refusals.Cause.TheVariants.{MissingKey, DuplicateName}
+use Rattle.psi_net.specs.declared.refusals.Place.{Place}
+use Rattle.psi_net.specs.declared.refusals.NetRefusal.{NetRefusal}
+use Rattle.psi_net.specs.declared.entries.Queue.{Queue}
+
+-- no earlier table of the section has the name
+unfoldable pub unless_taken : Place → List (List ℕ) → List ℕ → Result (Unit {0}) NetRefusal
+unless_taken place earlier name = holds_or (at_key DuplicateName place (codes "name")) (not (list_any (bytes_eq name) earlier))
+
+-- the keys of a queue's table
+abbrev pub queue_keys : List (List ℕ)
+queue_keys = codes "capacity" ∷ codes "name" ∷ codes "servers" ∷ []
+
+-- a queue's table, with its number and the names of the queues before it
+unfoldable pub queue_of : ℕ → List (List ℕ) → Members → Result Queue NetRefusal
+queue_of n earlier ms = do
+  known ← no_unknown (queue_place n) queue_keys ms
+  name ← required (queue_place n) (codes "name") (name_in (queue_place n) (codes "name")) (get_member (codes "name") ms)
+  fresh ← unless_taken (queue_place n) earlier name
+  capacity ← required (queue_place n) (codes "capacity") (number_in (queue_place n) (codes "capacity") 1 65535) (get_member (codes "capacity") ms)
+  servers ← optional 1 (number_in (queue_place n) (codes "servers") 1 (min 64 capacity)) (get_member (codes "servers") ms)
+  Ok (record { name = name; capacity = capacity; servers = servers })
+
+-- one element of the array, with its number and the queues before it
+unfoldable pub queue_step : ℕ → List Queue → Data → Result (List Queue) NetRefusal
+queue_step n earlier d = do
+  ms ← table_in (queue_place n) d
+  queue ← queue_of n (map (λ q. q.name) earlier) ms
+  Ok (earlier ++ queue ∷ [])
+
+-- `queue`: an array of 1 to 32 tables
+unfoldable pub queues_in : Data → Result (List Queue) NetRefusal
+queues_in d = do
+  tables ← elements_in top (codes "queue") MissingKey 32 d
+  each queue_step 1 [] tables
+
+abbrev pub queues_of : Option Data → Result (List Queue) NetRefusal
+queues_of found = required top (codes "queue") queues_in found

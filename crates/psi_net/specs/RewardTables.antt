@@ -1,0 +1,104 @@
+-- The array `reward`.
+use Rattle.std.specs.Prelude.{ℕ, ◌+◌, ℤ, List, [], ◌∷◌, ◌++◌, map, length, slice_index, codes, ◌==◌, nat_le, Option, Some, None, ok_or, Result, Ok, if◌then◌else◌}
+use Rattle.std.specs.Str.{bytes_eq}
+use Rattle.toml.specs.Data.{Data, Members, get_member}
+use Rattle.psi_reward.specs.declared.RewardKind.{RewardKind}
+use Rattle.psi_reward.specs.declared.RewardKind.TheVariants as kind
+use Rattle.psi_net.specs.Refusal.{◌>>=◌, holds_or, at_key, top, reward_place}
+use Rattle.psi_net.specs.Values.{no_unknown, required, optional, number_in, text_in, name_in, array_in, table_in, each, integer_step}
+use Rattle.psi_net.specs.References.{some_targets_in}
+use Rattle.psi_net.specs.QueueTables.{unless_taken}
+use Rattle.psi_net.specs.Network.{NamedReward}
+use Rattle.psi_net.specs.declared.refusals.Cause.TheVariants.{UnknownKind, TooMany, TableLength}
+use Rattle.psi_net.specs.declared.refusals.Place.{Place}
+use Rattle.psi_net.specs.declared.refusals.NetRefusal.{NetRefusal}
+use Rattle.psi_net.specs.declared.words.RewardWord.{RewardWord}
+use Rattle.psi_net.specs.declared.words.RewardWord.TheVariants as word
+
+-- the kind of reward that a text names
+abbrev pub reward_named : List ℕ → Option RewardWord
+reward_named text =
+    if bytes_eq text (codes "linear") then Some word.Linear
+    else if bytes_eq text (codes "table") then Some word.Table
+    else if bytes_eq text (codes "greatest") then Some word.Greatest
+    else if bytes_eq text (codes "least") then Some word.Least
+    else if bytes_eq text (codes "above") then Some word.Above
+    else None
+
+-- `kind`
+unfoldable pub reward_kind_in : Place → Data → Result RewardWord NetRefusal
+reward_kind_in place d = do
+  text ← text_in place (codes "kind") d
+  ok_or (reward_named text) (at_key UnknownKind place (codes "kind"))
+
+-- the keys of the table of a reward of this kind
+abbrev pub reward_keys : RewardWord → List (List ℕ)
+reward_keys word.Linear = codes "kind" ∷ codes "name" ∷ codes "queues" ∷ codes "weights" ∷ []
+reward_keys word.Table = codes "kind" ∷ codes "name" ∷ codes "queues" ∷ codes "table" ∷ []
+reward_keys word.Greatest = codes "kind" ∷ codes "name" ∷ codes "queues" ∷ []
+reward_keys word.Least = codes "kind" ∷ codes "name" ∷ codes "queues" ∷ []
+reward_keys word.Above = codes "kind" ∷ codes "level" ∷ codes "name" ∷ codes "queues" ∷ []
+
+-- `weights`: as many integers as queues
+unfoldable pub weights_in : Place → ℕ → Data → Result (List ℤ) NetRefusal
+weights_in place count d = do
+  elements ← array_in place (codes "weights") d
+  fits ← holds_or (at_key TableLength place (codes "weights")) (length elements == count)
+  each (integer_step place (codes "weights") 1000000000) 1 [] elements
+
+-- one row of `table`, with the rows before it: an integer for 0 customers up to the next queue's capacity
+unfoldable pub grid_step : Place → List ℕ → List ℕ → ℕ → List (List ℤ) → Data → Result (List (List ℤ)) NetRefusal
+grid_step place caps queues n rows d = do
+  elements ← array_in place (codes "table") d
+  fits ← holds_or (at_key TableLength place (codes "table")) (length elements == slice_index caps (slice_index queues (length rows)) + 1)
+  row ← each (integer_step place (codes "table") 1000000000) 1 [] elements
+  Ok (rows ++ row ∷ [])
+
+-- `table`: one row for each queue
+unfoldable pub grid_in : Place → List ℕ → List ℕ → Data → Result (List (List ℤ)) NetRefusal
+grid_in place caps queues d = do
+  elements ← array_in place (codes "table") d
+  fits ← holds_or (at_key TableLength place (codes "table")) (length elements == length queues)
+  each (grid_step place caps queues) 1 [] elements
+
+-- the key of its own that a kind has
+unfoldable pub worth_in : Place → RewardWord → List ℕ → List ℕ → Members → Result RewardKind NetRefusal
+worth_in place word.Linear caps queues ms = do
+  weights ← required place (codes "weights") (weights_in place (length queues)) (get_member (codes "weights") ms)
+  Ok (kind.Linear queues weights)
+worth_in place word.Table caps queues ms = do
+  table ← required place (codes "table") (grid_in place caps queues) (get_member (codes "table") ms)
+  Ok (kind.Table queues table)
+worth_in place word.Greatest caps queues ms = Ok (kind.Greatest queues)
+worth_in place word.Least caps queues ms = Ok (kind.Least queues)
+worth_in place word.Above caps queues ms = do
+  level ← required place (codes "level") (number_in place (codes "level") 0 65535) (get_member (codes "level") ms)
+  Ok (kind.Above queues level)
+
+-- a reward's table, with its place and the names of the rewards before it
+unfoldable pub reward_of : Place → List (List ℕ) → List (List ℕ) → List ℕ → Members → Result NamedReward NetRefusal
+reward_of place earlier names caps ms = do
+  word ← required place (codes "kind") (reward_kind_in place) (get_member (codes "kind") ms)
+  known ← no_unknown place (reward_keys word) ms
+  name ← required place (codes "name") (name_in place (codes "name")) (get_member (codes "name") ms)
+  fresh ← unless_taken place earlier name
+  queues ← required place (codes "queues") (some_targets_in place (codes "queues") names []) (get_member (codes "queues") ms)
+  kind ← worth_in place word caps queues ms
+  Ok (record { name = name; kind = kind })
+
+-- one element of the array, with its number and the rewards before it
+unfoldable pub reward_step : List (List ℕ) → List ℕ → ℕ → List NamedReward → Data → Result (List NamedReward) NetRefusal
+reward_step names caps n earlier d = do
+  ms ← table_in (reward_place n) d
+  reward ← reward_of (reward_place n) (map (λ r. r.name) earlier) names caps ms
+  Ok (earlier ++ reward ∷ [])
+
+-- `reward`: an array of at most 64 tables
+unfoldable pub rewards_in : List (List ℕ) → List ℕ → Data → Result (List NamedReward) NetRefusal
+rewards_in names caps d = do
+  tables ← array_in top (codes "reward") d
+  few ← holds_or (at_key TooMany top (codes "reward")) (nat_le (length tables) 64)
+  each (reward_step names caps) 1 [] tables
+
+abbrev pub rewards_of : List (List ℕ) → List ℕ → Option Data → Result (List NamedReward) NetRefusal
+rewards_of names caps found = optional [] (rewards_in names caps) found

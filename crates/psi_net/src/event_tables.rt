@@ -1,0 +1,291 @@
+//! The array `event`.
+
+ghost use Rattle.std.specs.Prelude.{◌≡◌, ℕ, ◌≤◌, ◌<◌, ◌+◌, ◌++◌, ◌∷◌, [], length, map, codes, None, false, IfOk, OnOk};
+ghost use Rattle.std.specs.List.{list_any};
+ghost use Rattle.std.specs.Str.{bytes_eq};
+ghost use Rattle.toml.specs.View.{view, table_view};
+ghost use Rattle.psi_rate.specs.Rates.{total};
+ghost use Rattle.psi_net.specs.Refusal.{Gives, event_place};
+ghost use Rattle.psi_net.specs.Values.{seen, no_unknown, required, each};
+ghost use Rattle.psi_net.specs.Expansion.{served_by};
+ghost use Rattle.psi_net.specs.EventTables.{kind_named, kind_in, event_keys, kind_of, event_of, are_within, event_step, events_of};
+ghost use Rattle.psi_net.specs.Counting.{IsCounted};
+ghost use Rattle.psi_net.specs.Listing.{listed};
+ghost use Rattle.psi_net.specs.Kept.{AreListed};
+
+use crate::entries::{NamedEvent, Queue};
+use crate::expansion::{index_values, push_expanded, servers_at, source_of};
+use crate::keys::{elements_in, find, no_unknown, read, required_name, required_number, table_in, text_in};
+use crate::kind_tables::{arrival, batch, fork, index, join, negative, service};
+use crate::naming::Name;
+use crate::part_tables::guarded;
+use crate::queue_tables::unless_taken;
+use crate::refusals::{Cause, NetError, Place, Section};
+use crate::words::KindWord;
+use indexmap::IndexSet;
+use psi_kinds::Kind;
+use psi_state::State;
+use std::alloc::Global;
+use toml::{Table, Value};
+
+// The kind that a text names in a file of this version.
+fn kind_named(version: u32, text: &str) -> Option<KindWord>
+    ensures { result ≡ kind_named version text.now }
+{
+    if text == "arrival" {
+        Some(KindWord::Arrival)
+    } else if text == "service" {
+        Some(KindWord::Service)
+    } else if text == "index" {
+        Some(KindWord::Index)
+    } else if text == "batch" {
+        Some(KindWord::Batch)
+    } else if text == "negative" {
+        Some(KindWord::Negative)
+    } else if text == "fork" {
+        Some(KindWord::Fork)
+    } else if text == "join" {
+        Some(KindWord::Join)
+    } else if text == "guarded" && version == 2 {
+        Some(KindWord::Guarded)
+    } else {
+        None
+    }
+}
+
+// `kind`.
+#[tactic(auto, unfolding(crate::specs::EventTables::kind_in))]
+fn kind_word(place: Place, version: u32, value: Option<&Value>) -> Result<KindWord, NetError>
+    ensures { Gives (λ word. word) result (required place (codes "kind") (kind_in place version) (seen value.entry)) }
+{
+    match value {
+        Some(value) => {
+            let text = read!(text_in(place, "kind", value));
+            match kind_named(version, text) {
+                Some(word) => Ok(word),
+                None => Err(NetError::at_key(Cause::UnknownKind, place, "kind")),
+            }
+        }
+        None => Err(NetError::at_key(Cause::MissingKey, place, "kind")),
+    }
+}
+
+// The table of an event of this kind has no other keys than the kind's.
+fn no_unknown_event_key(place: Place, word: KindWord, table: &Table) -> Result<(), NetError>
+    ensures { Gives (λ _. tt) result (no_unknown place (event_keys word) (table_view table.now)) }
+{
+    match word {
+        KindWord::Arrival => no_unknown(place, &["kind", "name", "rate", "to"], table),
+        KindWord::Service => {
+            let known = &["from", "full", "kind", "name", "rate", "to"];
+            no_unknown(place, known, table)
+        }
+        KindWord::Index => {
+            let known = &["from", "full", "kind", "name", "rate", "size", "table", "to"];
+            no_unknown(place, known, table)
+        }
+        KindWord::Batch => no_unknown(place, &["kind", "name", "rate", "size", "to"], table),
+        KindWord::Negative => {
+            let known = &["amount", "from", "kind", "name", "on", "rate"];
+            no_unknown(place, known, table)
+        }
+        KindWord::Fork => no_unknown(place, &["from", "kind", "name", "rate", "to"], table),
+        KindWord::Join => no_unknown(place, &["from", "kind", "name", "rate", "to"], table),
+        KindWord::Guarded => no_unknown(place, &["kind", "name", "part", "rate"], table),
+    }
+}
+
+// The keys of its own that a kind has.
+#[tactic(auto, unfolding(crate::specs::EventTables::kind_of))]
+fn kind_of(
+    alloc: Global,
+    place: Place,
+    word: KindWord,
+    names: &IndexSet<Name>,
+    caps: &State,
+    table: &Table,
+) -> Result<Kind, NetError>
+    requires few { length names.now.keys ≤ 32 }
+    requires same { length names.now.keys ≡ length caps.now }
+    ensures { Gives (λ kind. kind) result (kind_of place word names.now.keys caps.now (table_view table.now)) }
+{
+    match word {
+        KindWord::Arrival => arrival(place, names, table),
+        KindWord::Service => service(place, names, table),
+        KindWord::Index => index(alloc, place, names, caps, table),
+        KindWord::Batch => batch(place, names, caps, table),
+        KindWord::Negative => negative(place, names, table),
+        KindWord::Fork => fork(place, names, table),
+        KindWord::Join => join(place, names, table),
+        KindWord::Guarded => guarded(place, names, caps, table),
+    }
+}
+
+// An event's table, with its place and the names of the events before it; the first server of its source
+// stands for all.
+#[tactic(auto, unfolding(crate::specs::EventTables::event_of))]
+fn event(
+    alloc: Global,
+    place: Place,
+    version: u32,
+    earlier: &IndexSet<Name>,
+    names: &IndexSet<Name>,
+    caps: &State,
+    table: &Table,
+) -> Result<NamedEvent, NetError>
+    requires few { length names.now.keys ≤ 32 }
+    requires same { length names.now.keys ≡ length caps.now }
+    ensures value { Gives (λ event. event) result (event_of place version earlier.now.keys names.now.keys caps.now (table_view table.now)) }
+    ensures fresh { IfOk result (λ event. list_any (bytes_eq event.name) earlier.now.keys ≡ false) }
+    ensures rate { IfOk result (λ event. event.rate ≤ 1048576) }
+{
+    let word = read!(kind_word(place, version, find(table, "kind")));
+    read!(no_unknown_event_key(place, word, table));
+    let name = read!(required_name(place, "name", find(table, "name")));
+    read!(unless_taken(place, earlier, name));
+    let rate = read!(required_number(place, "rate", 1, 1_048_576, find(table, "rate")));
+    let kind = read!(kind_of(alloc, place, word, names, caps, table));
+    Ok(NamedEvent {
+        name,
+        server: 1,
+        rate,
+        kind,
+    })
+}
+
+// The events read so far, the names of their tables, their index values and their total rate.
+#[derive(Drop)]
+pub(crate) struct EventList {
+    pub(crate) names: IndexSet<Name>,
+    pub(crate) events: Vec<NamedEvent>,
+    pub(crate) values: u32,
+    pub(crate) rates: u32,
+}
+
+// Index values and a total rate.
+#[derive(Drop)]
+struct Counts {
+    values: u32,
+    rates: u32,
+}
+
+// The events so far, the last ones those of this event, are within their limits.
+#[tactic(auto, using(crate::proofs::Copies::length_more, crate::proofs::Copies::values_more, crate::proofs::Copies::rates_more, crate::proofs::Copies::too_many), unfolding(crate::specs::EventTables::are_within, crate::specs::EventTables::within_limits))]
+fn sums(
+    place: Place,
+    list: &EventList,
+    event: &NamedEvent,
+    servers: u16,
+) -> Result<Counts, NetError>
+    requires counted { IsCounted list.now.events.items list.now.values list.now.rates }
+    requires some { 1 ≤ servers }
+    requires few { servers ≤ 64 }
+    requires rate { event.now.rate ≤ 1048576 }
+    ensures value { Gives (λ _. tt) result (are_within place event.now (list.now.events.items ++ served_by servers event.now)) }
+    ensures counted { IfOk result (λ sums. IsCounted (list.now.events.items ++ served_by servers event.now) sums.values sums.rates) }
+{
+    if list.events.len() + servers as usize > 1024 {
+        let key = if source_of(&event.kind).is_some() { "from" } else { "kind" };
+        return Err(NetError::at_key(Cause::TooMany, place, key));
+    }
+    let Some(own) = index_values(&event.kind) else {
+        return Err(NetError::at_key(Cause::TooMany, place, "table"));
+    };
+    let values = list.values + servers as u32 * own;
+    if values > 262_144 {
+        return Err(NetError::at_key(Cause::TooMany, place, "table"));
+    }
+    let rates = list.rates + servers as u32 * event.rate;
+    if rates > 16_777_216 {
+        return Err(NetError::at_key(Cause::TotalTooLarge, place, "rate"));
+    }
+    Ok(Counts { values, rates })
+}
+
+// One element of the array, with its number and what was read before it.
+#[tactic(auto, using(crate::proofs::KeptQueues::names_few, crate::proofs::KeptQueues::names_same), unfolding(crate::specs::EventTables::event_step))]
+fn push_event(
+    alloc: Global,
+    version: u32,
+    number: u32,
+    names: &IndexSet<Name>,
+    queues: &[Queue],
+    caps: &State,
+    list: &mut EventList,
+    value: &Value,
+) -> Result<(), NetError>
+    requires queues { AreListed queues.now }
+    requires names { names.now.keys ≡ map (λ q. q.name) queues.now }
+    requires caps { caps.now ≡ map (λ q. q.capacity) queues.now }
+    requires counted { IsCounted list.old.events.items list.old.values list.old.rates }
+    ensures value { Gives (λ _. listed list.new) result (event_step version queues.now number (listed list.old) (view value.now)) }
+    ensures counted { OnOk result (IsCounted list.new.events.items list.new.values list.new.rates) }
+{
+    let place = Place {
+        section: Section::Event,
+        number,
+    };
+    let table = read!(table_in(place, value));
+    let event = read!(event(alloc, place, version, &list.names, names, caps, table));
+    let servers = servers_at(queues, source_of(&event.kind));
+    let sums = read!(sums(place, list, &event, servers));
+    read!(push_expanded(alloc, &mut list.events, &event, servers));
+    list.names.insert(event.name)?;
+    list.values = sums.values;
+    list.rates = sums.rates;
+    Ok(())
+}
+
+// The events of the array's elements.
+#[tactic(auto, using(crate::proofs::Turns::turn, crate::proofs::Turns::turn_fails, crate::proofs::Turns::turn_ends))]
+fn all_events(
+    alloc: Global,
+    version: u32,
+    names: &IndexSet<Name>,
+    queues: &[Queue],
+    caps: &State,
+    values: &[Value],
+) -> Result<EventList, NetError>
+    requires queues { AreListed queues.now }
+    requires names { names.now.keys ≡ map (λ q. q.name) queues.now }
+    requires caps { caps.now ≡ map (λ q. q.capacity) queues.now }
+    requires count { length values.now ≤ 1024 }
+    ensures { Gives listed result (each (event_step version queues.now) 1 (record { names = []; events = [] }) (map view values.now)) }
+{
+    let mut list = EventList {
+        names: IndexSet::new(alloc),
+        events: Vec::new(alloc),
+        values: 0,
+        rates: 0,
+    };
+    for (index, value) in values.iter().enumerate() {
+        let number = index as u32 + 1;
+        read!(push_event(alloc, version, number, names, queues, caps, &mut list, value));
+    }
+    Ok(list)
+}
+
+// `event`: an array of 1 to 1,024 tables.
+#[tactic(auto, unfolding(crate::specs::EventTables::events_in))]
+pub(crate) fn events(
+    alloc: Global,
+    version: u32,
+    names: &IndexSet<Name>,
+    queues: &[Queue],
+    caps: &State,
+    value: Option<&Value>,
+) -> Result<Vec<NamedEvent>, NetError>
+    requires queues { AreListed queues.now }
+    requires names { names.now.keys ≡ map (λ q. q.name) queues.now }
+    requires caps { caps.now ≡ map (λ q. q.capacity) queues.now }
+    ensures { Gives (λ events. events.items) result (events_of version queues.now (seen value.entry)) }
+{
+    match value {
+        Some(value) => {
+            let values = read!(elements_in(Place::top(), "event", Cause::NoEvents, 1024, value));
+            let list = read!(all_events(alloc, version, names, queues, caps, values));
+            Ok(list.events)
+        }
+        None => Err(NetError::at_key(Cause::NoEvents, Place::top(), "event")),
+    }
+}

@@ -1,0 +1,170 @@
+//! Events are expanded over the servers of their sources.
+
+ghost use Rattle.std.specs.Prelude.{◌≡◌, ◌≤◌, ◌<◌, ◌++◌, length, map, MatchOption, IfSome, IfOk, IfErr, OnOk, option_map};
+ghost use Rattle.psi_rate.specs.Rates.{total};
+ghost use Rattle.psi_net.specs.Expansion.{source_of, with_server, at_server, servers_at, served, served_by, values_in};
+
+use crate::entries::{NamedEvent, Queue};
+use crate::keys::read;
+use crate::refusals::NetError;
+use psi_kinds::{Kind, Tables};
+use psi_route::Source;
+use std::alloc::Global;
+
+// The single source of a kind, if it has one.
+pub(crate) fn source_of(kind: &Kind) -> Option<Source>
+    ensures { result ≡ source_of kind.now }
+{
+    match kind {
+        Kind::Arrival { .. } => None,
+        Kind::Service { from, .. } => Some(*from),
+        Kind::Index { from, .. } => *from,
+        Kind::Batch { .. } => None,
+        Kind::Negative { from, .. } => *from,
+        Kind::Fork { from, .. } => *from,
+        Kind::Join { .. } => None,
+        Kind::Guarded { .. } => None,
+    }
+}
+
+// How many servers the source has.
+#[tactic(auto, using(crate::proofs::Servers::servers_read))]
+pub(crate) fn servers_at(queues: &[Queue], source: Option<Source>) -> u16
+    requires { IfSome source (λ source. source.queue < length queues.now) }
+    ensures { result ≡ servers_at queues.now source }
+{
+    match source {
+        Some(source) => queues[source.queue as usize].servers,
+        None => 1,
+    }
+}
+
+// The source with another server.
+fn with_server(k: u16, source: Option<Source>) -> Option<Source>
+    ensures { result ≡ option_map (with_server k) source }
+{
+    match source {
+        Some(source) => Some(Source {
+            queue: source.queue,
+            k,
+        }),
+        None => None,
+    }
+}
+
+// The tables again.
+#[tactic(auto, using(crate::proofs::Servers::rows_more, crate::proofs::Servers::rows_all))]
+fn tables_again(alloc: Global, tables: &Tables) -> Result<Tables, NetError>
+    ensures value { IfOk result (λ copy. copy ≡ tables.now) }
+    ensures memory { IfErr result (λ error. error ≡ NetError.OutOfMemory) }
+{
+    let mut copy = Tables::new(alloc);
+    for place in 0..tables.len() {
+        let row = Vec::from_slice(alloc, tables.row(place))?;
+        match copy.push(row) {
+            Ok(()) => (),
+            Err(_) => return Err(NetError::OutOfMemory),
+        }
+    }
+    Ok(copy)
+}
+
+// The kind with another server of its source.
+fn at_server(alloc: Global, k: u16, kind: &Kind) -> Result<Kind, NetError>
+    ensures value { IfOk result (λ copy. copy ≡ at_server k kind.now) }
+    ensures memory { IfErr result (λ error. error ≡ NetError.OutOfMemory) }
+{
+    match kind {
+        Kind::Arrival { to } => Ok(Kind::Arrival { to: *to }),
+        Kind::Service { from, to, full } => Ok(Kind::Service {
+            from: Source {
+                queue: from.queue,
+                k,
+            },
+            to: *to,
+            full: *full,
+        }),
+        Kind::Index {
+            from,
+            to,
+            table,
+            full,
+            size,
+        } => {
+            let table = read!(tables_again(alloc, table));
+            Ok(Kind::Index {
+                from: with_server(k, *from),
+                to: *to,
+                table,
+                full: *full,
+                size: *size,
+            })
+        }
+        Kind::Batch { to, size } => Ok(Kind::Batch {
+            to: *to,
+            size: *size,
+        }),
+        Kind::Negative { from, on, amount } => Ok(Kind::Negative {
+            from: with_server(k, *from),
+            on: *on,
+            amount: *amount,
+        }),
+        Kind::Fork { from, to } => Ok(Kind::Fork {
+            from: with_server(k, *from),
+            to: *to,
+        }),
+        Kind::Join { from, to } => Ok(Kind::Join {
+            from: *from,
+            to: *to,
+        }),
+        Kind::Guarded { parts } => Ok(Kind::Guarded { parts: *parts }),
+    }
+}
+
+// Puts the events of so many servers behind the others.
+#[tactic(auto, using(crate::proofs::Copies::served_start, crate::proofs::Copies::served_next))]
+pub(crate) fn push_expanded(
+    alloc: Global,
+    events: &mut Vec<NamedEvent>,
+    event: &NamedEvent,
+    servers: u16,
+) -> Result<(), NetError>
+    ensures value { OnOk result (events.new.items ≡ events.old.items ++ served_by servers event.now) }
+    ensures memory { IfErr result (λ error. error ≡ NetError.OutOfMemory) }
+{
+    for place in 0..servers {
+        let kind = read!(at_server(alloc, place + 1, &event.kind));
+        events.push(NamedEvent {
+            name: event.name,
+            server: place + 1,
+            rate: event.rate,
+            kind,
+        })?;
+    }
+    Ok(())
+}
+
+// The number of index values of a kind, and None exactly where it is above 262,144.
+#[tactic(auto, using(crate::proofs::Servers::values_turn, crate::proofs::Servers::values_past, crate::proofs::Servers::values_whole))]
+fn table_values(tables: &Tables) -> Option<u32>
+    ensures { MatchOption result (262144 < total (map length tables.now)) (λ values. (values ≡ total (map length tables.now)) × (values ≤ 262144)) }
+{
+    let mut values = 0;
+    for place in 0..tables.len() {
+        values += tables.row(place).len();
+        if values > 262_144 {
+            return None;
+        }
+    }
+    Some(values as u32)
+}
+
+// The number of index values of a kind, and None exactly where it is above 262,144.
+pub(crate) fn index_values(kind: &Kind) -> Option<u32>
+    ensures { MatchOption result (262144 < values_in kind.now) (λ values. (values ≡ values_in kind.now) × (values ≤ 262144)) }
+{
+    match kind {
+        Kind::Index { table, .. } => table_values(table),
+        _ => Some(0),
+    }
+}

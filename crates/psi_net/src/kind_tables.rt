@@ -1,0 +1,452 @@
+//! The keys of each kind of event, in the order in which they are read.
+
+ghost use Rattle.std.specs.Prelude.{◌≡◌, ℕ, ◌≤◌, ◌<◌, ◌+◌, [], true, length, map, codes, None, is_some, nat_le, slice_index, IfOk, OnOk};
+ghost use Rattle.std.specs.List.{list_all};
+ghost use Rattle.toml.specs.View.{view, table_view};
+ghost use Rattle.psi_route.specs.declared.Full.TheVariants.{Lost};
+ghost use Rattle.psi_net.specs.Refusal.{Gives};
+ghost use Rattle.psi_net.specs.Values.{seen, required, optional, each, number_step};
+ghost use Rattle.psi_net.specs.References.{queue_in, target_in, targets_in, some_targets_in};
+ghost use Rattle.psi_net.specs.Targets.{AreTargets, are_below};
+ghost use Rattle.psi_net.specs.KindTables.{source_in, queue_of_source, full_in, row_step, table_of, size_fits, arrival_of, service_of, index_of, batch_of, negative_of, fork_of, joined_in, join_of};
+
+use crate::keys::{array_in, find, number_in, number_or, read, required_number, text_in};
+use crate::naming::Name;
+use crate::references::{queue_in, some_targets_in, target_in, targets_in};
+use crate::refusals::{Cause, NetError, Place};
+use indexmap::IndexSet;
+use psi_kinds::{Kind, Tables};
+use psi_route::{Full, Source};
+use psi_state::{Queues, State};
+use std::alloc::Global;
+use toml::{Table, Value};
+
+// A required list of at least one name.
+fn required_targets(
+    place: Place,
+    key: &str,
+    names: &IndexSet<Name>,
+    sources: &Queues,
+    value: Option<&Value>,
+) -> Result<Queues, NetError>
+    requires { length names.now.keys ≤ 32 }
+    ensures value { Gives (λ qs. qs) result (required place key.now (some_targets_in place key.now names.now.keys sources.now) (seen value.entry)) }
+    ensures valid { IfOk result (AreTargets (length names.now.keys) sources.now) }
+{
+    match value {
+        Some(value) => some_targets_in(place, key, names, sources, value),
+        None => Err(NetError::at_key(Cause::MissingKey, place, key)),
+    }
+}
+
+// The name of a queue, which is required.
+fn required_queue(
+    place: Place,
+    key: &str,
+    names: &IndexSet<Name>,
+    value: Option<&Value>,
+) -> Result<u8, NetError>
+    requires { length names.now.keys ≤ 32 }
+    ensures { Gives (λ q. q) result (required place key.now (queue_in place key.now names.now.keys) (seen value.entry)) }
+{
+    match value {
+        Some(value) => queue_in(place, key, names, value),
+        None => Err(NetError::at_key(Cause::MissingKey, place, key)),
+    }
+}
+
+// `from`, where it is optional, with its first server.
+#[tactic(auto, unfolding(crate::specs::KindTables::source_in))]
+fn source(
+    place: Place,
+    names: &IndexSet<Name>,
+    value: Option<&Value>,
+) -> Result<Option<Source>, NetError>
+    requires { length names.now.keys ≤ 32 }
+    ensures { Gives (λ source. source) result (optional None (source_in place names.now.keys) (seen value.entry)) }
+{
+    match value {
+        Some(value) => {
+            let queue = read!(queue_in(place, "from", names, value));
+            Ok(Some(Source { queue, k: 1 }))
+        }
+        None => Ok(None),
+    }
+}
+
+// The queue of a source, as a list.
+fn queue_of_source(source: Option<Source>) -> Queues
+    ensures { result ≡ queue_of_source source }
+{
+    let mut queues = Queues::empty();
+    if let Some(source) = source {
+        queues.push(source.queue);
+    }
+    queues
+}
+
+// `full`: "lost" or "stay".
+#[tactic(auto, unfolding(crate::specs::KindTables::full_in))]
+fn full_in(place: Place, value: &Value) -> Result<Full, NetError>
+    ensures { Gives (λ full. full) result (full_in place (view value.now)) }
+{
+    match value {
+        Value::String(text) => {
+            let text = text.as_str();
+            if text == "lost" {
+                Ok(Full::Lost)
+            } else if text == "stay" {
+                Ok(Full::Stay)
+            } else {
+                Err(NetError::at_key(Cause::OutOfRange, place, "full"))
+            }
+        }
+        _ => Err(NetError::at_key(Cause::WrongType, place, "full")),
+    }
+}
+
+// `full`, "lost" by default.
+fn full(place: Place, value: Option<&Value>) -> Result<Full, NetError>
+    ensures { Gives (λ full. full) result (optional Lost (full_in place) (seen value.entry)) }
+{
+    match value {
+        Some(value) => full_in(place, value),
+        None => Ok(Full::Lost),
+    }
+}
+
+// One integer more of a row.
+#[tactic(auto, unfolding(crate::specs::Values::number_step))]
+fn push_number(
+    place: Place,
+    key: &str,
+    hi: u32,
+    numbers: &mut Vec<u32>,
+    value: &Value,
+) -> Result<(), NetError>
+    ensures { (n : ℕ) → Gives (λ _. numbers.new.items) result (number_step place key.now 0 hi n numbers.old.items (view value.now)) }
+{
+    let number = read!(number_in(place, key, 0, hi, value));
+    numbers.push(number)?;
+    Ok(())
+}
+
+// The integers of a row, each from 0 to `hi`.
+#[tactic(auto, using(crate::proofs::Turns::turn, crate::proofs::Turns::turn_fails, crate::proofs::Turns::turn_ends))]
+fn all_numbers(
+    alloc: Global,
+    place: Place,
+    key: &str,
+    hi: u32,
+    values: &[Value],
+) -> Result<Vec<u32>, NetError>
+    ensures { Gives (λ numbers. numbers.items) result (each (number_step place key.now 0 hi) 1 [] (map view values.now)) }
+{
+    let mut numbers = Vec::new(alloc);
+    for value in values {
+        read!(push_number(place, key, hi, &mut numbers, value));
+    }
+    Ok(numbers)
+}
+
+// One row of an index's table, with the rows before it.
+#[tactic(auto, using(crate::proofs::Found::below_at), unfolding(crate::specs::KindTables::row_step))]
+fn push_row(
+    alloc: Global,
+    place: Place,
+    caps: &State,
+    to: &Queues,
+    rows: &mut Tables,
+    value: &Value,
+) -> Result<(), NetError>
+    requires among { are_below (length caps.now) to.now ≡ true }
+    requires next { length rows.old < length to.now }
+    ensures value { (n : ℕ) → Gives (λ _. rows.new) result (row_step place caps.now to.now n rows.old (view value.now)) }
+    ensures count { OnOk result (length rows.new ≡ length rows.old + 1) }
+{
+    let values = read!(array_in(place, "table", value));
+    let _targets = to.len();
+    let queue = to.get(rows.len() as u8);
+    if values.len() != caps.get(queue) as usize {
+        return Err(NetError::at_key(Cause::TableLength, place, "table"));
+    }
+    let row = read!(all_numbers(alloc, place, "table", 1_000_000_000, values));
+    match rows.push(row) {
+        Ok(()) => Ok(()),
+        Err(_) => Err(NetError::OutOfMemory),
+    }
+}
+
+// The rows of an index's table.
+#[tactic(auto, using(crate::proofs::Turns::turn, crate::proofs::Turns::turn_fails, crate::proofs::Turns::turn_ends))]
+fn all_rows(
+    alloc: Global,
+    place: Place,
+    caps: &State,
+    to: &Queues,
+    values: &[Value],
+) -> Result<Tables, NetError>
+    requires among { are_below (length caps.now) to.now ≡ true }
+    requires count { length values.now ≡ length to.now }
+    ensures { Gives (λ rows. rows) result (each (row_step place caps.now to.now) 1 [] (map view values.now)) }
+{
+    let mut rows = Tables::new(alloc);
+    for value in values {
+        read!(push_row(alloc, place, caps, to, &mut rows, value));
+    }
+    Ok(rows)
+}
+
+// `table` of an index: one row for each target.
+#[tactic(auto, unfolding(crate::specs::KindTables::table_of))]
+fn table_of(
+    alloc: Global,
+    place: Place,
+    caps: &State,
+    to: &Queues,
+    value: Option<&Value>,
+) -> Result<Tables, NetError>
+    requires { are_below (length caps.now) to.now ≡ true }
+    ensures { Gives (λ rows. rows) result (required place (codes "table") (table_of place caps.now to.now) (seen value.entry)) }
+{
+    match value {
+        Some(value) => {
+            let values = read!(array_in(place, "table", value));
+            if values.len() != to.len() as usize {
+                return Err(NetError::at_key(Cause::TableLength, place, "table"));
+            }
+            all_rows(alloc, place, caps, to, values)
+        }
+        None => Err(NetError::at_key(Cause::MissingKey, place, "table")),
+    }
+}
+
+// Whether each target has a capacity of at least `size`.
+#[tactic(auto, using(crate::proofs::Found::below_at, crate::proofs::Found::all_turn, crate::proofs::Found::all_found, crate::proofs::Found::all_ends))]
+fn are_roomy(caps: &State, to: &Queues, size: u32) -> bool
+    requires { are_below (length caps.now) to.now ≡ true }
+    ensures { result ≡ list_all (λ q. nat_le size (slice_index caps.now q)) to.now }
+{
+    for place in 0..to.len() {
+        if size > caps.get(to.get(place)) as u32 {
+            return false;
+        }
+    }
+    true
+}
+
+// `size`: 1 beside a source, and at most every target's capacity.
+#[tactic(auto, unfolding(crate::specs::KindTables::size_fits))]
+fn size_fits(
+    place: Place,
+    caps: &State,
+    sourced: bool,
+    to: &Queues,
+    size: u32,
+) -> Result<u16, NetError>
+    requires among { are_below (length caps.now) to.now ≡ true }
+    requires most { size ≤ 65535 }
+    ensures { Gives (λ n. n) result (size_fits place caps.now sourced to.now size) }
+{
+    if sourced && size != 1 {
+        return Err(NetError::at_key(Cause::OutOfRange, place, "size"));
+    }
+    if !are_roomy(caps, to, size) {
+        return Err(NetError::at_key(Cause::BatchTooLarge, place, "size"));
+    }
+    Ok(size as u16)
+}
+
+// An arrival's keys.
+#[tactic(auto, unfolding(crate::specs::KindTables::arrival_of))]
+pub(crate) fn arrival(
+    place: Place,
+    names: &IndexSet<Name>,
+    table: &Table,
+) -> Result<Kind, NetError>
+    requires { length names.now.keys ≤ 32 }
+    ensures { Gives (λ kind. kind) result (arrival_of place names.now.keys (table_view table.now)) }
+{
+    let to = read!(required_targets(
+        place,
+        "to",
+        names,
+        &Queues::empty(),
+        find(table, "to")
+    ));
+    Ok(Kind::Arrival { to })
+}
+
+// `to` of a service.
+fn optional_targets(
+    place: Place,
+    names: &IndexSet<Name>,
+    sources: &Queues,
+    value: Option<&Value>,
+) -> Result<Queues, NetError>
+    requires { length names.now.keys ≤ 32 }
+    ensures { Gives (λ qs. qs) result (optional [] (targets_in place (codes "to") names.now.keys sources.now) (seen value.entry)) }
+{
+    match value {
+        Some(value) => targets_in(place, "to", names, sources, value),
+        None => Ok(Queues::empty()),
+    }
+}
+
+// A service's keys.
+#[tactic(auto, unfolding(crate::specs::KindTables::service_of))]
+pub(crate) fn service(
+    place: Place,
+    names: &IndexSet<Name>,
+    table: &Table,
+) -> Result<Kind, NetError>
+    requires { length names.now.keys ≤ 32 }
+    ensures { Gives (λ kind. kind) result (service_of place names.now.keys (table_view table.now)) }
+{
+    let queue = read!(required_queue(place, "from", names, find(table, "from")));
+    let from = Source { queue, k: 1 };
+    let sources = queue_of_source(Some(from));
+    let to = read!(optional_targets(place, names, &sources, find(table, "to")));
+    let full = read!(full(place, find(table, "full")));
+    Ok(Kind::Service { from, to, full })
+}
+
+// An index's keys.
+#[tactic(auto, unfolding(crate::specs::KindTables::index_of))]
+pub(crate) fn index(
+    alloc: Global,
+    place: Place,
+    names: &IndexSet<Name>,
+    caps: &State,
+    table: &Table,
+) -> Result<Kind, NetError>
+    requires few { length names.now.keys ≤ 32 }
+    requires same { length names.now.keys ≡ length caps.now }
+    ensures { Gives (λ kind. kind) result (index_of place names.now.keys caps.now (table_view table.now)) }
+{
+    let from = read!(source(place, names, find(table, "from")));
+    let sources = queue_of_source(from);
+    let to = read!(required_targets(place, "to", names, &sources, find(table, "to")));
+    let rows = read!(table_of(alloc, place, caps, &to, find(table, "table")));
+    let full = read!(full(place, find(table, "full")));
+    let size = read!(number_or(place, "size", 1, 1, 65535, find(table, "size")));
+    let size = read!(size_fits(place, caps, from.is_some(), &to, size));
+    Ok(Kind::Index {
+        from,
+        to,
+        table: rows,
+        full,
+        size,
+    })
+}
+
+// A batch's keys.
+#[tactic(auto, unfolding(crate::specs::KindTables::batch_of))]
+pub(crate) fn batch(
+    place: Place,
+    names: &IndexSet<Name>,
+    caps: &State,
+    table: &Table,
+) -> Result<Kind, NetError>
+    requires few { length names.now.keys ≤ 32 }
+    requires same { length names.now.keys ≡ length caps.now }
+    ensures { Gives (λ kind. kind) result (batch_of place names.now.keys caps.now (table_view table.now)) }
+{
+    let to = read!(required_targets(
+        place,
+        "to",
+        names,
+        &Queues::empty(),
+        find(table, "to")
+    ));
+    let size = read!(required_number(place, "size", 1, 65535, find(table, "size")));
+    let size = read!(size_fits(place, caps, false, &to, size));
+    Ok(Kind::Batch { to, size })
+}
+
+// The name of a queue that is none of the event's sources, which is required.
+fn required_target(
+    place: Place,
+    key: &str,
+    names: &IndexSet<Name>,
+    sources: &Queues,
+    value: Option<&Value>,
+) -> Result<u8, NetError>
+    requires { length names.now.keys ≤ 32 }
+    ensures { Gives (λ q. q) result (required place key.now (target_in place key.now names.now.keys sources.now) (seen value.entry)) }
+{
+    match value {
+        Some(value) => target_in(place, key, names, sources, value),
+        None => Err(NetError::at_key(Cause::MissingKey, place, key)),
+    }
+}
+
+// A negative event's keys.
+#[tactic(auto, unfolding(crate::specs::KindTables::negative_of))]
+pub(crate) fn negative(
+    place: Place,
+    names: &IndexSet<Name>,
+    table: &Table,
+) -> Result<Kind, NetError>
+    requires { length names.now.keys ≤ 32 }
+    ensures { Gives (λ kind. kind) result (negative_of place names.now.keys (table_view table.now)) }
+{
+    let from = read!(source(place, names, find(table, "from")));
+    let sources = queue_of_source(from);
+    let on = read!(required_target(place, "on", names, &sources, find(table, "on")));
+    let amount = read!(number_or(place, "amount", 1, 1, 65535, find(table, "amount")));
+    Ok(Kind::Negative {
+        from,
+        on,
+        amount: amount as u16,
+    })
+}
+
+// A fork's keys.
+#[tactic(auto, unfolding(crate::specs::KindTables::fork_of))]
+pub(crate) fn fork(place: Place, names: &IndexSet<Name>, table: &Table) -> Result<Kind, NetError>
+    requires { length names.now.keys ≤ 32 }
+    ensures { Gives (λ kind. kind) result (fork_of place names.now.keys (table_view table.now)) }
+{
+    let from = read!(source(place, names, find(table, "from")));
+    let sources = queue_of_source(from);
+    let to = read!(required_targets(place, "to", names, &sources, find(table, "to")));
+    Ok(Kind::Fork { from, to })
+}
+
+// `to` of a join.
+#[tactic(auto, unfolding(crate::specs::KindTables::joined_in))]
+fn joined(
+    place: Place,
+    names: &IndexSet<Name>,
+    from: &Queues,
+    value: Option<&Value>,
+) -> Result<Option<u8>, NetError>
+    requires { length names.now.keys ≤ 32 }
+    ensures { Gives (λ to. to) result (optional None (joined_in place names.now.keys from.now) (seen value.entry)) }
+{
+    match value {
+        Some(value) => {
+            let queue = read!(target_in(place, "to", names, from, value));
+            Ok(Some(queue))
+        }
+        None => Ok(None),
+    }
+}
+
+// A join's keys.
+#[tactic(auto, unfolding(crate::specs::KindTables::join_of))]
+pub(crate) fn join(place: Place, names: &IndexSet<Name>, table: &Table) -> Result<Kind, NetError>
+    requires { length names.now.keys ≤ 32 }
+    ensures { Gives (λ kind. kind) result (join_of place names.now.keys (table_view table.now)) }
+{
+    let from = read!(required_targets(
+        place,
+        "from",
+        names,
+        &Queues::empty(),
+        find(table, "from")
+    ));
+    let to = read!(joined(place, names, &from, find(table, "to")));
+    Ok(Kind::Join { from, to })
+}

@@ -1,0 +1,182 @@
+//! The array `part` of a guarded event.
+
+ghost use Rattle.std.specs.Prelude.{◌≡◌, ℕ, ◌≤◌, ◌<◌, ◌+◌, [], length, map, codes, nat_eq, IfOk, OnOk};
+ghost use Rattle.std.specs.List.{list_any};
+ghost use Rattle.toml.specs.View.{view, table_view};
+ghost use Rattle.psi_net.specs.Refusal.{Gives};
+ghost use Rattle.psi_net.specs.Values.{seen, required, each};
+ghost use Rattle.psi_net.specs.PartTables.{part_table, part_queue, part_of, part_step, parts_in, guarded_of};
+
+use crate::keys::{elements_in, find, integer_or_zero, no_unknown, number_or, read};
+use crate::naming::Name;
+use crate::references::queue_in;
+use crate::refusals::{Cause, NetError, Place};
+use indexmap::IndexSet;
+use psi_guard::{Part, Parts};
+use psi_kinds::Kind;
+use psi_state::State;
+use toml::{Table, Value};
+
+// An element that is a table; another one is refused at the key `part`.
+#[tactic(auto, unfolding(crate::specs::PartTables::part_table))]
+fn part_table(place: Place, value: &Value) -> Result<&Table, NetError>
+    ensures { Gives (λ table. table_view table.now) result (part_table place (view value.now)) }
+{
+    match value {
+        Value::Table(table) => Ok(table),
+        _ => Err(NetError::at_key(Cause::WrongType, place, "part")),
+    }
+}
+
+// Whether one of the parts names the queue.
+#[tactic(auto, using(crate::proofs::Found::part_turn, crate::proofs::Found::part_found, crate::proofs::Found::part_ends))]
+fn names_queue(parts: &Parts, queue: u8) -> bool
+    ensures { result ≡ list_any (λ p. nat_eq queue p.queue) parts.now }
+{
+    for place in 0..parts.len() {
+        if queue == parts.get(place).queue {
+            return true;
+        }
+    }
+    false
+}
+
+// The queue of a part, which no earlier part names.
+#[tactic(auto, unfolding(crate::specs::PartTables::part_queue))]
+fn part_queue(
+    place: Place,
+    names: &IndexSet<Name>,
+    earlier: &Parts,
+    value: Option<&Value>,
+) -> Result<u8, NetError>
+    requires { length names.now.keys ≤ 32 }
+    ensures value { Gives (λ q. q) result (required place (codes "queue") (part_queue place names.now.keys earlier.now) (seen value.entry)) }
+    ensures within { IfOk result (λ q. q < length names.now.keys) }
+{
+    match value {
+        Some(value) => {
+            let queue = read!(queue_in(place, "queue", names, value));
+            if names_queue(earlier, queue) {
+                return Err(NetError::at_key(Cause::RepeatedTarget, place, "queue"));
+            }
+            Ok(queue)
+        }
+        None => Err(NetError::at_key(Cause::MissingKey, place, "queue")),
+    }
+}
+
+// A part's table, with the parts before it.
+#[tactic(auto, unfolding(crate::specs::PartTables::part_of))]
+fn part(
+    place: Place,
+    names: &IndexSet<Name>,
+    caps: &State,
+    earlier: &Parts,
+    table: &Table,
+) -> Result<Part, NetError>
+    requires few { length names.now.keys ≤ 32 }
+    requires same { length names.now.keys ≡ length caps.now }
+    ensures { Gives (λ part. part) result (part_of place names.now.keys caps.now earlier.now (table_view table.now)) }
+{
+    let keys = &["ceiling", "floor", "least", "most", "queue", "shift"];
+    read!(no_unknown(place, keys, table));
+    let queue = read!(part_queue(place, names, earlier, find(table, "queue")));
+    let cap = caps.get(queue) as u32;
+    let least = read!(number_or(place, "least", 0, 0, cap, find(table, "least")));
+    let most = read!(number_or(place, "most", cap, 0, cap, find(table, "most")));
+    let shift = read!(integer_or_zero(place, "shift", 65535, find(table, "shift")));
+    let floor = read!(number_or(place, "floor", 0, 0, cap, find(table, "floor")));
+    let ceiling = read!(number_or(place, "ceiling", cap, 0, cap, find(table, "ceiling")));
+    if least > most {
+        return Err(NetError::at_key(Cause::EmptyGuard, place, "least"));
+    }
+    if floor > ceiling {
+        return Err(NetError::at_key(Cause::EmptyGuard, place, "floor"));
+    }
+    Ok(Part {
+        queue,
+        least: least as u16,
+        most: most as u16,
+        shift,
+        floor: floor as u16,
+        ceiling: ceiling as u16,
+    })
+}
+
+// One element of the array, with the parts before it.
+#[tactic(auto, unfolding(crate::specs::PartTables::part_step))]
+fn push_part(
+    place: Place,
+    names: &IndexSet<Name>,
+    caps: &State,
+    parts: &mut Parts,
+    value: &Value,
+) -> Result<(), NetError>
+    requires few { length names.now.keys ≤ 32 }
+    requires same { length names.now.keys ≡ length caps.now }
+    requires room { length parts.old < 32 }
+    ensures value { (n : ℕ) → Gives (λ _. parts.new) result (part_step place names.now.keys caps.now n parts.old (view value.now)) }
+    ensures count { OnOk result (length parts.new ≡ length parts.old + 1) }
+{
+    let table = read!(part_table(place, value));
+    let part = read!(part(place, names, caps, parts, table));
+    parts.push(part);
+    Ok(())
+}
+
+// The parts of the array's elements.
+#[tactic(auto, using(crate::proofs::Turns::turn, crate::proofs::Turns::turn_fails, crate::proofs::Turns::turn_ends))]
+fn all_parts(
+    place: Place,
+    names: &IndexSet<Name>,
+    caps: &State,
+    values: &[Value],
+) -> Result<Parts, NetError>
+    requires few { length names.now.keys ≤ 32 }
+    requires same { length names.now.keys ≡ length caps.now }
+    requires count { length values.now ≤ 32 }
+    ensures { Gives (λ parts. parts) result (each (part_step place names.now.keys caps.now) 1 [] (map view values.now)) }
+{
+    let mut parts = Parts::empty();
+    for value in values {
+        read!(push_part(place, names, caps, &mut parts, value));
+    }
+    Ok(parts)
+}
+
+// `part`: an array of 1 to 32 tables.
+#[tactic(auto, unfolding(crate::specs::PartTables::parts_in))]
+fn parts(
+    place: Place,
+    names: &IndexSet<Name>,
+    caps: &State,
+    value: Option<&Value>,
+) -> Result<Parts, NetError>
+    requires few { length names.now.keys ≤ 32 }
+    requires same { length names.now.keys ≡ length caps.now }
+    ensures { Gives (λ parts. parts) result (required place (codes "part") (parts_in place names.now.keys caps.now) (seen value.entry)) }
+{
+    match value {
+        Some(value) => {
+            let values = read!(elements_in(place, "part", Cause::OutOfRange, 32, value));
+            all_parts(place, names, caps, values)
+        }
+        None => Err(NetError::at_key(Cause::MissingKey, place, "part")),
+    }
+}
+
+// A guarded event's keys.
+#[tactic(auto, unfolding(crate::specs::PartTables::guarded_of))]
+pub(crate) fn guarded(
+    place: Place,
+    names: &IndexSet<Name>,
+    caps: &State,
+    table: &Table,
+) -> Result<Kind, NetError>
+    requires few { length names.now.keys ≤ 32 }
+    requires same { length names.now.keys ≡ length caps.now }
+    ensures { Gives (λ kind. kind) result (guarded_of place names.now.keys caps.now (table_view table.now)) }
+{
+    let parts = read!(parts(place, names, caps, find(table, "part")));
+    Ok(Kind::Guarded { parts })
+}

@@ -1,0 +1,141 @@
+//! The array `queue`.
+
+ghost use Rattle.std.specs.Prelude.{◌≡◌, ◌≤◌, [], length, map, false, IfOk, OnOk};
+ghost use Rattle.std.specs.List.{list_any};
+ghost use Rattle.std.specs.Str.{bytes_eq};
+ghost use Rattle.toml.specs.View.{view, table_view};
+ghost use Rattle.psi_net.specs.Refusal.{Gives, queue_place};
+ghost use Rattle.psi_net.specs.Values.{seen, each};
+ghost use Rattle.psi_net.specs.Kept.{AreListed};
+ghost use Rattle.psi_net.specs.QueueTables.{unless_taken, queue_of, queue_step, queues_in, queues_of};
+
+use crate::entries::Queue;
+use crate::keys::{elements_in, find, no_unknown, number_or, read, required_name, required_number, table_in};
+use crate::naming::Name;
+use crate::refusals::{Cause, NetError, Place, Section};
+use indexmap::IndexSet;
+use std::alloc::Global;
+use toml::{Table, Value};
+
+/// The queues of a network, and their names.
+#[derive(Drop)]
+pub(crate) struct QueueList {
+    pub(crate) names: IndexSet<Name>,
+    pub(crate) queues: Vec<Queue>,
+}
+
+// No earlier table of the section has the name.
+#[tactic(auto, unfolding(crate::specs::QueueTables::unless_taken))]
+pub(crate) fn unless_taken(
+    place: Place,
+    earlier: &IndexSet<Name>,
+    name: Name,
+) -> Result<(), NetError>
+    ensures value { Gives (λ _. tt) result (unless_taken place earlier.now.keys name) }
+    ensures fresh { OnOk result (list_any (bytes_eq name) earlier.now.keys ≡ false) }
+{
+    if earlier.contains(&name) {
+        Err(NetError::at_key(Cause::DuplicateName, place, "name"))
+    } else {
+        Ok(())
+    }
+}
+
+// A queue's table, with its number and the names of the queues before it.
+#[tactic(auto, unfolding(crate::specs::QueueTables::queue_of))]
+fn queue(number: u32, earlier: &IndexSet<Name>, table: &Table) -> Result<Queue, NetError>
+    ensures value { Gives (λ queue. queue) result (queue_of number earlier.now.keys (table_view table.now)) }
+    ensures fresh { IfOk result (λ queue. list_any (bytes_eq queue.name) earlier.now.keys ≡ false) }
+{
+    let place = Place {
+        section: Section::Queue,
+        number,
+    };
+    read!(no_unknown(place, &["capacity", "name", "servers"], table));
+    let name = read!(required_name(place, "name", find(table, "name")));
+    read!(unless_taken(place, earlier, name));
+    let capacity = read!(required_number(
+        place,
+        "capacity",
+        1,
+        65535,
+        find(table, "capacity")
+    ));
+    let servers = read!(number_or(
+        place,
+        "servers",
+        1,
+        1,
+        64.min(capacity),
+        find(table, "servers")
+    ));
+    Ok(Queue {
+        name,
+        capacity: capacity as u16,
+        servers: servers as u16,
+    })
+}
+
+// One element of the array, with its number and the queues before it.
+#[tactic(auto, unfolding(crate::specs::QueueTables::queue_step))]
+fn push_queue(
+    number: u32,
+    names: &mut IndexSet<Name>,
+    queues: &mut Vec<Queue>,
+    value: &Value,
+) -> Result<(), NetError>
+    requires { names.old.keys ≡ map (λ q. q.name) queues.old.items }
+    ensures value { Gives (λ _. queues.new.items) result (queue_step number queues.old.items (view value.now)) }
+    ensures names { OnOk result (names.new.keys ≡ map (λ q. q.name) queues.new.items) }
+{
+    let place = Place {
+        section: Section::Queue,
+        number,
+    };
+    let table = read!(table_in(place, value));
+    let queue = read!(queue(number, names, table));
+    names.insert(queue.name)?;
+    queues.push(queue)?;
+    Ok(())
+}
+
+// The queues of the array's elements.
+#[tactic(auto, using(crate::proofs::Turns::turn, crate::proofs::Turns::turn_fails, crate::proofs::Turns::turn_ends))]
+fn all_queues(alloc: Global, values: &[Value]) -> Result<QueueList, NetError>
+    requires { length values.now ≤ 32 }
+    ensures value { Gives (λ list. list.queues.items) result (each queue_step 1 [] (map view values.now)) }
+    ensures names { IfOk result (λ list. list.names.keys ≡ map (λ q. q.name) list.queues.items) }
+{
+    let mut names = IndexSet::new(alloc);
+    let mut queues = Vec::new(alloc);
+    for (index, value) in values.iter().enumerate() {
+        read!(push_queue(index as u32 + 1, &mut names, &mut queues, value));
+    }
+    Ok(QueueList { names, queues })
+}
+
+// `queue`: an array of 1 to 32 tables.
+#[tactic(auto, unfolding(crate::specs::QueueTables::queues_in))]
+fn listed_queues(alloc: Global, value: Option<&Value>) -> Result<QueueList, NetError>
+    ensures value { Gives (λ list. list.queues.items) result (queues_of (seen value.entry)) }
+    ensures names { IfOk result (λ list. list.names.keys ≡ map (λ q. q.name) list.queues.items) }
+{
+    match value {
+        Some(value) => {
+            let values = read!(elements_in(Place::top(), "queue", Cause::MissingKey, 32, value));
+            all_queues(alloc, values)
+        }
+        None => Err(NetError::at_key(Cause::MissingKey, Place::top(), "queue")),
+    }
+}
+
+// The same, with what the queues keep.
+#[tactic(auto, using(crate::proofs::KeptQueues::queues_kept))]
+pub(crate) fn queues(alloc: Global, value: Option<&Value>) -> Result<QueueList, NetError>
+    ensures value { Gives (λ list. list.queues.items) result (queues_of (seen value.entry)) }
+    ensures names { IfOk result (λ list. list.names.keys ≡ map (λ q. q.name) list.queues.items) }
+    ensures kept { IfOk result (λ list. AreListed list.queues.items) }
+{
+    let list = read!(listed_queues(alloc, value));
+    Ok(list)
+}

@@ -1,0 +1,379 @@
+//! The array `reward`.
+
+ghost use Rattle.std.specs.Prelude.{◌≡◌, ℕ, ◌≤◌, ◌<◌, ◌+◌, [], true, false, length, map, codes, IfOk, OnOk, All};
+ghost use Rattle.std.specs.List.{list_any};
+ghost use Rattle.std.specs.Str.{bytes_eq};
+ghost use Rattle.toml.specs.View.{view, table_view};
+ghost use Rattle.psi_state.specs.State.{AreCapacities};
+ghost use Rattle.psi_net.specs.Refusal.{Gives, reward_place};
+ghost use Rattle.psi_net.specs.Values.{seen, no_unknown, required, optional, each, integer_step};
+ghost use Rattle.psi_net.specs.Targets.{AreTargets, are_below};
+ghost use Rattle.psi_net.specs.Draft.{named};
+ghost use Rattle.psi_net.specs.Kept.{IsReward};
+ghost use Rattle.psi_net.specs.References.{some_targets_in};
+ghost use Rattle.psi_net.specs.RewardTables.{reward_named, reward_kind_in, reward_keys, weights_in, grid_step, grid_in, worth_in, reward_of, reward_step, rewards_in, rewards_of};
+
+use crate::entries::NamedValue;
+use crate::keys::{array_in, find, integer_in, no_unknown, read, required_name, required_number, table_in, text_in};
+use crate::naming::Name;
+use crate::queue_tables::unless_taken;
+use crate::references::some_targets_in;
+use crate::refusals::{Cause, NetError, Place, Section};
+use crate::words::RewardWord;
+use indexmap::IndexSet;
+use psi_reward::{Grid, Numbers, Reward, RewardKind, RewardRefusal};
+use psi_state::{Queues, State};
+use std::alloc::Global;
+use toml::{Table, Value};
+
+// The kind of reward that a text names.
+fn reward_named(text: &str) -> Option<RewardWord>
+    ensures { result ≡ reward_named text.now }
+{
+    if text == "linear" {
+        Some(RewardWord::Linear)
+    } else if text == "table" {
+        Some(RewardWord::Table)
+    } else if text == "greatest" {
+        Some(RewardWord::Greatest)
+    } else if text == "least" {
+        Some(RewardWord::Least)
+    } else if text == "above" {
+        Some(RewardWord::Above)
+    } else {
+        None
+    }
+}
+
+// `kind`.
+#[tactic(auto, unfolding(crate::specs::RewardTables::reward_kind_in))]
+fn reward_kind(place: Place, value: Option<&Value>) -> Result<RewardWord, NetError>
+    ensures { Gives (λ word. word) result (required place (codes "kind") (reward_kind_in place) (seen value.entry)) }
+{
+    match value {
+        Some(value) => {
+            let text = read!(text_in(place, "kind", value));
+            match reward_named(text) {
+                Some(word) => Ok(word),
+                None => Err(NetError::at_key(Cause::UnknownKind, place, "kind")),
+            }
+        }
+        None => Err(NetError::at_key(Cause::MissingKey, place, "kind")),
+    }
+}
+
+// The table of a reward of this kind has no other keys than the kind's.
+fn no_unknown_reward_key(place: Place, word: RewardWord, table: &Table) -> Result<(), NetError>
+    ensures { Gives (λ _. tt) result (no_unknown place (reward_keys word) (table_view table.now)) }
+{
+    match word {
+        RewardWord::Linear => no_unknown(place, &["kind", "name", "queues", "weights"], table),
+        RewardWord::Table => no_unknown(place, &["kind", "name", "queues", "table"], table),
+        RewardWord::Greatest => no_unknown(place, &["kind", "name", "queues"], table),
+        RewardWord::Least => no_unknown(place, &["kind", "name", "queues"], table),
+        RewardWord::Above => no_unknown(place, &["kind", "level", "name", "queues"], table),
+    }
+}
+
+// One integer more of the weights or of a row.
+#[tactic(auto, unfolding(crate::specs::Values::integer_step))]
+fn push_integer(
+    place: Place,
+    key: &str,
+    numbers: &mut Numbers,
+    value: &Value,
+) -> Result<(), NetError>
+    ensures { (n : ℕ) → Gives (λ _. numbers.new) result (integer_step place key.now 1000000000 n numbers.old (view value.now)) }
+{
+    let number = read!(integer_in(place, key, 1_000_000_000, value));
+    match numbers.push(number) {
+        Ok(()) => Ok(()),
+        Err(_) => Err(NetError::OutOfMemory),
+    }
+}
+
+// The integers of an array, each from -1,000,000,000 to 1,000,000,000.
+#[tactic(auto, using(crate::proofs::Turns::turn, crate::proofs::Turns::turn_fails, crate::proofs::Turns::turn_ends))]
+fn all_integers(
+    alloc: Global,
+    place: Place,
+    key: &str,
+    values: &[Value],
+) -> Result<Numbers, NetError>
+    ensures { Gives (λ numbers. numbers) result (each (integer_step place key.now 1000000000) 1 [] (map view values.now)) }
+{
+    let mut numbers = Numbers::new(alloc);
+    for value in values {
+        read!(push_integer(place, key, &mut numbers, value));
+    }
+    Ok(numbers)
+}
+
+// `weights`: as many integers as queues.
+#[tactic(auto, unfolding(crate::specs::RewardTables::weights_in))]
+fn weights(
+    alloc: Global,
+    place: Place,
+    queues: &Queues,
+    value: Option<&Value>,
+) -> Result<Numbers, NetError>
+    ensures { Gives (λ numbers. numbers) result (required place (codes "weights") (weights_in place (length queues.now)) (seen value.entry)) }
+{
+    match value {
+        Some(value) => {
+            let values = read!(array_in(place, "weights", value));
+            if values.len() != queues.len() as usize {
+                return Err(NetError::at_key(Cause::TableLength, place, "weights"));
+            }
+            all_integers(alloc, place, "weights", values)
+        }
+        None => Err(NetError::at_key(Cause::MissingKey, place, "weights")),
+    }
+}
+
+// One row of `table`, with its number, counted from 0, and the rows before it.
+#[tactic(auto, using(crate::proofs::Found::below_at), unfolding(crate::specs::RewardTables::grid_step))]
+fn push_grid_row(
+    alloc: Global,
+    place: Place,
+    caps: &State,
+    queues: &Queues,
+    number: u8,
+    rows: &mut Grid,
+    value: &Value,
+) -> Result<(), NetError>
+    requires among { are_below (length caps.now) queues.now ≡ true }
+    requires next { number < length queues.now }
+    requires count { length rows.old ≡ number }
+    ensures value { (n : ℕ) → Gives (λ _. rows.new) result (grid_step place caps.now queues.now n rows.old (view value.now)) }
+    ensures count { OnOk result (length rows.new ≡ number + 1) }
+{
+    let values = read!(array_in(place, "table", value));
+    let queue = queues.get(number);
+    if values.len() != caps.get(queue) as usize + 1 {
+        return Err(NetError::at_key(Cause::TableLength, place, "table"));
+    }
+    let row = read!(all_integers(alloc, place, "table", values));
+    match rows.push(row) {
+        Ok(()) => Ok(()),
+        Err(_) => Err(NetError::OutOfMemory),
+    }
+}
+
+// The rows of `table`.
+#[tactic(auto, using(crate::proofs::Turns::turn, crate::proofs::Turns::turn_fails, crate::proofs::Turns::turn_ends))]
+fn all_grid_rows(
+    alloc: Global,
+    place: Place,
+    caps: &State,
+    queues: &Queues,
+    values: &[Value],
+) -> Result<Grid, NetError>
+    requires among { are_below (length caps.now) queues.now ≡ true }
+    requires count { length values.now ≡ length queues.now }
+    ensures { Gives (λ rows. rows) result (each (grid_step place caps.now queues.now) 1 [] (map view values.now)) }
+{
+    let _queues = queues.len();
+    let mut rows = Grid::new(alloc);
+    for (number, value) in values.iter().enumerate() {
+        read!(push_grid_row(alloc, place, caps, queues, number as u8, &mut rows, value));
+    }
+    Ok(rows)
+}
+
+// `table`: one row for each queue.
+#[tactic(auto, unfolding(crate::specs::RewardTables::grid_in))]
+fn grid(
+    alloc: Global,
+    place: Place,
+    caps: &State,
+    queues: &Queues,
+    value: Option<&Value>,
+) -> Result<Grid, NetError>
+    requires { are_below (length caps.now) queues.now ≡ true }
+    ensures { Gives (λ rows. rows) result (required place (codes "table") (grid_in place caps.now queues.now) (seen value.entry)) }
+{
+    match value {
+        Some(value) => {
+            let values = read!(array_in(place, "table", value));
+            if values.len() != queues.len() as usize {
+                return Err(NetError::at_key(Cause::TableLength, place, "table"));
+            }
+            all_grid_rows(alloc, place, caps, queues, values)
+        }
+        None => Err(NetError::at_key(Cause::MissingKey, place, "table")),
+    }
+}
+
+// The key of its own that a kind has.
+#[tactic(auto, unfolding(crate::specs::RewardTables::worth_in))]
+fn worth(
+    alloc: Global,
+    place: Place,
+    word: RewardWord,
+    caps: &State,
+    queues: Queues,
+    table: &Table,
+) -> Result<RewardKind, NetError>
+    requires { are_below (length caps.now) queues ≡ true }
+    ensures { Gives (λ kind. kind) result (worth_in place word caps.now queues (table_view table.now)) }
+{
+    match word {
+        RewardWord::Linear => {
+            let weights = read!(weights(alloc, place, &queues, find(table, "weights")));
+            Ok(RewardKind::Linear { queues, weights })
+        }
+        RewardWord::Table => {
+            let table = read!(grid(alloc, place, caps, &queues, find(table, "table")));
+            Ok(RewardKind::Table { queues, table })
+        }
+        RewardWord::Greatest => Ok(RewardKind::Greatest { queues }),
+        RewardWord::Least => Ok(RewardKind::Least { queues }),
+        RewardWord::Above => {
+            let level = read!(required_number(place, "level", 0, 65535, find(table, "level")));
+            Ok(RewardKind::Above {
+                queues,
+                level: level as u16,
+            })
+        }
+    }
+}
+
+// `queues`: a list of at least one name.
+fn reward_queues(
+    place: Place,
+    names: &IndexSet<Name>,
+    value: Option<&Value>,
+) -> Result<Queues, NetError>
+    requires { length names.now.keys ≤ 32 }
+    ensures value { Gives (λ qs. qs) result (required place (codes "queues") (some_targets_in place (codes "queues") names.now.keys []) (seen value.entry)) }
+    ensures valid { IfOk result (AreTargets (length names.now.keys) []) }
+{
+    match value {
+        Some(value) => some_targets_in(place, "queues", names, &Queues::empty(), value),
+        None => Err(NetError::at_key(Cause::MissingKey, place, "queues")),
+    }
+}
+
+// The reward of a kind that isn't refused.
+#[tactic(auto, using(crate::proofs::KeptRewards::not_refused))]
+fn valued(caps: State, kind: RewardKind) -> Reward
+    requires valid { AreCapacities caps }
+    requires kind { IsReward caps kind }
+    ensures { result ≡ record { caps = caps; kind = kind } }
+{
+    match Reward::new(caps, kind) {
+        Ok(reward) => reward,
+        Err(_) => unreachable!(),
+    }
+}
+
+// A reward's table, with its place and the names of the rewards before it.
+#[tactic(auto, using(crate::proofs::KeptRewards::reward_kept), unfolding(crate::specs::RewardTables::reward_of))]
+fn reward(
+    alloc: Global,
+    place: Place,
+    earlier: &IndexSet<Name>,
+    names: &IndexSet<Name>,
+    caps: &State,
+    table: &Table,
+) -> Result<NamedValue, NetError>
+    requires few { length names.now.keys ≤ 32 }
+    requires same { length names.now.keys ≡ length caps.now }
+    requires valid { AreCapacities caps.now }
+    ensures value { Gives named result (reward_of place earlier.now.keys names.now.keys caps.now (table_view table.now)) }
+    ensures fresh { IfOk result (λ value. list_any (bytes_eq value.name) earlier.now.keys ≡ false) }
+    ensures caps { IfOk result (λ value. value.reward.caps ≡ caps.now) }
+{
+    let word = read!(reward_kind(place, find(table, "kind")));
+    read!(no_unknown_reward_key(place, word, table));
+    let name = read!(required_name(place, "name", find(table, "name")));
+    read!(unless_taken(place, earlier, name));
+    let queues = read!(reward_queues(place, names, find(table, "queues")));
+    let kind = read!(worth(alloc, place, word, caps, queues, table));
+    Ok(NamedValue {
+        name,
+        reward: valued(*caps, kind),
+    })
+}
+
+// One element of the array, with its number and the rewards before it.
+#[tactic(auto, using(crate::proofs::KeptRewards::named_more, crate::proofs::KeptRewards::caps_more), unfolding(crate::specs::RewardTables::reward_step))]
+fn push_reward(
+    alloc: Global,
+    number: u32,
+    names: &IndexSet<Name>,
+    caps: &State,
+    earlier: &mut IndexSet<Name>,
+    rewards: &mut Vec<NamedValue>,
+    value: &Value,
+) -> Result<(), NetError>
+    requires few { length names.now.keys ≤ 32 }
+    requires same { length names.now.keys ≡ length caps.now }
+    requires valid { AreCapacities caps.now }
+    requires names { earlier.old.keys ≡ map (λ r. r.name) (map named rewards.old.items) }
+    requires caps { All (λ v. v.reward.caps ≡ caps.now) rewards.old.items }
+    ensures value { Gives (λ _. map named rewards.new.items) result (reward_step names.now.keys caps.now number (map named rewards.old.items) (view value.now)) }
+    ensures names { OnOk result (earlier.new.keys ≡ map (λ r. r.name) (map named rewards.new.items)) }
+    ensures caps { OnOk result (All (λ v. v.reward.caps ≡ caps.now) rewards.new.items) }
+{
+    let place = Place {
+        section: Section::Reward,
+        number,
+    };
+    let table = read!(table_in(place, value));
+    let reward = read!(reward(alloc, place, earlier, names, caps, table));
+    earlier.insert(reward.name)?;
+    rewards.push(reward)?;
+    Ok(())
+}
+
+// The rewards of the array's elements.
+#[tactic(auto, using(crate::proofs::Turns::turn, crate::proofs::Turns::turn_fails, crate::proofs::Turns::turn_ends, crate::proofs::KeptRewards::no_caps))]
+fn all_rewards(
+    alloc: Global,
+    names: &IndexSet<Name>,
+    caps: &State,
+    values: &[Value],
+) -> Result<Vec<NamedValue>, NetError>
+    requires few { length names.now.keys ≤ 32 }
+    requires same { length names.now.keys ≡ length caps.now }
+    requires valid { AreCapacities caps.now }
+    requires count { length values.now ≤ 64 }
+    ensures value { Gives (λ rewards. map named rewards.items) result (each (reward_step names.now.keys caps.now) 1 [] (map view values.now)) }
+    ensures caps { IfOk result (λ rewards. All (λ v. v.reward.caps ≡ caps.now) rewards.items) }
+{
+    let mut earlier = IndexSet::new(alloc);
+    let mut rewards = Vec::new(alloc);
+    for (index, value) in values.iter().enumerate() {
+        let number = index as u32 + 1;
+        read!(push_reward(alloc, number, names, caps, &mut earlier, &mut rewards, value));
+    }
+    Ok(rewards)
+}
+
+// `reward`: an array of at most 64 tables.
+#[tactic(auto, using(crate::proofs::KeptRewards::no_caps), unfolding(crate::specs::RewardTables::rewards_in))]
+pub(crate) fn rewards(
+    alloc: Global,
+    names: &IndexSet<Name>,
+    caps: &State,
+    value: Option<&Value>,
+) -> Result<Vec<NamedValue>, NetError>
+    requires few { length names.now.keys ≤ 32 }
+    requires same { length names.now.keys ≡ length caps.now }
+    requires valid { AreCapacities caps.now }
+    ensures value { Gives (λ rewards. map named rewards.items) result (rewards_of names.now.keys caps.now (seen value.entry)) }
+    ensures caps { IfOk result (λ rewards. All (λ v. v.reward.caps ≡ caps.now) rewards.items) }
+{
+    match value {
+        Some(value) => {
+            let values = read!(array_in(Place::top(), "reward", value));
+            if values.len() > 64 {
+                return Err(NetError::at_key(Cause::TooMany, Place::top(), "reward"));
+            }
+            all_rewards(alloc, names, caps, values)
+        }
+        None => Ok(Vec::new(alloc)),
+    }
+}
