@@ -3,8 +3,8 @@ use Rattle.std.specs.Prelude.{◌≡◌, ℕ, List, [], Option, Result, Ok, Err,
 use Rattle.psi_io.specs.Counts.{Rose}
 use Rattle.psi_run.specs.declared.status.Status.TheVariants as status
 use Rattle.psi_run.specs.declared.answer.Answer.{Answer}
-use Rattle.psi_run.specs.declared.answer.Answer.TheVariants.{Met, NotMet, Usage, NetRefused, NetUnread, OutOfMemory}
-use Rattle.psi_run.specs.Command.{Command, sample}
+use Rattle.psi_run.specs.declared.answer.Answer.TheVariants.{Met, NotMet, Described, Usage, NetRefused, NetUnread, OutOfMemory}
+use Rattle.psi_run.specs.Command.{Command, sample, check}
 use Rattle.psi_run.specs.Texts.{unread_line, memory_line}
 use Rattle.psi_run.specs.Reply.{Reply, usage_reply, refused_reply, reply_to}
 
@@ -12,6 +12,7 @@ use Rattle.psi_run.specs.Reply.{Reply, usage_reply, refused_reply, reply_to}
 abbrev pub answer_reply : Answer → Reply
 answer_reply (Met text) = record { status = status.Done; out = string_bytes text; err = [] }
 answer_reply (NotMet text) = record { status = status.NotCoupled; out = string_bytes text; err = [] }
+answer_reply (Described text) = record { status = status.Done; out = text.items; err = [] }
 answer_reply (Usage place) = usage_reply place
 answer_reply (NetRefused refusal) = refused_reply refusal
 answer_reply NetUnread = record { status = status.ReadFault; out = []; err = unread_line }
@@ -42,12 +43,14 @@ IsUnread shelf name = Rose (shelf.faults_before name) (shelf.faults_after name)
 -- a read of the network file that the words name failed in the call
 abbrev pub IsNetUnread : ShelfSeen → Result Command ℕ → Type 0
 IsNetUnread shelf (Ok (sample net seed stream)) = IsUnread shelf net
+IsNetUnread shelf (Ok (check net)) = IsUnread shelf net
 IsNetUnread shelf (Err place) = ⊥
 
 -- the cause of each answer: the words and, for a failed read, the count of the name
 abbrev pub IsCaused : ShelfSeen → Result Command ℕ → Answer → Type 0
 IsCaused shelf command (Met text) = IsOk command
 IsCaused shelf command (NotMet text) = IsOk command
+IsCaused shelf command (Described text) = IsOk command
 IsCaused shelf command (Usage place) = command ≡ Err place
 IsCaused shelf command (NetRefused refusal) = IsOk command
 IsCaused shelf command NetUnread = IsNetUnread shelf command

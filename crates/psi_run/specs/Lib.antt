@@ -1,9 +1,12 @@
 pub mod Command
 pub mod Words
 pub mod Texts
+pub mod Describing
+pub mod Check
 pub mod Status
 pub mod Reply
 pub mod Answer
 pub mod Call
 pub mod Writing
 pub mod Headline
+pub mod Checked
