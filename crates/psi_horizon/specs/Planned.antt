@@ -1,7 +1,26 @@
 -- What a plan is.
+use Rattle.std.specs.Prelude.{◌≡◌, ℕ, ◌≤◌, ◌^◌, ◌+◌, List, Option, Some, None, IfSome, option_map}
+use Rattle.psi_state.specs.State.{all_states}
 use Rattle.psi_rate.specs.Composition.{Parts}
+use Rattle.psi_region.specs.Region.{Regional}
+use Rattle.psi_horizon.specs.Runs.{region_after}
 
--- a network with the past that its samples are drawn from
+-- a run that was begun: its horizon, and how many of its steps are done
+pub record Running : Type 0 where
+  pub horizon : ℕ
+  pub done : ℕ
+
+-- a network with the past that its samples are drawn from, and the run that was begun, if one was
 pub record Planned (E P : Type 0) : Type 0 where
   pub system : Parts E
   pub past : P
+  pub run : Option Running
+
+-- no step is left: all are done, or no run was begun
+abbrev pub IsOver : Option Running → Type 0
+IsOver None = Unit {0}
+IsOver (Some r) = r.done ≡ r.horizon
+
+-- the run with one step more done
+abbrev pub onward : Option Running → Option Running
+onward run = option_map (λ r. record { horizon = r.horizon; done = r.done + 1 }) run

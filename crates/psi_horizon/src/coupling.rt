@@ -1,16 +1,25 @@
-//! The doubling of horizons, and the runs that it compares.
+//! The plan to sample a network.
 
-ghost use Rattle.std.specs.Prelude.{◌≡◌, ℕ, ◌^◌, ◌<◌, ◌≤◌, length, map, All, IfOk, MatchOption, suc};
-ghost use Rattle.psi_state.specs.State.{IsBelow};
+ghost use Rattle.std.specs.Prelude.{◌≡◌, ℕ, ◌-◌, ◌+◌, ◌^◌, ◌<◌, ◌≤◌, ◌↔◌, ⊤, true, false, Some, None, [], length, All, IfOk, IfSome, IsSome};
+ghost use Rattle.std.specs.Borrow.{sem, follows_so};
+ghost use mathlib.Core.Option.{none};
+ghost use Rattle.psi_state.specs.State.{all_states};
 ghost use Rattle.psi_event.specs.Law.{IsMonotone};
-ghost use Rattle.psi_rate.specs.Composition.{picked, functions_of};
-ghost use Rattle.psi_rate.specs.Doubling.{HasNone, IsFirst};
+ghost use Rattle.psi_rate.specs.Rates.{event_of};
+ghost use Rattle.psi_rate.specs.Composition.{functions_of};
 ghost use Rattle.psi_rate.specs.Outcomes.{meeting_at, outcome_within, IsOutcome, ReachesOutcome};
+ghost use Rattle.psi_region.specs.Region.{ShowsBox};
+ghost use Rattle.psi_horizon.specs.Runs.{run, ending_at, region_after, AreOrdered, DecidesRuns};
+ghost use Rattle.psi_horizon.specs.Planned.{IsOver, onward};
+ghost use Rattle.psi_horizon.specs.contracts.coupling.Plan.{the_row};
+ghost use mir.Syntax.{named};
 
+use crate::doubling::{first_ending, follow_word};
 use psi_event::EventLaw;
 use psi_past::{Kept, Past};
 use psi_rate::System;
-use psi_state::{Outcome, State};
+use psi_region::Region;
+use psi_state::{Bounds, Outcome, State, Step};
 use std::alloc::Global;
 use std::marker::Model;
 
@@ -24,126 +33,177 @@ impl From<psi_past::OutOfMemory> for OutOfMemory {
     }
 }
 
-/// A network with the past that its samples are drawn from, and the room for the words of the greatest
-/// horizon.
+impl From<psi_region::OutOfMemory> for OutOfMemory {
+    fn from(_error: psi_region::OutOfMemory) -> OutOfMemory {
+        OutOfMemory
+    }
+}
+
+// A run that was begun: its horizon, and how many of its steps are done.
+#[derive(Clone, Copy, Debug)]
+struct Progress {
+    horizon: u32,
+    done: u32,
+}
+
+/// A network with the past that its samples are drawn from, the room for the words of the greatest
+/// horizon, and the room for a split region.
+///
+/// It is seen as the network, the past, and the run that was begun, if one was.
 #[derive(Drop)]
 pub struct Plan<'n, E: EventLaw, P: Past + Drop> {
     system: System<'n, E>,
     words: Kept<P>,
+    region: Region,
+    run: Option<Progress>,
 }
 
 impl<'n, E: EventLaw, P: Past + Drop> Model for Plan<'n, E, P> {
-    ghost use Rattle.std.specs.Prelude.{◌≤◌, ◌^◌, All};
-    ghost use Rattle.psi_event.specs.Law.{IsMonotone};
-    ghost use Rattle.psi_rate.specs.System.{IsSystem};
+    ghost use Rattle.psi_rate.specs.Composition.{functions_of};
     ghost use Rattle.psi_horizon.specs.Planned.{Planned};
+    ghost use Rattle.psi_horizon.specs.Kept.{running_of, IsPlan};
 
     ghost Value = { Planned E P };
 
-    ghost view = { λ p. record { system = p.system; past = p.words.past } };
+    ghost view = { λ p. record { system = p.system; past = p.words.past; run = running_of p.run } };
 
-    ghost invariant = { λ p. (2 ^ p.system.limit ≤ p.words.most) × All (λ e. IsMonotone (E.capacities e) (E.function e)) p.system.events };
+    ghost invariant = { λ p. IsPlan (functions_of E.function p.system (P.words p.words.past)) p.system p.words p.region p.run };
 }
 
 impl<'n, E: EventLaw, P: Past + Drop> Plan<'n, E, P> {
-    /// The plan to sample the network, whose events are all monotone, from this past. It takes the room
-    /// for the 2 to the power `limit` words of the greatest horizon, of 4 bytes each; no other call takes
-    /// memory.
+    /// The plan to sample the network from this past. It takes the room for the 2 to the power `limit`
+    /// words of the greatest horizon, of 4 bytes each, and for a region of `split` states; no other call
+    /// takes memory.
     ///
     /// The error comes only where memory runs out.
     pub fn new(alloc: Global, system: System<'n, E>, past: P) -> Result<Plan<'n, E, P>, OutOfMemory>
-        requires monotone { All (λ e. IsMonotone (E.capacities e) (E.function e)) system.events }
-        ensures { IfOk result (λ plan. plan ≡ record { system = system.entry; past = past }) }
+        ensures { IfOk result (λ plan. plan ≡ record { system = system.entry; past = past; run = None }) }
     {
         let most = 1 << system.limit();
         let words = Kept::reserve(alloc, past, most)?;
-        Ok(Plan { system, words })
+        let region = Region::reserve(alloc, system.split())?;
+        Ok(Plan {
+            system,
+            words,
+            region,
+            run: None,
+        })
     }
 
-    /// The sample: the least horizon among 1, 2, 4, .., 2 to the power `limit` at which all states have met, with
-    /// the state in which they meet at time zero. Every state that starts there or earlier is in it then.
+    /// The sample: the least horizon among 1, 2, 4, .., 2 to the power `limit` whose region run ends with one
+    /// state, with that state. Every state that starts there or earlier is in it at time zero. It isn't met
+    /// exactly where none of these runs ends with one state.
     ///
-    /// It isn't met exactly where all states have met at none of these horizons. The same words are used
-    /// for the same time at each horizon (Propp and Wilson 1996).
+    /// The run of a horizon begins with the box of all states that many steps before time zero. Before each
+    /// step a region of at most `split` states becomes split; then a split region becomes its image under
+    /// the event, and another one the hull of its image. The same words are used for the same time at each
+    /// horizon (Propp and Wilson 1996), so a longer run's region is within a shorter run's.
+    ///
+    /// Where every event is monotone, and also where there are at most `split` states, it is met exactly
+    /// where all states have met at one of these horizons, and at the least of them. Afterwards no run is
+    /// begun.
     pub fn sample(&mut self) -> Outcome
         ensures outcome { let f = functions_of E.function self.old.system (P.words self.old.past) in
-            result ≡ outcome_within (meeting_at f self.old.system.caps) self.old.system.limit }
+            result ≡ outcome_within (ending_at self.old.system.split f self.old.system.caps) self.old.system.limit }
         ensures least { let f = functions_of E.function self.old.system (P.words self.old.past) in
-            IsOutcome (meeting_at f self.old.system.caps) self.old.system.limit result }
+            IsOutcome (ending_at self.old.system.split f self.old.system.caps) self.old.system.limit result }
         ensures reached { let f = functions_of E.function self.old.system (P.words self.old.past) in
             ReachesOutcome f self.old.system.caps result }
+        ensures monotone { let f = functions_of E.function self.old.system (P.words self.old.past) in
+            All (λ e. IsMonotone (E.capacities e) (E.function e)) self.old.system.events
+            → IsOutcome (meeting_at f self.old.system.caps) self.old.system.limit result }
+        ensures small { let f = functions_of E.function self.old.system (P.words self.old.past) in
+            length (all_states self.old.system.caps) ≤ self.old.system.split
+            → IsOutcome (meeting_at f self.old.system.caps) self.old.system.limit result }
+        ensures later { let f = functions_of E.function self.old.system (P.words self.old.past) in
+            DecidesRuns self.old.system.split f self.old.system.caps self.old.system.limit result }
+        ensures order { let f = functions_of E.function self.old.system (P.words self.old.past) in
+            AreOrdered self.old.system.split f self.old.system.caps }
+        ensures system { self.new.system ≡ self.old.system }
+        ensures words { P.words self.new.past ≡ P.words self.old.past }
+        ensures run { self.new.run ≡ None }
+    {
+        // The events fit the capacities.
+        let _caps = self.system.caps();
+        self.run = None;
+        first_ending(&self.system, &mut self.words, &mut self.region)
+    }
+
+    /// Takes other words for the next calls. The network stays, and no run is begun.
+    pub fn replace(&mut self, past: P)
+        ensures { self.new ≡ record { system = self.old.system; past = past; run = None } }
+    {
+        self.run = None;
+        self.words.replace(past);
+    }
+
+    /// Begins the region run of this horizon, 1 to 2 to the power `limit` steps: its region is the box of
+    /// all states.
+    ///
+    /// Once all its steps are done, its region is the one with which the run ends.
+    pub fn begin(&mut self, horizon: u32)
+        requires some { 1 ≤ horizon }
+        requires most { horizon ≤ 2 ^ self.old.system.limit }
+        ensures run { self.new.run ≡ Some (record { horizon = horizon; done = 0 }) }
+        ensures whole { let f = functions_of E.function self.old.system (P.words self.old.past) in
+            region_after self.old.system.split f self.old.system.caps horizon horizon ≡ run self.old.system.split f self.old.system.caps horizon }
         ensures system { self.new.system ≡ self.old.system }
         ensures words { P.words self.new.past ≡ P.words self.old.past }
     {
-        first_meeting(&self.system, &mut self.words)
+        self.words.extend_to(horizon);
+        self.region.start(&self.system.caps());
+        self.run = Some(Progress { horizon, done: 0 });
     }
-}
 
-// The least horizon among 1, 2, 4, .., 2^limit at which all states have met, with the state.
-fn first_meeting<E: EventLaw, P: Past + Drop>(
-    system: &System<'_, E>,
-    words: &mut Kept<P>,
-) -> Outcome
-    requires room { 2 ^ system.now.limit ≤ words.old.most }
-    requires monotone { All (λ e. IsMonotone (E.capacities e) (E.function e)) system.now.events }
-    ensures least { let f = functions_of E.function system.now (P.words words.old.past) in
-        IsOutcome (meeting_at f system.now.caps) system.now.limit result }
-    ensures reached { let f = functions_of E.function system.now (P.words words.old.past) in
-        ReachesOutcome f system.now.caps result }
-    ensures words { P.words words.new.past ≡ P.words words.old.past }
-    ensures most { words.new.most ≡ words.old.most }
-{
-    // The events fit the capacities.
-    let _caps = system.caps();
-    let limit = system.limit();
-    for exponent in 0..limit + 1 {
-        let horizon = 1 << exponent;
-        if let Some(state) = meeting(system, words, horizon) {
-            return Outcome::Met { horizon, state };
+    /// Does the next step of the run that was begun, and tells its time, in steps before time zero, and its
+    /// event's number, which is the number of events where it is idle.
+    ///
+    /// `None` comes exactly where all steps of the run are done, or no run was begun since the plan was made,
+    /// a sample was drawn or the words were replaced; then nothing changes.
+    pub fn advance(&mut self) -> Option<Step>
+        ensures over { (result ≡ None) ↔ IsOver self.old.run }
+        ensures same { result ≡ None → self.new ≡ self.old }
+        ensures time { IfSome result (λ step. IfSome self.old.run (λ r. step.number ≡ r.horizon - r.done)) }
+        ensures event { IfSome result (λ step. step.event ≡ event_of self.old.system.rates (P.words self.old.past (step.number - 1))) }
+        ensures run { IsSome result → self.new ≡ record self.old { run = onward self.old.run } }
+        ensures begun { IsSome result → IsSome self.new.run }
+    {
+        let progress = self.run?;
+        if progress.done == progress.horizon {
+            return None;
         }
+        // The events fit the capacities.
+        let _caps = self.system.caps();
+        let number = progress.horizon - progress.done;
+        let word = self.words.at(number - 1);
+        let event = follow_word(&self.system, word, &mut self.region);
+        self.run = Some(Progress {
+            horizon: progress.horizon,
+            done: progress.done + 1,
+        });
+        Some(Step { number, event })
     }
-    Outcome::NotMet { limit }
-}
 
-// The state in which all states have met that start so many steps before time zero, if they have: the
-// least and the greatest state are followed.
-fn meeting<E: EventLaw, P: Past + Drop>(
-    system: &System<'_, E>,
-    words: &mut Kept<P>,
-    horizon: u32,
-) -> Option<State>
-    requires room { horizon ≤ words.old.most }
-    requires monotone { All (λ e. IsMonotone (E.capacities e) (E.function e)) system.now.events }
-    ensures met { result ≡ meeting_at (functions_of E.function system.now (P.words words.old.past)) system.now.caps horizon }
-    ensures words { P.words words.new.past ≡ P.words words.old.past }
-    ensures most { words.new.most ≡ words.old.most }
-{
-    words.extend_to(horizon);
-    let caps = system.caps();
-    let mut low = State::zero(caps.len());
-    let mut high = caps;
-    for place in (0..horizon).rev() {
-        step(system, words.at(place), &mut low, &mut high);
+    /// The box of the run's region after the steps that are done, exactly where it isn't split. A run was
+    /// begun.
+    pub fn bounds(&self) -> Option<Bounds>
+        requires { IsSome self.now.run }
+        ensures { let f = functions_of E.function self.now.system (P.words self.now.past) in
+            IfSome self.now.run (λ r. ShowsBox (region_after self.now.system.split f self.now.system.caps r.horizon r.done) result) }
+    {
+        self.region.bounds()
     }
-    if low == high { Some(low) } else { None }
-}
 
-// One step of both runs: the event of the word.
-#[inline]
-fn step<E: EventLaw>(system: &System<'_, E>, word: u32, low: &mut State, high: &mut State)
-    requires low { IsBelow low.old system.now.caps }
-    requires high { IsBelow high.old system.now.caps }
-    ensures low { low.new ≡ picked (map E.function system.now.events) system.now.rates word low.old }
-    ensures high { high.new ≡ picked (map E.function system.now.events) system.now.rates word high.old }
-    ensures low_within { IsBelow low.new system.now.caps }
-    ensures high_within { IsBelow high.new system.now.caps }
-{
-    // The events fit the capacities.
-    let _caps = system.caps();
-    let number = system.wheel().pick(word);
-    if number < system.wheel().events() {
-        let event = system.event(number);
-        event.apply(low);
-        event.apply(high);
+    /// The states of the run's region after the steps that are done, in ascending, that is lexicographic,
+    /// order. A run was begun, and its region is split. The run stays as it was.
+    pub fn states(&mut self) -> &[State]
+        requires begun { IsSome self.old.run }
+        requires split { let f = functions_of E.function self.old.system (P.words self.old.past) in
+            IfSome self.old.run (λ r. (region_after self.old.system.split f self.old.system.caps r.horizon r.done).is_split ≡ true) }
+        ensures states { let f = functions_of E.function self.old.system (P.words self.old.past) in
+            IfSome self.old.run (λ r. result.now ≡ (region_after self.old.system.split f self.old.system.caps r.horizon r.done).states) }
+        ensures* same { sem 𝓛 (follows_so (the_row (record { mir = named 0; lft = [] }) E.row P.row E.EventLaw P.Past) (the_row (record { mir = named 0; lft = [] }) E.row P.row E.EventLaw P.Past) self.entry.ghost_name none (λ _ _. ⊤) (λ v. v ≡ self.old)) }
+    {
+        self.region.states()
     }
 }

@@ -1,7 +1,9 @@
-//! Samples of a network by coupling from the past (Propp and Wilson 1996).
+//! Samples of a network by coupling from the past (Propp and Wilson 1996), by regions of states that are
+//! followed through the events (Bušić, Gaujal and Vincent 2008).
 #![tactic(auto)]
 
 mod coupling;
+mod doubling;
 #[cfg(test)]
 mod tests;
 

@@ -1,13 +1,13 @@
-//! Samples of small networks of one queue, worked out by hand from the words.
+//! Samples and runs of small networks of one queue, worked out by hand from the words.
 
 ghost use Rattle.std.specs.Prelude.{◌≡◌, ◌≤◌, ◌∷◌, []};
 ghost use Rattle.psi_state.specs.State.{AreCapacities};
 
 use crate::Plan;
-use psi_event::Single;
+use psi_event::{EventLaw, Single};
 use psi_past::{ListPast, Past, SeedPast};
 use psi_rate::{System, Wheel};
-use psi_state::{Outcome, State};
+use psi_state::{Outcome, State, Step};
 use std::alloc::Global;
 use std::test::Fail;
 
@@ -27,6 +27,14 @@ fn capacities(capacity: u16) -> State
     ensures valid { AreCapacities result }
 {
     holding(capacity)
+}
+
+// The outcome of a sample that is met.
+fn met(horizon: u32, count: u16) -> Outcome {
+    Outcome::Met {
+        horizon,
+        state: holding(count),
+    }
 }
 
 // A sample of one queue that one customer joins at the rate `arrival` and that one server leaves at the
@@ -55,43 +63,24 @@ fn sample_of_one_server<P: Past + Drop>(
 }
 
 #[test]
-fn one_queue_is_met_at_the_third_horizon(rt: HostRuntime) -> Result<(), Fail> {
-    let outcome = sample_of_one_server(rt.alloc(), 2, 1, 2, 18, SeedPast::new(0, 0))?;
-    // Backwards in time: out, in, in, idle.
-    let met = Outcome::Met {
-        horizon: 4,
-        state: holding(1),
-    };
-    assert_eq!(rt; outcome, met);
-    Ok(())
-}
-
-#[test]
-fn without_idle_numbers_the_queue_is_met_full(rt: HostRuntime) -> Result<(), Fail> {
-    let outcome = sample_of_one_server(rt.alloc(), 3, 1, 1, 18, SeedPast::new(0, 0))?;
-    let met = Outcome::Met {
-        horizon: 4,
-        state: holding(3),
-    };
-    assert_eq!(rt; outcome, met);
-    Ok(())
-}
-
-#[test]
-fn the_limit_ends_the_doubling(rt: HostRuntime) -> Result<(), Fail> {
-    let outcome = sample_of_one_server(rt.alloc(), 2, 1, 2, 1, SeedPast::new(0, 0))?;
-    assert_eq!(rt; outcome, Outcome::NotMet { limit: 1 });
-    Ok(())
-}
-
-#[test]
-fn a_small_queue_is_met_at_once(rt: HostRuntime) -> Result<(), Fail> {
-    let outcome = sample_of_one_server(rt.alloc(), 1, 1, 1, 18, SeedPast::new(0, 0))?;
-    let met = Outcome::Met {
-        horizon: 1,
-        state: holding(1),
-    };
-    assert_eq!(rt; outcome, met);
+fn one_server_is_met_by_the_seeds_words(rt: HostRuntime) -> Result<(), Fail> {
+    let alloc = rt.alloc();
+    // Backwards in time the first words are: out, in, in, idle.
+    assert_eq!(rt;
+        sample_of_one_server(alloc, 2, 1, 2, 18, SeedPast::new(0, 0))?,
+        met(4, 1)
+    );
+    // Without idle numbers: in, in, in, out.
+    assert_eq!(rt;
+        sample_of_one_server(alloc, 3, 1, 1, 18, SeedPast::new(0, 0))?,
+        met(4, 3)
+    );
+    assert_eq!(rt;
+        sample_of_one_server(alloc, 1, 1, 1, 18, SeedPast::new(0, 0))?,
+        met(1, 1)
+    );
+    let short = sample_of_one_server(alloc, 2, 1, 2, 1, SeedPast::new(0, 0))?;
+    assert_eq!(rt; short, Outcome::NotMet { limit: 1 });
     Ok(())
 }
 
@@ -100,11 +89,7 @@ fn the_words_of_a_list_are_read_from_the_newest_on(rt: HostRuntime) -> Result<()
     // Modulo 4 the words 2, 0, 0, 3 are out, in, in, idle, and place 0 is the newest.
     let words = [2, 0, 0, 3].to_vec(rt.alloc())?;
     let outcome = sample_of_one_server(rt.alloc(), 2, 1, 2, 18, ListPast::new(words))?;
-    let met = Outcome::Met {
-        horizon: 4,
-        state: holding(1),
-    };
-    assert_eq!(rt; outcome, met);
+    assert_eq!(rt; outcome, met(4, 1));
     Ok(())
 }
 
@@ -113,9 +98,12 @@ fn the_words_of_a_list_are_read_from_the_newest_on(rt: HostRuntime) -> Result<()
 fn sample_of_two_servers<P: Past + Drop>(
     alloc: Global,
     capacity: u16,
+    split: u16,
     past: P,
 ) -> Result<Outcome, Fail>
-    requires { 2 ≤ capacity }
+    requires capacity { 2 ≤ capacity }
+    requires some { 1 ≤ split }
+    requires few { split ≤ 4096 }
 {
     let caps = capacities(capacity);
     let events = [
@@ -124,41 +112,184 @@ fn sample_of_two_servers<P: Past + Drop>(
         Single::leave(caps, 0, 2),
     ];
     let wheel = Wheel::new(alloc, &[1, 1, 1])?;
-    let system = System::new(caps, &events, &wheel, 18, 256);
+    let system = System::new(caps, &events, &wheel, 18, split);
     let mut plan = Plan::new(alloc, system, past)?;
     Ok(plan.sample())
 }
 
 #[test]
-fn two_servers_are_met_at_the_fourth_horizon(rt: HostRuntime) -> Result<(), Fail> {
-    let outcome = sample_of_two_servers(rt.alloc(), 3, SeedPast::new(0, 0))?;
-    let met = Outcome::Met {
-        horizon: 8,
-        state: holding(2),
-    };
-    assert_eq!(rt; outcome, met);
-    Ok(())
-}
-
-#[test]
-fn an_arrival_alone_is_met_full(rt: HostRuntime) -> Result<(), Fail> {
-    let outcome = sample_of_arrivals(rt.alloc(), 1)?;
-    let met = Outcome::Met {
-        horizon: 1,
-        state: holding(1),
-    };
-    assert_eq!(rt; outcome, met);
+fn two_servers_are_met_whatever_the_split_number_is(rt: HostRuntime) -> Result<(), Fail> {
+    for split in [1, 2, 3, 4, 4096] {
+        assert!(rt; 1 <= split && split <= 4096);
+        let outcome = sample_of_two_servers(rt.alloc(), 3, split, SeedPast::new(0, 0))?;
+        assert_eq!(rt; outcome, met(8, 2), "{split}");
+    }
     Ok(())
 }
 
 // A sample of one queue that customers join and never leave.
-fn sample_of_arrivals(alloc: Global, capacity: u16) -> Result<Outcome, Fail>
-    requires { 1 ≤ capacity }
+fn sample_of_arrivals(alloc: Global, capacity: u16, split: u16) -> Result<Outcome, Fail>
+    requires capacity { 1 ≤ capacity }
+    requires some { 1 ≤ split }
+    requires few { split ≤ 4096 }
 {
     let caps = capacities(capacity);
     let events = [Single::join(caps, 0)];
     let wheel = Wheel::new(alloc, &[1])?;
-    let system = System::new(caps, &events, &wheel, 18, 256);
+    let system = System::new(caps, &events, &wheel, 18, split);
     let mut plan = Plan::new(alloc, system, SeedPast::new(0, 0))?;
     Ok(plan.sample())
+}
+
+#[test]
+fn arrivals_alone_are_met_full(rt: HostRuntime) -> Result<(), Fail> {
+    let alloc = rt.alloc();
+    assert_eq!(rt; sample_of_arrivals(alloc, 1, 256)?, met(1, 1));
+    assert_eq!(rt; sample_of_arrivals(alloc, 4095, 1)?, met(4096, 4095));
+    assert_eq!(rt; sample_of_arrivals(alloc, 4095, 4096)?, met(4096, 4095));
+    Ok(())
+}
+
+// A step, whether the region after it is split, and its states.
+type Shown = (Step, bool, Vec<State>);
+
+// Does the next step of a run, and shows the region after it.
+fn stepped<E: EventLaw, P: Past + Drop>(
+    alloc: Global,
+    plan: &mut Plan<'_, E, P>,
+) -> Result<Option<Shown>, Fail> {
+    let Some(step) = plan.advance() else {
+        return Ok(None);
+    };
+    let shown = match plan.bounds() {
+        Some(bounds) => (step, false, bounds.states().collect(alloc)?),
+        None => (step, true, plan.states().to_vec(alloc)?),
+    };
+    Ok(Some(shown))
+}
+
+// The steps of a run that are left, at most nine, with the regions after them.
+fn regions<E: EventLaw, P: Past + Drop>(
+    alloc: Global,
+    plan: &mut Plan<'_, E, P>,
+) -> Result<Vec<Shown>, Fail> {
+    let mut regions = Vec::new(alloc);
+    for _ in 0..9 {
+        match stepped(alloc, plan)? {
+            Some(shown) => regions.push(shown)?,
+            None => break,
+        }
+    }
+    Ok(regions)
+}
+
+// The regions of the run of horizon 4 of one queue that one customer joins at the rate 1 and that one server
+// leaves at the rate `service`.
+fn run_of_one_server<P: Past + Drop>(
+    alloc: Global,
+    capacity: u16,
+    service: u32,
+    split: u16,
+    past: P,
+) -> Result<Vec<Shown>, Fail>
+    requires capacity { 1 ≤ capacity }
+    requires service { 1 ≤ service }
+    requires few_leave { service ≤ 1048576 }
+    requires some { 1 ≤ split }
+    requires few { split ≤ 4096 }
+{
+    let caps = capacities(capacity);
+    let events = [Single::join(caps, 0), Single::leave(caps, 0, 1)];
+    let wheel = Wheel::new(alloc, &[1, service])?;
+    let system = System::new(caps, &events, &wheel, 2, split);
+    let mut plan = Plan::new(alloc, system, past)?;
+    plan.begin(4);
+    regions(alloc, &mut plan)
+}
+
+// Steps of the times 4, 3, 2 and 1, each told by its event, whether the region after it is split, and the
+// least and the greatest number of customers of its states.
+fn wanted(alloc: Global, steps: [(u16, bool, u16, u16); 4]) -> Result<Vec<Shown>, Fail> {
+    let mut regions = Vec::new(alloc);
+    for (place, (event, is_split, least, greatest)) in steps.into_iter().enumerate() {
+        let mut states = Vec::new(alloc);
+        for count in least..greatest.saturating_add(1) {
+            states.push(holding(count))?;
+        }
+        let number = 4 - place.min(3) as u32;
+        regions.push((Step { number, event }, is_split, states))?;
+    }
+    Ok(regions)
+}
+
+// Backwards in time the events are in, in, in, out.
+#[test]
+fn a_run_shows_its_regions(rt: HostRuntime) -> Result<(), Fail> {
+    let alloc = rt.alloc();
+    let sets = [
+        (1, true, 0, 2),
+        (0, true, 1, 3),
+        (0, true, 2, 3),
+        (0, true, 3, 3),
+    ];
+    let shown = run_of_one_server(alloc, 3, 1, 256, SeedPast::new(0, 0))?;
+    assert_eq!(rt; shown, wanted(alloc, sets)?);
+    let late = [
+        (1, false, 0, 2),
+        (0, false, 1, 3),
+        (0, false, 2, 3),
+        (0, true, 3, 3),
+    ];
+    let shown = run_of_one_server(alloc, 3, 1, 2, SeedPast::new(0, 0))?;
+    assert_eq!(rt; shown, wanted(alloc, late)?);
+    let boxes = [
+        (1, false, 0, 2),
+        (0, false, 1, 3),
+        (0, false, 2, 3),
+        (0, false, 3, 3),
+    ];
+    let shown = run_of_one_server(alloc, 3, 1, 1, SeedPast::new(0, 0))?;
+    assert_eq!(rt; shown, wanted(alloc, boxes)?);
+    Ok(())
+}
+
+// Backwards in time the events are out, in, in, and the idle one, whose number is 2.
+#[test]
+fn a_run_shows_its_idle_steps(rt: HostRuntime) -> Result<(), Fail> {
+    let alloc = rt.alloc();
+    let sets = [
+        (2, true, 0, 2),
+        (0, true, 1, 2),
+        (0, true, 2, 2),
+        (1, true, 1, 1),
+    ];
+    let shown = run_of_one_server(alloc, 2, 2, 3, ListPast::new([2, 0, 0, 3].to_vec(alloc)?))?;
+    assert_eq!(rt; shown, wanted(alloc, sets)?);
+    let boxes = [
+        (2, false, 0, 2),
+        (0, false, 1, 2),
+        (0, false, 2, 2),
+        (1, true, 1, 1),
+    ];
+    let shown = run_of_one_server(alloc, 2, 2, 1, ListPast::new([2, 0, 0, 3].to_vec(alloc)?))?;
+    assert_eq!(rt; shown, wanted(alloc, boxes)?);
+    Ok(())
+}
+
+#[test]
+fn other_words_serve_the_same_plan(rt: HostRuntime) -> Result<(), Fail> {
+    let alloc = rt.alloc();
+    let caps = capacities(2);
+    let events = [Single::join(caps, 0), Single::leave(caps, 0, 1)];
+    let wheel = Wheel::new(alloc, &[1, 2])?;
+    let system = System::new(caps, &events, &wheel, 2, 2);
+    let mut plan = Plan::new(alloc, system, ListPast::new([2, 0, 0, 3].to_vec(alloc)?))?;
+    assert_eq!(rt; plan.advance(), None);
+    assert_eq!(rt; plan.sample(), met(4, 1));
+    assert_eq!(rt; plan.advance(), None);
+    plan.replace(ListPast::new([0, 0].to_vec(alloc)?));
+    assert_eq!(rt; plan.sample(), met(2, 2));
+    plan.replace(ListPast::new([3, 3, 3, 3].to_vec(alloc)?));
+    assert_eq!(rt; plan.sample(), Outcome::NotMet { limit: 2 });
+    Ok(())
 }

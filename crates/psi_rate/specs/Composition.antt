@@ -4,7 +4,7 @@ use Rattle.std.specs.Prelude.{◌≡◌, ℕ, zero, suc, ◌+◌, ◌-◌, ◌�
 use Rattle.std.proofs.Common.{ap, sym, ◌∙◌, subst, arith}
 use Rattle.psi_state.specs.State.{IsBelow, zeros, all_states}
 use Rattle.psi_state.specs.Boxes.{In-all_states, In-of_all_states, below-itself, zeros-below, same-from_below}
-use Rattle.psi_state.specs.Sets.{image, single, image-single, single-image, single-apart, In-image}
+use Rattle.psi_state.specs.Sets.{image, single, single-image, single-apart, In-image}
 use Rattle.psi_state.specs.States.{In-caps, In-zeros}
 use Rattle.psi_event.specs.Law.{IsClosed, IsMonotone}
 use Rattle.psi_rate.specs.Rates.{event_of}
@@ -75,11 +75,6 @@ reached-later caps f t s closed met = record {
       (let e : (earlier - t) + t ≡ earlier = omega arith in
       ap (λ n. compose f n x) (sym e) ∙ compose-more caps f t s closed met (earlier - t) x within);
 }
-
-pub image_at-reached : (caps : List ℕ) (f : ℕ → List ℕ → List ℕ) (t : ℕ) (s : List ℕ) → AreClosed caps f
-    → single (image_at f caps t) ≡ Some s → IsReached f caps t s
-image_at-reached caps f t s closed one = reached-later caps f t s closed
-    (λ x within. image-single (compose f t) s x (all_states caps) one (In-all_states caps x within))
 
 -- under monotone events all states have met where the least and the greatest have
 pub corners-meet : (caps : List ℕ) (f : ℕ → List ℕ → List ℕ) (t : ℕ) (s : List ℕ) → AreClosed caps f → AreMonotone caps f

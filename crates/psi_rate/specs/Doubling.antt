@@ -3,7 +3,7 @@
 use Rattle.std.specs.Prelude.{◌≡◌, ℕ, zero, suc, ◌+◌, ◌*◌, ◌^◌, ◌<◌, ◌≤◌, Option, Some, None, refl}
 use Rattle.std.proofs.Common.{inl, inr, ap, sym, ◌∙◌, subst, arith}
 use Rattle.std.proofs.lemmas.Bool.{cases_lt, cases_eq}
-use Rattle.psi_rate.specs.Powers.{pow-double}
+use Rattle.psi_rate.specs.Powers.{pow-double, below-pow}
 
 -- the answer at t, if there is one, and otherwise the rest
 abbrev pub answer_or : {A : Type 0} → Option A → ℕ → Option (ℕ × A) → Option (ℕ × A)
@@ -67,6 +67,21 @@ first_from-none run (suc more) k t power none =
     let e : suc (k + suc more) ≡ suc (suc k + more) = omega arith in
     ap (λ o. answer_or o t (first_from run more (2 * t))) here
     ∙ first_from-none run more (suc k) (2 * t) next (subst (λ n. HasNone run n) e none)
+
+-- runs that agree from horizon 1 on have the same answers
+pub has_none-agree : {A : Type 0} (run other : ℕ → Option A) (exponent : ℕ) → ((t : ℕ) → 1 ≤ t → run t ≡ other t) → HasNone run exponent → HasNone other exponent
+has_none-agree run other exponent agree none = record {
+  each = λ k small. (let above = below-pow k in sym (agree (2 ^ k) (omega arith)) ∙ none.each k small);
+}
+
+pub is_first-agree : {A : Type 0} (run other : ℕ → Option A) (limit t : ℕ) (a : A) → ((t : ℕ) → 1 ≤ t → run t ≡ other t) → IsFirst run limit t a → IsFirst other limit t a
+is_first-agree run other limit t a agree is = record {
+  exponent = is.exponent;
+  within = is.within;
+  power = is.power;
+  answer = (let above = below-pow is.exponent in let power = is.power in sym (agree t (omega arith)) ∙ is.answer);
+  earlier = has_none-agree run other is.exponent agree is.earlier;
+}
 
 -- the least one is the first answer
 pub first_answer-found : {A : Type 0} (run : ℕ → Option A) (limit t : ℕ) (a : A) → IsFirst run limit t a → first_answer run limit ≡ Some (t, a)

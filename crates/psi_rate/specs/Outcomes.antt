@@ -1,5 +1,5 @@
 -- What a sample is: the first horizon among 1, 2, 4, .. at which all states have met, with the state.
-use Rattle.std.specs.Prelude.{◌≡◌, ℕ, suc, ◌-◌, List, length, map, slice_index_or, Option, Some, None, All}
+use Rattle.std.specs.Prelude.{◌≡◌, ℕ, suc, ◌-◌, ◌≤◌, List, length, map, slice_index_or, Option, Some, None, All}
 use Rattle.std.proofs.Common.{inl, inr, ap, sym, ◌∙◌, subst}
 use Rattle.std.proofs.lemmas.Bool.{cases_lt}
 use Rattle.std.proofs.lemmas.List.{get_or_past}
@@ -9,8 +9,8 @@ use Rattle.psi_state.specs.declared.Outcome.TheVariants.{Met, NotMet}
 use Rattle.psi_state.specs.Sets.{single}
 use Rattle.psi_event.specs.Law.{IsClosed, IsMonotone}
 use Rattle.psi_rate.specs.Rates.{event_of}
-use Rattle.psi_rate.specs.Composition.{Parts, picked, functions_of, image_at, AreClosed, AreMonotone, IsReached, image_at-reached}
-use Rattle.psi_rate.specs.Doubling.{first_answer, IsFirst, HasNone, first_answer-found, first_answer-none}
+use Rattle.psi_rate.specs.Composition.{Parts, picked, function_at, functions_of, image_at, AreClosed, AreMonotone, IsReached}
+use Rattle.psi_rate.specs.Doubling.{first_answer, IsFirst, HasNone, first_answer-found, first_answer-none, is_first-agree, has_none-agree}
 
 -- the state in which all states have met that start t steps before time zero, if they have
 abbrev pub meeting_at : (ℕ → List ℕ → List ℕ) → List ℕ → ℕ → Option (List ℕ)
@@ -43,20 +43,15 @@ pub outcome_within-not_met : (run : ℕ → Option (List ℕ)) (limit : ℕ) →
 unfolding outcome_within
 outcome_within-not_met run limit none = ap (λ found. outcome_of limit found) (sym (first_answer-none run limit none))
 
-pub met-reached : (f : ℕ → List ℕ → List ℕ) (caps : List ℕ) (limit t : ℕ) (s : List ℕ) → AreClosed caps f
-    → IsFirst (meeting_at f caps) limit t s → IsReached f caps t s
-met-reached f caps limit t s closed first = image_at-reached caps f t s closed first.answer
-
 -- an outcome in these words is the outcome of the run
 pub outcome_within-only : (run : ℕ → Option (List ℕ)) (limit : ℕ) (o : Outcome) → IsOutcome run limit o → o ≡ outcome_within run limit
 outcome_within-only run limit (Met t s) is = outcome_within-met run limit t s is
 outcome_within-only run limit (NotMet l) is = ap (λ n. NotMet n) is.0 ∙ outcome_within-not_met run limit is.1
 
--- and what it tells is where every state is at time zero
-pub outcome-reached : (f : ℕ → List ℕ → List ℕ) (caps : List ℕ) (limit : ℕ) (o : Outcome) → AreClosed caps f
-    → IsOutcome (meeting_at f caps) limit o → ReachesOutcome f caps o
-outcome-reached f caps limit (Met t s) closed is = met-reached f caps limit t s closed is
-outcome-reached f caps limit (NotMet l) closed is = tt
+-- runs that agree from horizon 1 on have the same outcome
+pub outcome-agree : (run other : ℕ → Option (List ℕ)) (limit : ℕ) (o : Outcome) → ((t : ℕ) → 1 ≤ t → run t ≡ other t) → IsOutcome run limit o → IsOutcome other limit o
+outcome-agree run other limit (Met t s) agree is = is_first-agree run other limit t s agree is
+outcome-agree run other limit (NotMet l) agree is = (is.0, has_none-agree run other (suc limit) agree is.1)
 
 picked-each : (P : (List ℕ → List ℕ) → Type 0) (functions : List (List ℕ → List ℕ)) (rates : List ℕ) (word : ℕ)
     → All P functions → P (λ x. x) → P (picked functions rates word)
@@ -78,13 +73,17 @@ functions-closed {E} capacities function system words closed same = record {
 }
 
 -- each time's function is monotone, if each event's is
+pub function_at-monotone : (caps : List ℕ) (functions : List (List ℕ → List ℕ)) (rates : List ℕ) (words : ℕ → ℕ) → All (λ f. IsMonotone caps f) functions
+    → AreMonotone caps (function_at functions rates words)
+function_at-monotone caps functions rates words monotone = record {
+  each = λ t.
+      picked-each (IsMonotone caps) functions rates (words (t - 1)) monotone (record { each = λ x y within below. below });
+}
+
 pub functions-monotone : {E : Type 0} (capacities : E → List ℕ) (function : E → List ℕ → List ℕ) (system : Parts E) (words : ℕ → ℕ)
     → All (λ event. IsMonotone (capacities event) (function event)) system.events → All (λ event. capacities event ≡ system.caps) system.events
     → AreMonotone system.caps (functions_of function system words)
-functions-monotone {E} capacities function system words monotone same = record {
-  each = λ t.
-      picked-each (IsMonotone system.caps) (map function system.events) system.rates (words (t - 1))
-      (All-map (IsMonotone system.caps) function system.events
-      (λ k d small. subst (λ (caps : List ℕ). IsMonotone caps (function (slice_index_or system.events k d))) (same k d small) (monotone k d small)))
-      (record { each = λ x y within below. below });
-}
+functions-monotone {E} capacities function system words monotone same =
+    function_at-monotone system.caps (map function system.events) system.rates words
+    (All-map (IsMonotone system.caps) function system.events
+    (λ k d small. subst (λ (caps : List ℕ). IsMonotone caps (function (slice_index_or system.events k d))) (same k d small) (monotone k d small)))

@@ -1,15 +1,16 @@
 -- The sample of a network.
-use Rattle.std.specs.Prelude.{◌≡◌, ℕ, zero, suc, ◌+◌, ◌*◌, ◌^◌, ◌≤◌, List, map, Option, Some, None, refl}
+use Rattle.std.specs.Prelude.{◌≡◌, ℕ, zero, suc, ◌+◌, ◌*◌, ◌^◌, ◌≤◌, List, map, All, Option, Some, None, refl}
 use Rattle.std.proofs.Common.{ap, ◌∙◌, subst, arith}
 use Rattle.psi_state.specs.declared.Outcome.{Outcome}
 use Rattle.psi_state.specs.declared.Outcome.TheVariants.{Met, NotMet}
 use Rattle.psi_past.specs.SeedWord.{seed_word}
-use Rattle.psi_event.specs.Law.{IsClosed}
+use Rattle.psi_event.specs.Law.{IsClosed, IsMonotone}
 use Rattle.psi_event.specs.Single.{joined-closed, left-closed}
 use Rattle.psi_rate.specs.Powers.{pow-double}
-use Rattle.psi_rate.specs.Composition.{Parts, function_at, functions_of, AreClosed}
+use Rattle.psi_rate.specs.Composition.{Parts, function_at, functions_of, AreClosed, AreMonotone}
 use Rattle.psi_rate.specs.Doubling.{answer_or, first_from, first_answer, HasNone, IsFirst, has_none-next}
-use Rattle.psi_rate.specs.Outcomes.{meeting_at, outcome_of, outcome_within, IsOutcome, functions-closed, outcome-reached}
+use Rattle.psi_rate.specs.Outcomes.{outcome_of, outcome_within, IsOutcome, functions-closed, function_at-monotone}
+use Rattle.psi_horizon.specs.Runs.{ending_at, outcome-reached, outcome-monotone, outcome-exact}
 use Rattle.psi_net.specs.Network as net
 use Rattle.psi_net.specs.Network.{Network, done, caps_of, rates_of}
 use Rattle.psi_net.specs.declared.entries.Event.{Event}
@@ -23,16 +24,17 @@ use Rattle.psi_run.specs.Headline.{IsSampled}
 
 -- the sample of a system that is made of the network is the network's
 pub sampled_by : {E : Type 0} (function : E → List ℕ → List ℕ) (system : Parts E) (n : Network) (seed stream : ℕ)
-    → map function system.events ≡ net.functions_of n → system.rates ≡ rates_of n → system.caps ≡ caps_of n → system.limit ≡ n.limit
-    → outcome_within (meeting_at (functions_of function system (seed_word seed stream)) system.caps) system.limit ≡ sampled n seed stream
+    → map function system.events ≡ net.functions_of n → system.rates ≡ rates_of n → system.caps ≡ caps_of n → system.limit ≡ n.limit → system.split ≡ n.split
+    → outcome_within (ending_at system.split (functions_of function system (seed_word seed stream)) system.caps) system.limit ≡ sampled n seed stream
 unfolding run_of sampled
-sampled_by function system n seed stream functions rates caps limit =
-    let at : List (List ℕ → List ℕ) → List ℕ → List ℕ → ℕ → Outcome =
-    λ fs rs cs l. outcome_within (meeting_at (function_at fs rs (seed_word seed stream)) cs) l in
-    ap (λ fs. at fs system.rates system.caps system.limit) functions
-    ∙ ap (λ rs. at (net.functions_of n) rs system.caps system.limit) rates
-    ∙ ap (λ cs. at (net.functions_of n) (rates_of n) cs system.limit) caps
-    ∙ ap (λ l. at (net.functions_of n) (rates_of n) (caps_of n) l) limit
+sampled_by function system n seed stream functions rates caps limit split =
+    let at : List (List ℕ → List ℕ) → List ℕ → List ℕ → ℕ → ℕ → Outcome =
+    λ fs rs cs l k. outcome_within (ending_at k (function_at fs rs (seed_word seed stream)) cs) l in
+    ap (λ fs. at fs system.rates system.caps system.limit system.split) functions
+    ∙ ap (λ rs. at (net.functions_of n) rs system.caps system.limit system.split) rates
+    ∙ ap (λ cs. at (net.functions_of n) (rates_of n) cs system.limit system.split) caps
+    ∙ ap (λ l. at (net.functions_of n) (rates_of n) (caps_of n) l system.split) limit
+    ∙ ap (λ k. at (net.functions_of n) (rates_of n) (caps_of n) n.limit k) split
 
 -- an outcome that isn't met tells the limit
 pub within_limit : (run : ℕ → Option (List ℕ)) (limit : ℕ) (outcome : Outcome) → limit ≤ 22 → IsOutcome run limit outcome → IsWithinLimit outcome
@@ -83,18 +85,30 @@ run_of-closed n seed stream =
     (record { caps = caps_of n; events = n.events; rates = rates_of n; limit = n.limit; split = n.split })
     (seed_word seed stream) (λ event. done-closed (caps_of n) event.kind) (λ k d small. refl)
 
-sampled-least : (n : Network) (seed stream : ℕ) → IsOutcome (meeting_at (run_of n seed stream) (caps_of n)) n.limit (sampled n seed stream)
+sampled-least : (n : Network) (seed stream : ℕ) → IsOutcome (ending_at n.split (run_of n seed stream) (caps_of n)) n.limit (sampled n seed stream)
 unfolding sampled
-sampled-least n seed stream = outcome_within-is (meeting_at (run_of n seed stream) (caps_of n)) n.limit
+sampled-least n seed stream = outcome_within-is (ending_at n.split (run_of n seed stream) (caps_of n)) n.limit
+
+run_of-monotone : (n : Network) (seed stream : ℕ) → All (λ f. IsMonotone (caps_of n) f) (net.functions_of n) → AreMonotone (caps_of n) (run_of n seed stream)
+unfolding run_of
+run_of-monotone n seed stream monotone = function_at-monotone (caps_of n) (net.functions_of n) (rates_of n) (seed_word seed stream) monotone
 
 -- what is printed of the sample is a sample's text
 pub sampled_printed : (before after : Option (List ℕ)) (result : Status) (n : Network) (seed stream : ℕ)
     → result ≡ outcome_status (sampled n seed stream) → after ≡ appended before (outcome_text (sampled n seed stream))
     → IsSampled before after result n seed stream
-sampled_printed before after result n seed stream same grew = record {
-  outcome = sampled n seed stream;
-  least = sampled-least n seed stream;
-  reached = outcome-reached (run_of n seed stream) (caps_of n) n.limit (sampled n seed stream) (run_of-closed n seed stream) (sampled-least n seed stream);
-  status = same;
-  text = grew;
-}
+sampled_printed before after result n seed stream same grew =
+    let outcome = sampled n seed stream in
+    let f = run_of n seed stream in
+    let caps = caps_of n in
+    let closed = run_of-closed n seed stream in
+    let least = sampled-least n seed stream in
+    record {
+      outcome = outcome;
+      least = least;
+      reached = outcome-reached n.split caps f n.limit outcome closed least;
+      monotone = λ monotone. outcome-monotone n.split caps f n.limit outcome closed (run_of-monotone n seed stream monotone) least;
+      small = λ few. outcome-exact n.split caps f n.limit outcome few least;
+      status = same;
+      text = grew;
+    }

@@ -4,7 +4,8 @@ use Rattle.psi_state.specs.declared.Outcome.{Outcome}
 use Rattle.psi_state.specs.declared.Outcome.TheVariants.{Met, NotMet}
 use Rattle.psi_past.specs.SeedWord.{seed_word}
 use Rattle.psi_rate.specs.Composition.{function_at}
-use Rattle.psi_rate.specs.Outcomes.{meeting_at, outcome_within}
+use Rattle.psi_rate.specs.Outcomes.{outcome_within}
+use Rattle.psi_horizon.specs.Runs.{ending_at}
 use Rattle.psi_net.specs.Network.{Network, caps_of, rates_of, functions_of}
 use Rattle.psi_net.specs.Reading.{network_of}
 use Rattle.psi_net.specs.declared.NetRefusal.{NetRefusal}
@@ -24,9 +25,9 @@ pub record Reply : Type 0 where
 unfoldable pub run_of : Network → ℕ → ℕ → ℕ → List ℕ → List ℕ
 run_of net seed stream = function_at (functions_of net) (rates_of net) (seed_word seed stream)
 
--- the sample that a seed and a stream draw of a network (Propp and Wilson 1996)
+-- the sample that a seed and a stream draw of a network (Propp and Wilson 1996), by regions
 unfoldable pub sampled : Network → ℕ → ℕ → Outcome
-sampled net seed stream = outcome_within (meeting_at (run_of net seed stream) (caps_of net)) net.limit
+sampled net seed stream = outcome_within (ending_at net.split (run_of net seed stream) (caps_of net)) net.limit
 
 -- the status of a sample
 abbrev pub outcome_status : Outcome → Status

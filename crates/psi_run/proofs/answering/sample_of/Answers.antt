@@ -6,4 +6,4 @@ pub returns-clause-value : goal.returns-clause-value
 returns-clause-value c =
     let outcome = rw (c.in_ok-plan.ensures, c.new.ensures) at c.sample.ensures.outcome in
     let made = c.system-system.ensures in
-    outcome ∙ sampled_by _ c.system-system.result c.args.net.now c.args.seed c.args.stream made.functions made.rates made.caps made.limit
+    outcome ∙ sampled_by _ c.system-system.result c.args.net.now c.args.seed c.args.stream made.functions made.rates made.caps made.limit made.split

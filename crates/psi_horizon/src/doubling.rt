@@ -1,0 +1,84 @@
+//! The doubling of horizons, and the run of each.
+
+ghost use Rattle.std.specs.Prelude.{◌≡◌, ◌^◌, ◌<◌, ◌≤◌, map};
+ghost use Rattle.psi_rate.specs.Rates.{event_of};
+ghost use Rattle.psi_rate.specs.Composition.{picked, functions_of};
+ghost use Rattle.psi_rate.specs.Outcomes.{IsOutcome};
+ghost use Rattle.psi_region.specs.Region.{step, IsArea};
+ghost use Rattle.psi_horizon.specs.Runs.{ending_at};
+
+use psi_event::{EventLaw, Idle};
+use psi_past::{Kept, Past};
+use psi_rate::System;
+use psi_region::Region;
+use psi_state::{Outcome, State};
+
+// The least horizon among 1, 2, 4, .., 2^limit whose run ends with one state, with that state.
+pub(crate) fn first_ending<E: EventLaw, P: Past + Drop>(
+    system: &System<'_, E>,
+    words: &mut Kept<P>,
+    region: &mut Region,
+) -> Outcome
+    requires room { 2 ^ system.now.limit ≤ words.old.most }
+    requires split { region.old.most ≡ system.now.split }
+    ensures least { let f = functions_of E.function system.now (P.words words.old.past) in
+        IsOutcome (ending_at system.now.split f system.now.caps) system.now.limit result }
+    ensures words { P.words words.new.past ≡ P.words words.old.past }
+    ensures most { words.new.most ≡ words.old.most }
+    ensures split { region.new.most ≡ region.old.most }
+{
+    let limit = system.limit();
+    for exponent in 0..limit + 1 {
+        let horizon = 1 << exponent;
+        if let Some(state) = ending(system, words, region, horizon) {
+            return Outcome::Met { horizon, state };
+        }
+    }
+    Outcome::NotMet { limit }
+}
+
+// The one state with which the run of a horizon ends, if it ends with one. The region goes through the
+// run.
+fn ending<E: EventLaw, P: Past + Drop>(
+    system: &System<'_, E>,
+    words: &mut Kept<P>,
+    region: &mut Region,
+    horizon: u32,
+) -> Option<State>
+    requires room { horizon ≤ words.old.most }
+    requires split { region.old.most ≡ system.now.split }
+    ensures ending { result ≡ ending_at system.now.split (functions_of E.function system.now (P.words words.old.past)) system.now.caps horizon }
+    ensures words { P.words words.new.past ≡ P.words words.old.past }
+    ensures most { words.new.most ≡ words.old.most }
+    ensures split { region.new.most ≡ region.old.most }
+{
+    words.extend_to(horizon);
+    region.start(&system.caps());
+    for place in (0..horizon).rev() {
+        let _event = follow_word(system, words.at(place), region);
+    }
+    region.single()
+}
+
+// Follows the region through the event of a word, and tells the event's number.
+#[inline]
+pub(crate) fn follow_word<E: EventLaw>(
+    system: &System<'_, E>,
+    word: u32,
+    region: &mut Region,
+) -> u16
+    requires { IsArea system.now.caps region.old.area }
+    ensures event { result ≡ event_of system.now.rates word }
+    ensures area { region.new.area ≡ step region.old.most (picked (map E.function system.now.events) system.now.rates word) region.old.area }
+    ensures most { region.new.most ≡ region.old.most }
+{
+    // The events fit the capacities.
+    let caps = system.caps();
+    let number = system.wheel().pick(word);
+    if number < system.wheel().events() {
+        region.advance(system.event(number));
+    } else {
+        region.advance(&Idle::new(caps));
+    }
+    number
+}

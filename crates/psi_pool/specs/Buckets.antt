@@ -1,0 +1,141 @@
+-- The buckets of a table: chain 0 has the free nodes, chain 1 those that wait, and each other chain is a bucket.
+use Rattle.std.specs.Prelude.{◌≡◌, ℕ, zero, suc, ◌+◌, ◌-◌, ◌*◌, ◌/◌, ◌%◌, ◌^◌, ◌<◌, ◌≤◌, List, [], ◌∷◌, ◌++◌, length, slice_index, drop, refl}
+use Rattle.std.proofs.Common.{inl, inr, ap, sym, ◌∙◌, subst, arith, length-append, drop_of_length-le}
+use Rattle.std.proofs.Math.Nat.{mod-lt, div-lt_iff_lt-mul, mul_comm, mul-lt-mul_of_pos_right}
+use Rattle.std.proofs.Math.Seq.{drop-cons}
+use Rattle.psi_state.specs.Members.{In, In-append, In-append_left, In-append_right}
+use Rattle.psi_state.specs.Ascending.{IsDistinct}
+use Rattle.psi_pool.specs.Chains.{chain, rest, lengths}
+
+-- the hash of a state, by multiplication (Knuth, The Art of Computer Programming, volume 3, section 6.4)
+abbrev pub hash_from : ℕ → List ℕ → ℕ
+hash_from h [] = h
+hash_from h (v ∷ x) = hash_from ((h + v) % 2 ^ 32 * 2654435769 % 2 ^ 32) x
+
+-- the bucket of a state where there are so many chains
+unfoldable pub bucket : ℕ → List ℕ → ℕ
+bucket chains x = hash_from 0 x * (chains - 2) / 2 ^ 32 + 2
+
+-- one chain after another
+abbrev pub flat : {A : Type 0} → List (List A) → List A
+flat [] = []
+flat (c ∷ cs) = c ++ flat cs
+
+-- the states of all buckets
+abbrev pub held : List (List (List ℕ)) → List (List ℕ)
+held cs = flat (rest (rest cs))
+
+-- each state is in its own bucket, and there once
+pub record IsBuckets (cs : List (List (List ℕ))) : Type 0 where
+  pub own : (b : ℕ) (z : List ℕ) → 2 ≤ b → In z (chain cs b) → bucket (length cs) z ≡ b
+  pub once : (b : ℕ) → 2 ≤ b → IsDistinct (chain cs b)
+
+hash_from-small : (h : ℕ) (x : List ℕ) → h < 2 ^ 32 → hash_from h x < 2 ^ 32
+hash_from-small h [] small = small
+hash_from-small h (v ∷ x) small = hash_from-small ((h + v) % 2 ^ 32 * 2654435769 % 2 ^ 32) x (mod-lt ((h + v) % 2 ^ 32 * 2654435769) (omega arith))
+
+pub bucket-low : (chains : ℕ) (x : List ℕ) → 2 ≤ bucket chains x
+unfolding bucket
+bucket-low chains x = omega arith
+
+pub bucket-high : (chains : ℕ) (x : List ℕ) → 3 ≤ chains → bucket chains x < chains
+unfolding bucket
+bucket-high chains x enough =
+    let small : hash_from 0 x < 2 ^ 32 = hash_from-small 0 x (omega arith) in
+    let some : 0 < chains - 2 = omega arith in
+    let product : hash_from 0 x * (chains - 2) < (chains - 2) * 2 ^ 32 = subst (λ n. hash_from 0 x * (chains - 2) < n) (mul_comm (2 ^ 32) (chains - 2)) (mul-lt-mul_of_pos_right small some) in
+    let width : 0 < 2 ^ 32 = omega arith in
+    let quotient : hash_from 0 x * (chains - 2) / 2 ^ 32 < chains - 2 = (div-lt_iff_lt-mul width).1 product in
+    omega arith
+
+-- where a chain begins
+append-chain : (z : List ℕ) (cs : List (List (List ℕ))) (a : ℕ) → In z (chain cs a) → In z (flat cs)
+append-chain z [] a member = absurd member
+append-chain z (c ∷ cs) zero member = In-append_left z c (flat cs) member
+append-chain z (c ∷ cs) (suc a) member = In-append_right z c (flat cs) (append-chain z cs a member)
+
+chain-append : (z : List ℕ) (cs : List (List (List ℕ))) → In z (flat cs) → (a : ℕ) × In z (chain cs a)
+chain-append z [] member = absurd member
+chain-append z (c ∷ cs) member = elim (In-append z c (flat cs) member) [
+  | inl here ↦ (0, here)
+  | inr there ↦ (let found = chain-append z cs there in (suc found.0, found.1))
+]
+
+-- what is in a bucket is held
+pub In-held : (z : List ℕ) (cs : List (List (List ℕ))) (b : ℕ) → 2 ≤ b → In z (chain cs b) → In z (held cs)
+In-held z [] b low member = absurd member
+In-held z (c ∷ []) zero low member = absurd (omega arith)
+In-held z (c ∷ []) (suc b) low member = absurd member
+In-held z (c ∷ d ∷ cs) zero low member = absurd (omega arith)
+In-held z (c ∷ d ∷ cs) (suc zero) low member = absurd (omega arith)
+In-held z (c ∷ d ∷ cs) (suc (suc b)) low member = append-chain z cs b member
+
+-- and what is held is in a bucket
+pub In-of_held : (z : List ℕ) (cs : List (List (List ℕ))) → In z (held cs) → (b : ℕ) × (2 ≤ b) × In z (chain cs b)
+In-of_held z [] member = absurd member
+In-of_held z (c ∷ []) member = absurd member
+In-of_held z (c ∷ d ∷ cs) member = (let found = chain-append z cs member in (suc (suc found.0), omega arith, found.1))
+
+-- in its own
+pub In-own : (z : List ℕ) (cs : List (List (List ℕ))) → IsBuckets cs → In z (held cs) → In z (chain cs (bucket (length cs) z))
+In-own z cs buckets member =
+    let found = In-of_held z cs member in
+    subst (λ b. In z (chain cs b)) (sym (buckets.own found.0 z found.1 found.2)) found.2
+
+pub In-bucket : (z : List ℕ) (cs : List (List (List ℕ))) → In z (chain cs (bucket (length cs) z)) → In z (held cs)
+In-bucket z cs member = In-held z cs (bucket (length cs) z) (bucket-low (length cs) z) member
+
+length-flat : (cs : List (List (List ℕ))) → length (flat cs) ≡ lengths cs
+length-flat [] = refl
+length-flat (c ∷ cs) = (let both = length-append c (flat cs) in let rest = length-flat cs in omega arith)
+
+-- each node is free, or waits, or is held
+pub lengths-held : (cs : List (List (List ℕ))) → lengths cs ≡ length (chain cs 0) + length (chain cs 1) + length (held cs)
+lengths-held [] = omega arith
+lengths-held (c ∷ []) = omega arith
+lengths-held (c ∷ d ∷ cs) = (let rest = length-flat cs in omega arith)
+
+distinct-append : (xs ys : List (List ℕ)) → IsDistinct xs → IsDistinct ys → ((z : List ℕ) → In z xs → In z ys → ⊥) → IsDistinct (xs ++ ys)
+distinct-append [] ys first second apart = second
+distinct-append (x ∷ xs) ys first second apart = (
+  λ member. elim (In-append x xs ys member) [ inl here ↦ first.0 here | inr there ↦ apart x (inl refl) there ],
+  distinct-append xs ys first.1 second (λ z here there. apart z (inr here) there),
+)
+
+distinct-flat : (cs : List (List (List ℕ))) → ((a : ℕ) → IsDistinct (chain cs a)) → ((z : List ℕ) (a b : ℕ) → In z (chain cs a) → In z (chain cs b) → a ≡ b)
+    → IsDistinct (flat cs)
+distinct-flat [] each apart = tt
+distinct-flat (c ∷ cs) each apart =
+    distinct-append c (flat cs) (each 0)
+    (distinct-flat cs (λ a. each (suc a)) (λ z a b here there. (let same : suc a ≡ suc b = apart z (suc a) (suc b) here there in omega arith)))
+    (λ z here there. (let found = chain-append z cs there in let same : 0 ≡ suc found.0 = apart z 0 (suc found.0) here found.1 in omega arith))
+
+-- no state is held twice
+pub held-distinct : (cs : List (List (List ℕ))) → IsBuckets cs → IsDistinct (held cs)
+held-distinct [] buckets = tt
+held-distinct (c ∷ []) buckets = tt
+held-distinct (c ∷ d ∷ cs) buckets =
+    distinct-flat cs (λ a. buckets.once (suc (suc a)) (omega arith))
+    (λ z a b here there.
+    (let first = buckets.own (suc (suc a)) z (omega arith) here in
+    let second = buckets.own (suc (suc b)) z (omega arith) there in
+    omega arith))
+
+-- The hash is computed number by number.
+pub hash-start : (x : List ℕ) → hash_from 0 (drop 0 x) ≡ hash_from 0 x
+hash-start x = refl
+
+pub hash-next : (x : List ℕ) (i h v : ℕ) → i < length x → v ≡ slice_index x i → hash_from h (drop i x) ≡ hash_from 0 x
+    → hash_from ((h + v) % 2 ^ 32 * 2654435769 % 2 ^ 32) (drop (i + 1) x) ≡ hash_from 0 x
+hash-next x i h v within read left =
+    let next : i + 1 ≡ suc i = omega arith in
+    ap (λ w. hash_from ((h + w) % 2 ^ 32 * 2654435769 % 2 ^ 32) (drop (i + 1) x)) read
+    ∙ (ap (λ k. hash_from ((h + slice_index x i) % 2 ^ 32 * 2654435769 % 2 ^ 32) (drop k x)) next
+    ∙ (sym (ap (λ (xs : List ℕ). hash_from h xs) (drop-cons x i 0 within)) ∙ left))
+
+pub hash-end : (x : List ℕ) (i h chains : ℕ) → length x ≤ i → hash_from h (drop i x) ≡ hash_from 0 x → h * (chains - 2) / 2 ^ 32 + 2 ≡ bucket chains x
+unfolding bucket
+hash-end x i h chains all left =
+    let none : drop i x ≡ [] = drop_of_length-le x all in
+    let same : h ≡ hash_from 0 x = sym (ap (λ (xs : List ℕ). hash_from h xs) none) ∙ left in
+    ap (λ k. k * (chains - 2) / 2 ^ 32 + 2) same

@@ -1,0 +1,9 @@
+pub mod Chains
+pub mod Links
+pub mod Fresh
+pub mod Buckets
+pub mod Gathering
+pub mod Linking
+pub mod Pooled
+pub mod Sorting
+pub mod Holding

@@ -1,0 +1,156 @@
+-- What the two ways in which a region is held say of its states.
+use Rattle.std.proofs.Common.{◌≡◌, ◌≢◌, ℕ, zero, suc, ◌+◌, ◌≤◌, ◌<◌, List, [], ◌∷◌, ◌++◌, length, Option, Some, None, Bool, true, false, refl, inl, inr, ap, sym, ◌∙◌, subst, arith, nat_eq}
+use Rattle.std.specs.Cmp.Lexicographic.{pointwise}
+use Rattle.std.specs.Ordering.{match_ordering, ordering_reverse}
+use Rattle.std.specs.declared.cmp.Ordering.TheVariants.{Less, Equal, Greater}
+use Rattle.std.proofs.lemmas.Bool.{true≢false}
+use Rattle.std.proofs.lemmas.Cmp.{nat_list_cmp_total}
+use Rattle.psi_state.specs.State.{Corners, IsBelow, box}
+use Rattle.psi_state.specs.Members.{In, In-append_right}
+use Rattle.psi_state.specs.Sets.{state_cmp, insert_state, single, image, In-image}
+use Rattle.psi_state.specs.Boxes.{In-low, In-high}
+use Rattle.psi_state.specs.States.{single-box, single-box_apart, same-from_eq, apart-from_eq}
+use Rattle.psi_state.specs.Ascending.{IsRising, box-rising}
+use Rattle.psi_state.specs.Hull.{corners, hull}
+use Rattle.psi_pool.specs.Pooled.{Pooled}
+use Rattle.psi_region.specs.Region.{Area, Regional, splits, settled, step, step-split, step-box}
+use Rattle.psi_region.specs.Held.{area_of, IsHeld}
+
+-- the states of an unsplit region are those of its box
+pub states-unsplit : (most : ℕ) (split : Bool) (b : Corners) (xs : List (List ℕ)) (now : Regional) → record { most = most; area = area_of split b xs } ≡ now
+    → split ≡ false → now.area.states ≡ box b.lo b.hi
+states-unsplit most split b xs now is no_split =
+    ap (λ (r : Regional). r.area.states) (sym is) ∙ ap (λ s. (area_of s b xs).states) no_split
+
+pub states-split : (most : ℕ) (split : Bool) (b : Corners) (xs : List (List ℕ)) (now : Regional) → record { most = most; area = area_of split b xs } ≡ now
+    → split ≡ true → now.area.states ≡ xs
+states-split most split b xs now is split_is =
+    ap (λ (r : Regional). r.area.states) (sym is) ∙ ap (λ s. (area_of s b xs).states) split_is
+
+-- an unsplit region has one state exactly where its corners are one
+pub single-same : (b : Corners) (lo hi : List ℕ) (xs : List (List ℕ)) (same : Bool) → xs ≡ box b.lo b.hi → lo ≡ b.lo → hi ≡ b.hi → same ≡ pointwise nat_eq lo hi
+    → same ≡ true → Some lo ≡ single xs
+single-same b lo hi xs same is low high test together =
+    let e : lo ≡ hi = same-from_eq lo hi (sym test ∙ together) in
+    let at : box b.lo b.hi ≡ box lo lo = ap (λ (y : List ℕ). box b.lo y) (sym high ∙ sym e) ∙ ap (λ (y : List ℕ). box y lo) (sym low) in
+    sym (ap (λ (ys : List (List ℕ)). single ys) (is ∙ at) ∙ single-box lo)
+
+corners-apart : (b : Corners) (lo hi : List ℕ) (same : Bool) → lo ≡ b.lo → hi ≡ b.hi → same ≡ pointwise nat_eq lo hi → same ≡ false → b.lo ≢ b.hi
+corners-apart b lo hi same low high test apart = λ e. apart-from_eq lo hi (sym test ∙ apart) (low ∙ (e ∙ sym high))
+
+pub single-two : (b : Corners) (lo hi : List ℕ) (xs : List (List ℕ)) (same : Bool) → IsBelow b.lo b.hi → xs ≡ box b.lo b.hi → lo ≡ b.lo → hi ≡ b.hi
+    → same ≡ pointwise nat_eq lo hi → same ≡ false → None ≡ single xs
+single-two b lo hi xs same ordered is low high test apart =
+    sym (ap (λ (ys : List (List ℕ)). single ys) is ∙ single-box_apart b.lo b.hi ordered (corners-apart b lo hi same low high test apart))
+
+-- a list with two different members has at least two
+pub length-apart : {A : Type 0} (xs : List A) (x y : A) → In x xs → In y xs → (x ≡ y → ⊥) → 2 ≤ length xs
+length-apart [] x y first second apart = absurd first
+length-apart (z ∷ []) x y first second apart =
+    elim first [ inl e ↦ elim second [ inl d ↦ absurd (apart (e ∙ sym d)) | inr none ↦ absurd none ] | inr none ↦ absurd none ]
+length-apart (z ∷ w ∷ xs) x y first second apart = omega arith
+
+pub two-unsplit : (b : Corners) (lo hi : List ℕ) (xs : List (List ℕ)) (same : Bool) → IsBelow b.lo b.hi → xs ≡ box b.lo b.hi → lo ≡ b.lo → hi ≡ b.hi
+    → same ≡ pointwise nat_eq lo hi → same ≡ false → 2 ≤ length xs
+two-unsplit b lo hi xs same ordered is low high test apart =
+    let two : 2 ≤ length (box b.lo b.hi) =
+    length-apart (box b.lo b.hi) b.lo b.hi (In-low b.lo b.hi ordered) (In-high b.lo b.hi ordered) (corners-apart b lo hi same low high test apart) in
+    subst (λ (ys : List (List ℕ)). 2 ≤ length ys) (sym is) two
+
+-- a list that has a member and no single one has at least two
+pub two-members : {A : Type 0} (xs : List A) (x : A) → In x xs → single xs ≡ None → 2 ≤ length xs
+two-members [] x member none = absurd member
+two-members (y ∷ []) x member none = absurd cc
+two-members (y ∷ z ∷ ys) x member none = omega arith
+
+cmp-turned : (x y : List ℕ) → state_cmp y x ≡ Less → state_cmp x y ≡ Greater
+cmp-turned x y less = nat_list_cmp_total.antisymm x y ∙ ap ordering_reverse less
+
+-- the next state of an ascending list goes to the end of those before it
+pub insert_state-next : (xs : List (List ℕ)) (x : List ℕ) (rest : List (List ℕ)) → IsRising (xs ++ x ∷ rest) → insert_state x xs ≡ xs ++ x ∷ []
+insert_state-next [] x rest rising = refl
+insert_state-next (y ∷ ys) x rest rising =
+    let greater : state_cmp x y ≡ Greater = cmp-turned x y (rising.0 x (In-append_right x ys (x ∷ rest) (inl refl))) in
+    ap (λ o. match_ordering o (x ∷ y ∷ ys) (y ∷ ys) (y ∷ insert_state x ys)) greater
+    ∙ ap (λ (zs : List (List ℕ)). y ∷ zs) (insert_state-next ys x rest rising.1)
+
+append-next : (xs : List (List ℕ)) (x : List ℕ) (rest : List (List ℕ)) → (xs ++ x ∷ []) ++ rest ≡ xs ++ x ∷ rest
+append-next [] x rest = refl
+append-next (y ∷ xs) x rest = ap (λ (zs : List (List ℕ)). y ∷ zs) (append-next xs x rest)
+
+pub filled-next : (l h : List ℕ) (xs : List (List ℕ)) (x : List ℕ) (whole rest more : List (List ℕ)) → xs ++ whole ≡ box l h → whole ≡ x ∷ rest
+    → more ≡ insert_state x xs → more ++ rest ≡ box l h
+filled-next l h xs x whole rest more is step made =
+    let from : xs ++ x ∷ rest ≡ box l h = ap (λ (ys : List (List ℕ)). xs ++ ys) (sym step) ∙ is in
+    let rising : IsRising (xs ++ x ∷ rest) = subst (λ (ys : List (List ℕ)). IsRising ys) (sym from) (box-rising l h) in
+    ap (λ (ys : List (List ℕ)). ys ++ rest) (made ∙ insert_state-next xs x rest rising) ∙ (append-next xs x rest ∙ from)
+
+length-middle : (xs : List (List ℕ)) (x : List ℕ) (rest : List (List ℕ)) → length xs < length (xs ++ x ∷ rest)
+length-middle [] x rest = omega arith
+length-middle (y ∷ xs) x rest = (let e = length-middle xs x rest in omega arith)
+
+pub filled-room : (l h : List ℕ) (xs : List (List ℕ)) (x : List ℕ) (rest : List (List ℕ)) (most : ℕ) → xs ++ x ∷ rest ≡ box l h → length (box l h) ≤ most
+    → length xs < most
+filled-room l h xs x rest most is room =
+    let whole : length (xs ++ x ∷ rest) ≡ length (box l h) = ap (λ (ys : List (List ℕ)). length ys) is in
+    let less = length-middle xs x rest in
+    omega arith
+
+-- what the two ways of being held say when they go on
+pub held-split : (most : ℕ) (b : Corners) (pool : Pooled) (m : ℕ) → pool.most ≡ m → m ≡ most → IsBelow b.lo b.hi → pool.states ≡ box b.lo b.hi → IsHeld most true b pool
+held-split most b pool m room is ordered filled = record {
+  room = room ∙ is;
+  empty = λ e. absurd (true≢false e);
+  some = λ e. (b.lo, subst (λ (xs : List (List ℕ)). In b.lo xs) (sym filled) (In-low b.lo b.hi ordered));
+}
+
+pub held-image : (most : ℕ) (split : Bool) (b : Corners) (old new : Pooled) (f : List ℕ → List ℕ) → IsHeld most split b old → split ≡ true → new.most ≡ old.most
+    → new.states ≡ image f old.states → IsHeld most split b new
+held-image most split b old new f held is same made = record {
+  room = same ∙ held.room;
+  empty = λ e. absurd (true≢false (sym is ∙ e));
+  some = λ e. (let member = held.some e in
+      (f member.0, subst (λ (xs : List (List ℕ)). In (f member.0) xs) (sym made) (In-image f member.0 old.states member.1)));
+}
+
+-- a step of a region that is held as a set
+pub stepped-split : (f : List ℕ → List ℕ) (old now : Regional) (most : ℕ) (split : Bool) (b : Corners) (xs ys : List (List ℕ))
+    → now.area ≡ settled old.most old.area → record { most = most; area = area_of split b xs } ≡ now → split ≡ true → ys ≡ image f xs
+    → area_of split b ys ≡ step old.most f old.area
+stepped-split f old now most split b xs ys settles held is made =
+    let flag : splits old.most old.area ≡ true =
+    ap (λ (a : Area). a.is_split) (sym settles) ∙ (ap (λ (r : Regional). r.area.is_split) (sym held) ∙ ap (λ s. (area_of s b xs).is_split) is) in
+    let states : old.area.states ≡ xs =
+    ap (λ (a : Area). a.states) (sym settles) ∙ states-split most split b xs now held is in
+    let image_is : image f old.area.states ≡ ys = ap (λ (zs : List (List ℕ)). image f zs) states ∙ sym made in
+    ap (λ s. area_of s b ys) is
+    ∙ sym (step-split old.most f old.area flag ∙ ap (λ (zs : List (List ℕ)). area_split zs) image_is)
+  where
+    area_split : List (List ℕ) → Area
+    area_split zs = record { is_split = true; states = zs }
+
+-- and of one that is held as a box
+pub stepped-box : (f : List ℕ → List ℕ) (old now : Regional) (most : ℕ) (split : Bool) (b made : Corners) (xs : List (List ℕ))
+    → now.area ≡ settled old.most old.area → record { most = most; area = area_of split b xs } ≡ now → split ≡ false → made ≡ corners (image f (box b.lo b.hi))
+    → area_of split made xs ≡ step old.most f old.area
+unfolding hull
+stepped-box f old now most split b made xs settles held is envelope =
+    let flag : splits old.most old.area ≡ false =
+    ap (λ (a : Area). a.is_split) (sym settles) ∙ (ap (λ (r : Regional). r.area.is_split) (sym held) ∙ ap (λ s. (area_of s b xs).is_split) is) in
+    let states : old.area.states ≡ box b.lo b.hi =
+    ap (λ (a : Area). a.states) (sym settles) ∙ states-unsplit most split b xs now held is in
+    let hull_is : hull (image f old.area.states) ≡ box made.lo made.hi =
+    ap (λ (zs : List (List ℕ)). hull (image f zs)) states ∙ ap (λ (c : Corners). box c.lo c.hi) (sym envelope) in
+    ap (λ s. area_of s made xs) is
+    ∙ sym (step-box old.most f old.area flag ∙ ap (λ (zs : List (List ℕ)). area_whole zs) hull_is)
+  where
+    area_whole : List (List ℕ) → Area
+    area_whole zs = record { is_split = false; states = zs }
+
+-- the greatest state of a box that the region has is within the capacities
+pub high-within : (caps : List ℕ) (old now : Regional) (most : ℕ) (split : Bool) (b : Corners) (xs : List (List ℕ)) → ((x : List ℕ) → In x old.area.states → IsBelow x caps)
+    → now.area ≡ settled old.most old.area → record { most = most; area = area_of split b xs } ≡ now → split ≡ false → IsBelow b.lo b.hi → IsBelow b.hi caps
+high-within caps old now most split b xs within settles held is ordered =
+    let states : old.area.states ≡ box b.lo b.hi =
+    ap (λ (a : Area). a.states) (sym settles) ∙ states-unsplit most split b xs now held is in
+    within b.hi (subst (λ (zs : List (List ℕ)). In b.hi zs) (sym states) (In-high b.lo b.hi ordered))
