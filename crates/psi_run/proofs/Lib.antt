@@ -6,3 +6,4 @@ pub mod Replies
 pub mod Written
 pub mod Running
 pub mod Entries
+pub mod Marks

@@ -10,11 +10,11 @@ use Rattle.psi_run.specs.declared.answer.Answer.{Answer}
 use Rattle.psi_run.specs.declared.answer.Answer.TheVariants.{Met, NotMet, Described, Usage, NetRefused, NetUnread, OutOfMemory}
 use Rattle.psi_run.specs.Command.{Command, command_of, sample, check}
 use Rattle.psi_run.specs.Reply.{Reply, reply_to, outcome_reply, sampled, check_reply}
-use Rattle.psi_run.specs.Answer.{ShelfSeen, answer_reply, IsNetUnread, IsAnswer}
+use Rattle.psi_run.specs.Answer.{ShelfSeen, answer_reply, IsNetUnread, IsText, IsAnswer}
 use Rattle.psi_run.specs.Call.{Call, SinkSeen, Grew, GrewByPart, IsUnchanged, HasFailed, reply_of, IsReplied, IsPrinted, IsReported, OutFaulted, EndsWithin, ErrFaulted, IsRun}
 use Rattle.psi_run.specs.Writing.{IsWhole, IsCut}
 use Rattle.psi_run.specs.Headline.{IsSampled}
-use Rattle.psi_run.specs.Checked.{IsChecked}
+use Rattle.psi_run.specs.Checked.{AreMarked, IsChecked}
 use Rattle.psi_run.proofs.Sampling.{sampled_printed}
 
 ok-not_err : {A B : Type 0} (r : Result A B) → IsOk r → IsErr r → ⊥
@@ -196,6 +196,16 @@ run_sampled call result run name seed stream bytes net is there accepted printed
     subst (λ o. IfSome o (λ (r : Reply). IsReplied result → Grew call.out r.out)) reply run.out in
     sampled_printed call.out.before call.out.after result net seed stream (same (printed-replied result printed)) (text (printed-replied result printed))
 
+-- an answer that is printed is a text
+text-printed : (answer : Answer) → IsPrinted (answer_reply answer).status → IsText answer
+text-printed (Met text) printed = tt
+text-printed (NotMet text) printed = tt
+text-printed (Described text) printed = tt
+text-printed (Usage place) printed = absurd printed
+text-printed (NetRefused refusal) printed = absurd printed
+text-printed NetUnread printed = absurd printed
+text-printed OutOfMemory printed = absurd printed
+
 -- the reply to a description of a network that is told and accepted
 reply-check : (command : Result Command ℕ) (told : List ℕ → Option (List ℕ)) (name bytes : List ℕ) (net : Network)
     → command ≡ Ok (check name) → told name ≡ Some bytes → network_of bytes ≡ Ok net → reply_to command told ≡ Some (check_reply (Ok net))
@@ -203,13 +213,15 @@ unfolding reply_to
 reply-check command told name bytes net is there accepted = rw (is, there, accepted) refl
 
 -- what is printed of a network that is told and accepted, where its description is asked for, is that
-pub run_checked : (call : Call) (result : Status) → IsRun call result → (name bytes : List ℕ) (net : Network)
+pub run_checked : (call : Call) (answer : Answer) (result : Status) → IsAnswer call.shelf (command_of call.words) answer → result ≡ (answer_reply answer).status
+    → IsRun call result → (name bytes : List ℕ) (net : Network)
     → command_of call.words ≡ Ok (check name) → call.shelf.told name ≡ Some bytes → network_of bytes ≡ Ok net → IsPrinted result
     → IsChecked call.out.before call.out.after result net
-run_checked call result run name bytes net is there accepted printed =
+run_checked call answer result answered own run name bytes net is there accepted printed =
     let reply : reply_of call ≡ Some (check_reply (Ok net)) = reply-check (command_of call.words) call.shelf.told name bytes net is there accepted in
     let same : IsReplied result → result ≡ (check_reply (Ok net)).status =
     subst (λ o. IfSome o (λ (r : Reply). IsReplied result → result ≡ r.status)) reply run.status in
     let text : IsReplied result → Grew call.out (check_reply (Ok net)).out =
     subst (λ o. IfSome o (λ (r : Reply). IsReplied result → Grew call.out r.out)) reply run.out in
-    record { status = same (printed-replied result printed); text = text (printed-replied result printed) }
+    let marks : AreMarked net = answered.marks name bytes net is there accepted (text-printed answer (subst IsPrinted own printed)) in
+    record { status = same (printed-replied result printed); text = text (printed-replied result printed); marks = marks }

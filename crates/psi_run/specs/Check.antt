@@ -2,7 +2,8 @@
 use Rattle.std.specs.Prelude.{ℕ, ◌-◌, List, ◌++◌, length, codes, is_none}
 use Rattle.std.specs.List.{flat_map, list_all}
 use Rattle.psi_rate.specs.Rates.{total, least_power}
-use Rattle.psi_net.specs.Network.{Network, caps_of, rates_of, upset_of, marks_of}
+use Rattle.psi_kinds.specs.Forms.{upset_of}
+use Rattle.psi_net.specs.Network.{Network, caps_of, rates_of, marks_of}
 use Rattle.psi_run.specs.Describing.{number_line, queue_line, event_line, monotone_line}
 
 -- the lines of the queues in their order

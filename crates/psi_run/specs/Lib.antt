@@ -3,10 +3,10 @@ pub mod Words
 pub mod Texts
 pub mod Describing
 pub mod Check
+pub mod Checked
 pub mod Status
 pub mod Reply
 pub mod Answer
 pub mod Call
 pub mod Writing
 pub mod Headline
-pub mod Checked

@@ -2,12 +2,13 @@
 
 ghost use Rattle.std.specs.Prelude.{◌≡◌, ◌++◌, OnOk, IfOk, Ok, is_none};
 ghost use Rattle.std.specs.List.{list_all};
-ghost use Rattle.psi_net.specs.Network.{marks_of};
+ghost use Rattle.psi_net.specs.Network.{Network, marks_of};
 ghost use Rattle.psi_net.specs.Reading.{network_of};
 ghost use Rattle.psi_run.specs.Command.{check};
 ghost use Rattle.psi_run.specs.Check.{queue_lines, event_lines, check_text};
 ghost use Rattle.psi_run.specs.Reply.{check_reply};
-ghost use Rattle.psi_run.specs.Answer.{MayReply, IsOfFile, IsAnswer};
+ghost use Rattle.psi_run.specs.Checked.{AreMarked};
+ghost use Rattle.psi_run.specs.Answer.{MayReply, IsOfFile, IsText, IsAnswer};
 
 use crate::answer::Answer;
 use crate::answering::MOST_NET_BYTES;
@@ -32,8 +33,10 @@ fn push_queues(text: &mut Vec<u8>, net: &Net) -> Result<(), AllocError>
 fn push_events(alloc: Global, text: &mut Vec<u8>, net: &Net) -> Result<bool, AllocError>
     ensures lines { OnOk result (text.new.items ≡ text.old.items ++ event_lines net.now) }
     ensures monotone { IfOk result (λ monotone. monotone ≡ list_all is_none (marks_of net.now)) }
+    ensures marks { OnOk result (AreMarked net.now) }
 {
     let system = net.system();
+    let _caps = system.caps();
     let mut monotone = true;
     for e in 0..net.events() {
         let name = net.event_name(e);
@@ -54,7 +57,8 @@ fn push_events(alloc: Global, text: &mut Vec<u8>, net: &Net) -> Result<bool, All
 // The description of a network.
 #[tactic(auto, unfolding(crate::specs::Check::check_text))]
 fn check_text(alloc: Global, net: &Net) -> Result<Vec<u8>, AllocError>
-    ensures { IfOk result (λ text. text.items ≡ check_text net.now) }
+    ensures text { IfOk result (λ text. text.items ≡ check_text net.now) }
+    ensures marks { OnOk result (AreMarked net.now) }
 {
     let system = net.system();
     let wheel = system.wheel();
@@ -75,6 +79,7 @@ fn check_text(alloc: Global, net: &Net) -> Result<Vec<u8>, AllocError>
 fn file_answer(alloc: Global, bytes: &[u8]) -> Answer
     ensures reply { MayReply result (check_reply (network_of bytes.now)) }
     ensures kind { IsOfFile result }
+    ensures marks { (net : Network) → network_of bytes.now ≡ Ok net → IsText result → AreMarked net }
 {
     match net_of(alloc, bytes) {
         Ok(net) => match check_text(alloc, &net) {

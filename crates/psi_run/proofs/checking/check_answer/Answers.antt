@@ -5,4 +5,5 @@ use Rattle.psi_run.proofs.checking.check_answer.Goals as goal
 
 pub returns-in-Ok : goal.returns-in-Ok
 returns-in-Ok g c = let may = rw c.as_slice.ensures.value at c.file_answer.ensures.reply in
-    check_answered MOST_NET_BYTES refl _ c.args.net.now c.file_answer.result c.in-Ok.bytes.items c.in-Ok.ensures.bytes may c.file_answer.ensures.kind
+    let marks = rw c.as_slice.ensures.value at c.file_answer.ensures.marks in
+    check_answered MOST_NET_BYTES refl _ c.args.net.now c.file_answer.result c.in-Ok.bytes.items c.in-Ok.ensures.bytes may c.file_answer.ensures.kind marks

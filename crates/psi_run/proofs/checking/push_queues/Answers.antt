@@ -1,5 +1,5 @@
-use Rattle.std.specs.Prelude.{◌≡◌, ℕ, ◌+◌, ◌<◌, List, ◌++◌, length, refl}
-use Rattle.std.proofs.Common.{ap, sym, ◌∙◌, arith}
+use Rattle.std.specs.Prelude.{ℕ, List}
+use Rattle.std.proofs.Common.{ap, ◌∙◌, arith}
 use Rattle.psi_net.specs.declared.entries.Queue.{Queue}
 use Rattle.psi_run.specs.Describing.{queue_line}
 use Rattle.psi_run.proofs.Entries.{entry_at, field_of, lines-more}

@@ -54,7 +54,7 @@ returns-in-Ok-clause-checked g c =
         faults_after = g.E.Sink.faults c.write_answer.new.err;
       };
     } in
-    run_checked call c.status.result
+    run_checked call c.answer_to-answer.result c.status.result c.answer_to-answer.ensures c.status.ensures
     (run_whole call c.answer_to-answer.result c.status.result c.answer_to-answer.ensures c.in-Ok.ensures c.status.ensures)
 
 pub returns-clause-call : goal.returns-clause-call
