@@ -5,3 +5,5 @@ pub mod Sampling
 pub mod Replies
 pub mod Written
 pub mod Running
+pub mod Entries
+pub mod Marks

@@ -7,13 +7,14 @@ use Rattle.psi_net.specs.Reading.{network_of}
 use Rattle.psi_run.specs.declared.status.Status.{Status}
 use Rattle.psi_run.specs.declared.status.Status.TheVariants as ending
 use Rattle.psi_run.specs.declared.answer.Answer.{Answer}
-use Rattle.psi_run.specs.declared.answer.Answer.TheVariants.{Met, NotMet, Usage, NetRefused, NetUnread, OutOfMemory}
-use Rattle.psi_run.specs.Command.{Command, command_of, sample}
-use Rattle.psi_run.specs.Reply.{Reply, reply_to, outcome_reply, sampled}
-use Rattle.psi_run.specs.Answer.{ShelfSeen, answer_reply, IsNetUnread, IsAnswer}
+use Rattle.psi_run.specs.declared.answer.Answer.TheVariants.{Met, NotMet, Described, Usage, NetRefused, NetUnread, OutOfMemory}
+use Rattle.psi_run.specs.Command.{Command, command_of, sample, check}
+use Rattle.psi_run.specs.Reply.{Reply, reply_to, outcome_reply, sampled, check_reply}
+use Rattle.psi_run.specs.Answer.{ShelfSeen, answer_reply, IsNetUnread, IsText, IsAnswer}
 use Rattle.psi_run.specs.Call.{Call, SinkSeen, Grew, GrewByPart, IsUnchanged, HasFailed, reply_of, IsReplied, IsPrinted, IsReported, OutFaulted, EndsWithin, ErrFaulted, IsRun}
 use Rattle.psi_run.specs.Writing.{IsWhole, IsCut}
 use Rattle.psi_run.specs.Headline.{IsSampled}
+use Rattle.psi_run.specs.Checked.{AreMarked, IsChecked}
 use Rattle.psi_run.proofs.Sampling.{sampled_printed}
 
 ok-not_err : {A B : Type 0} (r : Result A B) → IsOk r → IsErr r → ⊥
@@ -27,6 +28,7 @@ err-is (Err e) b is = refl
 -- words whose network file can't be read are a command
 unread-command : (shelf : ShelfSeen) (command : Result Command ℕ) → IsNetUnread shelf command → IsErr command → ⊥
 unread-command shelf (Ok (sample net seed stream)) unread err = absurd cc
+unread-command shelf (Ok (check net)) unread err = absurd cc
 unread-command shelf (Err place) unread err = unread
 
 -- what holds of the reply given holds of the reply that it is
@@ -69,6 +71,8 @@ whole-run : (call : Call) (answer : Answer) → IsAnswer call.shelf (command_of 
 whole-run call (Met text) is whole = replied-run call (answer_reply (Met text)) tt is.reply whole
     (λ e. absurd cc) (λ wrong. absurd (ok-not_err (command_of call.words) is.cause wrong)) (λ e. absurd cc) (λ e. absurd cc) (λ k. absurd k) (λ k. refl)
 whole-run call (NotMet text) is whole = replied-run call (answer_reply (NotMet text)) tt is.reply whole
+    (λ e. absurd cc) (λ wrong. absurd (ok-not_err (command_of call.words) is.cause wrong)) (λ e. absurd cc) (λ e. absurd cc) (λ k. absurd k) (λ k. refl)
+whole-run call (Described text) is whole = replied-run call (answer_reply (Described text)) tt is.reply whole
     (λ e. absurd cc) (λ wrong. absurd (ok-not_err (command_of call.words) is.cause wrong)) (λ e. absurd cc) (λ e. absurd cc) (λ k. absurd k) (λ k. refl)
 whole-run call (Usage place) is whole = replied-run call (answer_reply (Usage place)) tt is.reply whole
     (λ e. err-is (command_of call.words) place is.cause) (λ wrong. refl) (λ e. absurd cc) (λ e. absurd cc) (λ k. refl) (λ k. absurd k)
@@ -119,6 +123,7 @@ out-part : (call : Call) (answer : Answer) → IsAnswer call.shelf (command_of c
     → GrewByPart call.out (answer_reply answer).out → IfSome (reply_of call) (λ r. GrewByPart call.out r.out)
 out-part call (Met text) is part = of-same (λ r. GrewByPart call.out r.out) (reply_of call) (answer_reply (Met text)) is.reply part
 out-part call (NotMet text) is part = of-same (λ r. GrewByPart call.out r.out) (reply_of call) (answer_reply (NotMet text)) is.reply part
+out-part call (Described text) is part = of-same (λ r. GrewByPart call.out r.out) (reply_of call) (answer_reply (Described text)) is.reply part
 out-part call (Usage place) is part = of-each (λ r. GrewByPart call.out r.out) (reply_of call) (λ r. part-of_nothing call.out r.out part)
 out-part call (NetRefused refusal) is part = of-each (λ r. GrewByPart call.out r.out) (reply_of call) (λ r. part-of_nothing call.out r.out part)
 out-part call NetUnread is part = of-each (λ r. GrewByPart call.out r.out) (reply_of call) (λ r. part-of_nothing call.out r.out part)
@@ -129,6 +134,7 @@ err-part : (call : Call) (answer : Answer) → IsAnswer call.shelf (command_of c
     → GrewByPart call.err (answer_reply answer).err → IfSome (reply_of call) (EndsWithin call)
 err-part call (Met text) is part = of-same (EndsWithin call) (reply_of call) (answer_reply (Met text)) is.reply (inl part)
 err-part call (NotMet text) is part = of-same (EndsWithin call) (reply_of call) (answer_reply (NotMet text)) is.reply (inl part)
+err-part call (Described text) is part = of-same (EndsWithin call) (reply_of call) (answer_reply (Described text)) is.reply (inl part)
 err-part call (Usage place) is part = of-same (EndsWithin call) (reply_of call) (answer_reply (Usage place)) is.reply (inl part)
 err-part call (NetRefused refusal) is part = of-same (EndsWithin call) (reply_of call) (answer_reply (NetRefused refusal)) is.reply (inl part)
 err-part call NetUnread is part = of-each (EndsWithin call) (reply_of call) (λ r. inr (inl (is.cause, part)))
@@ -189,3 +195,33 @@ run_sampled call result run name seed stream bytes net is there accepted printed
     let text : IsReplied result → Grew call.out (outcome_reply (sampled net seed stream)).out =
     subst (λ o. IfSome o (λ (r : Reply). IsReplied result → Grew call.out r.out)) reply run.out in
     sampled_printed call.out.before call.out.after result net seed stream (same (printed-replied result printed)) (text (printed-replied result printed))
+
+-- an answer that is printed is a text
+text-printed : (answer : Answer) → IsPrinted (answer_reply answer).status → IsText answer
+text-printed (Met text) printed = tt
+text-printed (NotMet text) printed = tt
+text-printed (Described text) printed = tt
+text-printed (Usage place) printed = absurd printed
+text-printed (NetRefused refusal) printed = absurd printed
+text-printed NetUnread printed = absurd printed
+text-printed OutOfMemory printed = absurd printed
+
+-- the reply to a description of a network that is told and accepted
+reply-check : (command : Result Command ℕ) (told : List ℕ → Option (List ℕ)) (name bytes : List ℕ) (net : Network)
+    → command ≡ Ok (check name) → told name ≡ Some bytes → network_of bytes ≡ Ok net → reply_to command told ≡ Some (check_reply (Ok net))
+unfolding reply_to
+reply-check command told name bytes net is there accepted = rw (is, there, accepted) refl
+
+-- what is printed of a network that is told and accepted, where its description is asked for, is that
+pub run_checked : (call : Call) (answer : Answer) (result : Status) → IsAnswer call.shelf (command_of call.words) answer → result ≡ (answer_reply answer).status
+    → IsRun call result → (name bytes : List ℕ) (net : Network)
+    → command_of call.words ≡ Ok (check name) → call.shelf.told name ≡ Some bytes → network_of bytes ≡ Ok net → IsPrinted result
+    → IsChecked call.out.before call.out.after result net
+run_checked call answer result answered own run name bytes net is there accepted printed =
+    let reply : reply_of call ≡ Some (check_reply (Ok net)) = reply-check (command_of call.words) call.shelf.told name bytes net is there accepted in
+    let same : IsReplied result → result ≡ (check_reply (Ok net)).status =
+    subst (λ o. IfSome o (λ (r : Reply). IsReplied result → result ≡ r.status)) reply run.status in
+    let text : IsReplied result → Grew call.out (check_reply (Ok net)).out =
+    subst (λ o. IfSome o (λ (r : Reply). IsReplied result → Grew call.out r.out)) reply run.out in
+    let marks : AreMarked net = answered.marks name bytes net is there accepted (text-printed answer (subst IsPrinted own printed)) in
+    record { status = same (printed-replied result printed); text = text (printed-replied result printed); marks = marks }

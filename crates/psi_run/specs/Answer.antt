@@ -1,17 +1,21 @@
 -- What a call has to write once its work is done, and what that says of the call.
-use Rattle.std.specs.Prelude.{◌≡◌, ℕ, List, [], Option, Result, Ok, Err, IsOk, IfSome, string_bytes}
+use Rattle.std.specs.Prelude.{◌≡◌, ℕ, List, [], Option, Some, Result, Ok, Err, IsOk, IfSome, string_bytes}
 use Rattle.psi_io.specs.Counts.{Rose}
+use Rattle.psi_net.specs.Network.{Network}
+use Rattle.psi_net.specs.Reading.{network_of}
 use Rattle.psi_run.specs.declared.status.Status.TheVariants as status
 use Rattle.psi_run.specs.declared.answer.Answer.{Answer}
-use Rattle.psi_run.specs.declared.answer.Answer.TheVariants.{Met, NotMet, Usage, NetRefused, NetUnread, OutOfMemory}
-use Rattle.psi_run.specs.Command.{Command, sample}
+use Rattle.psi_run.specs.declared.answer.Answer.TheVariants.{Met, NotMet, Described, Usage, NetRefused, NetUnread, OutOfMemory}
+use Rattle.psi_run.specs.Command.{Command, sample, check}
 use Rattle.psi_run.specs.Texts.{unread_line, memory_line}
+use Rattle.psi_run.specs.Checked.{AreMarked}
 use Rattle.psi_run.specs.Reply.{Reply, usage_reply, refused_reply, reply_to}
 
 -- the status and the texts of an answer
 abbrev pub answer_reply : Answer → Reply
 answer_reply (Met text) = record { status = status.Done; out = string_bytes text; err = [] }
 answer_reply (NotMet text) = record { status = status.NotCoupled; out = string_bytes text; err = [] }
+answer_reply (Described text) = record { status = status.Done; out = text.items; err = [] }
 answer_reply (Usage place) = usage_reply place
 answer_reply (NetRefused refusal) = refused_reply refusal
 answer_reply NetUnread = record { status = status.ReadFault; out = []; err = unread_line }
@@ -42,18 +46,33 @@ IsUnread shelf name = Rose (shelf.faults_before name) (shelf.faults_after name)
 -- a read of the network file that the words name failed in the call
 abbrev pub IsNetUnread : ShelfSeen → Result Command ℕ → Type 0
 IsNetUnread shelf (Ok (sample net seed stream)) = IsUnread shelf net
+IsNetUnread shelf (Ok (check net)) = IsUnread shelf net
 IsNetUnread shelf (Err place) = ⊥
 
 -- the cause of each answer: the words and, for a failed read, the count of the name
 abbrev pub IsCaused : ShelfSeen → Result Command ℕ → Answer → Type 0
 IsCaused shelf command (Met text) = IsOk command
 IsCaused shelf command (NotMet text) = IsOk command
+IsCaused shelf command (Described text) = IsOk command
 IsCaused shelf command (Usage place) = command ≡ Err place
 IsCaused shelf command (NetRefused refusal) = IsOk command
 IsCaused shelf command NetUnread = IsNetUnread shelf command
 IsCaused shelf command OutOfMemory = IsOk command
 
--- the answer to a call: its reply where the names needed are told, and its cause
+-- the answer is a text for out
+abbrev pub IsText : Answer → Type 0
+IsText (Met text) = Unit {0}
+IsText (NotMet text) = Unit {0}
+IsText (Described text) = Unit {0}
+IsText answer = ⊥
+
+-- where the description of a network that is told and accepted is the answer, its marks are right
+abbrev pub HasMarks : ShelfSeen → Result Command ℕ → Answer → Type 0
+HasMarks shelf command answer = (name bytes : List ℕ) (net : Network)
+    → command ≡ Ok (check name) → shelf.told name ≡ Some bytes → network_of bytes ≡ Ok net → IsText answer → AreMarked net
+
+-- the answer to a call: its reply where the names needed are told, its cause, and the marks that it tells
 pub record IsAnswer (shelf : ShelfSeen) (command : Result Command ℕ) (answer : Answer) : Type 0 where
   pub reply : IfSome (reply_to command shelf.told) (λ reply. MayReply answer reply)
   pub cause : IsCaused shelf command answer
+  pub marks : HasMarks shelf command answer

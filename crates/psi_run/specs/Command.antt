@@ -8,6 +8,8 @@ use Rattle.std.specs.Str.Parse.{digits_value}
 pub data Command : Type 0 where
   -- a sample of the network in this file, drawn from the words of this seed and stream
   sample : (net : List ℕ) (seed stream : ℕ) → Command
+  -- the description of the network in this file
+  check : (net : List ℕ) → Command
 
 -- a decimal digit of ASCII
 abbrev pub is_digit : ℕ → Bool
@@ -54,8 +56,18 @@ abbrev pub sample_of_words : List (List ℕ) → Result Command ℕ
 sample_of_words [] = Err 2
 sample_of_words (net ∷ words) = sample_of_net net words
 
+-- a description has no third word
+abbrev pub check_of_net : List ℕ → List (List ℕ) → Result Command ℕ
+check_of_net net [] = Ok (check net)
+check_of_net net (word ∷ words) = Err 3
+
+-- its second word is the name of the network's file, any text
+abbrev pub check_of_words : List (List ℕ) → Result Command ℕ
+check_of_words [] = Err 2
+check_of_words (net ∷ words) = check_of_net net words
+
 -- the words are judged from the left: the offending one is the first place, counted from 1, at which a word is missing,
 -- isn't the command or the number that must stand there, or is one too many
 unfoldable pub command_of : List (List ℕ) → Result Command ℕ
 command_of [] = Err 1
-command_of (word ∷ words) = if bytes_eq word (codes "sample") then sample_of_words words else Err 1
+command_of (word ∷ words) = if bytes_eq word (codes "sample") then sample_of_words words else if bytes_eq word (codes "check") then check_of_words words else Err 1

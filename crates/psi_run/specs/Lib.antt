@@ -1,6 +1,9 @@
 pub mod Command
 pub mod Words
 pub mod Texts
+pub mod Describing
+pub mod Check
+pub mod Checked
 pub mod Status
 pub mod Reply
 pub mod Answer

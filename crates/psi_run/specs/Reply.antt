@@ -11,7 +11,8 @@ use Rattle.psi_net.specs.Reading.{network_of}
 use Rattle.psi_net.specs.declared.NetRefusal.{NetRefusal}
 use Rattle.psi_run.specs.declared.status.Status.{Status}
 use Rattle.psi_run.specs.declared.status.Status.TheVariants.{Done, NotCoupled, Usage, NetRefused}
-use Rattle.psi_run.specs.Command.{Command, sample}
+use Rattle.psi_run.specs.Command.{Command, sample, check}
+use Rattle.psi_run.specs.Check.{check_text}
 use Rattle.psi_run.specs.Texts.{outcome_text, usage_line, refused_line}
 
 -- a status with a text for out and a text for err
@@ -50,7 +51,13 @@ abbrev pub net_reply : ℕ → ℕ → Result Network NetRefusal → Reply
 net_reply seed stream (Ok net) = outcome_reply (sampled net seed stream)
 net_reply seed stream (Err refusal) = refused_reply refusal
 
+-- the description of a network, once its file is judged
+abbrev pub check_reply : Result Network NetRefusal → Reply
+check_reply (Ok net) = record { status = Done; out = check_text net; err = [] }
+check_reply (Err refusal) = refused_reply refusal
+
 -- the reply to a call, where the bytes of the names that it needs are told
 unfoldable pub reply_to : Result Command ℕ → (List ℕ → Option (List ℕ)) → Option Reply
 reply_to (Err place) told = Some (usage_reply place)
 reply_to (Ok (sample net seed stream)) told = option_map (λ bytes. net_reply seed stream (network_of bytes)) (told net)
+reply_to (Ok (check net)) told = option_map (λ bytes. check_reply (network_of bytes)) (told net)

@@ -12,6 +12,8 @@ pub(crate) enum Answer {
     Met(String),
     /// The text of a sample that isn't met, for out.
     NotMet(String),
+    /// The description of a network, for out.
+    Described(Vec<u8>),
     /// The place of the word that offends, counted from 1.
     Usage(u8),
     /// The network file is refused.
@@ -32,6 +34,7 @@ impl Answer {
         match self {
             Answer::Met(_) => Status::Done,
             Answer::NotMet(_) => Status::NotCoupled,
+            Answer::Described(_) => Status::Done,
             Answer::Usage(_) => Status::Usage,
             Answer::NetRefused(_) => Status::NetRefused,
             Answer::NetUnread => Status::ReadFault,

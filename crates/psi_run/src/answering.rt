@@ -8,6 +8,7 @@ ghost use Rattle.psi_run.specs.Reply.{sampled, outcome_reply, net_reply};
 ghost use Rattle.psi_run.specs.Answer.{MayReply, IsOfFile, IsAnswer};
 
 use crate::answer::Answer;
+use crate::checking::check_answer;
 use crate::texts::outcome_text;
 use crate::words::{Request, command_of};
 use psi_horizon::{OutOfMemory, Plan};
@@ -18,7 +19,7 @@ use psi_state::Outcome;
 use std::alloc::Global;
 
 /// The most bytes that a network file may have.
-const MOST_NET_BYTES: u32 = 1_048_576;
+pub(crate) const MOST_NET_BYTES: u32 = 1_048_576;
 
 // The sample of a network under the words of a seed and a stream.
 fn sample_of(alloc: Global, net: &Net, seed: u64, stream: u64) -> Result<Outcome, OutOfMemory>
@@ -86,6 +87,7 @@ pub(crate) fn answer_to<F: Shelf>(alloc: Global, words: &[String], shelf: &mut F
 {
     match command_of(words) {
         Ok(Request::Sample { net, seed, stream }) => sample_answer(alloc, shelf, net, seed, stream),
+        Ok(Request::Check { net }) => check_answer(alloc, shelf, net),
         Err(place) => Answer::Usage(place),
     }
 }

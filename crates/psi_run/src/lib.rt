@@ -7,6 +7,8 @@
 
 mod answer;
 mod answering;
+mod checking;
+mod describing;
 mod program;
 mod status;
 #[cfg(test)]

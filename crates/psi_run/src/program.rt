@@ -3,9 +3,10 @@
 ghost use Rattle.std.specs.Prelude.{◌≡◌, ℕ, List, Some, Ok, map, string_bytes};
 ghost use Rattle.psi_net.specs.Network.{Network};
 ghost use Rattle.psi_net.specs.Reading.{network_of};
-ghost use Rattle.psi_run.specs.Command.{command_of, sample};
+ghost use Rattle.psi_run.specs.Command.{command_of, sample, check};
 ghost use Rattle.psi_run.specs.Call.{IsRun, IsPrinted};
 ghost use Rattle.psi_run.specs.Headline.{IsSampled};
+ghost use Rattle.psi_run.specs.Checked.{IsChecked};
 
 use crate::answering::answer_to;
 use crate::status::Status;
@@ -17,6 +18,7 @@ use std::alloc::Global;
 ///
 /// | Words | What it does |
 /// |---|---|
+/// | `check NET` | prints the description of the network in the file NET |
 /// | `sample NET SEED STREAM` | prints the sample that this seed and stream draw of the network in the file NET |
 ///
 /// NET is any text. SEED and STREAM are `0` or digits without a leading zero, at most
@@ -26,6 +28,7 @@ use std::alloc::Global;
 ///
 /// | Status | Comes | Text |
 /// |---|---|---|
+/// | `Done` | the network is described | out: the description |
 /// | `Done` | the sample is met | out: `met T`, `state S` |
 /// | `NotCoupled` | the sample isn't met within N = 2 to the power `limit` steps | out: `not coupled within N` |
 /// | `Usage` | the words aren't a command | err: `psi: usage word N` |
@@ -33,6 +36,13 @@ use std::alloc::Global;
 /// | `ReadFault` | the shelf's count of NET rose in this call | err: `psi: cannot read network` |
 /// | `WriteFault` | the count of out or of err rose in this call | a prefix of the text |
 /// | `OutOfMemory` | there was not enough memory | err: `psi: out of memory` |
+///
+/// The description has, in this order: `queues Q`; for each queue `queue NAME CAPACITY SERVERS`; `events E`,
+/// the events after their expansion over servers; for each of these `event NAME K RATE monotone`, K being
+/// the number of its server, or, where the event doesn't keep the componentwise order of states,
+/// `event NAME K RATE upset X Y` with two states whose order it breaks; `modulus M`, the least power of two
+/// that isn't below the total rate; `idle N`, the numbers below M that no event has; `limit H`; `split L`;
+/// and `monotone yes` where every event is monotone, `monotone no` otherwise.
 ///
 /// Each line ends with a line feed. S is the state's numbers in the queues' order, joined by commas. The
 /// sample is that of coupling from the past (Propp and Wilson 1996) by regions of states (Bušić, Gaujal and
@@ -62,6 +72,12 @@ pub fn run<F: Shelf, O: Sink, E: Sink>(
         → command_of (map string_bytes words.now) ≡ Ok (sample name seed stream) → F.told shelf.old name ≡ Some bytes
         → network_of bytes ≡ Ok net → IsPrinted result
         → IsSampled (O.held out.old) (O.held out.new) result net seed stream }
+
+    // And where a description is asked for, it is the network's.
+    ensures checked { (name : List ℕ) (bytes : List ℕ) (net : Network)
+        → command_of (map string_bytes words.now) ≡ Ok (check name) → F.told shelf.old name ≡ Some bytes
+        → network_of bytes ≡ Ok net → IsPrinted result
+        → IsChecked (O.held out.old) (O.held out.new) result net }
 {
     let answer = answer_to(alloc, words, shelf);
     match write_answer(&answer, out, err) {

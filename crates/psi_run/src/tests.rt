@@ -269,3 +269,104 @@ fn err_fails_within_its_line(rt: HostRuntime) -> Result<(), Fail> {
     }
     Ok(())
 }
+
+// One queue with room for three customers and two servers, an arrival and a service.
+const TWO_SERVERS: &str = "version = 1
+[[queue]]
+name = \"a\"
+capacity = 3
+servers = 2
+[[event]]
+name = \"in\"
+kind = \"arrival\"
+rate = 1
+to = [\"a\"]
+[[event]]
+name = \"out\"
+kind = \"service\"
+rate = 1
+from = \"a\"
+";
+
+const TWO_SERVERS_DESCRIBED: &str = "queues 1
+queue a 3 2
+events 3
+event in 1 1 monotone
+event out 1 1 monotone
+event out 2 1 monotone
+modulus 4
+idle 1
+limit 18
+split 256
+monotone yes
+";
+
+// Two queues; a customer joins the one whose index is the lesser, and the index of the first falls.
+const FALLING_INDEX: &str = "version = 1
+[[queue]]
+name = \"a\"
+capacity = 2
+[[queue]]
+name = \"b\"
+capacity = 2
+[[event]]
+name = \"in\"
+kind = \"index\"
+rate = 1
+to = [\"a\", \"b\"]
+table = [[5, 0], [3, 3]]
+[[event]]
+name = \"oa\"
+kind = \"service\"
+rate = 1
+from = \"a\"
+[[event]]
+name = \"ob\"
+kind = \"service\"
+rate = 1
+from = \"b\"
+";
+
+const FALLING_INDEX_DESCRIBED: &str = "queues 2
+queue a 2 1
+queue b 2 1
+events 3
+event in 1 1 upset 0,0 1,0
+event oa 1 1 monotone
+event ob 1 1 monotone
+modulus 4
+idle 1
+limit 18
+split 256
+monotone no
+";
+
+// With ample memory a description is printed.
+#[test]
+fn networks_are_described(rt: HostRuntime) -> Result<(), Fail> {
+    let alloc = rt.alloc();
+    for (net, text) in [
+        (TWO_SERVERS, TWO_SERVERS_DESCRIBED),
+        (FALLING_INDEX, FALLING_INDEX_DESCRIBED),
+    ] {
+        let shelf = shelf_with(alloc, net.as_bytes(), 0)?;
+        let seen = called(
+            alloc,
+            &["check", "net.toml"],
+            shelf,
+            wide(alloc)?,
+            wide(alloc)?,
+        )?;
+        assert_seen(&rt, &seen, Status::Done, text, "");
+    }
+    let shelf = shelf_with(alloc, FIRST.as_bytes(), 0)?;
+    let seen = called(
+        alloc,
+        &["check", "a", "b"],
+        shelf,
+        wide(alloc)?,
+        wide(alloc)?,
+    )?;
+    assert_seen(&rt, &seen, Status::Usage, "", "psi: usage word 3\n");
+    Ok(())
+}

@@ -7,9 +7,9 @@ use psi_state::{Outcome, State};
 use std::alloc::{AllocError, Global};
 use std::fmt::Write;
 
-// Appends a state's numbers in the queues' order, joined by commas.
+/// Appends a state's numbers in the queues' order, joined by commas.
 #[tactic(auto, using(crate::proofs::Listing::state_text_first))]
-fn push_state(text: &mut String, state: &State) -> Result<(), AllocError>
+pub(crate) fn push_state(text: &mut String, state: &State) -> Result<(), AllocError>
     ensures { OnOk result (string_bytes text.new ≡ string_bytes text.old ++ state_text state.now) }
 {
     let queues = state.len();

@@ -2,7 +2,7 @@
 
 ghost use Rattle.std.specs.Prelude.{◌≡◌, map, codes, string_bytes, Option};
 ghost use Rattle.std.specs.List.{list_all};
-ghost use Rattle.psi_run.specs.Command.{is_digit, is_numeral, greatest_number, number_up_to, sample_of_words, command_of};
+ghost use Rattle.psi_run.specs.Command.{is_digit, is_numeral, greatest_number, number_up_to, sample_of_words, check_of_words, command_of};
 ghost use Rattle.psi_run.specs.Words.{GivesCommand};
 
 /// What the words ask for.
@@ -16,6 +16,11 @@ pub(crate) enum Request<'w> {
         seed: u64,
         /// The number of the stream of random words.
         stream: u64,
+    },
+    /// The description of the network in the file of this name.
+    Check {
+        /// The name of the network file.
+        net: &'w str,
     },
 }
 
@@ -79,6 +84,17 @@ fn sample_of(words: &[String]) -> Result<Request<'_>, u8>
     })
 }
 
+// The description that the words after `check` ask for, or the place of the word that offends.
+fn check_of(words: &[String]) -> Result<Request<'_>, u8>
+    ensures { GivesCommand result (check_of_words (map string_bytes words.now)) }
+{
+    match words {
+        [] => Err(2),
+        [net] => Ok(Request::Check { net: net.as_str() }),
+        [_, _, ..] => Err(3),
+    }
+}
+
 /// The command of the words, or the place of the word that offends, counted from 1. It takes no memory.
 #[tactic(auto, unfolding(crate::specs::Command::command_of))]
 pub(crate) fn command_of(words: &[String]) -> Result<Request<'_>, u8>
@@ -86,6 +102,7 @@ pub(crate) fn command_of(words: &[String]) -> Result<Request<'_>, u8>
 {
     match words {
         [word, rest @ ..] if word.as_str() == "sample" => sample_of(rest),
+        [word, rest @ ..] if word.as_str() == "check" => check_of(rest),
         _ => Err(1),
     }
 }

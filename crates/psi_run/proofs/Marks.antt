@@ -1,0 +1,59 @@
+-- The mark of an event that does what a kind does is right for the kind.
+use Rattle.std.specs.Prelude.{◌≡◌, ℕ, zero, suc, ◌<◌, List, [], ◌∷◌, length, map, Option, Some, None, slice_get, slice_index_or}
+use Rattle.std.proofs.Common.{ap, sym, ◌∙◌, subst}
+use Rattle.std.proofs.lemmas.Option.{slice_get_within}
+use Rattle.psi_state.specs.State.{IsBelow}
+use Rattle.psi_state.specs.Boxes.{below-through}
+use Rattle.psi_event.specs.Law.{ShowsUpset}
+use Rattle.psi_rate.specs.Composition.{Parts}
+use Rattle.psi_rate.specs.System.{IsSystem}
+use Rattle.psi_kinds.specs.Kinds.{do_kind, Does}
+use Rattle.psi_kinds.specs.Forms.{upset_of}
+use Rattle.psi_net.specs.Made.{EachDoes}
+use Rattle.psi_net.specs.declared.entries.NamedEvent.{NamedEvent}
+use Rattle.psi_kinds.specs.declared.Kind.{Kind}
+
+-- an entry of a list is what is read at its place, whatever stands for what is past the end
+pub slice_index_or-at : {A : Type 0} (xs : List A) (i : ℕ) (x d : A) → slice_get xs i ≡ Some x → slice_index_or xs i d ≡ x
+slice_index_or-at [] i x d at = absurd cc
+slice_index_or-at (y ∷ xs) zero x d at = cc
+slice_index_or-at (y ∷ xs) (suc i) x d at = slice_index_or-at xs i x d at
+
+-- one after the other, each does what its kind does: so at a place
+pub does-at : {E : Type 0} (function : E → List ℕ → List ℕ) (caps : List ℕ) (made : List E) (events : List NamedEvent) (i : ℕ) (m : E) (e : NamedEvent)
+    → EachDoes caps (map function made) events → slice_get made i ≡ Some m → slice_get events i ≡ Some e → Does caps (function m) e.kind
+does-at function caps [] events i m e each first second = absurd cc
+does-at function caps (n ∷ made) [] i m e each first second = absurd cc
+does-at function caps (n ∷ made) (g ∷ events) zero m e each first second =
+    let made_is : n ≡ m = cc in
+    let event_is : g ≡ e = cc in
+    subst (λ (v : NamedEvent). Does caps (function m) v.kind) event_is (subst (λ v. Does caps (function v) g.kind) made_is each.0)
+does-at function caps (n ∷ made) (g ∷ events) (suc i) m e each first second = does-at function caps made events i m e each.1 first second
+
+-- functions that are the same on the states within the capacities have the same mark
+pub shows-does : (caps : List ℕ) (f : List ℕ → List ℕ) (kind : Kind) (mark : Option (List ℕ × List ℕ)) → Does caps f kind → ShowsUpset caps f mark → ShowsUpset caps (do_kind caps kind) mark
+shows-does caps f kind None does shown = record {
+  each = λ x y within ordered.
+      subst (λ (z : List ℕ). IsBelow z (do_kind caps kind y)) (does.each x (below-through x y caps ordered within))
+      (subst (λ (z : List ℕ). IsBelow (f x) z) (does.each y within) (shown.each x y within ordered));
+}
+shows-does caps f kind (Some pair) does shown = record {
+  within = shown.within;
+  ordered = shown.ordered;
+  upset = λ kept. shown.upset (subst (λ (z : List ℕ). IsBelow z (f pair.1)) (sym (does.each pair.0 (below-through pair.0 pair.1 caps shown.ordered shown.within)))
+      (subst (λ (z : List ℕ). IsBelow (do_kind caps kind pair.0) z) (sym (does.each pair.1 shown.within)) kept));
+}
+
+-- so the mark of an event of a system that is made of a network is right for the network's event
+pub mark-right : {E : Type 0} (capacities : E → List ℕ) (function : E → List ℕ → List ℕ) (caps : List ℕ) (system : Parts E) (events : List NamedEvent) (i : ℕ) (m : E) (e d : NamedEvent)
+    (mark : Option (List ℕ × List ℕ)) → IsSystem capacities system → system.caps ≡ caps → EachDoes caps (map function system.events) events
+    → slice_get system.events i ≡ Some m → slice_get events i ≡ Some e → ShowsUpset (capacities m) (function m) mark → mark ≡ upset_of caps e.kind
+    → ShowsUpset caps (do_kind caps (slice_index_or events i d).kind) (upset_of caps (slice_index_or events i d).kind)
+mark-right capacities function caps system events i m e d mark fit caps_is each first second shown is =
+    let within : i < length system.events = slice_get_within system.events i m first in
+    let read : slice_index_or system.events i m ≡ m = slice_index_or-at system.events i m m first in
+    let fits : capacities m ≡ caps = ap capacities (sym read) ∙ fit.same_caps i m within ∙ caps_is in
+    let here : ShowsUpset caps (function m) (upset_of caps e.kind) =
+    subst (λ o. ShowsUpset caps (function m) o) is (subst (λ (x : List ℕ). ShowsUpset x (function m) mark) fits shown) in
+    subst (λ (v : NamedEvent). ShowsUpset caps (do_kind caps v.kind) (upset_of caps v.kind)) (sym (slice_index_or-at events i e d second))
+    (shows-does caps (function m) e.kind (upset_of caps e.kind) (does-at function caps system.events events i m e each first second) here)
