@@ -15,7 +15,7 @@ use Rattle.psi_run.specs.Call.{Call, SinkSeen, Grew, GrewByPart, IsUnchanged, Ha
 use Rattle.psi_run.specs.Writing.{IsWhole, IsCut}
 use Rattle.psi_run.specs.Headline.{IsSampled}
 use Rattle.psi_run.specs.Checked.{AreMarked, IsChecked}
-use Rattle.psi_run.proofs.Sampling.{sampled_printed}
+use Rattle.psi_run.proofs.Sampling.{accepted_kept, sampled_printed}
 
 ok-not_err : {A B : Type 0} (r : Result A B) → IsOk r → IsErr r → ⊥
 ok-not_err (Ok a) ok err = absurd cc
@@ -194,7 +194,7 @@ run_sampled call result run name seed stream bytes net is there accepted printed
     subst (λ o. IfSome o (λ (r : Reply). IsReplied result → result ≡ r.status)) reply run.status in
     let text : IsReplied result → Grew call.out (outcome_reply (sampled net seed stream)).out =
     subst (λ o. IfSome o (λ (r : Reply). IsReplied result → Grew call.out r.out)) reply run.out in
-    sampled_printed call.out.before call.out.after result net seed stream (same (printed-replied result printed)) (text (printed-replied result printed))
+    sampled_printed call.out.before call.out.after result net seed stream (accepted_kept bytes net accepted) (same (printed-replied result printed)) (text (printed-replied result printed))
 
 -- an answer that is printed is a text
 text-printed : (answer : Answer) → IsPrinted (answer_reply answer).status → IsText answer

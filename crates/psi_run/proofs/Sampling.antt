@@ -1,40 +1,109 @@
 -- The sample of a network.
-use Rattle.std.specs.Prelude.{◌≡◌, ℕ, zero, suc, ◌+◌, ◌*◌, ◌^◌, ◌≤◌, List, map, All, Option, Some, None, refl}
-use Rattle.std.proofs.Common.{ap, ◌∙◌, subst, arith}
+use Rattle.std.specs.Prelude.{◌≡◌, ℕ, zero, suc, ◌+◌, ◌*◌, ◌^◌, ◌<◌, ◌≤◌, List, [], ◌∷◌, length, map, slice_index_or, All, Option, Some, None, Ok, refl}
+use Rattle.std.proofs.Common.{ap, sym, subst, arith}
+use Rattle.std.proofs.lemmas.List.Elements.{All-map}
 use Rattle.psi_state.specs.declared.Outcome.{Outcome}
 use Rattle.psi_state.specs.declared.Outcome.TheVariants.{Met, NotMet}
 use Rattle.psi_past.specs.SeedWord.{seed_word}
 use Rattle.psi_event.specs.Law.{IsClosed, IsMonotone}
-use Rattle.psi_event.specs.Single.{joined-closed, left-closed}
 use Rattle.psi_rate.specs.Powers.{pow-double}
 use Rattle.psi_rate.specs.Composition.{Parts, function_at, functions_of, AreClosed, AreMonotone}
 use Rattle.psi_rate.specs.Doubling.{answer_or, first_from, first_answer, HasNone, IsFirst, has_none-next}
-use Rattle.psi_rate.specs.Outcomes.{outcome_of, outcome_within, IsOutcome, functions-closed, function_at-monotone}
+use Rattle.psi_rate.specs.Outcomes.{outcome_of, outcome_within, IsOutcome, function_at-closed, function_at-monotone}
 use Rattle.psi_horizon.specs.Runs.{ending_at, outcome-reached, outcome-monotone, outcome-exact}
+use Rattle.psi_horizon.specs.Agreeing.{Agree, AreAlike, agree-closed, function_at-agree, outcome_within-agree}
+use Rattle.psi_kinds.specs.Kinds.{Does, do_kind}
+use Rattle.psi_kinds.proofs.Closing.{kind-closed}
 use Rattle.psi_net.specs.Network as net
-use Rattle.psi_net.specs.Network.{Network, done, caps_of, rates_of}
-use Rattle.psi_net.specs.declared.entries.Event.{Event}
-use Rattle.psi_net.specs.declared.entries.Kind.{Kind}
-use Rattle.psi_net.specs.declared.entries.Kind.TheVariants.{Arrival, Service}
+use Rattle.psi_net.specs.Network.{Network, caps_of, rates_of}
+use Rattle.psi_net.specs.Kept.{IsNetwork, IsAccepted}
+use Rattle.psi_net.specs.Made.{EachDoes}
+use Rattle.psi_net.specs.declared.entries.NamedEvent.{NamedEvent}
+use Rattle.psi_net.specs.Reading.{file_text, text_network, network_of}
+use Rattle.psi_net.proofs.Readings.{bind_ok}
+use Rattle.psi_net.proofs.KeptQueues.{capacities_kept}
+use Rattle.psi_net.proofs.KeptNetwork.{network_kept}
 use Rattle.psi_io.specs.Sink.{appended}
 use Rattle.psi_run.specs.declared.status.Status.{Status}
 use Rattle.psi_run.specs.Texts.{outcome_text, IsWithinLimit}
 use Rattle.psi_run.specs.Reply.{run_of, sampled, outcome_status}
 use Rattle.psi_run.specs.Headline.{IsSampled}
 
--- the sample of a system that is made of the network is the network's
-pub sampled_by : {E : Type 0} (function : E → List ℕ → List ℕ) (system : Parts E) (n : Network) (seed stream : ℕ)
-    → map function system.events ≡ net.functions_of n → system.rates ≡ rates_of n → system.caps ≡ caps_of n → system.limit ≡ n.limit → system.split ≡ n.split
-    → outcome_within (ending_at system.split (functions_of function system (seed_word seed stream)) system.caps) system.limit ≡ sampled n seed stream
+-- a network that is accepted can be sampled
+pub accepted_kept : (bytes : List ℕ) (n : Network) → network_of bytes ≡ Ok n → IsNetwork n
+unfolding network_of
+accepted_kept bytes n is =
+    let text = bind_ok (file_text bytes) text_network n is in
+    network_kept text.0 n text.2
+
+-- what the events of a network do, one after the other
+abbrev done_by : List ℕ → List NamedEvent → List (List ℕ → List ℕ)
+done_by caps events = map (λ e. do_kind caps e.kind) events
+
+-- functions that do what the network's kinds do agree with them on the states
+each-alike : (caps : List ℕ) (fs : List (List ℕ → List ℕ)) (events : List NamedEvent) → EachDoes caps fs events → AreAlike caps (done_by caps events) fs
+each-alike caps [] [] does = record { same_length = refl; each = λ k small. absurd (omega arith) }
+each-alike caps [] (event ∷ events) does = absurd does
+each-alike caps (f ∷ fs) [] does = absurd does
+each-alike caps (f ∷ fs) (event ∷ events) does =
+    let rest = each-alike caps fs events does.1 in
+    record { same_length = ap suc rest.same_length; each = λ k small. one caps f fs event events does.0 rest k small }
+  where
+    one : (caps : List ℕ) (f : List ℕ → List ℕ) (fs : List (List ℕ → List ℕ)) (event : NamedEvent) (events : List NamedEvent) → Does caps f event.kind
+        → AreAlike caps (done_by caps events) fs → (k : ℕ) → k < suc (length (done_by caps events))
+        → Agree caps (slice_index_or (do_kind caps event.kind ∷ done_by caps events) k (λ x. x)) (slice_index_or (f ∷ fs) k (λ x. x))
+    one caps f fs event events does rest zero small = record { each = λ x within. sym (does.each x within) }
+    one caps f fs event events does rest (suc k) small = rest.each k (omega arith)
+
+-- each event of a network makes states of states
+done-closed : (n : Network) → IsNetwork n → All (λ f. IsClosed (caps_of n) f) (net.functions_of n)
+done-closed n kept =
+    All-map (IsClosed (caps_of n)) (λ e. do_kind (caps_of n) e.kind) n.events
+    (λ k d small. (let is : IsAccepted (caps_of n) (slice_index_or n.events k d).kind = kept.kinds k d small in
+    kind-closed (caps_of n) (slice_index_or n.events k d).kind (capacities_kept n.queues kept.queues) is.named is.accepted))
+
+run_of-closed : (n : Network) (seed stream : ℕ) → IsNetwork n → AreClosed (caps_of n) (run_of n seed stream)
+unfolding run_of
+run_of-closed n seed stream kept = function_at-closed (caps_of n) (net.functions_of n) (rates_of n) (seed_word seed stream) (done-closed n kept)
+
+-- functions that do what the kinds do make states of states too
+alike-closed : (n : Network) (seed stream : ℕ) (fs : List (List ℕ → List ℕ)) → IsNetwork n → EachDoes (caps_of n) fs n.events
+    → AreClosed (caps_of n) (function_at fs (rates_of n) (seed_word seed stream))
+unfolding run_of
+alike-closed n seed stream fs kept does = record {
+  each = λ t.
+      agree-closed (caps_of n) (run_of n seed stream t) (function_at fs (rates_of n) (seed_word seed stream) t)
+      (function_at-agree (caps_of n) (net.functions_of n) fs (rates_of n) (seed_word seed stream) (each-alike (caps_of n) fs n.events does) t)
+      ((run_of-closed n seed stream kept).each t);
+}
+
+same-agree : (caps : List ℕ) (f g : List ℕ → List ℕ) → Agree caps f g → Agree caps g f
+same-agree caps f g agree = record { each = λ x within. sym (agree.each x within) }
+
+sampled-by : (n : Network) (seed stream : ℕ) (fs : List (List ℕ → List ℕ)) (o : Outcome) → IsNetwork n → EachDoes (caps_of n) fs n.events
+    → IsOutcome (ending_at n.split (function_at fs (rates_of n) (seed_word seed stream)) (caps_of n)) n.limit o → o ≡ sampled n seed stream
 unfolding run_of sampled
-sampled_by function system n seed stream functions rates caps limit split =
-    let at : List (List ℕ → List ℕ) → List ℕ → List ℕ → ℕ → ℕ → Outcome =
-    λ fs rs cs l k. outcome_within (ending_at k (function_at fs rs (seed_word seed stream)) cs) l in
-    ap (λ fs. at fs system.rates system.caps system.limit system.split) functions
-    ∙ ap (λ rs. at (net.functions_of n) rs system.caps system.limit system.split) rates
-    ∙ ap (λ cs. at (net.functions_of n) (rates_of n) cs system.limit system.split) caps
-    ∙ ap (λ l. at (net.functions_of n) (rates_of n) (caps_of n) l system.split) limit
-    ∙ ap (λ k. at (net.functions_of n) (rates_of n) (caps_of n) n.limit k) split
+sampled-by n seed stream fs o kept does is =
+    outcome_within-agree n.split (caps_of n) (function_at fs (rates_of n) (seed_word seed stream)) (run_of n seed stream) n.limit o
+    (alike-closed n seed stream fs kept does)
+    (λ t. same-agree (caps_of n) (run_of n seed stream t) (function_at fs (rates_of n) (seed_word seed stream) t)
+    (function_at-agree (caps_of n) (net.functions_of n) fs (rates_of n) (seed_word seed stream) (each-alike (caps_of n) fs n.events does) t))
+    is
+
+-- the sample of a system that is made of the network is the network's
+pub sampled_by : {E : Type 0} (function : E → List ℕ → List ℕ) (system : Parts E) (n : Network) (seed stream : ℕ) (o : Outcome)
+    → IsNetwork n → EachDoes (caps_of n) (map function system.events) n.events
+    → system.rates ≡ rates_of n → system.caps ≡ caps_of n → system.limit ≡ n.limit → system.split ≡ n.split
+    → IsOutcome (ending_at system.split (functions_of function system (seed_word seed stream)) system.caps) system.limit o
+    → o ≡ sampled n seed stream
+sampled_by function system n seed stream o kept does rates caps limit split is =
+    let At : List ℕ → List ℕ → ℕ → ℕ → Type 0 =
+    λ rs cs l k. IsOutcome (ending_at k (function_at (map function system.events) rs (seed_word seed stream)) cs) l o in
+    sampled-by n seed stream (map function system.events) o kept does
+    (subst (λ k. At (rates_of n) (caps_of n) n.limit k) split
+    (subst (λ l. At (rates_of n) (caps_of n) l system.split) limit
+    (subst (λ cs. At (rates_of n) cs system.limit system.split) caps
+    (subst (λ rs. At rs system.caps system.limit system.split) rates is))))
 
 -- an outcome that isn't met tells the limit
 pub within_limit : (run : ℕ → Option (List ℕ)) (limit : ℕ) (outcome : Outcome) → limit ≤ 22 → IsOutcome run limit outcome → IsWithinLimit outcome
@@ -73,18 +142,6 @@ outcome_within-is run limit =
     outcome_of-is run limit (first_from run limit 1)
     (first_from-tells run limit 0 1 limit (omega arith) refl (record { each = λ k small. absurd (omega arith) }))
 
--- each event of a network makes states of states
-done-closed : (caps : List ℕ) (kind : Kind) → IsClosed caps (done caps kind)
-done-closed caps (Arrival to) = joined-closed caps to
-done-closed caps (Service from server) = left-closed caps from server
-
-run_of-closed : (n : Network) (seed stream : ℕ) → AreClosed (caps_of n) (run_of n seed stream)
-unfolding run_of
-run_of-closed n seed stream =
-    functions-closed {E = Event} (λ event. caps_of n) (λ event. done (caps_of n) event.kind)
-    (record { caps = caps_of n; events = n.events; rates = rates_of n; limit = n.limit; split = n.split })
-    (seed_word seed stream) (λ event. done-closed (caps_of n) event.kind) (λ k d small. refl)
-
 sampled-least : (n : Network) (seed stream : ℕ) → IsOutcome (ending_at n.split (run_of n seed stream) (caps_of n)) n.limit (sampled n seed stream)
 unfolding sampled
 sampled-least n seed stream = outcome_within-is (ending_at n.split (run_of n seed stream) (caps_of n)) n.limit
@@ -94,14 +151,14 @@ unfolding run_of
 run_of-monotone n seed stream monotone = function_at-monotone (caps_of n) (net.functions_of n) (rates_of n) (seed_word seed stream) monotone
 
 -- what is printed of the sample is a sample's text
-pub sampled_printed : (before after : Option (List ℕ)) (result : Status) (n : Network) (seed stream : ℕ)
+pub sampled_printed : (before after : Option (List ℕ)) (result : Status) (n : Network) (seed stream : ℕ) → IsNetwork n
     → result ≡ outcome_status (sampled n seed stream) → after ≡ appended before (outcome_text (sampled n seed stream))
     → IsSampled before after result n seed stream
-sampled_printed before after result n seed stream same grew =
+sampled_printed before after result n seed stream kept same grew =
     let outcome = sampled n seed stream in
     let f = run_of n seed stream in
     let caps = caps_of n in
-    let closed = run_of-closed n seed stream in
+    let closed = run_of-closed n seed stream kept in
     let least = sampled-least n seed stream in
     record {
       outcome = outcome;

@@ -30,7 +30,24 @@ usage_line place = codes "psi: usage word " ++ decimal place ++ codes "\n"
 -- the name of a refusal's code
 abbrev pub refusal_name : ℕ → List ℕ
 refusal_name code =
-    if code == 0 then codes "TooLong" else if code == 1 then codes "NotToml" else codes "NotBuilt"
+    if code == 0 then codes "TooLong"
+    else if code == 1 then codes "NotToml"
+    else if code == 2 then codes "Version"
+    else if code == 3 then codes "UnknownKey"
+    else if code == 4 then codes "MissingKey"
+    else if code == 5 then codes "WrongType"
+    else if code == 6 then codes "OutOfRange"
+    else if code == 7 then codes "TooMany"
+    else if code == 8 then codes "DuplicateName"
+    else if code == 9 then codes "UnknownQueue"
+    else if code == 10 then codes "UnknownKind"
+    else if code == 11 then codes "SelfTarget"
+    else if code == 12 then codes "RepeatedTarget"
+    else if code == 13 then codes "TableLength"
+    else if code == 14 then codes "BatchTooLarge"
+    else if code == 15 then codes "NoEvents"
+    else if code == 16 then codes "TotalTooLarge"
+    else codes "EmptyGuard"
 
 -- the part of the file that a refusal names
 abbrev pub section_name : Section → List ℕ

@@ -26,6 +26,8 @@ fn sample_of(alloc: Global, net: &Net, seed: u64, stream: u64) -> Result<Outcome
     ensures value { IfOk result (λ outcome. outcome ≡ sampled net.now seed stream) }
     ensures limit { IfOk result IsWithinLimit }
 {
+    // The network is one that can be sampled.
+    let _queues = net.queues();
     let system = net.system();
     let _limit = system.limit();
     let mut plan = Plan::new(alloc, system, SeedPast::new(seed, stream))?;

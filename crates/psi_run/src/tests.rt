@@ -141,12 +141,50 @@ fn networks_are_sampled(rt: HostRuntime) -> Result<(), Fail> {
     Ok(())
 }
 
+// One queue, and a guarded event whose guard no number of customers meets.
+const EMPTY_GUARD: &str = "version = 2
+[[queue]]
+name = \"a\"
+capacity = 2
+[[event]]
+name = \"never\"
+kind = \"guarded\"
+rate = 1
+[[event.part]]
+queue = \"a\"
+least = 2
+most = 1
+";
+
 #[test]
 fn network_files_are_refused(rt: HostRuntime) -> Result<(), Fail> {
     let alloc = rt.alloc();
     let long = vec![in alloc; b'#'; 1_048_577]?;
     let cases = [
-        (b"".as_slice(), "psi: network refused 17 NotBuilt top 0 -\n"),
+        (
+            b"".as_slice(),
+            "psi: network refused 4 MissingKey top 0 version\n",
+        ),
+        (
+            b"version = 3\n".as_slice(),
+            "psi: network refused 2 Version top 0 version\n",
+        ),
+        (
+            b"version = 1\n\"a b\" = 1\n".as_slice(),
+            "psi: network refused 3 UnknownKey top 0 -\n",
+        ),
+        (
+            b"version = 1\n[[queue]]\nname = \"a\"\ncapacity = 0\n".as_slice(),
+            "psi: network refused 6 OutOfRange queue 1 capacity\n",
+        ),
+        (
+            b"version = 1\n[[queue]]\nname = \"a\"\ncapacity = 1\n".as_slice(),
+            "psi: network refused 15 NoEvents top 0 event\n",
+        ),
+        (
+            EMPTY_GUARD.as_bytes(),
+            "psi: network refused 18 EmptyGuard event 1 least\n",
+        ),
         (
             b"version = ".as_slice(),
             "psi: network refused 1 NotToml top 0 -\n",
@@ -170,7 +208,7 @@ fn words_that_are_no_command(rt: HostRuntime) -> Result<(), Fail> {
     let alloc = rt.alloc();
     let cases: [(&[&str], &str); 14] = [
         (&[], "psi: usage word 1\n"),
-        (&["check", "a", "b"], "psi: usage word 1\n"),
+        (&["check", "a", "b"], "psi: usage word 3\n"),
         (&["Sample", "net.toml", "0", "0"], "psi: usage word 1\n"),
         (&["sample"], "psi: usage word 2\n"),
         (&["sample", "net.toml"], "psi: usage word 3\n"),

@@ -50,7 +50,22 @@ fn refusal_name(code: u8) -> &'static str
     match code {
         0 => "TooLong",
         1 => "NotToml",
-        _ => "NotBuilt",
+        2 => "Version",
+        3 => "UnknownKey",
+        4 => "MissingKey",
+        5 => "WrongType",
+        6 => "OutOfRange",
+        7 => "TooMany",
+        8 => "DuplicateName",
+        9 => "UnknownQueue",
+        10 => "UnknownKind",
+        11 => "SelfTarget",
+        12 => "RepeatedTarget",
+        13 => "TableLength",
+        14 => "BatchTooLarge",
+        15 => "NoEvents",
+        16 => "TotalTooLarge",
+        _ => "EmptyGuard",
     }
 }
 

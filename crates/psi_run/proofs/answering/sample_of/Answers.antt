@@ -1,9 +1,8 @@
-use Rattle.std.proofs.Common.{◌∙◌}
 use Rattle.psi_run.proofs.Sampling.{sampled_by}
 use Rattle.psi_run.proofs.answering.sample_of.Goals as goal
 
 pub returns-clause-value : goal.returns-clause-value
 returns-clause-value c =
-    let outcome = rw (c.in_ok-plan.ensures, c.new.ensures) at c.sample.ensures.outcome in
+    let least = rw (c.in_ok-plan.ensures, c.new.ensures) at c.sample.ensures.least in
     let made = c.system-system.ensures in
-    outcome ∙ sampled_by _ c.system-system.result c.args.net.now c.args.seed c.args.stream made.functions made.rates made.caps made.limit made.split
+    sampled_by _ c.system-system.result c.args.net.now c.args.seed c.args.stream c.sample.result c.queues-queues.ensures.kept made.functions made.rates made.caps made.limit made.split least
