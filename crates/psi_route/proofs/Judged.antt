@@ -1,5 +1,5 @@
 -- Tests over the places of a list.
-use Rattle.std.proofs.Common.{◌≡◌, ◌≢◌, ℕ, zero, suc, ◌<◌, ◌≤◌, List, [], ◌∷◌, length, drop, get_or, slice_index, Option, Some, None, IfSome, Bool, true, false, ◌&&◌, ◌||◌, nat_eq, refl, ap, subst, arith}
+use Rattle.std.proofs.Common.{◌≡◌, ◌≢◌, ℕ, zero, suc, ◌<◌, ◌≤◌, List, [], ◌∷◌, length, drop, get_or, slice_index, Option, Some, None, IfSome, Bool, true, false, nat_eq, refl, ap, subst, arith}
 use Rattle.std.specs.List.{list_any}
 use Rattle.std.proofs.lemmas.Bool.{eq-eqb, ne_eqb, and_left, and_right, and_from}
 use Rattle.psi_route.specs.Acting.{or_left, or_right, or_none}
