@@ -1,22 +1,11 @@
 -- Tests over the places of a list.
-use Rattle.std.proofs.Common.{◌≡◌, ◌≢◌, ℕ, zero, suc, ◌<◌, ◌≤◌, List, [], ◌∷◌, length, drop, get_or, slice_index, Option, Some, None, IfSome, Bool, true, false, ◌&&◌, ◌||◌, nat_eq, refl, ap, subst, arith}
+use Rattle.std.proofs.Common.{◌≡◌, ◌≢◌, ℕ, zero, suc, ◌<◌, ◌≤◌, List, [], ◌∷◌, length, drop, get_or, slice_index, Option, Some, None, IfSome, Bool, true, false, nat_eq, refl, ap, subst, arith}
 use Rattle.std.specs.List.{list_any}
-use Rattle.std.proofs.lemmas.Bool.{eq-eqb, ne_eqb, and_left, and_right}
+use Rattle.std.proofs.lemmas.Bool.{eq-eqb, ne_eqb, and_left, and_right, and_from}
+use Rattle.psi_route.specs.Acting.{or_left, or_right, or_none}
 use Rattle.psi_route.specs.Refusals.{repeats, are_tables, fit_tables}
 use Rattle.psi_route.specs.Accepted.{IsSource}
 use Rattle.psi_route.specs.declared.parts.Source.{Source}
-
-or_left : (a b : Bool) → a ≡ true → (a || b) ≡ true
-or_left true b is = refl
-or_left false b is = absurd cc
-
-or_right : (a b : Bool) → b ≡ true → (a || b) ≡ true
-or_right true b is = refl
-or_right false b is = is
-
-or_none : (a b : Bool) → a ≡ false → b ≡ false → (a || b) ≡ false
-or_none true b first second = absurd cc
-or_none false b first second = second
 
 -- a number behind the first places passes the test
 pub any-at : (p : ℕ → Bool) (xs : List ℕ) (first i : ℕ) → first ≤ i → i < length xs → p (slice_index xs i) ≡ true → list_any p (drop first xs) ≡ true
@@ -61,17 +50,13 @@ are_tables-at caps (q ∷ qs) (t ∷ ts) zero small other count =
 are_tables-at caps (q ∷ qs) (t ∷ ts) (suc i) small other count =
     and_right (nat_eq (length t) (slice_index caps q)) (are_tables caps qs ts) (are_tables-at caps qs ts i (omega arith) other (omega arith))
 
-and_both : (a b : Bool) → a ≡ true → b ≡ true → (a && b) ≡ true
-and_both true b first second = second
-and_both false b first second = absurd cc
-
 pub are_tables-each : (caps qs : List ℕ) (ts : List (List ℕ)) → length ts ≡ length qs
     → ((i : ℕ) → i < length qs → length (get_or ts i []) ≡ slice_index caps (slice_index qs i)) → are_tables caps qs ts ≡ true
 are_tables-each caps [] [] count each = refl
 are_tables-each caps [] (t ∷ ts) count each = absurd (omega arith)
 are_tables-each caps (q ∷ qs) [] count each = absurd (omega arith)
 are_tables-each caps (q ∷ qs) (t ∷ ts) count each =
-    and_both (nat_eq (length t) (slice_index caps q)) (are_tables caps qs ts) (eq-eqb (length t) (slice_index caps q) (each 0 (omega arith)))
+    and_from (nat_eq (length t) (slice_index caps q)) (are_tables caps qs ts) (eq-eqb (length t) (slice_index caps q) (each 0 (omega arith)))
     (are_tables-each caps qs ts (omega arith) (λ i small. each (suc i) (omega arith)))
 
 -- where there are tables, they are to be those of the targets

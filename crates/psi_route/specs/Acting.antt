@@ -2,7 +2,7 @@
 use Rattle.std.specs.Prelude.{◌≡◌, ◌≢◌, ◌⊎◌, ℕ, zero, suc, ◌+◌, ◌-◌, ◌<◌, ◌≤◌, List, length, slice_index, slice_set, Option, Some, None, Bool, true, false, ◌&&◌, ◌||◌, nat_eq, nat_lt, is_none, if◌then◌else◌, refl}
 use Rattle.std.specs.Bool.{then_some}
 use Rattle.std.proofs.Common.{inl, inr, ap, sym, ◌∙◌, subst, arith, length-set, get_or-set_same, get_or-set_other}
-use Rattle.std.proofs.lemmas.Bool.{cases_lt, cases_eq, cases_order, cases_Bool, lt-ltb, le-ltb, le-leb, lt-leb, leb-true, leb-false, eq-eqb, ne_eqb, and_parts, and_left, and_right}
+use Rattle.std.proofs.lemmas.Bool.{cases_lt, cases_eq, cases_order, cases_Bool, lt-ltb, le-ltb, le-leb, lt-leb, leb-true, leb-false, eq-eqb, ne_eqb, and_parts, and_left, and_right, and_from}
 use Rattle.std.proofs.lemmas.List.{set_past}
 use Rattle.psi_event.specs.Choice.{all_or_some, first_some, first_some-none, first_some-found, first_some-of_none, first_some-of_found}
 use Rattle.psi_route.specs.Routing.{Routing, has_room, beats, best_at, best, taken, moved, act, IsRouting, HasRoom, Lacks, IsBest, IsPassed, Leaves, Remains, Routed}
@@ -30,19 +30,15 @@ none-is (Some a) is = absurd cc
 pub is-none : {A : Type 0} (o : Option A) → o ≡ None → is_none o ≡ true
 is-none o is = ap (λ t. is_none t) is
 
-and_both : (a b : Bool) → a ≡ true → b ≡ true → (a && b) ≡ true
-and_both true b first second = second
-and_both false b first second = absurd cc
-
-or_left : (a b : Bool) → a ≡ true → (a || b) ≡ true
+pub or_left : (a b : Bool) → a ≡ true → (a || b) ≡ true
 or_left true b is = refl
 or_left false b is = absurd cc
 
-or_right : (a b : Bool) → b ≡ true → (a || b) ≡ true
+pub or_right : (a b : Bool) → b ≡ true → (a || b) ≡ true
 or_right true b is = refl
 or_right false b is = is
 
-or_none : (a b : Bool) → a ≡ false → b ≡ false → (a || b) ≡ false
+pub or_none : (a b : Bool) → a ≡ false → b ≡ false → (a || b) ≡ false
 or_none true b first second = absurd cc
 or_none false b first second = second
 
@@ -226,7 +222,7 @@ best_at-best r x j best =
     let quiet : first_some (λ i. then_some (beats r x j i) i) 0 r.places ≡ None =
     first_some-none (λ i. then_some (beats r x j i) i) 0 r.places (λ i low high. then_some-false (beats r x j i) i (beats-not r x i j best (omega arith))) in
     then_some-true (has_room r x j && is_none (first_some (λ i. then_some (beats r x j i) i) 0 r.places)) j
-    (and_both (has_room r x j) (is_none (first_some (λ i. then_some (beats r x j i) i) 0 r.places)) (room-is r x j best.room)
+    (and_from (has_room r x j) (is_none (first_some (λ i. then_some (beats r x j i) i) 0 r.places)) (room-is r x j best.room)
     (is-none (first_some (λ i. then_some (beats r x j i) i) 0 r.places) quiet))
 
 best_at-lacks : (r : Routing) (x : List ℕ) (j : ℕ) → Lacks r j (slice_index x (r.queue j)) → best_at r x j ≡ None
@@ -237,7 +233,7 @@ best_at-lacks r x j lacks =
 best_at-beaten : (r : Routing) (x : List ℕ) (i j : ℕ) → i < r.places → HasRoom r i (slice_index x (r.queue i))
     → r.key i (slice_index x (r.queue i)) < r.key j (slice_index x (r.queue j)) → best_at r x j ≡ None
 best_at-beaten r x i j small room less =
-    let over : beats r x j i ≡ true = and_both (has_room r x i) (nat_lt (r.key i (slice_index x (r.queue i))) (r.key j (slice_index x (r.queue j))))
+    let over : beats r x j i ≡ true = and_from (has_room r x i) (nat_lt (r.key i (slice_index x (r.queue i))) (r.key j (slice_index x (r.queue j))))
     (room-is r x i room) (lt-ltb (r.key i (slice_index x (r.queue i))) (r.key j (slice_index x (r.queue j))) less) in
     let found : is_none (first_some (λ k. then_some (beats r x j k) k) 0 r.places) ≡ false =
     elim (cases_Bool (is_none (first_some (λ k. then_some (beats r x j k) k) 0 r.places))) [
