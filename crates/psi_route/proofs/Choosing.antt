@@ -1,11 +1,12 @@
 -- Choosing a target: by the list alone, and by the keys.
-use Rattle.std.proofs.Common.{◌≡◌, ℕ, ◌<◌, ◌≤◌, List, [], length, get_or, slice_index, Option, Some, None, IfSome, nat_le, Bool, true, false, inl, inr, ap, sym, ◌∙◌, subst, arith}
-use Rattle.std.proofs.lemmas.Bool.{cases_order, leb-true, leb-false}
-use Rattle.std.proofs.lemmas.List.{get_or_past}
-use Rattle.psi_route.specs.Routing.{Shape, routing, weight, has_room, best, moved, routed, HasRoom, IsBest}
-use Rattle.psi_route.specs.Acting.{Leads, NoRoom, best-from_leads, best-is, best-none, best-place, act-serves, act-idle, is-room}
+use Rattle.std.proofs.Common.{◌≡◌, ◌≢◌, ℕ, suc, ◌+◌, ◌<◌, ◌≤◌, List, length, slice_index, Option, Some, None, IfSome, nat_le, Bool, true, false, inl, inr, ap, sym, ◌∙◌, subst, arith}
+use Rattle.std.proofs.lemmas.Bool.{cases_lt, leb-true, leb-false}
+use Rattle.psi_route.specs.Routing.{Shape, Routing, IsRouting, routing, has_room, best, moved, routed, HasRoom}
+use Rattle.psi_route.specs.Acting.{Leads, NoRoom, leads-first, leads-still, leads-anew, best-from_leads, best-is, best-none, best-place, act-serves, act-idle, is-room}
 use Rattle.psi_route.specs.Plain.{first_best}
+use Rattle.psi_route.specs.Keys.{key_of, IsLesser}
 use Rattle.psi_route.specs.Leader.{IsLeading, IsLeader}
+use Rattle.psi_route.specs.declared.keys.Key.{Key}
 
 -- the first place with room, as a loop finds it
 pub first-is : (s : Shape) (x : List ℕ) (j : ℕ) → length s.tables ≡ 0 → j < length s.targets → has_room (routing s) x j ≡ true
@@ -16,11 +17,6 @@ first-is s x j plain place room before =
 -- none has room
 pub none-is : (s : Shape) (x : List ℕ) (n : ℕ) → length s.targets ≤ n → NoRoom (routing s) x n → None ≡ best (routing s) x
 none-is s x n all none_has = sym (best-none (routing s) x (record { each = λ i small. none_has.each i (omega arith) }))
-
--- the best of all places
-pub leader-is : (s : Shape) (x : List ℕ) (n : ℕ) (p : ℕ × ℕ) → n ≡ length s.targets → IsLeading s x n p → Some p.1 ≡ best (routing s) x
-leader-is s x n p all leading =
-    sym (best-is (routing s) x p.1 (best-from_leads (routing s) x p.1 (subst (λ k. Leads (routing s) x k p.1) all leading.leads)))
 
 -- what is chosen is a place with room
 pub chosen-place : (s : Shape) (x : List ℕ) (o : Option ℕ) → o ≡ best (routing s) x → IfSome o (λ j. j < length s.targets)
@@ -45,13 +41,50 @@ pub routed-idle : (s : Shape) (x : List ℕ) (b : Bool) → b ≡ nat_le ((routi
 unfolding routed
 routed-idle s x b tells idle = sym (act-idle (routing s) x (leb-false ((routing s).least) (slice_index x ((routing s).source)) (sym tells ∙ idle)))
 
--- the best one, as it is found
-pub leader-some : (s : Shape) (x : List ℕ) (n : ℕ) (found : Option (ℕ × ℕ)) (p : ℕ × ℕ) → n ≡ length s.targets → found ≡ Some p → IsLeader s x n found
-    → Some p.1 ≡ best (routing s) x
-leader-some s x n found p all is leading =
-    leader-is s x n p all (subst (λ (o : Option (ℕ × ℕ)). IsLeader s x n o) is leading)
+below_apart : (a b : ℕ) → a ≤ b → a ≢ b → a < b
+below_apart a b most other = elim (cases_lt a b) [ inl less ↦ less | inr more ↦ absurd (other (omega arith)) ]
 
-pub leader-none : (s : Shape) (x : List ℕ) (n : ℕ) (found : Option (ℕ × ℕ)) → length s.targets ≤ n → found ≡ None → IsLeader s x n found
+-- one place more, which has room: the lesser key is that of the best place
+pub lesser-leads : (r : Routing) (x : List ℕ) (n : ℕ) (found : Option Key) (key : Key) (result : Option Key) → IsRouting r → n < r.places
+    → HasRoom r n (slice_index x (r.queue n)) → key.place ≡ n → key_of key ≡ r.key n (slice_index x (r.queue n))
+    → IsLeader r x n found → IsLesser found (Some key) result → IsLeader r x (n + 1) result
+lesser-leads r x n None key result is place room at value before lesser =
+    let next : suc n ≡ n + 1 = omega arith in
+    subst (λ (o : Option Key). IsLeader r x (n + 1) o) (sym lesser) (record {
+      value = value ∙ ap (λ k. r.key k (slice_index x (r.queue k))) (sym at);
+      leads = subst (λ k. Leads r x (n + 1) k) (sym at) (subst (λ m. Leads r x m n) next (leads-first r x n before room));
+    })
+lesser-leads r x n (Some best) key result is place room at value before lesser =
+    let next : suc n ≡ n + 1 = omega arith in
+    let small : best.place < n = before.leads.place in
+    let known : key_of best ≡ r.key best.place (slice_index x (r.queue best.place)) = before.value in
+    let differ = is.differ n best.place (slice_index x (r.queue n)) (slice_index x (r.queue best.place)) place (omega arith) (λ e. absurd (omega arith)) in
+    elim lesser [
+      | inl first ↦ (let less : r.key n (slice_index x (r.queue n)) < r.key best.place (slice_index x (r.queue best.place)) =
+          (let under : key_of key ≤ key_of best = first.0 in
+          let apart : r.key n (slice_index x (r.queue n)) ≢ r.key best.place (slice_index x (r.queue best.place)) = differ in
+          below_apart (r.key n (slice_index x (r.queue n))) (r.key best.place (slice_index x (r.queue best.place))) (omega arith) apart) in
+          subst (λ (o : Option Key). IsLeader r x (n + 1) o) (sym first.1) (record {
+            value = value ∙ ap (λ k. r.key k (slice_index x (r.queue k))) (sym at);
+            leads = subst (λ k. Leads r x (n + 1) k) (sym at) (subst (λ m. Leads r x m n) next (leads-anew r x n best.place before.leads room less));
+          }))
+      | inr second ↦ (let less : r.key best.place (slice_index x (r.queue best.place)) < r.key n (slice_index x (r.queue n)) =
+          (let over : key_of best ≤ key_of key = second.0 in
+          below_apart (r.key best.place (slice_index x (r.queue best.place))) (r.key n (slice_index x (r.queue n))) (omega arith) (λ e. differ (sym e))) in
+          subst (λ (o : Option Key). IsLeader r x (n + 1) o) (sym second.1) (record {
+            value = known;
+            leads = subst (λ m. Leads r x m best.place) next (leads-still r x n best.place before.leads (inr less));
+          }))
+    ]
+
+-- the best one, as it is found
+pub leader-some : (s : Shape) (x : List ℕ) (n : ℕ) (found : Option Key) (key : Key) → n ≡ length s.targets → found ≡ Some key
+    → IsLeader (routing s) x n found → Some key.place ≡ best (routing s) x
+leader-some s x n found key all is leading =
+    let lead : IsLeading (routing s) x n key = subst (λ (o : Option Key). IsLeader (routing s) x n o) is leading in
+    sym (best-is (routing s) x key.place (best-from_leads (routing s) x key.place (subst (λ k. Leads (routing s) x k key.place) all lead.leads)))
+
+pub leader-none : (s : Shape) (x : List ℕ) (n : ℕ) (found : Option Key) → length s.targets ≤ n → found ≡ None → IsLeader (routing s) x n found
     → None ≡ best (routing s) x
 leader-none s x n found all is leading =
-    none-is s x n all (subst (λ (o : Option (ℕ × ℕ)). IsLeader s x n o) is leading)
+    none-is s x n all (subst (λ (o : Option Key). IsLeader (routing s) x n o) is leading)

@@ -6,3 +6,4 @@ mod Told
 mod Choosing
 mod Searching
 mod Worked
+mod Falling

@@ -1,11 +1,10 @@
 -- Searching for keys that cross.
-use Rattle.std.proofs.Common.{◌≡◌, ◌≢◌, ℕ, suc, ◌+◌, ◌*◌, ◌<◌, ◌≤◌, List, [], length, get_or, slice_index, Option, Some, None, is_some, is_none, Bool, true, false, not, ◌&&◌, ◌||◌, nat_eq, nat_lt, nat_le, IsTrue, ◌↔◌, if◌then◌else◌, inl, inr, refl, ap, sym, ◌∙◌, subst, arith}
-use Rattle.std.specs.Bool.{then_some}
+use Rattle.std.proofs.Common.{◌≡◌, ℕ, ◌+◌, ◌*◌, ◌<◌, ◌≤◌, List, [], length, get_or, slice_index, Option, Some, None, is_some, is_none, Bool, true, false, not, if◌then◌else◌, inl, inr, refl, ap, sym, ◌∙◌, subst, arith}
 use Rattle.std.proofs.lemmas.Bool.{cases_lt, cases_Bool, lt-leb}
 use Rattle.psi_event.specs.Choice.{first_some, first_some-none, first_some-found}
 use Rattle.psi_index.specs.Extremes.{IsRising}
-use Rattle.psi_route.specs.Routing.{Shape, routing, weight, crosses, Crosses, pair_of, pair_at, pair_from, pair_between, pair_behind, first_pair, batch_pair, upset_of}
-use Rattle.psi_route.specs.Acting.{then_some-true, then_some-false}
+use Rattle.psi_route.specs.Routing.{Shape, routing, weight, crosses, pair_of, pair_at, pair_from, pair_between, pair_behind, first_pair, batch_pair, upset_of}
+use Rattle.psi_route.specs.Acting.{then_some-false}
 use Rattle.psi_route.specs.Accepted.{IsRouteShape}
 use Rattle.psi_route.specs.Upset.{is-crosses}
 use Rattle.psi_route.specs.Plain.{weight-none}
@@ -70,18 +69,6 @@ plain-none s plain =
     let own : weight s a v ≡ 0 = weight-none s a v plain in
     let less : weight s a (v + 1) < weight s a v = fall.1 in
     absurd (omega arith))))))
-
--- the test for a fall, passed or failed
-pub level-from_test : (s : Shape) (a b v : ℕ) (t : Bool) → a < length s.targets → b < length s.targets
-    → (IsTrue t ↔ ((v + 1 < slice_index s.caps (slice_index s.targets a)) × (weight s a (v + 1) < weight s a v))) → t ≡ false → pair_from s a b v ≡ None
-level-from_test s a b v t first second tells fails = level-none s a b v first second (λ fall. (let passes : t ≡ true = tells.1 fall in absurd cc))
-
--- the pair of keys that cross
-pub pair-here : (s : Shape) (a b v w : ℕ) → crosses (routing s) a b v w ≡ true → pair_at s a b v w ≡ Some (pair_of s a b v w)
-pair-here s a b v w is = then_some-true (crosses (routing s) a b v w) (pair_of s a b v w) is
-
-pub pair-absent : (s : Shape) (a b v w : ℕ) → crosses (routing s) a b v w ≡ false → pair_at s a b v w ≡ None
-pair-absent s a b v w is = then_some-false (crosses (routing s) a b v w) (pair_of s a b v w) is
 
 -- the pair of a route of one customer
 pub single-is : (s : Shape) (o : Option (List ℕ × List ℕ)) → s.size < 2 → o ≡ first_pair s → o ≡ upset_of s

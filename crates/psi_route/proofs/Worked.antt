@@ -1,12 +1,10 @@
 -- What routes make of small states, worked out by hand and computed by the checker.
-use Rattle.std.proofs.Common.{◌≡◌, ℕ, List, [], ◌∷◌, Option, Some, None, map, refl}
+use Rattle.std.proofs.Common.{◌≡◌, [], ◌∷◌, Some, None, map, refl}
 use Rattle.psi_event.specs.Choice.{first_some}
 use Rattle.psi_route.specs.Routing.{Shape, best, act, routed, pair_from, pair_between, pair_behind, first_pair, upset_of}
 use Rattle.psi_route.specs.Refusals.{refusal_of}
 use Rattle.psi_route.specs.Accepted.{shape}
-use Rattle.psi_route.specs.declared.parts.Source.{Source}
 use Rattle.psi_route.specs.declared.parts.Full.TheVariants.{Lost, Stay}
-use Rattle.psi_route.specs.declared.parts.RouteRefusal.{RouteRefusal}
 use Rattle.psi_route.specs.declared.parts.RouteRefusal.TheVariants.{SelfTarget, Repeated, TableLength, SizeRange}
 
 -- join the shorter of two queues with room for two each

@@ -1,13 +1,15 @@
--- The best place that is found so far, with its table's value.
+-- The best place that is found so far, by its key.
 use Rattle.std.specs.Prelude.{◌≡◌, ℕ, List, slice_index, Option, MatchOption}
-use Rattle.psi_route.specs.Routing.{Shape, routing, weight}
+use Rattle.psi_route.specs.Routing.{Routing}
 use Rattle.psi_route.specs.Acting.{Leads, NoRoom}
+use Rattle.psi_route.specs.Keys.{key_of}
+use Rattle.psi_route.specs.declared.keys.Key.{Key}
 
--- the place p.1 is the best of the first n, and p.0 its table's value
-pub record IsLeading (s : Shape) (x : List ℕ) (n : ℕ) (p : ℕ × ℕ) : Type 0 where
-  pub value : p.0 ≡ weight s p.1 (slice_index x (slice_index s.targets p.1))
-  pub leads : Leads (routing s) x n p.1
+-- the key is that of the best of the first n places
+pub record IsLeading (r : Routing) (x : List ℕ) (n : ℕ) (key : Key) : Type 0 where
+  pub value : key_of key ≡ r.key key.place (slice_index x (r.queue key.place))
+  pub leads : Leads r x n key.place
 
 -- what is found among the first n places
-abbrev pub IsLeader : Shape → List ℕ → ℕ → Option (ℕ × ℕ) → Type 0
-IsLeader s x n found = MatchOption found (NoRoom (routing s) x n) (λ p. IsLeading s x n p)
+abbrev pub IsLeader : Routing → List ℕ → ℕ → Option Key → Type 0
+IsLeader r x n found = MatchOption found (NoRoom r x n) (λ key. IsLeading r x n key)

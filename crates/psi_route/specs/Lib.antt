@@ -11,3 +11,4 @@ pub mod Keys
 pub mod Offers
 pub mod Upset
 pub mod Plain
+pub mod Falls

@@ -1,9 +1,9 @@
 -- Without tables the first target with room is chosen.
-use Rattle.std.specs.Prelude.{◌≡◌, ℕ, ◌+◌, ◌*◌, ◌<◌, ◌≤◌, List, [], length, get_or, slice_index}
+use Rattle.std.specs.Prelude.{◌≡◌, ℕ, ◌<◌, List, [], length, get_or, slice_index}
 use Rattle.std.proofs.Common.{inl, inr, ap, arith}
 use Rattle.std.proofs.lemmas.Bool.{cases_order}
 use Rattle.std.proofs.lemmas.List.{get_or_past}
-use Rattle.psi_route.specs.Routing.{Shape, routing, weight, HasRoom, Lacks, IsBest}
+use Rattle.psi_route.specs.Routing.{Shape, routing, weight, HasRoom, IsBest}
 use Rattle.psi_route.specs.Acting.{NoRoom}
 
 -- without tables each value is 0

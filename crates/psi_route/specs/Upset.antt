@@ -1,14 +1,12 @@
 -- The pair of states that a route answers shows that it doesn't keep their order; where there is none, it keeps the order of all.
-use Rattle.std.specs.Prelude.{◌≡◌, ◌≢◌, ◌⊎◌, ◌↔◌, ℕ, zero, suc, ◌+◌, ◌-◌, ◌*◌, ◌<◌, ◌≤◌, List, length, slice_index, slice_set, Option, Some, None, Bool, true, false, not, ◌&&◌, nat_eq, nat_lt, nat_le, is_none, IsTrue, if◌then◌else◌, refl}
-use Rattle.std.specs.Bool.{then_some}
+use Rattle.std.specs.Prelude.{◌≡◌, ◌≢◌, ◌↔◌, ℕ, ◌+◌, ◌-◌, ◌<◌, ◌≤◌, List, length, slice_index, slice_set, Option, Some, None, true, false, not, nat_eq, is_none, IsTrue, if◌then◌else◌, refl}
 use Rattle.std.proofs.Common.{inl, inr, ap, sym, ◌∙◌, subst, arith, length-set, get_or-set_same, get_or-set_other}
-use Rattle.std.proofs.lemmas.Bool.{cases_lt, cases_eq, not-true, eqb-false, ne_eqb, ltb-true, lt-ltb, leb-true, leb-false, le-leb, lt-leb}
-use Rattle.std.proofs.lemmas.List.{set_past}
+use Rattle.std.proofs.lemmas.Bool.{cases_lt, cases_eq, not-true, eqb-false, ne_eqb, ltb-true, lt-ltb, le-leb, lt-leb}
 use Rattle.psi_state.specs.State.{IsBelow}
 use Rattle.psi_state.specs.Boxes.{below-itself}
 use Rattle.psi_event.specs.Law.{IsMonotone, IsUpset, ShowsUpset}
 use Rattle.psi_event.specs.Choice.{first_some-of_none, first_some-of_found}
-use Rattle.psi_route.specs.Routing.{Shape, Routing, routing, routed, act, IsRouting, HasRoom, Lacks, IsBest, IsPassed, crosses, Crosses, full_but, pair_of, pair_at, pair_from, pair_between, pair_behind, first_pair, batch_pair, upset_of}
+use Rattle.psi_route.specs.Routing.{Shape, Routing, routing, routed, act, Lacks, IsBest, IsPassed, crosses, Crosses, full_but, pair_of, pair_at, pair_from, pair_between, pair_behind, first_pair, batch_pair, upset_of}
 use Rattle.psi_route.specs.Acting.{act-routed, true-then_some, false-then_some}
 use Rattle.psi_route.specs.Accepted.{IsRouteShape, routing-is, source-most}
 use Rattle.psi_route.specs.Closed.{set-below}
@@ -109,8 +107,6 @@ pub crossing-upset : (s : Shape) (a b v w : ℕ) → IsRouteShape s → s.size �
 unfolding routed
 crossing-upset s a b v w is one cross =
     let r = routing-is s is in
-    let x = full_but s a b v w in
-    let y = full_but s a b (v + 1) w in
     let apart = queues-apart s a b v w is cross in
     let room : v + 1 < slice_index s.caps (slice_index s.targets a) = cross.room in
     let room_b : w < slice_index s.caps (slice_index s.targets b) = cross.room_b in
@@ -169,11 +165,9 @@ pub batch-upset : (s : Shape) → IsRouteShape s → 2 ≤ s.size → IsUpset s.
 unfolding routed
 batch-upset s is several =
     let r = routing-is s is in
-    let q = slice_index s.targets 0 in
     let some : 1 ≤ length s.targets = is.some several in
     let small : slice_index s.targets 0 < length s.caps = is.named 0 (omega arith) in
     let fits : s.size ≤ slice_index s.caps (slice_index s.targets 0) = is.fits 0 (omega arith) in
-    let low = slice_index s.caps (slice_index s.targets 0) - s.size in
     let x_first : slice_index (slice_set s.caps (slice_index s.targets 0) (slice_index s.caps (slice_index s.targets 0) - s.size)) (slice_index s.targets 0)
     ≡ slice_index s.caps (slice_index s.targets 0) - s.size =
     get_or-set_same {A = ℕ} s.caps (slice_index s.targets 0) (slice_index s.caps (slice_index s.targets 0) - s.size) 0 small in

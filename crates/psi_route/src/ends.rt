@@ -94,10 +94,11 @@ impl Route {
     }
 
     // The key of a target that holds `v` customers, with room for more.
-    fn key(&self, j: u8, v: u16) -> Key
+    pub(crate) fn key(&self, j: u8, v: u16) -> Key
         requires place { j < length self.now.targets }
         requires room { v < slice_index self.now.caps (slice_index self.now.targets j) }
-        ensures { key_of result ≡ (routing (shape_of self.now)).key j v }
+        ensures place { result.place ≡ j }
+        ensures value { key_of result ≡ (routing (shape_of self.now)).key j v }
     {
         let _few = self.places();
         let weight = self.weight(j, v);

@@ -9,6 +9,8 @@
 mod built;
 mod ends;
 mod envelope;
+#[cfg(test)]
+mod envelope_tests;
 mod judging;
 mod keys;
 mod law;
@@ -16,6 +18,7 @@ mod marks;
 mod moving;
 mod offers;
 mod parts;
+mod passing;
 #[cfg(test)]
 mod tests;
 

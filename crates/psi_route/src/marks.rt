@@ -1,13 +1,13 @@
 //! Whether a route keeps the order of states, and two states whose order it breaks.
 
-ghost use Rattle.std.specs.Prelude.{◌≡◌, ◌+◌, ◌*◌, ◌<◌, nat_lt};
-
 use crate::built::Route;
+use crate::passing::{first_at_least, first_below};
 use psi_state::State;
 
 impl Route {
-    ghost use Rattle.std.specs.Prelude.{◌≡◌, ◌↔◌, ℕ, ◌+◌, ◌<◌, ◌≤◌, length, slice_index, IsTrue, None};
-    ghost use Rattle.psi_route.specs.Routing.{routing, weight, crosses, full_but, pair_of, pair_from, pair_between, pair_behind, first_pair, batch_pair, upset_of};
+    ghost use Rattle.std.specs.Prelude.{◌≡◌, ◌+◌, ◌<◌, ◌≤◌, length, slice_index, MatchOption};
+    ghost use Rattle.psi_route.specs.Routing.{full_but, pair_of, pair_between, pair_behind, first_pair, batch_pair, upset_of};
+    ghost use Rattle.psi_route.specs.Falls.{NoFall, IsFall, AreFalls};
     ghost use Rattle.psi_route.specs.Route.{shape_of};
 
     // The two states whose order the route breaks, if there are any.
@@ -55,6 +55,7 @@ impl Route {
     // The first pair over the places whose keys those of place `a` cross.
     fn pair_behind(&self, a: u8) -> Option<(State, State)>
         requires place { a < length self.now.targets }
+        requires tables { 0 < length self.now.tables.items }
         ensures { result ≡ pair_behind (shape_of self.now) a }
     {
         for b in 0..self.places() {
@@ -66,60 +67,58 @@ impl Route {
         None
     }
 
-    // The first pair over the numbers of customers at which the key of place `a` falls.
+    // The first pair over the numbers of customers at place `a`, then at place `b`.
     fn pair_between(&self, a: u8, b: u8) -> Option<(State, State)>
         requires first { a < length self.now.targets }
         requires second { b < length self.now.targets }
+        requires tables { 0 < length self.now.tables.items }
         ensures { result ≡ pair_between (shape_of self.now) a b }
     {
-        for v in 0..self.cap(a) {
-            if self.falls(a, v) {
-                let pair = self.pair_from(a, b, v);
-                if pair.is_some() {
-                    return pair;
-                }
-            }
-        }
-        None
-    }
-
-    // The first pair over the numbers of customers at place `b`.
-    fn pair_from(&self, a: u8, b: u8, v: u16) -> Option<(State, State)>
-        requires first { a < length self.now.targets }
-        requires second { b < length self.now.targets }
-        requires number { v < slice_index self.now.caps (slice_index self.now.targets a) }
-        ensures { result ≡ pair_from (shape_of self.now) a b v }
-    {
+        let mut found = None;
         for w in 0..self.cap(b) {
-            if self.crosses(a, b, v, w) {
-                return Some(self.pair_of(a, b, v, w));
-            }
+            found = self.earlier(a, b, w, found);
         }
-        None
+        match found {
+            None => None,
+            Some((v, w)) => Some(self.pair_of(a, b, v, w)),
+        }
     }
 
-    // Whether the target at place `a` has room for one more than `v` and one again, and the value of its table is less then.
-    fn falls(&self, a: u8, v: u16) -> bool
-        requires place { a < length self.now.targets }
-        requires number { v < slice_index self.now.caps (slice_index self.now.targets a) }
-        ensures { IsTrue result ↔ ((v + 1 < slice_index self.now.caps (slice_index self.now.targets a)) × (weight (shape_of self.now) a (v + 1) < weight (shape_of self.now) a v)) }
-    {
-        v + 1 < self.cap(a) && self.weight(a, v + 1) < self.weight(a, v)
-    }
-
-    // Whether one more customer than `v` takes the key of place `a` from above that of place `b` with `w` to below it.
-    fn crosses(&self, a: u8, b: u8, v: u16, w: u16) -> bool
+    // The least fall of place `a` past place `b` with up to `w` customers, from the least with fewer.
+    fn earlier(&self, a: u8, b: u8, w: u16, found: Option<(u16, u16)>) -> Option<(u16, u16)>
         requires first { a < length self.now.targets }
         requires second { b < length self.now.targets }
-        requires number { v < slice_index self.now.caps (slice_index self.now.targets a) }
-        requires other { w < slice_index self.now.caps (slice_index self.now.targets b) }
-        ensures { result ≡ crosses (routing (shape_of self.now)) a b v w }
+        requires number { w < slice_index self.now.caps (slice_index self.now.targets b) }
+        requires tables { 0 < length self.now.tables.items }
+        requires found { AreFalls (shape_of self.now) a b w found }
+        ensures { AreFalls (shape_of self.now) a b (w + 1) result }
     {
-        if a == b || v + 1 >= self.cap(a) {
-            return false;
+        match (self.first_fall(a, b, w), found) {
+            (None, _) => found,
+            (Some(v), Some((least, _))) if v >= least => found,
+            (Some(v), _) => Some((v, w)),
         }
-        let key = (self.weight(b, w), b);
-        precedes((self.weight(a, v + 1), a), key) && precedes(key, (self.weight(a, v), a))
+    }
+
+    // The least number of customers at place `a` at which one more takes its key from above that of place
+    // `b` with `w` to below it.
+    fn first_fall(&self, a: u8, b: u8, w: u16) -> Option<u16>
+        requires first { a < length self.now.targets }
+        requires second { b < length self.now.targets }
+        requires number { w < slice_index self.now.caps (slice_index self.now.targets b) }
+        requires tables { 0 < length self.now.tables.items }
+        ensures { MatchOption result (NoFall (shape_of self.now) a b w) (λ v. IsFall (shape_of self.now) a b w v) }
+    {
+        if a == b {
+            return None;
+        }
+        let table = &self.tables[a as usize];
+        let bound = self.weight(b, w) as u64 + (a < b) as u64;
+        let below = first_below(table, first_at_least(table, bound), bound);
+        if below == table.len() {
+            return None;
+        }
+        Some(below - 1)
     }
 
     // The pair made of the two places and their numbers of customers.
@@ -143,13 +142,4 @@ impl Route {
         x.set(self.target(a), v);
         x
     }
-}
-
-// Whether the first key, a table's value and a place below 32, is less than the second.
-fn precedes(first: (u32, u8), second: (u32, u8)) -> bool
-    requires first { first.1 < 32 }
-    requires second { second.1 < 32 }
-    ensures { result ≡ nat_lt (32 * first.0 + first.1) (32 * second.0 + second.1) }
-{
-    first.0 < second.0 || (first.0 == second.0 && first.1 < second.1)
 }

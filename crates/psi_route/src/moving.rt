@@ -1,6 +1,7 @@
 //! What a route does to a state.
 
 use crate::built::Route;
+use crate::keys::Key;
 use crate::parts::Full;
 use psi_state::State;
 
@@ -78,25 +79,22 @@ impl Route {
         }
         match found {
             None => None,
-            Some((_, place)) => Some(place),
+            Some(key) => Some(key.place),
         }
     }
 
-    // The best of the places up to `i`, from the best of those before it, each with its table's value.
-    fn better(&self, x: &State, i: u8, found: Option<(u32, u8)>) -> Option<(u32, u8)>
+    // The least key of the places up to `i` that have room, from the least of those before it.
+    fn better(&self, x: &State, i: u8, found: Option<Key>) -> Option<Key>
         requires place { i < length self.now.targets }
         requires length { length x.now ≡ length self.now.caps }
-        requires found { IsLeader (shape_of self.now) x.now i found }
-        ensures { IsLeader (shape_of self.now) x.now (i + 1) result }
+        requires found { IsLeader (routing (shape_of self.now)) x.now i found }
+        ensures { IsLeader (routing (shape_of self.now)) x.now (i + 1) result }
     {
         if !self.has_room(x, i) {
             return found;
         }
-        let value = self.weight(i, self.held(x, i));
-        match found {
-            Some((least, _)) if least <= value => found,
-            _ => Some((value, i)),
-        }
+        let key = self.key(i, self.held(x, i));
+        Key::lesser(found, Some(key))
     }
 
     // Lets the customers join the target at the chosen place; without one, lets a customer leave the source

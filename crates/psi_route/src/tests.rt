@@ -22,7 +22,7 @@ fn capacities(first: u16, second: u16) -> State
 }
 
 // Two queues that hold `first` and `second` customers.
-fn pair(first: u16, second: u16) -> State
+pub(crate) fn pair(first: u16, second: u16) -> State
     ensures { result ≡ first ∷ second ∷ [] }
 {
     let mut state = State::zero(2);
@@ -31,12 +31,12 @@ fn pair(first: u16, second: u16) -> State
     state
 }
 
-// One queue with room for `room` customers.
-fn one(room: u16) -> State
-    ensures { result ≡ room ∷ [] }
+// One queue that holds `count` customers.
+pub(crate) fn one(count: u16) -> State
+    ensures { result ≡ count ∷ [] }
 {
     let mut state = State::zero(1);
-    state.set(0, room);
+    state.set(0, count);
     state
 }
 

@@ -1,4 +1,4 @@
-use Rattle.std.proofs.Common.{◌≡◌, ◌<◌, ℕ, List, Option, Some, None, length, sym, ◌∙◌, ap, arith}
+use Rattle.std.proofs.Common.{ℕ, List, Some, None, sym, ◌∙◌, ap}
 use Rattle.psi_route.specs.Upset.{upset-several}
 use Rattle.psi_route.specs.Route.{shape_of}
 use Rattle.psi_route.proofs.Searching.{single-is, plain-none}

@@ -9,5 +9,5 @@ returns-in-None c =
 
 pub returns-in-Some : goal.returns-in-Some
 returns-in-Some c =
-    leader-some (shape_of c.args.self.now) c.args.x.now c.loop-i.i c.loop-i.found (c.in-Some.field-0-0, c.in-Some.place) (omega (arith, c.places-i-end.ensures.value))
+    leader-some (shape_of c.args.self.now) c.args.x.now c.loop-i.i c.loop-i.found c.in-Some.key (omega (arith, c.places-i-end.ensures.value))
     c.in-Some.is c.loop-i.invariant

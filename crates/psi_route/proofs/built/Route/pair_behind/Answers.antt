@@ -1,4 +1,4 @@
-use Rattle.std.proofs.Common.{◌≡◌, ◌<◌, ℕ, List, Option, length, sym, ◌∙◌, ap, arith}
+use Rattle.std.proofs.Common.{length, arith}
 use Rattle.psi_route.specs.Routing.{pair_between, pair_behind}
 use Rattle.psi_route.specs.Route.{shape_of}
 use Rattle.psi_route.proofs.Searching.{search-found, search-none}
