@@ -5,3 +5,4 @@ pub mod Hulls
 pub mod Steps
 pub mod Accepted
 pub mod Intervals
+mod Worked

@@ -12,6 +12,8 @@ mod event;
 mod marks;
 mod named;
 mod shape;
+#[cfg(test)]
+mod tests;
 
 pub use named::{Part, Parts};
 pub use shape::{GuardRefusal, Guarded};

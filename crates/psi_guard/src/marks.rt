@@ -1,7 +1,7 @@
 //! The four tests that tell whether a guarded event keeps the order of states, and the pair that they show.
 
-ghost use Rattle.std.specs.Prelude.{◌≡◌, ◌≢◌, ◌<◌, ◌≤◌, IsTrue, length, slice_index, unsigned_abs};
-ghost use Rattle.psi_guard.specs.Guarding.{around_least, around_most, both_with, exceeds, fall, falls_short, leap, leasts, over_pairs, over_queues, part_of, plunge, rise};
+ghost use Rattle.std.specs.Prelude.{◌≡◌, ◌<◌, ◌≤◌, IsTrue, length, slice_index, unsigned_abs};
+ghost use Rattle.psi_guard.specs.Guarding.{around_least, around_most, exceeds, fall, leap, leasts, over_pairs, over_queues, part_of, plunge, rise};
 ghost use Rattle.psi_guard.specs.Rule.{FitsGuard};
 
 use crate::event::moved;

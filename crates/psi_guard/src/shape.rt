@@ -1,17 +1,13 @@
 //! A guarded event and what it refuses.
 
-ghost use Rattle.std.specs.Prelude.{◌≡◌, ◌<◌, ◌≤◌, ◌↔◌, IsTrue, IfOk, IfErr, OnOk, Some, None, length, slice_index, slice_get};
-ghost use Rattle.psi_state.specs.State.{AreCapacities, IsBelow, box};
-ghost use Rattle.psi_state.specs.Sets.{image};
-ghost use Rattle.psi_state.specs.Hull.{corners, IsTight};
-ghost use Rattle.psi_event.specs.Law.{IsClosed, IsMonotone, ShowsUpset};
+ghost use Rattle.std.specs.Prelude.{◌≡◌, IfOk, IfErr, OnOk, Some, None};
+ghost use Rattle.psi_state.specs.State.{AreCapacities};
 ghost use Rattle.psi_guard.specs.Guarding.{guarded, upset_of};
-ghost use Rattle.psi_guard.specs.Refusals.{AreGuards, is_empty, is_out, names, refusal_at, refusal_of};
-ghost use Rattle.psi_guard.specs.Rule.{guarded-closed};
+ghost use Rattle.psi_guard.specs.Refusals.{AreGuards, names, is_out, refusal_at, refusal_of};
 
 use crate::named::{Part, Parts};
 use psi_event::EventLaw;
-use psi_state::{Bounds, State};
+use psi_state::State;
 
 /// Why parts make no guarded event.
 #[derive(Clone, Copy, PartialEq, Eq, Debug)]
