@@ -1,9 +1,6 @@
 -- What a plan is.
-use Rattle.std.specs.Prelude.{◌≡◌, ℕ, ◌≤◌, ◌^◌, ◌+◌, List, Option, Some, None, IfSome, option_map}
-use Rattle.psi_state.specs.State.{all_states}
+use Rattle.std.specs.Prelude.{◌≡◌, ℕ, ◌+◌, Option, Some, None, option_map}
 use Rattle.psi_rate.specs.Composition.{Parts}
-use Rattle.psi_region.specs.Region.{Regional}
-use Rattle.psi_horizon.specs.Runs.{region_after}
 
 -- a run that was begun: its horizon, and how many of its steps are done
 pub record Running : Type 0 where

@@ -1,23 +1,21 @@
 -- Runs of regions: a region is followed from all states through the events of the last steps, the oldest first (coupling
 -- from the past, Propp and Wilson 1996, with the envelopes of Bušić, Gaujal and Vincent 2008).
-use Rattle.std.specs.Prelude.{◌≡◌, ℕ, zero, suc, ◌+◌, ◌-◌, ◌^◌, ◌<◌, ◌≤◌, List, [], ◌∷◌, length, Bool, true, false, nat_le, Option, Some, None, nat_eq, refl}
+use Rattle.std.specs.Prelude.{◌≡◌, ℕ, zero, suc, ◌+◌, ◌-◌, ◌^◌, ◌≤◌, List, [], ◌∷◌, length, Bool, true, false, nat_le, Option, Some, None, nat_eq, refl}
 use Rattle.std.specs.Cmp.Lexicographic.{pointwise}
 use Rattle.std.proofs.Common.{inl, inr, ap, sym, ◌∙◌, subst, arith}
 use Rattle.std.proofs.lemmas.Bool.{cases_Bool, le-leb, or_right}
 use Rattle.psi_state.specs.declared.Outcome.{Outcome}
 use Rattle.psi_state.specs.declared.Outcome.TheVariants.{Met, NotMet}
 use Rattle.psi_state.specs.State.{IsBelow, zeros, all_states}
-use Rattle.psi_state.specs.Members.{In, AreAmong}
+use Rattle.psi_state.specs.Members.{In}
 use Rattle.psi_state.specs.Boxes.{IsBetween, In-of_all_states, In-all_states, same-from_below, zeros-below, below-itself}
-use Rattle.psi_state.specs.Sets.{image, single, single-each, single-apart, In-image, In-of_image, single-image}
-use Rattle.psi_state.specs.States.{In-zeros, In-caps, same-from_eq, apart-from_eq}
-use Rattle.psi_state.specs.Hull.{hull}
-use Rattle.psi_state.specs.Ascending.{IsRising, IsDistinct, rising-distinct, box-rising, image-rising, image-image, image-agree, image-identity}
+use Rattle.psi_state.specs.Sets.{image, single, single-each, single-apart, In-image, In-of_image}
+use Rattle.psi_state.specs.States.{In-zeros, same-from_eq, apart-from_eq}
+use Rattle.psi_state.specs.Ascending.{IsRising, rising-distinct, image-rising, image-image, image-agree, image-identity}
 use Rattle.psi_event.specs.Law.{IsClosed, IsMonotone}
-use Rattle.psi_rate.specs.Composition.{compose, image_at, AreClosed, AreMonotone, IsReached, compose-closed, compose-monotone, reached-later, corners-meet, corners-apart}
-use Rattle.psi_rate.specs.Doubling.{HasNone, IsFirst}
+use Rattle.psi_rate.specs.Composition.{compose, image_at, AreClosed, AreMonotone, IsReached, reached-later, corners-meet, corners-apart}
 use Rattle.psi_rate.specs.Outcomes.{meeting_at, IsOutcome, ReachesOutcome, outcome-agree}
-use Rattle.psi_region.specs.Region.{Area, start, splits, next, step, IsArea, IsWithin, start-area, step-area, step-within, within-start, step-has, step-split, hull-between, image-length, image-within}
+use Rattle.psi_region.specs.Region.{Area, start, splits, next, step, IsArea, IsWithin, start-area, step-area, step-within, within-start, step-has, step-split, hull-between, image-length}
 
 -- what the last t steps make of a region: the oldest event comes first
 abbrev pub follow : ℕ → (ℕ → List ℕ → List ℕ) → ℕ → Area → Area

@@ -1,4 +1,4 @@
-use Rattle.std.proofs.Common.{◌≡◌, sym, subst}
+use Rattle.std.proofs.Common.{◌≡◌, subst}
 use Rattle.psi_rate.specs.Composition.{Parts, functions_of}
 use Rattle.psi_region.specs.Region.{Area, ShowsBox}
 use Rattle.psi_horizon.specs.Runs.{region_after}

@@ -1,8 +1,6 @@
-use Rattle.std.proofs.Common.{◌≤◌, length, All, subst}
-use Rattle.psi_state.specs.State.{all_states}
-use Rattle.psi_event.specs.Law.{IsMonotone}
-use Rattle.psi_rate.specs.Composition.{functions_of, AreClosed, AreMonotone}
-use Rattle.psi_rate.specs.Outcomes.{meeting_at, outcome_within-only, IsOutcome, functions-closed, functions-monotone}
+use Rattle.std.proofs.Common.{subst}
+use Rattle.psi_rate.specs.Composition.{functions_of}
+use Rattle.psi_rate.specs.Outcomes.{outcome_within-only, IsOutcome, functions-closed, functions-monotone}
 use Rattle.psi_rate.specs.System.{IsSystem}
 use Rattle.psi_horizon.specs.Planned.{Planned}
 use Rattle.psi_horizon.specs.Runs.{ending_at, outcome-reached, outcome-monotone, outcome-exact, outcome-decides, run-within, runs-exact}

@@ -1,4 +1,4 @@
-use Rattle.std.proofs.Common.{◌≡◌, true, refl, ap, sym, ◌∙◌}
+use Rattle.std.proofs.Common.{◌≡◌, true, refl, ap, ◌∙◌}
 use Rattle.psi_rate.specs.Composition.{Parts, functions_of}
 use Rattle.psi_region.specs.Region.{Area}
 use Rattle.psi_horizon.specs.Runs.{region_after}
