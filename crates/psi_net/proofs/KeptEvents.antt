@@ -141,16 +141,17 @@ expanded_kept : (queues : List Queue) (event : NamedEvent) → AreListed queues 
 unfolding served_by
 expanded_kept queues event listed small kept =
     served_kept (map (λ q. q.capacity) queues) event 1 (servers_at queues (source_of event.kind)) (servers_at queues (source_of event.kind)) kept (omega arith) (omega arith)
-        (most_fits queues (source_of event.kind) listed small)
+    (most_fits queues (source_of event.kind) listed small)
 
 limits_kept : (place : Place) (key : List ℕ) (n v r : ℕ) (u : Unit {0}) → within_limits place key n v r ≡ Ok u → (n ≤ 1024) × (r ≤ 16777216)
 unfolding within_limits
 limits_kept place key n v r u h =
     let few = bind_ok (holds_or (at_key TooMany place key) (nat_le n 1024))
-        (λ _. holds_or (at_key TooMany place (codes "table")) (nat_le v 262144) >>= (λ _. holds_or (at_key TotalTooLarge place (codes "rate")) (nat_le r 16777216))) u h in
-    let small = bind_ok (holds_or (at_key TooMany place (codes "table")) (nat_le v 262144)) (λ _. holds_or (at_key TotalTooLarge place (codes "rate")) (nat_le r 16777216)) u few.2 in
-    (leb-true n 1024 (held (at_key TooMany place key) (nat_le n 1024) few.0 few.1),
-    leb-true r 16777216 (held (at_key TotalTooLarge place (codes "rate")) (nat_le r 16777216) u small.2))
+    (λ _. holds_or (at_key TooMany place (codes "table")) (nat_le v 262144) >>= (λ _. holds_or (at_key TotalTooLarge place (codes "rate")) (nat_le r 16777216))) u h in
+    let small = bind_ok (holds_or (at_key TooMany place (codes "table")) (nat_le v 262144)) (λ _. holds_or (at_key TotalTooLarge place (codes "rate")) (nat_le r 16777216)) u few.2 in (
+      leb-true n 1024 (held (at_key TooMany place key) (nat_le n 1024) few.0 few.1),
+      leb-true r 16777216 (held (at_key TotalTooLarge place (codes "rate")) (nat_le r 16777216) u small.2),
+    )
 
 event_step_kept : (version : ℕ) (queues : List Queue) → AreListed queues → (n : ℕ) (s t : Listed) (d : Data) → AreEvents (map (λ q. q.capacity) queues) s.events
     → event_step version queues n s d ≡ Ok t → AreSoFar queues (n + 1) s.events t
@@ -162,7 +163,7 @@ event_step_kept version queues listed n s t d kept h =
     let event = bind_ok (event_of (event_place n) version s.names (map (λ q. q.name) queues) (map (λ q. q.capacity) queues) ms.0) _ t ms.2 in
     let within = bind_ok (are_within (event_place n) event.0 (s.events ++ expanded queues event.0)) _ t event.2 in
     let limits = limits_kept (event_place n) (count_key (source_of event.0.kind)) (length (s.events ++ expanded queues event.0)) (values_of (s.events ++ expanded queues event.0))
-        (total (map (λ e. e.rate) (s.events ++ expanded queues event.0))) within.0 within.1 in
+    (total (map (λ e. e.rate) (s.events ++ expanded queues event.0))) within.0 within.1 in
     let one = event_kept (event_place n) version s.names (map (λ q. q.name) queues) (map (λ q. q.capacity) queues) (names ∙ sym caps) (capacities_kept queues listed) ms.0 event.0 event.1 in
     let source = event_source (event_place n) version s.names queues ms.0 event.0 listed event.1 in
     subst (λ (l : Listed). AreSoFar queues (n + 1) s.events l) (ok_same _ t within.2) (record {
@@ -220,14 +221,14 @@ events_kept version queues (Some d) events listed h =
     let least = (elements_count top (codes "event") NoEvents 1024 d tables.0 tables.1).0 in
     let kept : AreRead queues (1 + length tables.0) read.0 =
     each_kept (AreRead queues) (event_step version queues) (λ n s t e k r. step_read version queues listed n s t e k r) tables.0 1 (1 + length tables.0) (record { names = []; events = [] }) read.0 refl
-        (record { events = no_events (map (λ q. q.capacity) queues); count = omega arith }) read.1 in
+    (record { events = no_events (map (λ q. q.capacity) queues); count = omega arith }) read.1 in
     let count = kept.count in
     subst (λ (es : List NamedEvent). AreEventsOf (map (λ q. q.capacity) queues) es) (ok_same read.0.events events read.2)
-        (events_of_kept (map (λ q. q.capacity) queues) read.0.events (omega arith) kept.events)
+    (events_of_kept (map (λ q. q.capacity) queues) read.0.events (omega arith) kept.events)
 
 -- the source of an event that is read with these names and capacities
 pub source_read : (place : Place) (version : ℕ) (earlier names : List (List ℕ)) (caps : List ℕ) (queues : List Queue) (ms : Members) (event : NamedEvent) → AreListed queues
     → names ≡ map (λ q. q.name) queues → caps ≡ map (λ q. q.capacity) queues → event_of place version earlier names caps ms ≡ Ok event → IfSome (source_of event.kind) (λ s. s.queue < length queues)
 source_read place version earlier names caps queues ms event listed is are h =
     event_source place version earlier queues ms event listed
-        (subst (λ (cs : List ℕ). event_of place version earlier (map (λ q. q.name) queues) cs ms ≡ Ok event) are (subst (λ (ns : List (List ℕ)). event_of place version earlier ns caps ms ≡ Ok event) is h))
+    (subst (λ (cs : List ℕ). event_of place version earlier (map (λ q. q.name) queues) cs ms ≡ Ok event) are (subst (λ (ns : List (List ℕ)). event_of place version earlier ns caps ms ≡ Ok event) is h))

@@ -97,8 +97,8 @@ service_kept caps names same valid place ms k h =
     let small : from.0 < length caps = queue_at caps names same place (codes "from") source.0 from.0 source.1 in
     let kept : AreTargets (length caps) (from.0 ∷ []) to.0 =
     optional_kept (λ (qs : List ℕ). AreTargets (length caps) (from.0 ∷ []) qs) [] (targets_in place (codes "to") names (from.0 ∷ [])) (get_member (codes "to") ms) to.0
-        (no_targets (length caps) (from.0 ∷ []))
-        (λ d r. subst (λ (n : ℕ). AreTargets n (from.0 ∷ []) to.0) same (targets_kept place (codes "to") names (from.0 ∷ []) d to.0 r)) to.1 in
+    (no_targets (length caps) (from.0 ∷ []))
+    (λ d r. subst (λ (n : ℕ). AreTargets n (from.0 ∷ []) to.0) same (targets_kept place (codes "to") names (from.0 ∷ []) d to.0 r)) to.1 in
     subst (λ (x : Kind). IsAccepted caps x) (ok_same (kind.Service (first_server from.0) to.0 full.0) k full.2) (record {
       named = (first_source caps valid from.0 small, among (length caps) to.0 kept.within);
       accepted = accepted caps (kind.Service (first_server from.0) to.0 full.0) refl (once to.0 kept.distinct) (away from.0 to.0 kept.apart) refl refl refl;
@@ -159,7 +159,7 @@ table_kept place caps to d table h =
     let many : length elements.0 ≡ length to = eqb-true (length elements.0) (length to) (held _ _ fits.0 fits.1) in
     let kept : AreRows caps to (1 + length to) table =
     each_kept_below (AreRows caps to) (row_step place caps to) (1 + length to) (λ n s t e small k r. row_step_kept place caps to n s t e small k r) elements.0 1 [] table (omega arith)
-        (record { tables = refl; count = refl }) fits.2 in
+    (record { tables = refl; count = refl }) fits.2 in
     let count = kept.count in
     subst (λ (qs : List ℕ). are_tables caps qs table ≡ true) (take_all (length table) to (omega arith)) kept.tables
 
@@ -169,7 +169,7 @@ fit_all caps size [] h = refl
 fit_all caps size (q ∷ qs) h =
     let parts = and_parts (nat_le size (slice_index caps q)) (list_all (λ p. nat_le size (slice_index caps p)) qs) h in
     either_false (nat_lt (slice_index caps q) size) (list_any (λ p. nat_lt (slice_index caps p) size) qs)
-        (le-ltb (slice_index caps q) size (leb-true size (slice_index caps q) parts.0)) (fit_all caps size qs parts.1)
+    (le-ltb (slice_index caps q) size (leb-true size (slice_index caps q) parts.0)) (fit_all caps size qs parts.1)
 
 not_two : (sourced : Bool) (size count : ℕ) → (not sourced || size == 1) ≡ true → nat_eq count 0 ≡ false → (nat_le 2 size && (sourced || nat_eq count 0)) ≡ false
 not_two true size count single some = (let one : size ≡ 1 = eqb-true size 1 single in rw (lt-leb 2 size (omega arith)) refl)
@@ -191,9 +191,9 @@ size_kept place caps source to size fitting least some h =
     let roomy = bind_ok (holds_or _ _) _ fitting single.2 in
     let same : size ≡ fitting = ok_same size fitting roomy.2 in
     subst (λ (n : ℕ). is_size_off caps source n to ≡ false) same
-        (either_false (nat_eq size 0 || list_any (λ q. nat_lt (slice_index caps q) size) to) (nat_le 2 size && (is_some source || nat_eq (length to) 0))
-            (either_false (nat_eq size 0) (list_any (λ q. nat_lt (slice_index caps q) size) to) (ne_eqb size 0 (λ e. omega arith)) (fit_all caps size to (held _ _ roomy.0 roomy.1)))
-            (not_two (is_some source) size (length to) (held _ _ single.0 single.1) (counted to some)))
+    (either_false (nat_eq size 0 || list_any (λ q. nat_lt (slice_index caps q) size) to) (nat_le 2 size && (is_some source || nat_eq (length to) 0))
+    (either_false (nat_eq size 0) (list_any (λ q. nat_lt (slice_index caps q) size) to) (ne_eqb size 0 (λ e. omega arith)) (fit_all caps size to (held _ _ roomy.0 roomy.1)))
+    (not_two (is_some source) size (length to) (held _ _ single.0 single.1) (counted to some)))
 
 index_kept : (caps : List ℕ) (names : List (List ℕ)) → length names ≡ length caps → AreCapacities caps → (place : Place) (ms : Members) (k : Kind) → index_of place names caps ms ≡ Ok k → IsAccepted caps k
 unfolding index_of
@@ -207,7 +207,7 @@ index_kept caps names same valid place ms k h =
     let kept = some_targets_at caps names (queue_of_source from.0) same place (codes "to") (get_member (codes "to") ms) to.0 to.1 in
     let rows = required_ok place (codes "table") (table_of place caps to.0) (get_member (codes "table") ms) table.0 table.1 in
     let least : 1 ≤ size.0 = optional_kept (λ (n : ℕ). 1 ≤ n) 1 (number_in place (codes "size") 1 65535) (get_member (codes "size") ms) size.0 (omega arith)
-        (λ d r. (number_range place (codes "size") 1 65535 d size.0 r).0) size.1 in
+    (λ d r. (number_range place (codes "size") 1 65535 d size.0 r).0) size.1 in
     subst (λ (x : Kind). IsAccepted caps x) (ok_same (kind.Index from.0 to.0 table.0 full.0 fitting.0) k fitting.2) (record {
       named = (optional_source caps names same valid place (get_member (codes "from") ms) from.0 from.1, among (length caps) to.0 kept.targets.within);
       accepted = accepted caps (kind.Index from.0 to.0 table.0 full.0 fitting.0) kept.some (once to.0 kept.targets.distinct) (self_away from.0 to.0 kept.targets.apart)
@@ -241,7 +241,7 @@ negative_kept caps names same valid place ms k h =
     let read = required_ok place (codes "on") (target_in place (codes "on") names (queue_of_source from.0)) (get_member (codes "on") ms) on.0 on.1 in
     let kept = target_kept place (codes "on") names (queue_of_source from.0) read.0 on.0 read.1 in
     let least : 1 ≤ amount.0 = optional_kept (λ (n : ℕ). 1 ≤ n) 1 (number_in place (codes "amount") 1 65535) (get_member (codes "amount") ms) amount.0 (omega arith)
-        (λ d r. (number_range place (codes "amount") 1 65535 d amount.0 r).0) amount.1 in
+    (λ d r. (number_range place (codes "amount") 1 65535 d amount.0 r).0) amount.1 in
     subst (λ (x : Kind). IsAccepted caps x) (ok_same (kind.Negative from.0 on.0 amount.0) k amount.2) (record {
       named = (optional_source caps names same valid place (get_member (codes "from") ms) from.0 from.1, subst (λ (n : ℕ). on.0 < n) same kept.0);
       accepted = accepted caps (kind.Negative from.0 on.0 amount.0) refl refl (on_away from.0 on.0 kept.1) refl (ne_eqb amount.0 0 (λ e. omega arith)) refl;
@@ -269,7 +269,7 @@ joined_kept caps names same place from d to h =
     let queue = bind_ok (target_in place (codes "to") names from d) _ to h in
     let kept = target_kept place (codes "to") names from d queue.0 queue.1 in
     subst (λ (o : Option ℕ). IsJoined caps from o) (ok_same (Some queue.0) to queue.2)
-        (record { named = subst (λ (n : ℕ). queue.0 < n) same kept.0; away = is_other queue.0 from kept.1 })
+    (record { named = subst (λ (n : ℕ). queue.0 < n) same kept.0; away = is_other queue.0 from kept.1 })
 
 join_kept : (caps : List ℕ) (names : List (List ℕ)) → length names ≡ length caps → (place : Place) (ms : Members) (k : Kind) → join_of place names ms ≡ Ok k → IsAccepted caps k
 unfolding join_of
@@ -278,7 +278,7 @@ join_kept caps names same place ms k h =
     let to = bind_ok (optional None (joined_in place names from.0) (get_member (codes "to") ms)) _ k from.2 in
     let kept = some_targets_at caps names [] same place (codes "from") (get_member (codes "from") ms) from.0 from.1 in
     let leads : IsJoined caps from.0 to.0 = optional_kept (λ (o : Option ℕ). IsJoined caps from.0 o) None (joined_in place names from.0) (get_member (codes "to") ms) to.0
-        (record { named = tt; away = refl }) (λ d r. joined_kept caps names same place from.0 d to.0 r) to.1 in
+    (record { named = tt; away = refl }) (λ d r. joined_kept caps names same place from.0 d to.0 r) to.1 in
     subst (λ (x : Kind). IsAccepted caps x) (ok_same (kind.Join from.0 to.0) k to.2) (record {
       named = (among (length caps) from.0 kept.targets.within, leads.named);
       accepted = accepted caps (kind.Join from.0 to.0) kept.some (once from.0 kept.targets.distinct) leads.away refl refl refl;
@@ -297,9 +297,10 @@ unfolding part_queue
 part_queue_kept place names earlier d q h =
     let queue = bind_ok (queue_in place (codes "queue") names d) _ q h in
     let fresh = bind_ok (holds_or _ _) _ q queue.2 in
-    let same : queue.0 ≡ q = ok_same queue.0 q fresh.2 in
-    (subst (λ (k : ℕ). k < length names) same (queue_small place (codes "queue") names d queue.0 queue.1),
-    subst (λ (k : ℕ). list_any (λ p. nat_eq k p.queue) earlier ≡ false) same (not_true (list_any (λ p. nat_eq queue.0 p.queue) earlier) (held _ _ fresh.0 fresh.1)))
+    let same : queue.0 ≡ q = ok_same queue.0 q fresh.2 in (
+      subst (λ (k : ℕ). k < length names) same (queue_small place (codes "queue") names d queue.0 queue.1),
+      subst (λ (k : ℕ). list_any (λ p. nat_eq k p.queue) earlier ≡ false) same (not_true (list_any (λ p. nat_eq queue.0 p.queue) earlier) (held _ _ fresh.0 fresh.1)),
+    )
 
 at_most : (place : Place) (key : List ℕ) (default cap : ℕ) (found : Option Data) (n : ℕ) → default ≤ cap → optional default (number_in place key 0 cap) found ≡ Ok n → n ≤ cap
 at_most place key default cap found n small h =
@@ -315,14 +316,14 @@ follows : (caps : List ℕ) (earlier : List Part) (part : Part) → part.queue <
     → names earlier part.queue ≡ false → part.least ≤ part.most → part.floor ≤ part.ceiling → refusal_at caps earlier part ≡ None
 follows caps earlier part small top high moves named guard bounds =
     no_cause (is_out caps part) (names earlier part.queue) (is_empty_part part) cause.OutOfRange cause.Repeated cause.Empty
-        (either_false (nat_le (length caps) part.queue) (nat_lt (slice_index caps part.queue) part.most || (nat_lt (slice_index caps part.queue) part.ceiling || nat_lt 65535 (unsigned_abs part.shift)))
-            (lt-leb (length caps) part.queue small)
-            (either_false (nat_lt (slice_index caps part.queue) part.most) (nat_lt (slice_index caps part.queue) part.ceiling || nat_lt 65535 (unsigned_abs part.shift))
-                (le-ltb (slice_index caps part.queue) part.most top)
-                (either_false (nat_lt (slice_index caps part.queue) part.ceiling) (nat_lt 65535 (unsigned_abs part.shift))
-                    (le-ltb (slice_index caps part.queue) part.ceiling high) (le-ltb 65535 (unsigned_abs part.shift) moves))))
-        named
-        (either_false (nat_lt part.most part.least) (nat_lt part.ceiling part.floor) (le-ltb part.most part.least guard) (le-ltb part.ceiling part.floor bounds))
+    (either_false (nat_le (length caps) part.queue) (nat_lt (slice_index caps part.queue) part.most || (nat_lt (slice_index caps part.queue) part.ceiling || nat_lt 65535 (unsigned_abs part.shift)))
+    (lt-leb (length caps) part.queue small)
+    (either_false (nat_lt (slice_index caps part.queue) part.most) (nat_lt (slice_index caps part.queue) part.ceiling || nat_lt 65535 (unsigned_abs part.shift))
+    (le-ltb (slice_index caps part.queue) part.most top)
+    (either_false (nat_lt (slice_index caps part.queue) part.ceiling) (nat_lt 65535 (unsigned_abs part.shift))
+    (le-ltb (slice_index caps part.queue) part.ceiling high) (le-ltb 65535 (unsigned_abs part.shift) moves))))
+    named
+    (either_false (nat_lt part.most part.least) (nat_lt part.ceiling part.floor) (le-ltb part.most part.least guard) (le-ltb part.ceiling part.floor bounds))
 
 part_kept : (place : Place) (keys : List (List ℕ)) (caps : List ℕ) → length keys ≡ length caps → (earlier : List Part) (ms : Members) (part : Part) → part_of place keys caps earlier ms ≡ Ok part
     → refusal_at caps earlier part ≡ None
@@ -342,13 +343,13 @@ part_kept place keys caps same earlier ms part h =
     let named = part_queue_kept place keys earlier read.0 queue.0 read.1 in
     let small : queue.0 < length caps = subst (λ (n : ℕ). queue.0 < n) same named.0 in
     let moves : unsigned_abs shift.0 ≤ 65535 = optional_kept (λ (z : ℤ). unsigned_abs z ≤ 65535) (pos 0) (integer_in place (codes "shift") 65535) (get_member (codes "shift") ms) shift.0
-        (lit≤ tt) (λ d r. integer_range place (codes "shift") 65535 d shift.0 r) shift.1 in
+    (lit≤ tt) (λ d r. integer_range place (codes "shift") 65535 d shift.0 r) shift.1 in
     let top : most.0 ≤ cap = at_most place (codes "most") cap cap (get_member (codes "most") ms) most.0 (omega arith) most.1 in
     let high : ceiling.0 ≤ cap = at_most place (codes "ceiling") cap cap (get_member (codes "ceiling") ms) ceiling.0 (omega arith) ceiling.1 in
     let guard : least.0 ≤ most.0 = leb-true least.0 most.0 (held _ _ guarded.0 guarded.1) in
     let bounds : floor.0 ≤ ceiling.0 = leb-true floor.0 ceiling.0 (held _ _ bounded.0 bounded.1) in
     subst (λ (p : Part). refusal_at caps earlier p ≡ None) (ok_same _ part bounded.2)
-        (follows caps earlier (record { queue = queue.0; least = least.0; most = most.0; shift = shift.0; floor = floor.0; ceiling = ceiling.0 }) small top high moves (no_name earlier queue.0 named.1) guard bounds)
+    (follows caps earlier (record { queue = queue.0; least = least.0; most = most.0; shift = shift.0; floor = floor.0; ceiling = ceiling.0 }) small top high moves (no_name earlier queue.0 named.1) guard bounds)
 
 first_none : {A : Type 0} (a b : Option A) → first_or a b ≡ None → (a ≡ None) × (b ≡ None)
 first_none None b h = (refl, h)
@@ -398,7 +399,7 @@ parts_kept place names caps same d parts h =
     let least = (elements_count place (codes "part") OutOfRange 32 d tables.0 tables.1).0 in
     let kept : AreParts caps (1 + length tables.0) parts =
     each_kept (AreParts caps) (part_step place names caps) (λ n s t e k r. part_step_kept place names caps same n s t e k r) tables.0 1 (1 + length tables.0) [] parts refl
-        (record { follow = refl; count = refl }) tables.2 in
+    (record { follow = refl; count = refl }) tables.2 in
     let count = kept.count in
     record { follow = kept.follow; some = some_parts parts (omega arith) }
 

@@ -64,11 +64,11 @@ document_kept ms net h =
     let kept = events_kept version.0 queues.0 (get_member (codes "event") ms) events.0 listed events.1 in
     let most : most_limit version.0 ≤ 22 = most_is version.0 in
     let horizon : limit.0 ≤ 22 = optional_kept (λ (n : ℕ). n ≤ 22) default_limit (number_in top (codes "limit") 0 (most_limit version.0)) (get_member (codes "limit") ms) limit.0 (omega arith)
-        (λ d r. (let own = (number_range top (codes "limit") 0 (most_limit version.0) d limit.0 r).1 in omega arith)) limit.1 in
+    (λ d r. (let own = (number_range top (codes "limit") 0 (most_limit version.0) d limit.0 r).1 in omega arith)) limit.1 in
     let states : IsSplit split.0 = optional_kept IsSplit default_split (number_in top (codes "split") 1 4096) (get_member (codes "split") ms) split.0 (record { some = omega arith; most = omega arith })
-        (λ d r. (let own = number_range top (codes "split") 1 4096 d split.0 r in record { some = own.0; most = own.1 })) split.1 in
+    (λ d r. (let own = number_range top (codes "split") 1 4096 d split.0 r in record { some = own.0; most = own.1 })) split.1 in
     let worths : length rewards.0 ≤ 64 = optional_kept (λ (rs : List NamedReward). length rs ≤ 64) [] (rewards_in (map (λ q. q.name) queues.0) (map (λ q. q.capacity) queues.0)) (get_member (codes "reward") ms) rewards.0 (omega arith)
-        (λ d r. rewards_in_kept (map (λ q. q.name) queues.0) (map (λ q. q.capacity) queues.0) d rewards.0 r) rewards.1 in
+    (λ d r. rewards_in_kept (map (λ q. q.name) queues.0) (map (λ q. q.capacity) queues.0) d rewards.0 r) rewards.1 in
     subst (λ (n : Network). IsNetwork n) (ok_same _ net rewards.2) (record {
       queues = listed;
       rates = kept.rates;

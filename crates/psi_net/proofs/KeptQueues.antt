@@ -37,9 +37,9 @@ queue_kept n earlier ms queue h =
     let read = required_ok (queue_place n) (codes "capacity") (number_in (queue_place n) (codes "capacity") 1 65535) (get_member (codes "capacity") ms) capacity.0 capacity.1 in
     let range = number_range (queue_place n) (codes "capacity") 1 65535 read.0 capacity.0 read.1 in
     let served : IsServed capacity.0 servers.0 = optional_kept (λ (k : ℕ). IsServed capacity.0 k) 1 (number_in (queue_place n) (codes "servers") 1 (min 64 capacity.0)) (get_member (codes "servers") ms) servers.0
-        (record { some = omega arith; few = omega arith; fits = range.0 })
-        (λ d r. (let own = number_range (queue_place n) (codes "servers") 1 (min 64 capacity.0) d servers.0 r in
-            record { some = own.0; few = (let most = own.1 in omega arith); fits = (let most = own.1 in omega arith) })) servers.1 in
+    (record { some = omega arith; few = omega arith; fits = range.0 })
+    (λ d r. (let own = number_range (queue_place n) (codes "servers") 1 (min 64 capacity.0) d servers.0 r in
+    record { some = own.0; few = (let most = own.1 in omega arith); fits = (let most = own.1 in omega arith) })) servers.1 in
     subst (λ (q : Queue). IsQueue q) (ok_same _ queue servers.2) (record { some = range.0; most = range.1; served = served.some; servers = served.few; fits = served.fits })
 
 queue_step_kept : (n : ℕ) (queues more : List Queue) (d : Data) → AreRead n queues → queue_step n queues d ≡ Ok more → AreRead (n + 1) more
@@ -61,7 +61,7 @@ queues_kept found queues h =
     let tables = bind_ok (elements_in top (codes "queue") MissingKey 32 d.0) _ queues d.1 in
     let count = elements_count top (codes "queue") MissingKey 32 d.0 tables.0 tables.1 in
     let kept : AreRead (1 + length tables.0) queues = each_kept AreRead queue_step queue_step_kept tables.0 1 (1 + length tables.0) [] queues refl
-        (record { each = λ k e small. absurd (omega arith); count = refl }) tables.2 in
+    (record { each = λ k e small. absurd (omega arith); count = refl }) tables.2 in
     let many = kept.count in
     record { some = (let least = count.0 in omega arith); few = (let most = count.1 in omega arith); each = kept.each }
 

@@ -113,7 +113,7 @@ grid_step_kept place caps queues n s t d less kept h =
           (subst (λ (cs : List ℕ). has_rows cs (s ++ row.0 ∷ []) ≡ true) (sym widths) (rows_more (held_by (take (length s) queues) caps) s (slice_index caps (slice_index queues (length s))) row.0 kept.fits one));
       small = subst (λ (zs : List ℤ). All IsSmall zs) (sym (flat_map-append (λ (r : List ℤ). r) s (row.0 ∷ [])))
           (All-append IsSmall (flat_map (λ (r : List ℤ). r) s) (flat_map (λ (r : List ℤ). r) (row.0 ∷ [])) kept.small
-              (All-append IsSmall row.0 [] numbers.small (All-nil IsSmall)));
+          (All-append IsSmall row.0 [] numbers.small (All-nil IsSmall)));
       count = omega arith;
     })
 
@@ -129,7 +129,7 @@ grid_kept place caps queues d rows h =
     let many : length elements.0 ≡ length queues = eqb-true (length elements.0) (length queues) (held _ _ fits.0 fits.1) in
     let kept : AreGridRows caps queues (1 + length queues) rows =
     each_kept_below (AreGridRows caps queues) (grid_step place caps queues) (1 + length queues) (λ n s t e less k r. grid_step_kept place caps queues n s t e less k r) elements.0 1 [] rows (omega arith)
-        (record { fits = refl; small = All-nil IsSmall; count = refl }) fits.2 in
+    (record { fits = refl; small = All-nil IsSmall; count = refl }) fits.2 in
     let count = kept.count in
     record { fits = subst (λ (qs : List ℕ). has_rows (held_by qs caps) rows ≡ true) (take_all (length rows) queues (omega arith)) kept.fits; small = kept.small }
 

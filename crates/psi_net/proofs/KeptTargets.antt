@@ -39,7 +39,7 @@ all_targets : (place : Place) (key : List ℕ) (names : List (List ℕ)) (source
     → AreSome (length names) sources (1 + length ds) qs
 all_targets place key names sources ds qs h =
     each_kept (AreSome (length names) sources) (target_step place key names sources) (target_step_kept place key names sources) ds 1 (1 + length ds) [] qs refl
-        (record { targets = no_targets (length names) sources; length_is = omega arith }) h
+    (record { targets = no_targets (length names) sources; length_is = omega arith }) h
 
 -- a list that is read
 pub targets_kept : (place : Place) (key : List ℕ) (names : List (List ℕ)) (sources : List ℕ) (d : Data) (qs : List ℕ) → targets_in place key names sources d ≡ Ok qs
@@ -75,9 +75,10 @@ unfolding target_in
 target_kept place key names sources d q h =
     let queue = bind_ok (queue_in place key names d) _ q h in
     let apart = bind_ok (holds_or _ _) _ q queue.2 in
-    let same : queue.0 ≡ q = ok_same queue.0 q apart.2 in
-    (subst (λ (k : ℕ). k < length names) same (queue_small place key names d queue.0 queue.1),
-    subst (λ (k : ℕ). is_in k sources ≡ false) same (not_true (is_in queue.0 sources) (held _ _ apart.0 apart.1)))
+    let same : queue.0 ≡ q = ok_same queue.0 q apart.2 in (
+      subst (λ (k : ℕ). k < length names) same (queue_small place key names d queue.0 queue.1),
+      subst (λ (k : ℕ). is_in k sources ≡ false) same (not_true (is_in queue.0 sources) (held _ _ apart.0 apart.1)),
+    )
 
 -- different queues don't repeat
 any_of : (q : ℕ) (qs : List ℕ) → is_in q qs ≡ false → list_any (λ p. nat_eq p q) qs ≡ false

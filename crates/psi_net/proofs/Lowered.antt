@@ -30,4 +30,4 @@ pub lowered_more : (caps : List ℕ) (events : List NamedEvent) (i : ℕ) (event
     → AreMade capacities function upset_pair caps (take i events) made → AreMade capacities function upset_pair caps (take (i + 1) events) more
 lowered_more caps events i event made more one small is same does mark pushed so =
     subst (λ (es : List Event). AreMade capacities function upset_pair caps (take (i + 1) events) es) (sym pushed)
-        (made_more capacities function upset_pair caps events i event made one small is same does mark so)
+    (made_more capacities function upset_pair caps events i event made one small is same does mark so)

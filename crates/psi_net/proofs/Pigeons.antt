@@ -64,23 +64,27 @@ left n (x ∷ xs) distinct small =
         → are_distinct xs ≡ true → is_in x xs ≡ false → list_all (λ y. nat_lt y (suc n)) xs ≡ true → x < suc n → (ys : List ℕ) × IsLeft n (x ∷ xs) ys
     by true same behind rest fresh smalls less =
         let e : n ≡ x = eqb-true n x same in
-        let absent : is_in n xs ≡ false = ap (λ q. is_in q xs) e ∙ fresh in
-        (xs, record {
-          distinct = rest;
-          small = narrow n xs absent smalls;
-          count = omega arith;
-          among = λ q h. (neither (nat_eq q x) (is_in q xs) h).1;
-        })
+        let absent : is_in n xs ≡ false = ap (λ q. is_in q xs) e ∙ fresh in (
+          xs,
+          record {
+            distinct = rest;
+            small = narrow n xs absent smalls;
+            count = omega arith;
+            among = λ q h. (neither (nat_eq q x) (is_in q xs) h).1;
+          },
+        )
     by false other behind rest fresh smalls less =
         let r = behind rest smalls in
         let ne : n ≡ x → ⊥ = eqb-false n x other in
-        let first : x < n = omega (arith, ne) in
-        (x ∷ r.0, record {
-          distinct = both (not (is_in x r.0)) (are_distinct r.0) (not_false (is_in x r.0) (r.1.among x fresh)) r.1.distinct;
-          small = both (nat_lt x n) (list_all (λ y. nat_lt y n) r.0) (below x n first) r.1.small;
-          count = (let c = r.1.count in omega arith);
-          among = λ q h. (let p = neither (nat_eq q x) (is_in q xs) h in either_false (nat_eq q x) (is_in q r.0) p.0 (r.1.among q p.1));
-        })
+        let first : x < n = omega (arith, ne) in (
+          x ∷ r.0,
+          record {
+            distinct = both (not (is_in x r.0)) (are_distinct r.0) (not_false (is_in x r.0) (r.1.among x fresh)) r.1.distinct;
+            small = both (nat_lt x n) (list_all (λ y. nat_lt y n) r.0) (below x n first) r.1.small;
+            count = (let c = r.1.count in omega arith);
+            among = λ q h. (let p = neither (nat_eq q x) (is_in q xs) h in either_false (nat_eq q x) (is_in q r.0) p.0 (r.1.among q p.1));
+          },
+        )
 
 -- different numbers below n are at most n
 pub pigeons : (n : ℕ) (xs : List ℕ) → are_distinct xs ≡ true → list_all (λ x. nat_lt x n) xs ≡ true → length xs ≤ n
@@ -99,7 +103,7 @@ distinct_more (x ∷ xs) q distinct fresh =
     let apart = and_parts (not (is_in x xs)) (are_distinct xs) distinct in
     let parts = neither (nat_eq q x) (is_in q xs) fresh in
     both (not (is_in x (xs ++ q ∷ []))) (are_distinct (xs ++ q ∷ [])) (not_false (is_in x (xs ++ q ∷ [])) (absent_more xs x q (not_true (is_in x xs) apart.0) (other_way q x parts.0)))
-        (distinct_more xs q apart.1 parts.1)
+    (distinct_more xs q apart.1 parts.1)
   where
     absent_more : (ys : List ℕ) (y p : ℕ) → is_in y ys ≡ false → nat_eq y p ≡ false → is_in y (ys ++ p ∷ []) ≡ false
     absent_more [] y p absent other = either_false (nat_eq y p) false other refl

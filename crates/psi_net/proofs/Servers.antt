@@ -32,4 +32,3 @@ values_past (row ∷ tables) (suc i) = (let rest = values_past tables i in omega
 
 pub values_whole : (tables : List (List ℕ)) (i : ℕ) → length tables ≤ i → total (map length (take i tables)) ≡ total (map length tables)
 values_whole tables i past = ap (λ (rows : List (List ℕ)). total (map length rows)) (take_all i tables past)
-

@@ -15,7 +15,9 @@ ghost use Rattle.psi_net.specs.Kept.{AreListed};
 
 use crate::entries::{NamedEvent, Queue};
 use crate::expansion::{index_values, push_expanded, servers_at, source_of};
-use crate::keys::{elements_in, find, no_unknown, read, required_name, required_number, table_in, text_in};
+use crate::keys::{
+    elements_in, find, no_unknown, read, required_name, required_number, table_in, text_in,
+};
 use crate::kind_tables::{arrival, batch, fork, index, join, negative, service};
 use crate::naming::Name;
 use crate::part_tables::guarded;
@@ -81,7 +83,9 @@ fn no_unknown_event_key(place: Place, word: KindWord, table: &Table) -> Result<(
             no_unknown(place, known, table)
         }
         KindWord::Index => {
-            let known = &["from", "full", "kind", "name", "rate", "size", "table", "to"];
+            let known = &[
+                "from", "full", "kind", "name", "rate", "size", "table", "to",
+            ];
             no_unknown(place, known, table)
         }
         KindWord::Batch => no_unknown(place, &["kind", "name", "rate", "size", "to"], table),
@@ -185,7 +189,11 @@ fn sums(
     ensures counted { IfOk result (λ sums. IsCounted (list.now.events.items ++ served_by servers event.now) sums.values sums.rates) }
 {
     if list.events.len() + servers as usize > 1024 {
-        let key = if source_of(&event.kind).is_some() { "from" } else { "kind" };
+        let key = if source_of(&event.kind).is_some() {
+            "from"
+        } else {
+            "kind"
+        };
         return Err(NetError::at_key(Cause::TooMany, place, key));
     }
     let Some(own) = index_values(&event.kind) else {
@@ -260,7 +268,9 @@ fn all_events(
     };
     for (index, value) in values.iter().enumerate() {
         let number = index as u32 + 1;
-        read!(push_event(alloc, version, number, names, queues, caps, &mut list, value));
+        read!(push_event(
+            alloc, version, number, names, queues, caps, &mut list, value
+        ));
     }
     Ok(list)
 }

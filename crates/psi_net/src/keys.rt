@@ -142,12 +142,7 @@ pub(crate) fn number_or(
 
 // An integer from `-most` to `most`.
 #[tactic(auto, unfolding(crate::specs::Values::integer_in))]
-pub(crate) fn integer_in(
-    place: Place,
-    key: &str,
-    most: u32,
-    value: &Value,
-) -> Result<i32, NetError>
+pub(crate) fn integer_in(place: Place, key: &str, most: u32, value: &Value) -> Result<i32, NetError>
     requires { most < 2 ^ 31 }
     ensures value { Gives (λ z. z) result (integer_in place key.now most (view value.now)) }
     ensures range { IfOk result (λ z. unsigned_abs z ≤ most) }
@@ -183,11 +178,7 @@ pub(crate) fn integer_or_zero(
 
 // A string.
 #[tactic(auto, unfolding(crate::specs::Values::text_in))]
-pub(crate) fn text_in<'t>(
-    place: Place,
-    key: &str,
-    value: &'t Value,
-) -> Result<&'t str, NetError>
+pub(crate) fn text_in<'t>(place: Place, key: &str, value: &'t Value) -> Result<&'t str, NetError>
     ensures { Gives (λ text. text.now) result (text_in place key.now (view value.now)) }
 {
     match value {

@@ -259,21 +259,11 @@ fn size_fits(
 
 // An arrival's keys.
 #[tactic(auto, unfolding(crate::specs::KindTables::arrival_of))]
-pub(crate) fn arrival(
-    place: Place,
-    names: &IndexSet<Name>,
-    table: &Table,
-) -> Result<Kind, NetError>
+pub(crate) fn arrival(place: Place, names: &IndexSet<Name>, table: &Table) -> Result<Kind, NetError>
     requires { length names.now.keys ≤ 32 }
     ensures { Gives (λ kind. kind) result (arrival_of place names.now.keys (table_view table.now)) }
 {
-    let to = read!(required_targets(
-        place,
-        "to",
-        names,
-        &Queues::empty(),
-        find(table, "to")
-    ));
+    let to = read!(required_targets(place, "to", names, &Queues::empty(), find(table, "to")));
     Ok(Kind::Arrival { to })
 }
 
@@ -295,11 +285,7 @@ fn optional_targets(
 
 // A service's keys.
 #[tactic(auto, unfolding(crate::specs::KindTables::service_of))]
-pub(crate) fn service(
-    place: Place,
-    names: &IndexSet<Name>,
-    table: &Table,
-) -> Result<Kind, NetError>
+pub(crate) fn service(place: Place, names: &IndexSet<Name>, table: &Table) -> Result<Kind, NetError>
     requires { length names.now.keys ≤ 32 }
     ensures { Gives (λ kind. kind) result (service_of place names.now.keys (table_view table.now)) }
 {
@@ -352,13 +338,7 @@ pub(crate) fn batch(
     requires same { length names.now.keys ≡ length caps.now }
     ensures { Gives (λ kind. kind) result (batch_of place names.now.keys caps.now (table_view table.now)) }
 {
-    let to = read!(required_targets(
-        place,
-        "to",
-        names,
-        &Queues::empty(),
-        find(table, "to")
-    ));
+    let to = read!(required_targets(place, "to", names, &Queues::empty(), find(table, "to")));
     let size = read!(required_number(place, "size", 1, 65535, find(table, "size")));
     let size = read!(size_fits(place, caps, false, &to, size));
     Ok(Kind::Batch { to, size })
@@ -440,13 +420,7 @@ pub(crate) fn join(place: Place, names: &IndexSet<Name>, table: &Table) -> Resul
     requires { length names.now.keys ≤ 32 }
     ensures { Gives (λ kind. kind) result (join_of place names.now.keys (table_view table.now)) }
 {
-    let from = read!(required_targets(
-        place,
-        "from",
-        names,
-        &Queues::empty(),
-        find(table, "from")
-    ));
+    let from = read!(required_targets(place, "from", names, &Queues::empty(), find(table, "from")));
     let to = read!(joined(place, names, &from, find(table, "to")));
     Ok(Kind::Join { from, to })
 }

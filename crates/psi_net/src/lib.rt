@@ -37,6 +37,8 @@ mod reading;
 mod references;
 mod refusals;
 mod reward_tables;
+#[cfg(test)]
+mod tests;
 mod words;
 
 pub use naming::Name;

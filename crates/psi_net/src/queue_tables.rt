@@ -10,7 +10,9 @@ ghost use Rattle.psi_net.specs.Kept.{AreListed};
 ghost use Rattle.psi_net.specs.QueueTables.{unless_taken, queue_of, queue_step, queues_in, queues_of};
 
 use crate::entries::Queue;
-use crate::keys::{elements_in, find, no_unknown, number_or, read, required_name, required_number, table_in};
+use crate::keys::{
+    elements_in, find, no_unknown, number_or, read, required_name, required_number, table_in,
+};
 use crate::naming::Name;
 use crate::refusals::{Cause, NetError, Place, Section};
 use indexmap::IndexSet;
@@ -54,13 +56,7 @@ fn queue(number: u32, earlier: &IndexSet<Name>, table: &Table) -> Result<Queue, 
     read!(no_unknown(place, &["capacity", "name", "servers"], table));
     let name = read!(required_name(place, "name", find(table, "name")));
     read!(unless_taken(place, earlier, name));
-    let capacity = read!(required_number(
-        place,
-        "capacity",
-        1,
-        65535,
-        find(table, "capacity")
-    ));
+    let capacity = read!(required_number(place, "capacity", 1, 65535, find(table, "capacity")));
     let servers = read!(number_or(
         place,
         "servers",

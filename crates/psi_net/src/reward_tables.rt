@@ -14,7 +14,9 @@ ghost use Rattle.psi_net.specs.References.{some_targets_in};
 ghost use Rattle.psi_net.specs.RewardTables.{reward_named, reward_kind_in, reward_keys, weights_in, grid_step, grid_in, worth_in, reward_of, reward_step, rewards_in, rewards_of};
 
 use crate::entries::NamedValue;
-use crate::keys::{array_in, find, integer_in, no_unknown, read, required_name, required_number, table_in, text_in};
+use crate::keys::{
+    array_in, find, integer_in, no_unknown, read, required_name, required_number, table_in, text_in,
+};
 use crate::naming::Name;
 use crate::queue_tables::unless_taken;
 use crate::references::some_targets_in;
@@ -347,7 +349,15 @@ fn all_rewards(
     let mut rewards = Vec::new(alloc);
     for (index, value) in values.iter().enumerate() {
         let number = index as u32 + 1;
-        read!(push_reward(alloc, number, names, caps, &mut earlier, &mut rewards, value));
+        read!(push_reward(
+            alloc,
+            number,
+            names,
+            caps,
+            &mut earlier,
+            &mut rewards,
+            value
+        ));
     }
     Ok(rewards)
 }

@@ -17,13 +17,13 @@ servers_at-servers-requires c = subst (λ (o : Option Source). IfSome o (λ s. s
 pub sums-requires-clause-some : goal.sums-requires-clause-some
 sums-requires-clause-some c =
     let small : IfSome c.source_of.result (λ s. s.queue < length c.args.queues.now) = subst (λ (o : Option Source). IfSome o (λ s. s.queue < length c.args.queues.now)) (sym c.source_of.ensures)
-        (source_read _ _ _ _ _ c.args.queues.now _ c.in-Ok-event.value c.requires.queues c.requires.names c.requires.caps c.in-Ok-event.ensures.value) in
+    (source_read _ _ _ _ _ c.args.queues.now _ c.in-Ok-event.value c.requires.queues c.requires.names c.requires.caps c.in-Ok-event.ensures.value) in
     let most = servers_most c.args.queues.now c.source_of.result c.requires.queues small in
     subst (λ (n : ℕ). 1 ≤ n) (sym c.servers_at-servers.ensures) most.0
 
 pub sums-requires-clause-few : goal.sums-requires-clause-few
 sums-requires-clause-few c =
     let small : IfSome c.source_of.result (λ s. s.queue < length c.args.queues.now) = subst (λ (o : Option Source). IfSome o (λ s. s.queue < length c.args.queues.now)) (sym c.source_of.ensures)
-        (source_read _ _ _ _ _ c.args.queues.now _ c.in-Ok-event.value c.requires.queues c.requires.names c.requires.caps c.in-Ok-event.ensures.value) in
+    (source_read _ _ _ _ _ c.args.queues.now _ c.in-Ok-event.value c.requires.queues c.requires.names c.requires.caps c.in-Ok-event.ensures.value) in
     let most = servers_most c.args.queues.now c.source_of.result c.requires.queues small in
     subst (λ (n : ℕ). n ≤ 64) (sym c.servers_at-servers.ensures) most.1
