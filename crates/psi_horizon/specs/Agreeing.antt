@@ -38,9 +38,9 @@ picked-agree caps fs gs rates word alike =
     elim (cases_lt (event_of rates word) (length fs)) [
       | inl small ↦ alike.each (event_of rates word) small
       | inr past ↦ (let same = alike.same_length in
-        let first : slice_index_or fs (event_of rates word) (λ x. x) ≡ (λ x. x) = get_or_past fs (event_of rates word) (λ x. x) past in
-        let second : slice_index_or gs (event_of rates word) (λ x. x) ≡ (λ x. x) = get_or_past gs (event_of rates word) (λ x. x) (omega (arith, same, past)) in
-        record { each = λ x within. ap (λ (f : List ℕ → List ℕ). f x) (first ∙ sym second) })
+          let first : slice_index_or fs (event_of rates word) (λ x. x) ≡ (λ x. x) = get_or_past fs (event_of rates word) (λ x. x) past in
+          let second : slice_index_or gs (event_of rates word) (λ x. x) ≡ (λ x. x) = get_or_past gs (event_of rates word) (λ x. x) (omega (arith, same, past)) in
+          record { each = λ x within. ap (λ (f : List ℕ → List ℕ). f x) (first ∙ sym second) })
     ]
 
 pub function_at-agree : (caps : List ℕ) (fs gs : List (List ℕ → List ℕ)) (rates : List ℕ) (words : ℕ → ℕ) → AreAlike caps fs gs
