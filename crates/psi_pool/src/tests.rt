@@ -122,6 +122,38 @@ fn states_that_become_one_leave_room(rt: HostRuntime) -> Result<(), Fail> {
     Ok(())
 }
 
+// One customer joins both queues of capacity 1, where both have room.
+fn forking(caps: State) -> Result<Guarded, GuardRefusal>
+    requires { AreCapacities caps }
+    ensures caps { IfOk result (λ event. ⟦<Guarded as EventLaw>⟧.capacities event ≡ caps) }
+{
+    let part = Part {
+        queue: 0,
+        least: 0,
+        most: 0,
+        shift: 1,
+        floor: 0,
+        ceiling: 1,
+    };
+    Guarded::new(caps, &[part, Part { queue: 1, ..part }])
+}
+
+#[test]
+fn a_fork_makes_two_states_one(rt: HostRuntime) -> Result<(), Fail> {
+    let caps = capacities(1);
+    let mut pool = Pool::reserve(rt.alloc(), 4)?;
+    fill(&mut pool, &caps, 4);
+    moved(&mut pool, &forking(caps)?, &caps);
+    assert_eq!(rt; pool.len(), 3);
+    assert_eq!(rt;
+        pool.walk(),
+        [pair(0, 1), pair(1, 0), pair(1, 1)].as_slice()
+    );
+    assert!(rt; !put(&mut pool, pair(0, 1), &caps, 4));
+    assert!(rt; put(&mut pool, pair(0, 0), &caps, 4));
+    Ok(())
+}
+
 #[test]
 fn a_set_of_4096_states_moves_on(rt: HostRuntime) -> Result<(), Fail> {
     let caps = capacities(63);
