@@ -1,6 +1,6 @@
 -- Every event that is read is accepted, and their rates make a wheel.
-use Rattle.std.specs.Prelude.{◌≡◌, ℕ, zero, suc, ◌+◌, ◌*◌, ◌<◌, ◌≤◌, List, [], ◌∷◌, ◌++◌, length, map, slice_index, get_or, codes, All, IfSome, Bool, true, false, nat_le, Option, Some, None, Result, Ok, Err, refl}
-use Rattle.std.proofs.Common.{ap, sym, ◌∙◌, subst, arith, length-append}
+use Rattle.std.specs.Prelude.{◌≡◌, ℕ, zero, suc, ◌+◌, ◌<◌, ◌≤◌, List, [], ◌++◌, length, map, slice_index, codes, All, IfSome, nat_le, Option, Some, None, Ok, refl}
+use Rattle.std.proofs.Common.{sym, ◌∙◌, subst, arith}
 use Rattle.std.proofs.lemmas.Bool.{leb-true}
 use Rattle.std.proofs.lemmas.List.{length-map}
 use Rattle.std.specs.Option.{option_map}
@@ -21,7 +21,6 @@ use Rattle.psi_net.specs.EventTables.{kind_in, event_keys, kind_of, event_of, wi
 use Rattle.psi_net.specs.Kept.{AreListed, IsAccepted}
 use Rattle.psi_net.specs.declared.refusals.Cause.TheVariants.{TooMany, NoEvents, TotalTooLarge}
 use Rattle.psi_net.specs.declared.refusals.Place.{Place}
-use Rattle.psi_net.specs.declared.refusals.NetRefusal.{NetRefusal}
 use Rattle.psi_net.specs.declared.entries.Queue.{Queue}
 use Rattle.psi_net.specs.declared.entries.NamedEvent.{NamedEvent}
 use Rattle.psi_net.proofs.Readings.{bind_ok, ok_same, held, required_ok, number_range, elements_count, each_kept}

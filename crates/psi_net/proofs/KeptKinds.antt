@@ -1,5 +1,5 @@
 -- Every kind that is read is accepted: it names queues of the network, and nothing of it is refused.
-use Rattle.std.specs.Prelude.{◌≡◌, ℕ, zero, suc, ◌+◌, ◌<◌, ◌≤◌, ℤ, pos, List, [], ◌∷◌, ◌++◌, length, map, take, slice_index, get_or, codes, All, EachIndex, IfSome, Bool, true, false, not, ◌&&◌, ◌||◌, ◌==◌, nat_eq, nat_lt, nat_le, Option, Some, None, is_some, if◌then◌else◌, Result, Ok, Err, refl}
+use Rattle.std.specs.Prelude.{◌≡◌, ℕ, ◌+◌, ◌<◌, ◌≤◌, ℤ, pos, List, [], ◌∷◌, ◌++◌, length, take, slice_index, codes, IfSome, Bool, true, false, not, ◌&&◌, ◌||◌, ◌==◌, nat_eq, nat_lt, nat_le, Option, Some, None, is_some, if◌then◌else◌, Ok, refl}
 use Rattle.std.proofs.Common.{ap, sym, ◌∙◌, subst, arith, length-append, lit≤}
 use Rattle.std.specs.List.{list_all, list_any}
 use Rattle.std.specs.Int.RustNames.{unsigned_abs}
@@ -14,26 +14,24 @@ use Rattle.psi_guard.specs.declared.Part.{Part}
 use Rattle.psi_guard.specs.declared.GuardRefusal.{GuardRefusal}
 use Rattle.psi_guard.specs.declared.GuardRefusal.TheVariants as cause
 use Rattle.psi_event.specs.Choice.{first_or}
-use Rattle.psi_route.specs.Refusals.{is_self_target, repeats, are_tables, is_size_off}
+use Rattle.psi_route.specs.Refusals.{is_self_target, are_tables, is_size_off}
 use Rattle.psi_route.specs.declared.Source.{Source}
-use Rattle.psi_route.specs.declared.Full.{Full}
 use Rattle.psi_route.specs.declared.Full.TheVariants.{Lost}
-use Rattle.psi_kinds.specs.Kinds.{AreQueues, IsSource, IsKindOf}
+use Rattle.psi_kinds.specs.Kinds.{IsSource}
 use Rattle.std.specs.Option.{option_map}
 use Rattle.psi_kinds.specs.Refusals.{of_parts, is_empty, lacks_queues, repeats_queue, targets_itself, lacks_tables, is_out_of_size, refusal_of_parts, refusal_of}
 use Rattle.psi_kinds.specs.declared.Kind.{Kind}
 use Rattle.psi_kinds.specs.declared.Kind.TheVariants as kind
-use Rattle.psi_net.specs.Refusal.{◌>>=◌, holds_or}
+use Rattle.psi_net.specs.Refusal.{holds_or}
 use Rattle.psi_net.specs.Values.{no_unknown, required, optional, number_in, integer_in, array_in, elements_in, each, number_step}
 use Rattle.psi_net.specs.References.{is_in, queue_in, target_in, targets_in, some_targets_in}
-use Rattle.psi_net.specs.Targets.{are_distinct, are_below, AreTargets}
+use Rattle.psi_net.specs.Targets.{AreTargets}
 use Rattle.psi_net.specs.KindTables.{first_server, source_in, queue_of_source, full_in, row_step, table_of, size_fits, arrival_of, service_of, index_of, batch_of, negative_of, fork_of, joined_in, join_of}
 use Rattle.psi_net.specs.PartTables.{part_keys, part_table, part_queue, part_of, part_step, parts_in, guarded_of}
 use Rattle.psi_net.specs.EventTables.{kind_of}
 use Rattle.psi_net.specs.Kept.{IsAccepted}
 use Rattle.psi_net.specs.declared.refusals.Cause.TheVariants.{OutOfRange}
 use Rattle.psi_net.specs.declared.refusals.Place.{Place}
-use Rattle.psi_net.specs.declared.refusals.NetRefusal.{NetRefusal}
 use Rattle.psi_net.specs.declared.words.KindWord.{KindWord}
 use Rattle.psi_net.specs.declared.words.KindWord.TheVariants as word
 use Rattle.psi_net.proofs.Readings.{bind_ok, ok_same, held, required_ok, optional_kept, number_range, integer_range, elements_count, each_kept, each_kept_below, queue_small}

@@ -1,21 +1,20 @@
 -- Every network that is read can be sampled.
-use Rattle.std.specs.Prelude.{◌≡◌, ℕ, ◌+◌, ◌<◌, ◌≤◌, pos, negsuc, List, [], ◌∷◌, ◌++◌, length, map, codes, Bool, true, false, ◌==◌, ◌||◌, nat_le, Option, Some, None, Result, Ok, Err, ok_or, refl}
-use Rattle.std.proofs.Common.{ap, sym, ◌∙◌, subst, arith, length-append}
-use Rattle.std.proofs.lemmas.Bool.{leb-true, eqb-true}
-use Rattle.toml.specs.Data.{Data, integer, Members, get_member}
+use Rattle.std.specs.Prelude.{◌≡◌, ℕ, ◌+◌, ◌≤◌, List, [], ◌∷◌, ◌++◌, length, map, codes, Bool, true, false, ◌==◌, Ok, ok_or, refl}
+use Rattle.std.proofs.Common.{ap, subst, arith, length-append}
+use Rattle.std.proofs.lemmas.Bool.{leb-true}
+use Rattle.toml.specs.Data.{Data, Members, get_member}
 use Rattle.toml.specs.Parse.{parse_document}
 use Rattle.psi_net.specs.Network.{Network, NamedReward}
-use Rattle.psi_net.specs.Refusal.{◌>>=◌, holds_or, at_place, top, reward_place}
-use Rattle.psi_net.specs.Values.{no_unknown, required, optional, number_in, array_in, table_in, each}
+use Rattle.psi_net.specs.Refusal.{holds_or, at_place, top, reward_place}
+use Rattle.psi_net.specs.Values.{no_unknown, required, optional, number_in, array_in, table_in}
 use Rattle.psi_net.specs.QueueTables.{queues_of}
 use Rattle.psi_net.specs.EventTables.{events_of}
 use Rattle.psi_net.specs.RewardTables.{reward_of, reward_step, rewards_in, rewards_of}
-use Rattle.psi_net.specs.Reading.{version_in, top_keys, most_limit, default_limit, default_split, network_at, document_network, file_text, text_network, network_of}
+use Rattle.psi_net.specs.Reading.{version_in, top_keys, most_limit, default_limit, default_split, network_at, document_network, text_network}
 use Rattle.psi_net.specs.Kept.{IsNetwork}
 use Rattle.psi_net.specs.declared.refusals.Cause.TheVariants.{NotToml}
-use Rattle.psi_net.specs.declared.refusals.NetRefusal.{NetRefusal}
 use Rattle.psi_net.proofs.Readings.{bind_ok, ok_same, held, optional_kept, number_range, each_kept}
-use Rattle.psi_net.proofs.KeptQueues.{queues_kept, capacities_kept}
+use Rattle.psi_net.proofs.KeptQueues.{queues_kept}
 use Rattle.psi_net.proofs.KeptEvents.{events_kept}
 
 most_is : (version : ℕ) → most_limit version ≤ 22

@@ -1,18 +1,17 @@
 -- Every queue that is read has its numbers in their ranges.
-use Rattle.std.specs.Prelude.{◌≡◌, ℕ, ◌+◌, ◌<◌, ◌≤◌, List, [], ◌∷◌, ◌++◌, length, map, min, slice_index, get_or, codes, All, Option, Some, None, IfSome, Result, Ok, refl}
-use Rattle.std.proofs.Common.{ap, sym, ◌∙◌, subst, arith, length-append}
+use Rattle.std.specs.Prelude.{◌≡◌, ℕ, ◌+◌, ◌<◌, ◌≤◌, List, [], ◌∷◌, ◌++◌, length, map, min, slice_index, get_or, codes, All, Option, Some, None, IfSome, Ok, refl}
+use Rattle.std.proofs.Common.{ap, sym, subst, arith, length-append}
 use Rattle.std.proofs.lemmas.List.{length-map, get_or-map}
 use Rattle.std.proofs.lemmas.List.Elements.{All-push}
 use Rattle.toml.specs.Data.{Data, Members, get_member}
 use Rattle.psi_state.specs.State.{AreCapacities}
 use Rattle.psi_route.specs.declared.Source.{Source}
-use Rattle.psi_net.specs.Refusal.{◌>>=◌, holds_or, top, queue_place}
-use Rattle.psi_net.specs.Values.{no_unknown, required, optional, number_in, name_in, elements_in, table_in, each}
+use Rattle.psi_net.specs.Refusal.{top, queue_place}
+use Rattle.psi_net.specs.Values.{no_unknown, required, optional, number_in, name_in, elements_in, table_in}
 use Rattle.psi_net.specs.QueueTables.{unless_taken, queue_keys, queue_of, queue_step, queues_in, queues_of}
 use Rattle.psi_net.specs.Expansion.{servers_at}
 use Rattle.psi_net.specs.Kept.{IsQueue, AreListed}
 use Rattle.psi_net.specs.declared.refusals.Cause.TheVariants.{MissingKey}
-use Rattle.psi_net.specs.declared.refusals.NetRefusal.{NetRefusal}
 use Rattle.psi_net.specs.declared.entries.Queue.{Queue}
 use Rattle.psi_net.proofs.Readings.{bind_ok, ok_same, required_ok, optional_kept, number_range, elements_count, each_kept}
 

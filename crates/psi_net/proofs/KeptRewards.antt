@@ -1,30 +1,27 @@
 -- Every reward that is read is accepted.
-use Rattle.std.specs.Prelude.{◌≡◌, ℕ, zero, suc, ◌+◌, ◌<◌, ◌≤◌, ℤ, List, [], ◌∷◌, ◌++◌, length, map, take, slice_index, codes, All, Bool, true, false, not, ◌&&◌, ◌||◌, ◌==◌, nat_eq, Option, Some, None, Result, Ok, Err, refl}
+use Rattle.std.specs.Prelude.{◌≡◌, ℕ, ◌+◌, ◌<◌, ℤ, List, [], ◌∷◌, ◌++◌, length, map, take, slice_index, codes, All, true, false, not, ◌==◌, Option, Some, None, Ok, refl}
 use Rattle.std.proofs.Common.{ap, sym, ◌∙◌, subst, arith, length-append}
-use Rattle.std.specs.List.{list_any, flat_map}
+use Rattle.std.specs.List.{flat_map}
 use Rattle.std.proofs.lemmas.Bool.{and_parts, eqb-true, eq-eqb}
-use Rattle.std.proofs.lemmas.List.{map-append, map_push, take_more, take_all}
+use Rattle.std.proofs.lemmas.List.{map_push, take_more, take_all}
 use Rattle.std.proofs.lemmas.List.Elements.{All-nil, All-push, All-append, All-from_get_or}
 use Rattle.std.proofs.lemmas.List.Concat.{flat_map-append}
 use Rattle.toml.specs.Data.{Data, Members, get_member}
-use Rattle.psi_state.specs.State.{AreCapacities}
 use Rattle.psi_kinds.specs.Refusals.{is_empty}
 use Rattle.psi_reward.specs.Held.{held as held_by}
 use Rattle.psi_reward.specs.Refusing.{queues_of, numbers_of, IsSmall, is_none_listed, has_repeat, has_rows, has_lengths, refusal_of}
 use Rattle.psi_reward.specs.declared.RewardKind.{RewardKind}
 use Rattle.psi_reward.specs.declared.RewardKind.TheVariants as kind
 use Rattle.psi_reward.specs.declared.RewardRefusal.{RewardRefusal}
-use Rattle.psi_net.specs.Refusal.{◌>>=◌, holds_or}
+use Rattle.psi_net.specs.Refusal.{holds_or}
 use Rattle.psi_net.specs.Values.{required, number_in, integer_in, array_in, each, integer_step}
 use Rattle.psi_net.specs.References.{is_in, some_targets_in}
 use Rattle.psi_net.specs.Targets.{are_distinct}
 use Rattle.psi_net.specs.RewardTables.{weights_in, grid_step, grid_in, worth_in}
-use Rattle.psi_net.specs.Network.{NamedReward}
 use Rattle.psi_net.specs.Draft.{named}
 use Rattle.psi_net.specs.Kept.{IsReward}
 use Rattle.psi_net.specs.declared.entries.NamedValue.{NamedValue}
 use Rattle.psi_net.specs.declared.refusals.Place.{Place}
-use Rattle.psi_net.specs.declared.refusals.NetRefusal.{NetRefusal}
 use Rattle.psi_net.specs.declared.words.RewardWord.{RewardWord}
 use Rattle.psi_net.specs.declared.words.RewardWord.TheVariants as word
 use Rattle.psi_net.proofs.Readings.{bind_ok, ok_same, held, required_ok, integer_range, each_kept, each_kept_below}

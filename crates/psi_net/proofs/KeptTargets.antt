@@ -1,17 +1,16 @@
 -- Lists of queues that are read, and what kinds ask of them.
-use Rattle.std.specs.Prelude.{◌≡◌, ℕ, zero, suc, ◌+◌, ◌<◌, ◌≤◌, List, [], ◌∷◌, ◌++◌, length, map, slice_index, get_or, All, EachIndex, Bool, true, false, not, ◌&&◌, ◌||◌, nat_eq, nat_lt, nat_le, Option, Some, None, Result, Ok, Err, refl}
-use Rattle.std.proofs.Common.{ap, sym, ◌∙◌, subst, arith, length-append}
+use Rattle.std.specs.Prelude.{◌≡◌, ℕ, ◌+◌, ◌<◌, List, [], ◌∷◌, ◌++◌, length, slice_index, EachIndex, true, false, not, nat_eq, Ok, refl}
+use Rattle.std.proofs.Common.{subst, arith, length-append}
 use Rattle.std.specs.List.{list_all, list_any}
 use Rattle.std.proofs.lemmas.Bool.{and_parts, ltb-true}
 use Rattle.toml.specs.Data.{Data}
 use Rattle.psi_route.specs.Refusals.{repeats}
 use Rattle.psi_kinds.specs.Refusals.{is_empty}
-use Rattle.psi_net.specs.Refusal.{◌>>=◌, holds_or}
+use Rattle.psi_net.specs.Refusal.{holds_or}
 use Rattle.psi_net.specs.Values.{array_in, each}
 use Rattle.psi_net.specs.References.{is_in, queue_in, target_in, target_step, targets_in, some_targets_in}
 use Rattle.psi_net.specs.Targets.{are_distinct, are_below, AreTargets}
 use Rattle.psi_net.specs.declared.refusals.Place.{Place}
-use Rattle.psi_net.specs.declared.refusals.NetRefusal.{NetRefusal}
 use Rattle.psi_net.proofs.Readings.{bind_ok, ok_same, held, each_kept, queue_small}
 use Rattle.psi_net.proofs.Pigeons.{no_targets, targets_more, not_true, neither, either_false, other_way}
 use Rattle.psi_net.proofs.Found.{below_at}

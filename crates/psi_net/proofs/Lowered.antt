@@ -1,5 +1,5 @@
 -- What an event of a network stands for, by its form.
-use Rattle.std.specs.Prelude.{◌≡◌, ℕ, ◌+◌, ◌<◌, ◌≤◌, List, [], ◌∷◌, ◌++◌, length, take, get_or, Option, None}
+use Rattle.std.specs.Prelude.{◌≡◌, ℕ, ◌+◌, ◌<◌, List, [], ◌∷◌, ◌++◌, length, take, get_or, Option, None}
 use Rattle.std.proofs.Common.{sym, subst}
 use Rattle.psi_event.specs.Idle.{unchanged}
 use Rattle.psi_guard.specs.Guarding.{guarded}

@@ -1,13 +1,13 @@
 -- What was read, step by step.
-use Rattle.std.specs.Prelude.{◌≡◌, ℕ, suc, ◌+◌, ◌<◌, ◌≤◌, ℤ, pos, negsuc, List, [], ◌∷◌, length, Bool, true, false, ◌&&◌, nat_le, Option, Some, None, Result, Ok, Err, ok_or, cond, position, codes, refl}
-use Rattle.std.proofs.Common.{ap, sym, subst, arith}
+use Rattle.std.specs.Prelude.{◌≡◌, ℕ, ◌+◌, ◌<◌, ◌≤◌, ℤ, pos, negsuc, List, [], ◌∷◌, length, Bool, true, false, ◌&&◌, nat_le, Option, Some, None, Result, Ok, Err, ok_or, cond, refl}
+use Rattle.std.proofs.Common.{ap, subst, arith}
 use Rattle.std.specs.Int.RustNames.{unsigned_abs}
 use Rattle.std.specs.Str.{bytes_eq}
 use Rattle.std.proofs.lemmas.Bool.{and_parts, leb-true, ltb-true}
 use Rattle.std.proofs.lemmas.List.Quantifiers.{position-Some}
 use Rattle.toml.specs.Data.{Data, integer}
 use Rattle.psi_net.specs.Name.{name_of}
-use Rattle.psi_net.specs.Refusal.{◌>>=◌, holds_or, at_key}
+use Rattle.psi_net.specs.Refusal.{◌>>=◌, holds_or}
 use Rattle.psi_net.specs.Values.{required, optional, number_in, integer_in, text_in, array_in, elements_in, each}
 use Rattle.psi_net.specs.References.{number_of, queue_in}
 use Rattle.psi_net.specs.declared.refusals.Cause.{Cause}

@@ -1,8 +1,8 @@
 -- Servers of sources, and rows of tables one after another.
-use Rattle.std.proofs.Common.{◌≡◌, ℕ, zero, suc, ◌+◌, ◌<◌, ◌≤◌, List, [], ◌∷◌, ◌++◌, length, map, take, get_or, slice_index, slice_index_or, refl, sym, ap, ◌∙◌, arith}
+use Rattle.std.proofs.Common.{◌≡◌, ℕ, zero, suc, ◌+◌, ◌<◌, ◌≤◌, List, [], ◌∷◌, ◌++◌, length, map, take, get_or, slice_index, slice_index_or, sym, ap, ◌∙◌, arith}
 use Rattle.std.proofs.lemmas.List.{get_or-map, take_more, take_all, map_push}
 use Rattle.psi_rate.specs.Rates.{total}
-use Rattle.psi_rate.specs.Totals.{total-more, total-take_order}
+use Rattle.psi_rate.specs.Totals.{total-more}
 use Rattle.psi_net.specs.declared.entries.Queue.{Queue}
 
 pub servers_read : (queues : List Queue) (i : ℕ) (queue : Queue) → i < length queues → queue ≡ get_or queues i queue → queue.servers ≡ slice_index (map (λ q. q.servers) queues) i

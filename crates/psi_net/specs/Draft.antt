@@ -1,5 +1,5 @@
 -- The network that a document says.
-use Rattle.std.specs.Prelude.{◌≡◌, List, map, All}
+use Rattle.std.specs.Prelude.{◌≡◌, map, All}
 use Rattle.psi_net.specs.Network.{Network, NamedReward}
 use Rattle.psi_net.specs.declared.entries.NamedValue.{NamedValue}
 use Rattle.psi_net.specs.declared.entries.Draft.{Draft}

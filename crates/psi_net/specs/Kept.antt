@@ -1,6 +1,5 @@
 -- What every network that is read keeps.
-use Rattle.std.specs.Prelude.{◌≡◌, ℕ, ◌<◌, ◌≤◌, List, length, map, All, None}
-use Rattle.psi_state.specs.State.{AreCapacities}
+use Rattle.std.specs.Prelude.{◌≡◌, ℕ, ◌<◌, ◌≤◌, List, length, All, None}
 use Rattle.psi_rate.specs.Rates.{AreRates}
 use Rattle.psi_kinds.specs.Kinds.{IsKindOf}
 use Rattle.psi_kinds.specs.Refusals.{refusal_of}
@@ -8,9 +7,8 @@ use Rattle.psi_kinds.specs.declared.Kind.{Kind}
 use Rattle.psi_reward.specs.Refusing.{queues_of, numbers_of, IsSmall}
 use Rattle.psi_reward.specs.Refusing.{refusal_of as reward_refusal}
 use Rattle.psi_reward.specs.declared.RewardKind.{RewardKind}
-use Rattle.psi_net.specs.Network.{Network, NamedReward, caps_of, rates_of}
+use Rattle.psi_net.specs.Network.{Network, caps_of, rates_of}
 use Rattle.psi_net.specs.declared.entries.Queue.{Queue}
-use Rattle.psi_net.specs.declared.entries.NamedEvent.{NamedEvent}
 
 -- a queue's numbers are in their ranges
 pub record IsQueue (queue : Queue) : Type 0 where

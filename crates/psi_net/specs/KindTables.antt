@@ -1,22 +1,19 @@
 -- The keys of each kind of event, in the order in which they are read.
-use Rattle.std.specs.Prelude.{ℕ, ◌+◌, ℤ, pos, List, [], ◌∷◌, ◌++◌, map, length, slice_index, codes, Bool, true, false, not, ◌||◌, ◌==◌, nat_le, Option, Some, None, is_some, Result, Ok, Err, if◌then◌else◌}
-use Rattle.std.specs.List.{list_all, list_any}
+use Rattle.std.specs.Prelude.{ℕ, List, [], ◌∷◌, ◌++◌, length, slice_index, codes, Bool, false, not, ◌||◌, ◌==◌, nat_le, Option, Some, None, is_some, Result, Ok, Err, if◌then◌else◌}
+use Rattle.std.specs.List.{list_all}
 use Rattle.std.specs.Str.{bytes_eq}
 use Rattle.toml.specs.Data.{Data, string, Members, get_member}
-use Rattle.psi_guard.specs.declared.Part.{Part}
 use Rattle.psi_route.specs.declared.Source.{Source}
 use Rattle.psi_route.specs.declared.Full.{Full}
 use Rattle.psi_route.specs.declared.Full.TheVariants.{Lost, Stay}
 use Rattle.psi_kinds.specs.declared.Kind.{Kind}
 use Rattle.psi_kinds.specs.declared.Kind.TheVariants as kind
 use Rattle.psi_net.specs.Refusal.{◌>>=◌, holds_or, at_key}
-use Rattle.psi_net.specs.Values.{no_unknown, required, optional, number_in, integer_in, array_in, elements_in, each, number_step}
-use Rattle.psi_net.specs.References.{is_in, queue_in, target_in, targets_in, some_targets_in}
-use Rattle.psi_net.specs.declared.refusals.Cause.TheVariants.{WrongType, OutOfRange, RepeatedTarget, TableLength, BatchTooLarge, EmptyGuard}
+use Rattle.psi_net.specs.Values.{required, optional, number_in, array_in, each, number_step}
+use Rattle.psi_net.specs.References.{queue_in, target_in, targets_in, some_targets_in}
+use Rattle.psi_net.specs.declared.refusals.Cause.TheVariants.{WrongType, OutOfRange, TableLength, BatchTooLarge}
 use Rattle.psi_net.specs.declared.refusals.Place.{Place}
 use Rattle.psi_net.specs.declared.refusals.NetRefusal.{NetRefusal}
-use Rattle.psi_net.specs.declared.words.KindWord.{KindWord}
-use Rattle.psi_net.specs.declared.words.KindWord.TheVariants as word
 
 -- a source with its first server
 abbrev pub first_server : ℕ → Source

@@ -1,5 +1,5 @@
 -- The parts that a sample runs, and what they have to do with the network.
-use Rattle.std.specs.Prelude.{◌≡◌, ℕ, ◌≤◌, List, [], ◌∷◌, map, All, Option}
+use Rattle.std.specs.Prelude.{◌≡◌, ℕ, List, [], ◌∷◌, map, All, Option}
 use Rattle.psi_kinds.specs.Kinds.{Does}
 use Rattle.psi_kinds.specs.Forms.{upset_of}
 use Rattle.psi_net.specs.Network.{Network, caps_of, rates_of}

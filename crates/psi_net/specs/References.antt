@@ -1,5 +1,5 @@
 -- References to queues: by one name, or by a list of names.
-use Rattle.std.specs.Prelude.{ℕ, ◌+◌, List, [], ◌∷◌, ◌++◌, length, position, Bool, not, nat_lt, nat_eq, Option, Some, None, ok_or, Result, Ok}
+use Rattle.std.specs.Prelude.{ℕ, List, [], ◌∷◌, ◌++◌, length, position, Bool, not, nat_lt, nat_eq, Option, Some, None, ok_or, Result, Ok}
 use Rattle.std.specs.List.{list_any}
 use Rattle.std.specs.Str.{bytes_eq}
 use Rattle.toml.specs.Data.{Data}

@@ -101,125 +101,128 @@ fn pair(a: u16, b: u16) -> State {
     state
 }
 
+// A place, the text in place of its line, and the refusal.
+const LINE_CASES: [(usize, &str, u8, Section, u32, &str); 44] = [
+    (0, "", 4, Section::Top, 0, "version"),
+    (0, "version = 3", 2, Section::Top, 0, "version"),
+    (0, "version = -1", 2, Section::Top, 0, "version"),
+    (0, "version = 1\ncolour = 1", 3, Section::Top, 0, "colour"),
+    (0, "version = 1\n\"a b\" = 1", 3, Section::Top, 0, ""),
+    (0, "version = 1\nz = 1\nb = 1", 3, Section::Top, 0, "b"),
+    (
+        0,
+        "version = \"1\"\ncolour = 1",
+        5,
+        Section::Top,
+        0,
+        "version",
+    ),
+    (
+        0,
+        "version = 1\ncolour = 1\nlimit = 21",
+        3,
+        Section::Top,
+        0,
+        "colour",
+    ),
+    (0, "version = 1\nlimit = 21", 6, Section::Top, 0, "limit"),
+    (0, "version = 2\nlimit = 23", 6, Section::Top, 0, "limit"),
+    (0, "version = 1\nlimit = -1", 6, Section::Top, 0, "limit"),
+    (
+        0,
+        "version = 1\nlimit = 21\nsplit = 0",
+        6,
+        Section::Top,
+        0,
+        "limit",
+    ),
+    (0, "version = 1\nsplit = 0", 6, Section::Top, 0, "split"),
+    (0, "version = 1\nsplit = 4097", 6, Section::Top, 0, "split"),
+    (0, "version = 1\nreward = 3", 5, Section::Top, 0, "reward"),
+    (2, "", 4, Section::Queue, 1, "name"),
+    (2, "name = \"\"", 6, Section::Queue, 1, "name"),
+    (2, "name = \"a b\"", 6, Section::Queue, 1, "name"),
+    (2, "name = 1\nsize = 1", 3, Section::Queue, 1, "size"),
+    (3, "capacity = 0", 6, Section::Queue, 1, "capacity"),
+    (3, "capacity = 65536", 6, Section::Queue, 1, "capacity"),
+    (3, "capacity = 2.0", 5, Section::Queue, 1, "capacity"),
+    (
+        3,
+        "capacity = 2\nservers = 3",
+        6,
+        Section::Queue,
+        1,
+        "servers",
+    ),
+    (
+        3,
+        "capacity = 100\nservers = 65",
+        6,
+        Section::Queue,
+        1,
+        "servers",
+    ),
+    (
+        3,
+        "capacity = 2\n[[queue]]\nname = \"a\"",
+        8,
+        Section::Queue,
+        2,
+        "name",
+    ),
+    (6, "kind = \"arival\"", 10, Section::Event, 1, "kind"),
+    (6, "kind = \"guarded\"", 10, Section::Event, 1, "kind"),
+    (
+        6,
+        "kind = \"batch\"\nsize = 3",
+        14,
+        Section::Event,
+        1,
+        "size",
+    ),
+    (6, "kind = \"batch\"", 4, Section::Event, 1, "size"),
+    (
+        6,
+        "kind = \"batch\"\nsize = 0",
+        6,
+        Section::Event,
+        1,
+        "size",
+    ),
+    (7, "rate = \"x\"", 5, Section::Event, 1, "rate"),
+    (7, "rate = 0", 6, Section::Event, 1, "rate"),
+    (7, "rate = 1048577", 6, Section::Event, 1, "rate"),
+    (8, "to = [\"b\"]", 9, Section::Event, 1, "to"),
+    (8, "to = [\"\"]", 9, Section::Event, 1, "to"),
+    (8, "to = [\"a\", \"a\"]", 12, Section::Event, 1, "to"),
+    (8, "to = []", 6, Section::Event, 1, "to"),
+    (8, "to = [1]", 5, Section::Event, 1, "to"),
+    (8, "to = \"a\"", 5, Section::Event, 1, "to"),
+    (10, "name = \"in\"", 8, Section::Event, 2, "name"),
+    (13, "", 4, Section::Event, 2, "from"),
+    (
+        13,
+        "from = \"a\"\nto = [\"a\"]",
+        11,
+        Section::Event,
+        2,
+        "to",
+    ),
+    (
+        13,
+        "from = \"a\"\nfull = \"keep\"",
+        6,
+        Section::Event,
+        2,
+        "full",
+    ),
+    (13, "from = \"a\"\nfull = 1", 5, Section::Event, 2, "full"),
+];
+
 #[test]
 fn changed_lines_are_refused_at_their_keys(rt: HostRuntime) -> Result<(), Fail> {
     let alloc = rt.alloc();
-    for (place, text, code, section, number, key) in [
-        (0, "", 4, Section::Top, 0, "version"),
-        (0, "version = 3", 2, Section::Top, 0, "version"),
-        (0, "version = -1", 2, Section::Top, 0, "version"),
-        (0, "version = 1\ncolour = 1", 3, Section::Top, 0, "colour"),
-        (0, "version = 1\n\"a b\" = 1", 3, Section::Top, 0, ""),
-        (0, "version = 1\nz = 1\nb = 1", 3, Section::Top, 0, "b"),
-        (
-            0,
-            "version = \"1\"\ncolour = 1",
-            5,
-            Section::Top,
-            0,
-            "version",
-        ),
-        (
-            0,
-            "version = 1\ncolour = 1\nlimit = 21",
-            3,
-            Section::Top,
-            0,
-            "colour",
-        ),
-        (0, "version = 1\nlimit = 21", 6, Section::Top, 0, "limit"),
-        (0, "version = 2\nlimit = 23", 6, Section::Top, 0, "limit"),
-        (0, "version = 1\nlimit = -1", 6, Section::Top, 0, "limit"),
-        (
-            0,
-            "version = 1\nlimit = 21\nsplit = 0",
-            6,
-            Section::Top,
-            0,
-            "limit",
-        ),
-        (0, "version = 1\nsplit = 0", 6, Section::Top, 0, "split"),
-        (0, "version = 1\nsplit = 4097", 6, Section::Top, 0, "split"),
-        (0, "version = 1\nreward = 3", 5, Section::Top, 0, "reward"),
-        (2, "", 4, Section::Queue, 1, "name"),
-        (2, "name = \"\"", 6, Section::Queue, 1, "name"),
-        (2, "name = \"a b\"", 6, Section::Queue, 1, "name"),
-        (2, "name = 1\nsize = 1", 3, Section::Queue, 1, "size"),
-        (3, "capacity = 0", 6, Section::Queue, 1, "capacity"),
-        (3, "capacity = 65536", 6, Section::Queue, 1, "capacity"),
-        (3, "capacity = 2.0", 5, Section::Queue, 1, "capacity"),
-        (
-            3,
-            "capacity = 2\nservers = 3",
-            6,
-            Section::Queue,
-            1,
-            "servers",
-        ),
-        (
-            3,
-            "capacity = 100\nservers = 65",
-            6,
-            Section::Queue,
-            1,
-            "servers",
-        ),
-        (
-            3,
-            "capacity = 2\n[[queue]]\nname = \"a\"",
-            8,
-            Section::Queue,
-            2,
-            "name",
-        ),
-        (6, "kind = \"arival\"", 10, Section::Event, 1, "kind"),
-        (6, "kind = \"guarded\"", 10, Section::Event, 1, "kind"),
-        (
-            6,
-            "kind = \"batch\"\nsize = 3",
-            14,
-            Section::Event,
-            1,
-            "size",
-        ),
-        (6, "kind = \"batch\"", 4, Section::Event, 1, "size"),
-        (
-            6,
-            "kind = \"batch\"\nsize = 0",
-            6,
-            Section::Event,
-            1,
-            "size",
-        ),
-        (7, "rate = \"x\"", 5, Section::Event, 1, "rate"),
-        (7, "rate = 0", 6, Section::Event, 1, "rate"),
-        (7, "rate = 1048577", 6, Section::Event, 1, "rate"),
-        (8, "to = [\"b\"]", 9, Section::Event, 1, "to"),
-        (8, "to = [\"\"]", 9, Section::Event, 1, "to"),
-        (8, "to = [\"a\", \"a\"]", 12, Section::Event, 1, "to"),
-        (8, "to = []", 6, Section::Event, 1, "to"),
-        (8, "to = [1]", 5, Section::Event, 1, "to"),
-        (8, "to = \"a\"", 5, Section::Event, 1, "to"),
-        (10, "name = \"in\"", 8, Section::Event, 2, "name"),
-        (13, "", 4, Section::Event, 2, "from"),
-        (
-            13,
-            "from = \"a\"\nto = [\"a\"]",
-            11,
-            Section::Event,
-            2,
-            "to",
-        ),
-        (
-            13,
-            "from = \"a\"\nfull = \"keep\"",
-            6,
-            Section::Event,
-            2,
-            "full",
-        ),
-        (13, "from = \"a\"\nfull = 1", 5, Section::Event, 2, "full"),
-    ] {
+    for (place, text, code, section, number, key) in LINE_CASES {
         let file = with_line(alloc, place, text)?;
         let bytes = file.as_str().as_bytes();
         assert!(rt;
@@ -268,102 +271,105 @@ fn whole_files_are_refused_at_the_first_cause(rt: HostRuntime) -> Result<(), Fai
     Ok(())
 }
 
+// An event's keys, and the code and the key of the refusal.
+const EVENT_CASES: [(&str, u8, &str); 31] = [
+    ("kind = \"fork\"\nto = [\"b\", \"b\", \"zz\"]", 12, "to"),
+    (
+        "kind = \"fork\"\nfrom = \"a\"\nto = [\"b\", \"a\"]",
+        11,
+        "to",
+    ),
+    ("kind = \"fork\"\nto = []", 6, "to"),
+    ("kind = \"join\"\nfrom = [\"a\"]\nto = \"a\"", 11, "to"),
+    ("kind = \"join\"\nfrom = []", 6, "from"),
+    ("kind = \"join\"\nfrom = \"a\"", 5, "from"),
+    ("kind = \"negative\"\nfrom = \"a\"\non = \"a\"", 11, "on"),
+    ("kind = \"negative\"\nfrom = \"c\"\non = \"a\"", 9, "from"),
+    ("kind = \"negative\"\non = \"a\"\namount = 0", 6, "amount"),
+    ("kind = \"negative\"", 4, "on"),
+    (
+        "kind = \"index\"\nto = [\"a\", \"b\"]\ntable = [[5, 0], [3]]",
+        13,
+        "table",
+    ),
+    (
+        "kind = \"index\"\nto = [\"a\", \"b\"]\ntable = [[5, 0]]",
+        13,
+        "table",
+    ),
+    (
+        "kind = \"index\"\nto = [\"a\"]\ntable = [[5, -1]]",
+        6,
+        "table",
+    ),
+    (
+        "kind = \"index\"\nto = [\"a\"]\ntable = [[5, true]]",
+        5,
+        "table",
+    ),
+    (
+        "kind = \"index\"\nto = [\"a\"]\ntable = [[5, 1000000001]]",
+        6,
+        "table",
+    ),
+    (
+        "kind = \"index\"\nto = [\"a\"]\ntable = [[5, 1]]\nsize = 3",
+        14,
+        "size",
+    ),
+    (
+        "kind = \"index\"\nfrom = \"b\"\nto = [\"a\"]\ntable = [[5, 1]]\nsize = 2",
+        6,
+        "size",
+    ),
+    (
+        "kind = \"index\"\nfrom = \"b\"\nto = [\"b\"]\ntable = [[5, 1]]",
+        11,
+        "to",
+    ),
+    ("kind = \"guarded\"", 4, "part"),
+    ("kind = \"guarded\"\npart = 1", 5, "part"),
+    ("kind = \"guarded\"\npart = []", 6, "part"),
+    ("kind = \"guarded\"\npart = [1]", 5, "part"),
+    (
+        "kind = \"guarded\"\npart = [{ queue = \"a\", size = 1 }]",
+        3,
+        "size",
+    ),
+    ("kind = \"guarded\"\npart = [{ least = 1 }]", 4, "queue"),
+    ("kind = \"guarded\"\npart = [{ queue = \"c\" }]", 9, "queue"),
+    (
+        "kind = \"guarded\"\npart = [{ queue = \"a\" }, { queue = \"a\" }]",
+        12,
+        "queue",
+    ),
+    (
+        "kind = \"guarded\"\npart = [{ queue = \"a\", ceiling = 3 }]",
+        6,
+        "ceiling",
+    ),
+    (
+        "kind = \"guarded\"\npart = [{ queue = \"a\", shift = 65536 }]",
+        6,
+        "shift",
+    ),
+    (
+        "kind = \"guarded\"\npart = [{ queue = \"a\", least = 2, most = 1 }]",
+        18,
+        "least",
+    ),
+    (
+        "kind = \"guarded\"\npart = [{ queue = \"a\", floor = 2, ceiling = 1 }]",
+        18,
+        "floor",
+    ),
+    ("kind = \"service\"\nfrom = \"a\"\nsize = 1", 3, "size"),
+];
+
 #[test]
 fn events_are_refused_at_their_keys(rt: HostRuntime) -> Result<(), Fail> {
     let alloc = rt.alloc();
-    for (text, code, key) in [
-        ("kind = \"fork\"\nto = [\"b\", \"b\", \"zz\"]", 12, "to"),
-        (
-            "kind = \"fork\"\nfrom = \"a\"\nto = [\"b\", \"a\"]",
-            11,
-            "to",
-        ),
-        ("kind = \"fork\"\nto = []", 6, "to"),
-        ("kind = \"join\"\nfrom = [\"a\"]\nto = \"a\"", 11, "to"),
-        ("kind = \"join\"\nfrom = []", 6, "from"),
-        ("kind = \"join\"\nfrom = \"a\"", 5, "from"),
-        ("kind = \"negative\"\nfrom = \"a\"\non = \"a\"", 11, "on"),
-        ("kind = \"negative\"\nfrom = \"c\"\non = \"a\"", 9, "from"),
-        ("kind = \"negative\"\non = \"a\"\namount = 0", 6, "amount"),
-        ("kind = \"negative\"", 4, "on"),
-        (
-            "kind = \"index\"\nto = [\"a\", \"b\"]\ntable = [[5, 0], [3]]",
-            13,
-            "table",
-        ),
-        (
-            "kind = \"index\"\nto = [\"a\", \"b\"]\ntable = [[5, 0]]",
-            13,
-            "table",
-        ),
-        (
-            "kind = \"index\"\nto = [\"a\"]\ntable = [[5, -1]]",
-            6,
-            "table",
-        ),
-        (
-            "kind = \"index\"\nto = [\"a\"]\ntable = [[5, true]]",
-            5,
-            "table",
-        ),
-        (
-            "kind = \"index\"\nto = [\"a\"]\ntable = [[5, 1000000001]]",
-            6,
-            "table",
-        ),
-        (
-            "kind = \"index\"\nto = [\"a\"]\ntable = [[5, 1]]\nsize = 3",
-            14,
-            "size",
-        ),
-        (
-            "kind = \"index\"\nfrom = \"b\"\nto = [\"a\"]\ntable = [[5, 1]]\nsize = 2",
-            6,
-            "size",
-        ),
-        (
-            "kind = \"index\"\nfrom = \"b\"\nto = [\"b\"]\ntable = [[5, 1]]",
-            11,
-            "to",
-        ),
-        ("kind = \"guarded\"", 4, "part"),
-        ("kind = \"guarded\"\npart = 1", 5, "part"),
-        ("kind = \"guarded\"\npart = []", 6, "part"),
-        ("kind = \"guarded\"\npart = [1]", 5, "part"),
-        (
-            "kind = \"guarded\"\npart = [{ queue = \"a\", size = 1 }]",
-            3,
-            "size",
-        ),
-        ("kind = \"guarded\"\npart = [{ least = 1 }]", 4, "queue"),
-        ("kind = \"guarded\"\npart = [{ queue = \"c\" }]", 9, "queue"),
-        (
-            "kind = \"guarded\"\npart = [{ queue = \"a\" }, { queue = \"a\" }]",
-            12,
-            "queue",
-        ),
-        (
-            "kind = \"guarded\"\npart = [{ queue = \"a\", ceiling = 3 }]",
-            6,
-            "ceiling",
-        ),
-        (
-            "kind = \"guarded\"\npart = [{ queue = \"a\", shift = 65536 }]",
-            6,
-            "shift",
-        ),
-        (
-            "kind = \"guarded\"\npart = [{ queue = \"a\", least = 2, most = 1 }]",
-            18,
-            "least",
-        ),
-        (
-            "kind = \"guarded\"\npart = [{ queue = \"a\", floor = 2, ceiling = 1 }]",
-            18,
-            "floor",
-        ),
-        ("kind = \"service\"\nfrom = \"a\"\nsize = 1", 3, "size"),
-    ] {
+    for (text, code, key) in EVENT_CASES {
         let head = joined(alloc, TWO, "[[event]]\nname = \"e\"\nrate = 1\n")?;
         let file = joined(alloc, head.as_str(), text)?;
         let bytes = file.as_str().as_bytes();
@@ -375,60 +381,63 @@ fn events_are_refused_at_their_keys(rt: HostRuntime) -> Result<(), Fail> {
     Ok(())
 }
 
+// A reward's keys, and the code and the key of the refusal.
+const REWARD_CASES: [(&str, u8, &str); 13] = [
+    ("kind = \"most\"", 10, "kind"),
+    ("kind = \"least\"\nname = \"w\"\nlevel = 1", 3, "level"),
+    ("kind = \"least\"\nname = \"w\"", 4, "queues"),
+    ("kind = \"least\"\nname = \"w\"\nqueues = []", 6, "queues"),
+    (
+        "kind = \"least\"\nname = \"w\"\nqueues = [\"b\"]",
+        9,
+        "queues",
+    ),
+    (
+        "kind = \"least\"\nname = \"w\"\nqueues = [\"a\", \"a\"]",
+        12,
+        "queues",
+    ),
+    (
+        "kind = \"linear\"\nname = \"w\"\nqueues = [\"a\"]",
+        4,
+        "weights",
+    ),
+    (
+        "kind = \"linear\"\nname = \"w\"\nqueues = [\"a\"]\nweights = [1, 2]",
+        13,
+        "weights",
+    ),
+    (
+        "kind = \"linear\"\nname = \"w\"\nqueues = [\"a\"]\nweights = [-1000000001]",
+        6,
+        "weights",
+    ),
+    (
+        "kind = \"table\"\nname = \"w\"\nqueues = [\"a\"]\ntable = [[1, 2]]",
+        13,
+        "table",
+    ),
+    (
+        "kind = \"table\"\nname = \"w\"\nqueues = [\"a\"]\ntable = [[1, 2, 3], []]",
+        13,
+        "table",
+    ),
+    (
+        "kind = \"table\"\nname = \"w\"\nqueues = [\"a\"]\ntable = [1]",
+        5,
+        "table",
+    ),
+    (
+        "kind = \"above\"\nname = \"w\"\nqueues = [\"a\"]\nlevel = 65536",
+        6,
+        "level",
+    ),
+];
+
 #[test]
 fn rewards_are_refused_at_their_keys(rt: HostRuntime) -> Result<(), Fail> {
     let alloc = rt.alloc();
-    for (text, code, key) in [
-        ("kind = \"most\"", 10, "kind"),
-        ("kind = \"least\"\nname = \"w\"\nlevel = 1", 3, "level"),
-        ("kind = \"least\"\nname = \"w\"", 4, "queues"),
-        ("kind = \"least\"\nname = \"w\"\nqueues = []", 6, "queues"),
-        (
-            "kind = \"least\"\nname = \"w\"\nqueues = [\"b\"]",
-            9,
-            "queues",
-        ),
-        (
-            "kind = \"least\"\nname = \"w\"\nqueues = [\"a\", \"a\"]",
-            12,
-            "queues",
-        ),
-        (
-            "kind = \"linear\"\nname = \"w\"\nqueues = [\"a\"]",
-            4,
-            "weights",
-        ),
-        (
-            "kind = \"linear\"\nname = \"w\"\nqueues = [\"a\"]\nweights = [1, 2]",
-            13,
-            "weights",
-        ),
-        (
-            "kind = \"linear\"\nname = \"w\"\nqueues = [\"a\"]\nweights = [-1000000001]",
-            6,
-            "weights",
-        ),
-        (
-            "kind = \"table\"\nname = \"w\"\nqueues = [\"a\"]\ntable = [[1, 2]]",
-            13,
-            "table",
-        ),
-        (
-            "kind = \"table\"\nname = \"w\"\nqueues = [\"a\"]\ntable = [[1, 2, 3], []]",
-            13,
-            "table",
-        ),
-        (
-            "kind = \"table\"\nname = \"w\"\nqueues = [\"a\"]\ntable = [1]",
-            5,
-            "table",
-        ),
-        (
-            "kind = \"above\"\nname = \"w\"\nqueues = [\"a\"]\nlevel = 65536",
-            6,
-            "level",
-        ),
-    ] {
+    for (text, code, key) in REWARD_CASES {
         let file = with_line(alloc, 14, "")?;
         let head = joined(alloc, file.as_str(), "[[reward]]\n")?;
         let whole = joined(alloc, head.as_str(), text)?;

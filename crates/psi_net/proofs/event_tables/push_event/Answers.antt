@@ -1,4 +1,4 @@
-use Rattle.std.proofs.Common.{◌≡◌, ℕ, ◌≤◌, ◌<◌, length, IfSome, Option, sym, subst}
+use Rattle.std.proofs.Common.{ℕ, ◌≤◌, ◌<◌, length, IfSome, Option, sym, subst}
 use Rattle.psi_route.specs.declared.Source.{Source}
 use Rattle.psi_net.proofs.KeptQueues.{names_few, names_same, servers_most}
 use Rattle.psi_net.proofs.KeptEvents.{source_read}

@@ -1,4 +1,4 @@
-use Rattle.std.proofs.Common.{◌≡◌, ◌<◌, ◌≤◌, ◌+◌, length, arith, sym, ◌∙◌}
+use Rattle.std.proofs.Common.{◌<◌, ◌+◌, length, arith}
 use Rattle.psi_net.proofs.Servers.{values_turn, values_past}
 use Rattle.psi_net.proofs.expansion.table_values.Goals as goal
 

@@ -1,4 +1,4 @@
-use Rattle.std.proofs.Common.{◌≡◌, List, String, Global, map, string_bytes, ap, sym, ◌∙◌}
+use Rattle.std.proofs.Common.{List, String, Global, map, string_bytes, ap, sym, ◌∙◌}
 use Rattle.psi_net.specs.Values.{no_unknown}
 use Rattle.psi_net.proofs.Lists.{known_on, unknown_on}
 use Rattle.psi_net.proofs.keys.no_unknown.Goals as goal

@@ -1,4 +1,4 @@
-use Rattle.std.proofs.Common.{◌≡◌, List, ℕ, length, sym, ◌∙◌, subst}
+use Rattle.std.proofs.Common.{List, ℕ, length, sym, ◌∙◌, subst}
 use Rattle.psi_net.specs.Targets.{AreTargets}
 use Rattle.psi_net.proofs.Pigeons.{room_for_more, targets_more}
 use Rattle.psi_net.proofs.references.push_target.Goals as goal
