@@ -9,7 +9,11 @@ mod answer;
 mod answering;
 mod checking;
 mod describing;
+#[cfg(test)]
+mod plain;
 mod program;
+#[cfg(test)]
+mod samples;
 mod status;
 #[cfg(test)]
 mod tests;
