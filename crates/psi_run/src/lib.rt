@@ -14,6 +14,8 @@ mod plain;
 mod program;
 #[cfg(test)]
 mod samples;
+#[cfg(test)]
+mod small;
 mod status;
 #[cfg(test)]
 mod tests;

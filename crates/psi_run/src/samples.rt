@@ -1,7 +1,8 @@
 //! Samples of whole network files: many small networks against a plain program that lists states, and
 //! networks worked out by hand.
 
-use crate::plain::{Ending, Plain, file_of, network, printed, sampled};
+use crate::plain::{Ending, Plain, printed, sampled};
+use crate::small::{file_of, network};
 use crate::{Status, run};
 use psi_io::{MemoryShelf, MemorySink};
 use psi_past::{Past, SeedPast};
@@ -94,15 +95,17 @@ fn samples_of_small_networks_are_those_of_a_plain_program(rt: HostRuntime) -> Re
         not_met_list: 0,
         not_met_box: 0,
     };
-    for number in 0..600u32 {
+    for number in 0..3000u32 {
         let net = network(alloc, number)?;
         counts.count(&compare(&rt, alloc, &net, number as u64)?);
     }
-    assert!(rt; counts.met_list >= 50, "{counts:?}");
-    assert!(rt; counts.met_list_later >= 50, "{counts:?}");
-    assert!(rt; counts.met_box >= 20, "{counts:?}");
-    assert!(rt; counts.not_met_list >= 50, "{counts:?}");
-    assert!(rt; counts.not_met_box >= 50, "{counts:?}");
+    let least = counts
+        .met_list
+        .min(counts.met_list_later)
+        .min(counts.met_box)
+        .min(counts.not_met_list)
+        .min(counts.not_met_box);
+    assert!(rt; least >= 100, "{counts:?}");
     Ok(())
 }
 
