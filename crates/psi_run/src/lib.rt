@@ -9,7 +9,13 @@ mod answer;
 mod answering;
 mod checking;
 mod describing;
+#[cfg(test)]
+mod plain;
 mod program;
+#[cfg(test)]
+mod samples;
+#[cfg(test)]
+mod small;
 mod status;
 #[cfg(test)]
 mod tests;
