@@ -169,6 +169,35 @@ fn a_batch_comes_whole_or_not_at_all(rt: HostRuntime) {
     assert_whole(&rt, rt.alloc(), &[3], &batch, &[2], &[3]);
 }
 
+// Networks whose states are far too many to be listed.
+#[test]
+fn envelopes_over_twenty_queues(rt: HostRuntime) -> Result<(), Fail> {
+    let sizes = [10; 20];
+    let negative = Kind::Negative {
+        from: Some(Source { queue: 0, k: 1 }),
+        on: 1,
+        amount: 2,
+    };
+    let mut most = sizes;
+    most[0] = 9;
+    assert_whole(&rt, rt.alloc(), &sizes, &negative, &[0; 20], &most);
+    let row = [0, 1, 2, 3, 4, 5, 6, 7, 8, 9];
+    let queues = [
+        0, 1, 2, 3, 4, 5, 6, 7, 8, 9, 10, 11, 12, 13, 14, 15, 16, 17, 18, 19,
+    ];
+    let shortest = Kind::Index {
+        from: None,
+        to: list(&queues),
+        table: tables(rt.alloc(), &[row.as_slice(); 20])?,
+        full: Full::Lost,
+        size: 1,
+    };
+    let mut least = [0; 20];
+    least[0] = 1;
+    assert_whole(&rt, rt.alloc(), &sizes, &shortest, &least, &sizes);
+    Ok(())
+}
+
 #[test]
 fn guarded_kinds_jump_and_reset(rt: HostRuntime) {
     let alloc = rt.alloc();
