@@ -1,8 +1,9 @@
 -- Arrays of a fixed length whose front holds a list, with zeros behind it.
-use Rattle.std.specs.Prelude.{◌≡◌, ℕ, zero, suc, ◌+◌, ◌-◌, ◌<◌, List, length, replicate, drop, slice_index, slice_set, refl}
+use Rattle.std.specs.Prelude.{◌≡◌, ℕ, zero, suc, ◌+◌, ◌-◌, ◌*◌, ◌<◌, ◌≤◌, List, length, replicate, take, drop, slice_index, slice_set, refl}
 use Rattle.std.proofs.Common.{inl, inr, ap, ◌∙◌, sym, arith}
-use Rattle.std.proofs.lemmas.Bool.{cases_eq}
-use Rattle.std.proofs.lemmas.List.{drop-set-lt, drop-drop, drop-replicate, get_or-set_same, get_or-set_other}
+use Rattle.std.proofs.lemmas.Bool.{cases_eq, cases_lt}
+use Rattle.std.proofs.lemmas.List.{drop-set-lt, drop-drop, drop-replicate, get_or-drop, get_or-take, get_or_past, length-take-le, get_or-set_same, get_or-set_other}
+use Rattle.psi_state.specs.Hashing.{quad}
 
 -- a list of zeros has no other number, and 0 stands for what is past its end
 pub slice_index-zeros : (n i : ℕ) → slice_index (replicate n 0) i ≡ 0
@@ -29,3 +30,24 @@ slice_set-small xs n v bound within fits each i =
           let at : slice_index (slice_set xs n v) i ≡ slice_index (slice_set xs n v) n = ap (λ k. slice_index (slice_set xs n v) k) e in omega arith)
       | inr ne ↦ (let same : slice_index (slice_set xs n v) i ≡ slice_index xs i = get_or-set_other xs n i v 0 ne in omega (arith, each i))
     ]
+
+-- each place of the array holds the list's number, and 0 past the list's end
+slice_index-padded : (xs : List ℕ) (n i : ℕ) → n ≤ 32 → length xs ≡ 32 → drop n xs ≡ replicate (32 - n) 0 → slice_index xs i ≡ slice_index (take n xs) i
+slice_index-padded xs n i few full rest =
+    elim (cases_lt i n) [
+      | inl before ↦ sym (get_or-take n xs i 0 before)
+      | inr behind ↦ (let at : n + (i - n) ≡ i = omega arith in
+          let count : length (take n xs) ≡ n = length-take-le n xs (omega arith) in
+          let past : slice_index (take n xs) i ≡ 0 = get_or_past (take n xs) i 0 (omega arith) in
+          let zero_there : slice_index (drop n xs) (i - n) ≡ 0 = ap (λ (ys : List ℕ). slice_index ys (i - n)) rest ∙ slice_index-zeros (32 - n) (i - n) in
+          ap (λ k. slice_index xs k) (sym at) ∙ (sym (get_or-drop n xs (i - n) 0) ∙ (zero_there ∙ sym past)))
+    ]
+
+-- the numbers of four places side by side are those of the list
+pub quad-padded : (xs : List ℕ) (n i : ℕ) → n ≤ 32 → length xs ≡ 32 → drop n xs ≡ replicate (32 - n) 0 → quad xs i ≡ quad (take n xs) i
+quad-padded xs n i few full rest =
+    let a = slice_index-padded xs n (4 * i) few full rest in
+    let b = slice_index-padded xs n (4 * i + 1) few full rest in
+    let c = slice_index-padded xs n (4 * i + 2) few full rest in
+    let d = slice_index-padded xs n (4 * i + 3) few full rest in
+    omega (arith, a, b, c, d)

@@ -1,7 +1,8 @@
 -- Which states a box lists: those between its two corners.
-use Rattle.std.specs.Prelude.{◌≡◌, ℕ, zero, suc, ◌+◌, ◌-◌, ◌<◌, ◌≤◌, List, [], ◌∷◌, length, map, slice_index, refl}
-use Rattle.std.proofs.Common.{inl, inr, ap, sym, ◌∙◌, subst, arith}
-use Rattle.std.proofs.lemmas.List.{length-replicate, get_or-replicate}
+use Rattle.std.specs.Prelude.{◌≡◌, ℕ, zero, suc, ◌+◌, ◌-◌, ◌<◌, ◌≤◌, List, [], ◌∷◌, length, map, slice_index, slice_set, refl}
+use Rattle.std.proofs.Common.{inl, inr, ap, sym, ◌∙◌, subst, arith, length-set, get_or-set_same, get_or-set_other}
+use Rattle.std.proofs.lemmas.Bool.{cases_lt, cases_eq}
+use Rattle.std.proofs.lemmas.List.{length-replicate, get_or-replicate, set_past}
 use Rattle.psi_state.specs.State.{IsBelow, numbers_from, box, zeros, all_states}
 use Rattle.psi_state.specs.Members.{In, AreAmong, In-map, In-of_map, In-flat_map, In-of_flat_map, In-numbers_from, In-of_numbers_from}
 
@@ -31,6 +32,24 @@ below-through x y z low high = record {
       let within : i < length y = omega (arith, low.same_length) in
       let second : slice_index y i ≤ slice_index z i = high.each i within in omega arith);
 }
+
+-- a state with another number at one place is below another where it was and that number is
+pub set-below : (x y : List ℕ) (q v : ℕ) → IsBelow x y → v ≤ slice_index y q → IsBelow (slice_set x q v) y
+set-below x y q v below small =
+    elim (cases_lt q (length x)) [
+      | inr past ↦ subst (λ (z : List ℕ). IsBelow z y) (sym (set_past {X = ℕ} x q v past)) below
+      | inl place ↦ record {
+        same_length = length-set {A = ℕ} x q v ∙ below.same_length;
+        each = λ i within. (let count : length (slice_set x q v) ≡ length x = length-set {A = ℕ} x q v in
+            let old : slice_index x i ≤ slice_index y i = below.each i (omega arith) in
+            elim (cases_eq i q) [
+              | inl e ↦ (let is : slice_index (slice_set x q v) q ≡ v = get_or-set_same {A = ℕ} x q v 0 place in
+                  let moved : slice_index (slice_set x q v) i ≡ slice_index (slice_set x q v) q = ap (λ j. slice_index (slice_set x q v) j) e in
+                  let there : slice_index y i ≡ slice_index y q = ap (λ j. slice_index y j) e in omega arith)
+              | inr ne ↦ (let is : slice_index (slice_set x q v) i ≡ slice_index x i = get_or-set_other {A = ℕ} x q i v 0 ne in omega arith)
+            ]);
+      }
+    ]
 
 pub same-from_below : (x y : List ℕ) → IsBelow x y → IsBelow y x → x ≡ y
 same-from_below [] [] low high = refl

@@ -8,3 +8,4 @@ pub mod Listing
 pub mod Ascending
 pub mod States
 pub mod Inverse
+pub mod Hashing

@@ -1,6 +1,6 @@
 //! A box of states: all states between two corners.
 
-ghost use Rattle.std.specs.Prelude.{◌≡◌, ◌+◌, ◌-◌, ◌<◌, ◌≤◌, ◌↔◌, suc, IsTrue, MatchOption, length, slice_get, slice_index};
+ghost use Rattle.std.specs.Prelude.{◌≡◌, ◌+◌, ◌-◌, ◌<◌, ◌≤◌, ◌↔◌, suc, IsTrue, MatchOption, length, slice_get, slice_index, slice_set};
 ghost use Rattle.psi_state.specs.State.{IsBelow, box, zeros};
 ghost use Rattle.psi_state.specs.Members.{In, AreAmong};
 
@@ -46,6 +46,46 @@ impl Bounds {
             lo: State::zero(caps.len()),
             hi: *caps,
         }
+    }
+
+    /// The number of queues, 1 to 32.
+    ///
+    /// Its other clauses are how a caller learns what every `Bounds` keeps.
+    pub fn len(&self) -> u8
+        ensures value { result ≡ length self.now.lo }
+        ensures few { length self.now.lo ≤ 32 }
+        ensures some { 1 ≤ length self.now.lo }
+        ensures ordered { IsBelow self.now.lo self.now.hi }
+    {
+        self.lo.len()
+    }
+
+    /// The least number of customers that queue `i` holds in the box; queues are counted from 0.
+    pub fn least(&self, i: u8) -> u16
+        requires { i < length self.now.lo }
+        ensures value { result ≡ slice_index self.now.lo i }
+        ensures ordered { slice_index self.now.lo i ≤ slice_index self.now.hi i }
+    {
+        self.lo.get(i)
+    }
+
+    /// The greatest number of customers that queue `i` holds in the box; queues are counted from 0.
+    pub fn greatest(&self, i: u8) -> u16
+        requires { i < length self.now.lo }
+        ensures value { result ≡ slice_index self.now.hi i }
+        ensures ordered { slice_index self.now.lo i ≤ slice_index self.now.hi i }
+    {
+        self.hi.get(i)
+    }
+
+    /// Lets queue `i` hold from `least` to `greatest` customers, and leaves the other queues as they are.
+    pub fn set(&mut self, i: u8, least: u16, greatest: u16)
+        requires place { i < length self.old.lo }
+        requires ordered { least ≤ greatest }
+        ensures { self.new ≡ record { lo = slice_set self.old.lo i least; hi = slice_set self.old.hi i greatest } }
+    {
+        self.lo.set(i, least);
+        self.hi.set(i, greatest);
     }
 
     /// The lower corner: the least number of customers of each queue.
@@ -125,16 +165,6 @@ impl Bounds {
             left /= width;
         }
         x
-    }
-
-    // The number of queues.
-    fn len(&self) -> u8
-        ensures value { result ≡ length self.now.lo }
-        ensures few { length self.now.lo ≤ 32 }
-        ensures some { 1 ≤ length self.now.lo }
-        ensures ordered { IsBelow self.now.lo self.now.hi }
-    {
-        self.lo.len()
     }
 
     // How far `x` is above the lower corner at a place.

@@ -7,10 +7,15 @@ ghost use Rattle.std.specs.Cmp.Rules.{comparing};
 ghost use Rattle.std.specs.Cmp.Lexicographic.{pointwise, slice_cmp};
 ghost use Rattle.std.specs.Ordering.{nat_cmp, as_partial_cmp};
 ghost use Rattle.psi_state.specs.State.{IsVector, IsBelow};
+ghost use Rattle.psi_state.specs.Hashing.{quad, hash};
 
 use std::cmp::Ordering;
 use std::fmt;
 use std::marker::Model;
+
+// The odd number nearest to 2^64 over the golden ratio: products with it differ in their high bits
+// (multiplicative hashing, Knuth, The Art of Computer Programming, volume 3, section 6.4).
+const MULTIPLIER: u64 = 11_400_714_819_323_198_485;
 
 /// How many customers each queue of a network holds: 1 to 32 numbers of 16 bits, one for each queue.
 ///
@@ -88,6 +93,29 @@ impl State {
             .iter()
             .zip(other.as_slice())
             .all(|(own, most)| own <= most)
+    }
+
+    /// A number of 32 bits that is the same for the same state, and is spread well over states: for tables of
+    /// states.
+    pub fn hash(&self) -> u32
+        ensures { result ≡ hash self.now }
+    {
+        let mut hash: u64 = 0;
+        for i in 0..self.len.div_ceil(4) {
+            hash = hash.wrapping_add(self.quad(i)).wrapping_mul(MULTIPLIER);
+        }
+        (hash >> 32) as u32
+    }
+
+    // The numbers of four queues side by side, from queue 4 i on; past the last queue they are 0.
+    fn quad(&self, i: u8) -> u64
+        requires { i < 8 }
+        ensures { result ≡ quad self.now i }
+    {
+        let first = 4 * i as usize;
+        let low = self.values[first] as u64 + 65_536 * self.values[first + 1] as u64;
+        let high = self.values[first + 2] as u64 + 65_536 * self.values[first + 3] as u64;
+        low + 4_294_967_296 * high
     }
 
     // The numbers, one for each queue.
