@@ -9,3 +9,4 @@ pub mod Ascending
 pub mod States
 pub mod Inverse
 pub mod Hashing
+pub mod Repeats

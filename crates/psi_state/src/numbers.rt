@@ -4,7 +4,10 @@ ghost use Rattle.std.specs.Prelude.{◌≡◌, ◌==◌, ◌<◌, [], ◌∷◌,
 ghost use Rattle.std.proofs.Common.{rules};
 ghost use Rattle.std.specs.Cmp.Rules.{comparing};
 ghost use Rattle.std.specs.Cmp.Lexicographic.{pointwise};
+ghost use Rattle.std.specs.Prelude.{drop, nat_eq};
+ghost use Rattle.std.specs.List.{list_any};
 ghost use Rattle.psi_state.specs.State.{AreQueueNumbers};
+ghost use Rattle.psi_state.specs.Repeats.{repeats};
 
 use std::fmt;
 use std::marker::Model;
@@ -71,6 +74,37 @@ impl Queues {
         ensures { result ≡ slice_index self.now i }
     {
         self.items[i as usize]
+    }
+
+    /// Whether queue `q` stands in the list.
+    pub fn contains(&self, q: u8) -> bool
+        ensures { result ≡ list_any (λ p. nat_eq p q) self.now }
+    {
+        self.contains_from(0, q)
+    }
+
+    /// Whether some queue stands twice in the list.
+    pub fn repeats(&self) -> bool
+        ensures { result ≡ repeats self.now }
+    {
+        for i in 0..self.len() {
+            if self.contains_from(i + 1, self.get(i)) {
+                return true;
+            }
+        }
+        false
+    }
+
+    // Whether queue `q` stands in the list at a place from `first` on.
+    fn contains_from(&self, first: u8, q: u8) -> bool
+        ensures { result ≡ list_any (λ p. nat_eq p q) (drop first self.now) }
+    {
+        for i in first..self.len() {
+            if self.get(i) == q {
+                return true;
+            }
+        }
+        false
     }
 
     // The numbers, one after another.
