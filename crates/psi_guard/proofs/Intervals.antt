@@ -1,9 +1,8 @@
 -- Which queues of a box can hold numbers within and outside their guards.
-use Rattle.std.specs.Prelude.{◌≡◌, ℕ, ◌+◌, ◌<◌, ◌≤◌, min, max, Bool, true, false, MatchBool, ◌⊎◌, nat_eq, List, length, slice_index, slice_set, refl}
+use Rattle.std.specs.Prelude.{◌≡◌, ℕ, ◌+◌, ◌-◌, ◌<◌, ◌≤◌, min, max, Bool, true, false, MatchBool, ◌⊎◌, nat_eq, List, length, slice_index, slice_set, refl}
 use Rattle.std.proofs.Common.{inl, inr, ap, sym, ◌∙◌, subst, arith, length-set, get_or-set_same, get_or-set_other}
-use Rattle.std.proofs.lemmas.Bool.{cases_eq, cases_Bool, eqb-false, not-true, not-false, eqb-true, MatchBool-at_true, MatchBool-at_false}
-use Rattle.psi_state.specs.State.{Corners, IsBelow, box}
-use Rattle.psi_state.specs.Boxes.{IsBetween, below-itself}
+use Rattle.std.proofs.lemmas.Bool.{cases_lt, cases_eq, cases_Bool, eqb-false, not-true, not-false, eqb-true, MatchBool-at_true, MatchBool-at_false}
+use Rattle.psi_state.specs.State.{IsBelow, box}
 use Rattle.psi_state.specs.Sets.{image}
 use Rattle.psi_state.specs.Hull.{IsTight}
 use Rattle.psi_guard.specs.declared.named.Part.{Part}
@@ -12,10 +11,10 @@ use Rattle.psi_guard.specs.declared.ends.Leaving.TheVariants.{Nowhere, One, Seve
 use Rattle.psi_guard.specs.Guarding.{moved, free_part, part_of, guarded}
 use Rattle.psi_guard.specs.Refusals.{AreApart, AreGuards, at}
 use Rattle.psi_guard.specs.Places.{IsFree, named_or_free, part_of-at}
-use Rattle.psi_guard.specs.Rule.{Rule, rule}
+use Rattle.psi_guard.specs.Rule.{Rule, rule, moved-rises}
 use Rattle.psi_guard.specs.Envelope.{Leaves, CanMoveAll, MissesSome, OtherLeaves, CanKeep, IsLow, IsHigh, Knows, others, one_more, MayKeep, IsLeastOf, IsGreatestOf, CanTurn}
 use Rattle.psi_guard.proofs.Order.{is_rule_of}
-use Rattle.psi_guard.proofs.Hulls.{IsBoxOf, AreEnds, ends-tight, low_inside, high_inside}
+use Rattle.psi_guard.proofs.Hulls.{IsBoxOf, AreEnds, ends-tight}
 
 -- a part whose queue meets its guard
 abbrev pub PartMeets : List ℕ → List ℕ → Part → Type 0
@@ -264,12 +263,17 @@ high-from caps parts l h part q w moves leaving answers is high = record {
   ];
 }
 
+-- queue q has its old ends
+abbrev pub HasEnds : List ℕ → List ℕ → List ℕ → List ℕ → ℕ → Type 0
+HasEnds l h u w q = (slice_index u q ≡ slice_index l q) × (slice_index w q ≡ slice_index h q)
+
 -- the ends while the parts from place i on are still to be looked at
 pub record IsEnding (caps : List ℕ) (parts : List Part) (l h : List ℕ) (i : ℕ) (u w : List ℕ) : Type 0 where
   pub long : length u ≡ length caps
   pub longer : length w ≡ length caps
   pub ends : (q : ℕ) → q < length caps → AreEnds (rule caps parts) l h q (slice_index u q) (slice_index w q)
       ⊎ ((j : ℕ) × (i ≤ j) × (j < length parts) × ((at parts j).queue ≡ q))
+  pub rest : (j : ℕ) → i ≤ j → j < length parts → HasEnds l h u w (at parts j).queue
 
 -- a queue that no part names keeps its ends
 free-ends : (caps : List ℕ) (parts : List Part) (l h : List ℕ) (q : ℕ) (moves : Bool) (leaving : Leaving) → Answers (rule caps parts) l h moves leaving → IsBelow l h → IsBelow h caps
@@ -315,11 +319,14 @@ ending-start caps parts l h moves leaving answers ordered within = record {
     | inl named ↦ inr (named.place, omega arith, named.small, named.queue)
     | inr free ↦ inl (free-ends caps parts l h q moves leaving answers ordered within place free)
   ];
+  rest = λ j low small. (refl, refl);
 }
 
-pub ending-step : (caps : List ℕ) (parts : List Part) (l h u w : List ℕ) (i q a b : ℕ) → AreGuards caps parts → IsEnding caps parts l h i u w → i < length parts
-    → q ≡ (at parts i).queue → AreEnds (rule caps parts) l h q a b → IsEnding caps parts l h (i + 1) (slice_set u q a) (slice_set w q b)
-ending-step caps parts l h u w i q a b guards before small queue found =
+pub ending-step : (caps : List ℕ) (parts : List Part) (l h u w : List ℕ) (i : ℕ) (part : Part) (a b : ℕ) → AreGuards caps parts → IsEnding caps parts l h i u w → i < length parts
+    → part ≡ at parts i → AreEnds (rule caps parts) l h part.queue a b → IsEnding caps parts l h (i + 1) (slice_set u part.queue a) (slice_set w part.queue b)
+ending-step caps parts l h u w i part a b guards before small is found =
+    let q = part.queue in
+    let queue : q ≡ (at parts i).queue = ap (λ p. p.queue) is in
     let place : (at parts i).queue < length caps = (guards.each i small).queue in
     let low : q < length u = omega (arith, before.long) in
     let high : q < length w = omega (arith, before.longer) in
@@ -339,6 +346,10 @@ ending-step caps parts l h u w i q a b guards before small queue found =
           ]
         ]
       ];
+      rest = λ j start there.
+          (let other : (at parts j).queue ≡ q → ⊥ = λ e. (let same : j ≡ i = guards.apart.each j i there small (e ∙ queue) in omega arith) in
+          let old = before.rest j (omega arith) there in
+          (get_or-set_other {A = ℕ} u q (at parts j).queue a 0 other ∙ old.0, get_or-set_other {A = ℕ} w q (at parts j).queue b 0 other ∙ old.1));
     }
 
 -- all parts looked at, both ends of each queue are known
@@ -359,58 +370,69 @@ ending-tight caps parts l h u w i guards ordered within ending over =
     ends-tight (rule caps parts) caps (guarded parts) l h u w (is_rule_of caps parts guards) (box-of caps parts l h ordered within) ending.long ending.longer
     (ending-ends caps parts l h u w i ending over)
 
-pub ending-ordered : (caps : List ℕ) (parts : List Part) (l h u w : List ℕ) (i : ℕ) → AreGuards caps parts → IsBelow l h → IsBelow h caps → IsEnding caps parts l h i u w → length parts ≤ i
-    → IsBelow u w
-ending-ordered caps parts l h u w i guards ordered within ending over =
-    let law = is_rule_of caps parts guards in
-    let fit = box-of caps parts l h ordered within in
-    let between : IsBetween l h l = record { low = below-itself l; high = ordered } in
-    record {
-      same_length = ending.long ∙ sym ending.longer;
-      each = λ q small. (let place : q < length caps = omega (arith, ending.long) in
-          let both = ending-ends caps parts l h u w i ending over q place in
-          let low : slice_index u q ≤ slice_index (guarded parts l) q = low_inside (rule caps parts) caps (guarded parts) l h l q (slice_index u q) law fit between place both.low in
-          let high : slice_index (guarded parts l) q ≤ slice_index w q = high_inside (rule caps parts) caps (guarded parts) l h l q (slice_index w q) law fit between place both.high in
-          omega arith);
-    }
+-- the least number of a part's queue is at most the greatest: some number is kept, or all are moved
+pub least-greatest : (part : Part) (l h : ℕ) (moves stays : Bool) (u w : ℕ) → l ≤ h → IsLeastOf part l h moves stays u → IsGreatestOf part l h moves stays w → u ≤ w
+least-greatest part l h moves stays u w step least greatest =
+    elim least.reached [
+      | inr kept ↦ greatest.kept u kept.1.0 kept.1.1 kept.0
+      | inl moved ↦ elim (cases_lt l part.least) [
+        | inl low ↦ through part l h moves stays u w l (omega arith) step (inr (inl low)) least greatest
+        | inr from ↦ elim (cases_lt part.most h) [
+          | inl high ↦ through part l h moves stays u w h step (omega arith) (inr (inr high)) least greatest
+          | inr to ↦ all_moved part l h moves stays u w step from to moved greatest
+        ]
+      ]
+    ]
+  where
+    through : (part : Part) (l h : ℕ) (moves stays : Bool) (u w v : ℕ) → l ≤ v → v ≤ h → MayKeep part stays v
+        → IsLeastOf part l h moves stays u → IsGreatestOf part l h moves stays w → u ≤ w
+    through part l h moves stays u w v start stop may least greatest =
+        (let low : u ≤ v = least.kept v start stop may in let high : v ≤ w = greatest.kept v start stop may in omega arith)
+
+    all_moved : (part : Part) (l h : ℕ) (moves stays : Bool) (u w : ℕ) → l ≤ h → part.least ≤ l → h ≤ part.most
+        → (moves ≡ true) × (u ≡ moved part (max l part.least)) → IsGreatestOf part l h moves stays w → u ≤ w
+    all_moved part l h moves stays u w step from to least greatest =
+        let low : max l part.least ≡ l = omega arith in
+        let high : min h part.most ≡ l + (h - l) = omega arith in
+        let rise : moved part l ≤ moved part (l + (h - l)) = moved-rises part l (h - l) in
+        let first : u ≡ moved part l = least.1 ∙ ap (λ v. moved part v) low in
+        let last : moved part (l + (h - l)) ≤ w = subst (λ v. moved part v ≤ w) high (greatest.image least.0) in
+        omega arith
 
 -- the part at place i is the part of its queue
 own-part : (caps : List ℕ) (parts : List Part) (i : ℕ) (part : Part) → AreGuards caps parts → i < length parts → part ≡ at parts i → part ≡ part_of caps parts part.queue
 own-part caps parts i part guards small is =
     is ∙ (sym (part_of-at caps parts i guards.apart small) ∙ ap (λ (p : Part). part_of caps parts p.queue) (sym is))
 
-pub part-turns : (caps : List ℕ) (parts : List Part) (l h : List ℕ) (i a b : ℕ) (part : Part) (moves stays : Bool) (leaving : Leaving) → AreGuards caps parts
-    → Answers (rule caps parts) l h moves leaving → IsBelow l h → length l ≡ length caps → i < length parts → part ≡ at parts i
-    → a ≡ slice_index l part.queue → b ≡ slice_index h part.queue → stays ≡ others leaving part.queue → CanTurn part a b moves stays
-part-turns caps parts l h i a b part moves stays leaving guards answers ordered long small is first last other =
-    subst (λ v. CanTurn part v b moves stays) (sym first)
-    (subst (λ v. CanTurn part (slice_index l part.queue) v moves stays) (sym last)
+-- a part that isn't looked at yet finds the old ends of its queue
+own-ends : (caps : List ℕ) (parts : List Part) (l h u w : List ℕ) (i : ℕ) (part : Part) → IsEnding caps parts l h i u w → i < length parts → part ≡ at parts i
+    → HasEnds l h u w part.queue
+own-ends caps parts l h u w i part ending small is = subst (λ (p : Part). HasEnds l h u w p.queue) (sym is) (ending.rest i (omega arith) small)
+
+pub part-turns : (caps : List ℕ) (parts : List Part) (l h u w : List ℕ) (i a b : ℕ) (part : Part) (moves stays : Bool) (leaving : Leaving) → AreGuards caps parts
+    → Answers (rule caps parts) l h moves leaving → IsBelow l h → length l ≡ length caps → IsEnding caps parts l h i u w → i < length parts → part ≡ at parts i
+    → a ≡ slice_index u part.queue → b ≡ slice_index w part.queue → stays ≡ others leaving part.queue → CanTurn part a b moves stays
+part-turns caps parts l h u w i a b part moves stays leaving guards answers ordered long ending small is first last other =
+    let old = own-ends caps parts l h u w i part ending small is in
+    subst (λ v. CanTurn part v b moves stays) (sym (first ∙ old.0))
+    (subst (λ v. CanTurn part (slice_index l part.queue) v moves stays) (sym (last ∙ old.1))
     (subst (λ t. CanTurn part (slice_index l part.queue) (slice_index h part.queue) moves t) (sym other)
     (can-turn caps parts l h part part.queue moves leaving answers ordered long (own-part caps parts i part guards small is))))
 
-pub part-ends : (caps : List ℕ) (parts : List Part) (l h : List ℕ) (i a b c d : ℕ) (part : Part) (moves stays : Bool) (leaving : Leaving) → AreGuards caps parts
-    → Answers (rule caps parts) l h moves leaving → i < length parts → part ≡ at parts i
-    → a ≡ slice_index l part.queue → b ≡ slice_index h part.queue → stays ≡ others leaving part.queue
+pub part-ends : (caps : List ℕ) (parts : List Part) (l h u w : List ℕ) (i a b c d : ℕ) (part : Part) (moves stays : Bool) (leaving : Leaving) → AreGuards caps parts
+    → Answers (rule caps parts) l h moves leaving → IsEnding caps parts l h i u w → i < length parts → part ≡ at parts i
+    → a ≡ slice_index u part.queue → b ≡ slice_index w part.queue → stays ≡ others leaving part.queue
     → IsLeastOf part a b moves stays c → IsGreatestOf part a b moves stays d → AreEnds (rule caps parts) l h part.queue c d
-part-ends caps parts l h i a b c d part moves stays leaving guards answers small is first last other least greatest =
+part-ends caps parts l h u w i a b c d part moves stays leaving guards answers ending small is first last other least greatest =
+    let old = own-ends caps parts l h u w i part ending small is in
     let own = own-part caps parts i part guards small is in
     record {
       low = low-from caps parts l h part part.queue c moves leaving answers own
-          (subst (λ v. IsLeastOf part v (slice_index h part.queue) moves (others leaving part.queue) c) first
-          (subst (λ v. IsLeastOf part a v moves (others leaving part.queue) c) last
+          (subst (λ v. IsLeastOf part v (slice_index h part.queue) moves (others leaving part.queue) c) (first ∙ old.0)
+          (subst (λ v. IsLeastOf part a v moves (others leaving part.queue) c) (last ∙ old.1)
           (subst (λ t. IsLeastOf part a b moves t c) other least)));
       high = high-from caps parts l h part part.queue d moves leaving answers own
-          (subst (λ v. IsGreatestOf part v (slice_index h part.queue) moves (others leaving part.queue) d) first
-          (subst (λ v. IsGreatestOf part a v moves (others leaving part.queue) d) last
+          (subst (λ v. IsGreatestOf part v (slice_index h part.queue) moves (others leaving part.queue) d) (first ∙ old.0)
+          (subst (λ v. IsGreatestOf part a v moves (others leaving part.queue) d) (last ∙ old.1)
           (subst (λ t. IsGreatestOf part a b moves t d) other greatest)));
     }
-
--- a box that has the corners of another
-pub below-corners : (l h u w : List ℕ) → IsBelow l h → u ≡ l → w ≡ h → IsBelow u w
-below-corners l h u w ordered low high = subst (λ (x : List ℕ). IsBelow x w) (sym low) (subst (λ (x : List ℕ). IsBelow l x) (sym high) ordered)
-
-pub tight-corners_of : (f : List ℕ → List ℕ) (l h k m u w : List ℕ) (made : Corners) → k ≡ l → m ≡ h → IsTight (image f (box k m)) u w
-    → made ≡ record { lo = u; hi = w } → IsTight (image f (box l h)) made.lo made.hi
-tight-corners_of f l h k m u w made low high tight is =
-    subst (λ (b : Corners). IsTight (image f (box l h)) b.lo b.hi) (sym is)
-    (subst (λ (x : List ℕ). IsTight (image f (box x h)) u w) low (subst (λ (x : List ℕ). IsTight (image f (box k x)) u w) high tight))

@@ -11,7 +11,7 @@ ghost use Rattle.psi_guard.specs.Envelope.{CanMoveAll, CanTurn, IsGreatestOf, Is
 use crate::event::moved;
 use crate::named::Part;
 use crate::shape::Guarded;
-use psi_state::{Bounds, State};
+use psi_state::Bounds;
 
 // Which queues of a box can hold a number that the event doesn't happen with.
 #[derive(Clone, Copy)]
@@ -22,57 +22,50 @@ pub(crate) enum Leaving {
 }
 
 impl Guarded {
-    // The tight box around what the event makes of a box.
-    pub(crate) fn hull(&self, b: &Bounds) -> Bounds
-        requires { IsBelow b.now.hi self.now.caps }
-        ensures hull { result ≡ corners (image (guarded self.now.parts) (box b.now.lo b.now.hi)) }
-        ensures tight { IsTight (image (guarded self.now.parts) (box b.now.lo b.now.hi)) result.lo result.hi }
+    // Puts the tight box around what the event makes of a box in its place: both ends of each named queue
+    // change, and no others.
+    pub(crate) fn move_ends(&self, b: &mut Bounds)
+        requires { IsBelow b.old.hi self.now.caps }
+        ensures hull { b.new ≡ corners (image (guarded self.now.parts) (box b.old.lo b.old.hi)) }
+        ensures tight { IsTight (image (guarded self.now.parts) (box b.old.lo b.old.hi)) b.new.lo b.new.hi }
     {
-        let old_lo = b.lo();
-        let old_hi = b.hi();
-        let moves = self.can_move(&old_lo, &old_hi);
-        let leaving = self.leaving(&old_lo, &old_hi);
-        let mut lo = old_lo;
-        let mut hi = old_hi;
+        let _queues = b.len();
+        let moves = self.can_move(b);
+        let leaving = self.leaving(b);
         for i in 0..self.count() {
             let part = self.part(i);
-            let l = old_lo.get(part.queue);
-            let h = old_hi.get(part.queue);
-            let stays = others(leaving, part.queue);
-            lo.set(part.queue, low_end(part, l, h, moves, stays));
-            hi.set(part.queue, high_end(part, l, h, moves, stays));
+            let l = b.least(part.queue);
+            let h = b.greatest(part.queue);
+            let (low, high) = ends(part, l, h, moves, others(leaving, part.queue));
+            b.set(part.queue, low, high);
         }
-        Bounds::new(lo, hi)
     }
 
-    // Whether the event happens in some state of the box from `lo` to `hi`.
-    fn can_move(&self, lo: &State, hi: &State) -> bool
-        requires low { length lo.now ≡ length self.now.caps }
-        requires high { length hi.now ≡ length self.now.caps }
-        requires below { IsBelow hi.now self.now.caps }
-        requires ordered { IsBelow lo.now hi.now }
-        ensures { MatchBool result (CanMoveAll (rule self.now.caps self.now.parts) lo.now hi.now) (MissesSome (rule self.now.caps self.now.parts) lo.now hi.now) }
+    // Whether the event happens in some state of the box.
+    fn can_move(&self, b: &Bounds) -> bool
+        requires ordered { IsBelow b.now.lo b.now.hi }
+        requires below { IsBelow b.now.hi self.now.caps }
+        ensures { MatchBool result (CanMoveAll (rule self.now.caps self.now.parts) b.now.lo b.now.hi) (MissesSome (rule self.now.caps self.now.parts) b.now.lo b.now.hi) }
     {
         for i in 0..self.count() {
             let part = self.part(i);
-            if misses(part, lo.get(part.queue), hi.get(part.queue)) {
+            if misses(part, b.least(part.queue), b.greatest(part.queue)) {
                 return false;
             }
         }
         true
     }
 
-    // Which queues leave their guards in the box from `lo` to `hi`.
-    fn leaving(&self, lo: &State, hi: &State) -> Leaving
-        requires low { length lo.now ≡ length self.now.caps }
-        requires high { length hi.now ≡ length self.now.caps }
-        requires below { IsBelow hi.now self.now.caps }
-        ensures { Knows (rule self.now.caps self.now.parts) lo.now hi.now result }
+    // Which queues leave their guards in the box.
+    fn leaving(&self, b: &Bounds) -> Leaving
+        requires ordered { IsBelow b.now.lo b.now.hi }
+        requires below { IsBelow b.now.hi self.now.caps }
+        ensures { Knows (rule self.now.caps self.now.parts) b.now.lo b.now.hi result }
     {
         let mut leaving = Leaving::Nowhere;
         for i in 0..self.count() {
             let part = self.part(i);
-            if leaves(part, lo.get(part.queue), hi.get(part.queue)) {
+            if leaves(part, b.least(part.queue), b.greatest(part.queue)) {
                 leaving = one_more(leaving, part.queue);
             }
         }
@@ -114,6 +107,21 @@ fn others(leaving: Leaving, queue: u8) -> bool
         Leaving::One(first) => first != queue,
         Leaving::Several => true,
     }
+}
+
+// The least and the greatest number of a part's queue that held `l` to `h`.
+fn ends(part: Part, l: u16, h: u16, moves: bool, stays: bool) -> (u16, u16)
+    requires ordered { l ≤ h }
+    requires some { CanTurn part l h moves stays }
+    requires shift { unsigned_abs part.shift ≤ 65535 }
+    ensures least { IsLeastOf part l h moves stays result.0 }
+    ensures greatest { IsGreatestOf part l h moves stays result.1 }
+    ensures ordered { result.0 ≤ result.1 }
+{
+    (
+        low_end(part, l, h, moves, stays),
+        high_end(part, l, h, moves, stays),
+    )
 }
 
 // The least number of a part's queue that held `l` to `h`: of those moved, if the event happens in some

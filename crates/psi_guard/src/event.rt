@@ -34,7 +34,7 @@ impl EventLaw for Guarded {
     }
 
     fn envelope(&self, b: &mut Bounds) {
-        *b = self.hull(b);
+        self.move_ends(b);
     }
 
     fn monotone(&self) -> bool {

@@ -4,4 +4,4 @@ use Rattle.psi_guard.proofs.Intervals.{PartMeets}
 use Rattle.psi_guard.proofs.shape.Guarded.can_move.Given as goal
 
 abbrev pub invariant-loop-i : goal.invariant-loop-i
-invariant-loop-i l = (k : ℕ) → k < l.i → PartMeets l.lo l.hi (at l.self.parts k)
+invariant-loop-i l = (k : ℕ) → k < l.i → PartMeets l.b.lo l.b.hi (at l.self.parts k)

@@ -6,4 +6,4 @@ pub returns : goal.returns
 returns c =
     let event = c.args.self.now in
     let all : length event.parts ≡ c.loop-i.i = omega (arith, c.loop-i.auto.i-end) in
-    knows-end event.caps event.parts c.args.lo.now c.args.hi.now c.loop-i.i c.loop-i.leaving event.guards c.requires.below all c.loop-i.invariant
+    knows-end event.caps event.parts c.args.b.now.lo c.args.b.now.hi c.loop-i.i c.loop-i.leaving event.guards c.requires.below all c.loop-i.invariant
