@@ -1,20 +1,19 @@
 -- Events whose functions agree on the states of the capacities have the same runs and the same outcomes.
-use Rattle.std.specs.Prelude.{◌≡◌, ℕ, zero, suc, ◌-◌, ◌<◌, ◌≤◌, List, [], ◌∷◌, length, map, slice_index, slice_index_or, Bool, true, false, Option, Some, None, refl}
+use Rattle.std.specs.Prelude.{◌≡◌, ℕ, zero, suc, ◌-◌, ◌<◌, List, [], ◌∷◌, length, map, slice_index_or, Bool, true, false, refl}
 use Rattle.std.proofs.Common.{inl, inr, ap, sym, ◌∙◌, subst, arith}
 use Rattle.std.proofs.lemmas.Bool.{cases_lt}
 use Rattle.std.proofs.lemmas.List.{get_or_past}
 use Rattle.psi_state.specs.declared.Outcome.{Outcome}
 use Rattle.psi_state.specs.State.{IsBelow}
-use Rattle.psi_state.specs.Boxes.{below-through}
 use Rattle.psi_state.specs.Members.{In}
 use Rattle.psi_state.specs.Sets.{image, ascending, single}
 use Rattle.psi_state.specs.Hull.{hull}
-use Rattle.psi_event.specs.Law.{IsClosed, IsMonotone}
+use Rattle.psi_event.specs.Law.{IsClosed}
 use Rattle.psi_rate.specs.Rates.{event_of}
 use Rattle.psi_rate.specs.Composition.{picked, function_at, AreClosed}
 use Rattle.psi_rate.specs.Outcomes.{outcome_within, outcome_within-only, outcome-agree, IsOutcome}
 use Rattle.psi_region.specs.Region.{Area, start, splits, next, step, IsArea, start-area, step-area}
-use Rattle.psi_horizon.specs.Runs.{follow, run, ending_at}
+use Rattle.psi_horizon.specs.Runs.{follow, ending_at}
 
 -- two functions agree on the states of the capacities
 pub record Agree (caps : List ℕ) (f g : List ℕ → List ℕ) : Type 0 where

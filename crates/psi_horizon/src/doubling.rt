@@ -7,7 +7,7 @@ ghost use Rattle.psi_rate.specs.Outcomes.{IsOutcome};
 ghost use Rattle.psi_region.specs.Region.{step, IsArea};
 ghost use Rattle.psi_horizon.specs.Runs.{ending_at};
 
-use psi_event::{EventLaw, Idle};
+use psi_event::EventLaw;
 use psi_past::{Kept, Past};
 use psi_rate::System;
 use psi_region::Region;
@@ -73,12 +73,12 @@ pub(crate) fn follow_word<E: EventLaw>(
     ensures most { region.new.most ≡ region.old.most }
 {
     // The events fit the capacities.
-    let caps = system.caps();
+    let _caps = system.caps();
     let number = system.wheel().pick(word);
     if number < system.wheel().events() {
         region.advance(system.event(number));
     } else {
-        region.advance(&Idle::new(caps));
+        region.rest();
     }
     number
 }

@@ -1,17 +1,17 @@
 -- What the two ways in which a region is held say of its states.
-use Rattle.std.proofs.Common.{◌≡◌, ◌≢◌, ℕ, ◌≤◌, ◌<◌, List, [], ◌∷◌, ◌++◌, length, Some, None, Bool, true, false, refl, inl, inr, ap, sym, ◌∙◌, subst, arith, nat_eq}
+use Rattle.std.proofs.Common.{◌≡◌, ◌≢◌, ℕ, ◌≤◌, ◌<◌, List, [], ◌∷◌, ◌++◌, length, Some, None, Bool, true, false, refl, inl, inr, ap, sym, ◌∙◌, subst, arith, nat_eq, nat_le}
 use Rattle.std.specs.Cmp.Lexicographic.{pointwise}
 use Rattle.std.specs.Ordering.{match_ordering, ordering_reverse}
 use Rattle.std.specs.declared.cmp.Ordering.TheVariants.{Less, Greater}
-use Rattle.std.proofs.lemmas.Bool.{true≢false}
+use Rattle.std.proofs.lemmas.Bool.{true≢false, or_parts}
 use Rattle.std.proofs.lemmas.Cmp.{nat_list_cmp_total}
 use Rattle.psi_state.specs.State.{Corners, IsBelow, box}
 use Rattle.psi_state.specs.Members.{In, In-append_right}
 use Rattle.psi_state.specs.Sets.{state_cmp, insert_state, single, image, In-image}
-use Rattle.psi_state.specs.Boxes.{In-low, In-high}
+use Rattle.psi_state.specs.Boxes.{In-low, In-high, In-of_box}
 use Rattle.psi_state.specs.States.{single-box, single-box_apart, same-from_eq, apart-from_eq}
-use Rattle.psi_state.specs.Ascending.{IsRising, box-rising}
-use Rattle.psi_state.specs.Hull.{corners, hull}
+use Rattle.psi_state.specs.Ascending.{IsRising, box-rising, image-identity}
+use Rattle.psi_state.specs.Hull.{corners, hull, IsTight, corners-from_tight}
 use Rattle.psi_pool.specs.Pooled.{Pooled}
 use Rattle.psi_region.specs.Region.{Area, Regional, splits, settled, step, step-split, step-box}
 use Rattle.psi_region.specs.Held.{area_of, IsHeld}
@@ -154,3 +154,43 @@ high-within caps old now most split b xs within settles held is ordered =
     let states : old.area.states ≡ box b.lo b.hi =
     ap (λ (a : Area). a.states) (sym settles) ∙ states-unsplit most split b xs now held is in
     within b.hi (subst (λ (zs : List (List ℕ)). In b.hi zs) (sym states) (In-high b.lo b.hi ordered))
+
+-- a box is its own hull
+hull-box : (l h : List ℕ) → IsBelow l h → hull (box l h) ≡ box l h
+unfolding hull
+hull-box l h ordered =
+    let tight : IsTight (box l h) l h = record {
+      inside = λ x member. In-of_box l h x member;
+      low = λ i small. (l, In-low l h ordered, refl);
+      high = λ i small. (h, In-high l h ordered, refl);
+    } in
+    ap (λ (c : Corners). box c.lo c.hi) (corners-from_tight l (box l h) l h (In-low l h ordered) tight)
+
+-- a step that changes no state only splits a region of few states
+rested : (most : ℕ) (a : Area) (l h : List ℕ) (few : Bool) → splits most a ≡ few → IsRising a.states → (a.is_split ≡ false → (a.states ≡ box l h) × IsBelow l h)
+    → settled most a ≡ step most (λ (x : List ℕ). x) a
+rested most a l h true few rising whole =
+    ap (λ s. area s a.states) few ∙ sym (step-split most (λ (x : List ℕ). x) a few ∙ ap (λ (xs : List (List ℕ)). area true xs) (image-identity a.states rising))
+  where
+    area : Bool → List (List ℕ) → Area
+    area s xs = record { is_split = s; states = xs }
+rested most a l h false few rising whole =
+    let flag : a.is_split ≡ false = (or_parts a.is_split (nat_le (length a.states) most) few).0 in
+    let is : a.states ≡ box l h = (whole flag).0 in
+    let same : hull a.states ≡ a.states = ap (λ (xs : List (List ℕ)). hull xs) is ∙ (hull-box l h ((whole flag).1) ∙ sym is) in
+    ap (λ s. area s a.states) few
+    ∙ sym (step-box most (λ (x : List ℕ). x) a few
+    ∙ ap (λ (xs : List (List ℕ)). area false xs) (ap (λ (xs : List (List ℕ)). hull xs) (image-identity a.states rising) ∙ same))
+  where
+    area : Bool → List (List ℕ) → Area
+    area s xs = record { is_split = s; states = xs }
+
+-- as a region is held
+pub rested-held : (most m : ℕ) (split : Bool) (b : Corners) (xs : List (List ℕ)) (now : Regional) → record { most = m; area = area_of split b xs } ≡ now → IsRising xs → IsBelow b.lo b.hi
+    → settled most now.area ≡ step most (λ (x : List ℕ). x) now.area
+rested-held most m true b xs now held rising ordered =
+    subst (λ (a : Area). settled most a ≡ step most (λ (x : List ℕ). x) a) (ap (λ (r : Regional). r.area) held)
+    (rested most (area_of true b xs) b.lo b.hi (splits most (area_of true b xs)) refl rising (λ e. absurd (true≢false e)))
+rested-held most m false b xs now held rising ordered =
+    subst (λ (a : Area). settled most a ≡ step most (λ (x : List ℕ). x) a) (ap (λ (r : Regional). r.area) held)
+    (rested most (area_of false b xs) b.lo b.hi (splits most (area_of false b xs)) refl (box-rising b.lo b.hi) (λ e. (refl, ordered)))

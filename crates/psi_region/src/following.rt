@@ -97,9 +97,21 @@ impl Region {
             self.pool.step(e);
         } else {
             // The corners are in order.
-            let _lo = self.bounds.lo();
+            let _queues = self.bounds.len();
             e.envelope(&mut self.bounds);
         }
+    }
+
+    /// Follows the region through a step in which nothing happens: a region of at most the split number of
+    /// states becomes split, and its states stay.
+    pub fn rest(&mut self)
+        ensures area { self.new.area ≡ step self.old.most (λ (x : List ℕ). x) self.old.area }
+        ensures most { self.new.most ≡ self.old.most }
+    {
+        // The set is ascending, and the corners are in order.
+        let _count = self.pool.len();
+        let _queues = self.bounds.len();
+        self.settle();
     }
 
     /// The state of the region where it has exactly one, and `None` exactly where it has more.
@@ -144,7 +156,7 @@ impl Region {
     {
         if !self.is_split && self.bounds.volume_at_most(u32::from(self.most)).is_some() {
             // The corners are in order.
-            let _lo = self.bounds.lo();
+            let _queues = self.bounds.len();
             fill(&self.bounds, &mut self.pool);
             self.is_split = true;
         }

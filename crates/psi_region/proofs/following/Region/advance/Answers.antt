@@ -11,7 +11,7 @@ pub envelope-requires : goal.envelope-requires
 envelope-requires g c =
     let held = c.self.inside in
     high-within (g.E.EventLaw.capacities c.args.e.now) c.args.self.now c.settle.new.self held.most held.is_split held.bounds held.pool.states
-    c.requires c.settle.ensures.area c.self.view_is c.if-self.false c.lo-lo.ensures.ordered
+    c.requires c.settle.ensures.area c.self.view_is c.if-self.false c.len-queues.ensures.ordered
 
 pub returns-then-self-clause-area : goal.returns-then-self-clause-area
 returns-then-self-clause-area g c =
