@@ -135,7 +135,7 @@ most_fits : (queues : List Queue) (source : Option Source) → AreListed queues 
 most_fits queues None kept small = tt
 most_fits queues (Some source) kept small = servers_fit queues source.queue kept small
 
-expanded_kept : (queues : List Queue) (event : NamedEvent) → AreListed queues → IfSome (source_of event.kind) (λ s. s.queue < length queues) → IsEvent (map (λ q. q.capacity) queues) event
+pub expanded_kept : (queues : List Queue) (event : NamedEvent) → AreListed queues → IfSome (source_of event.kind) (λ s. s.queue < length queues) → IsEvent (map (λ q. q.capacity) queues) event
     → All (IsEvent (map (λ q. q.capacity) queues)) (expanded queues event)
 unfolding served_by
 expanded_kept queues event listed small kept =
@@ -194,7 +194,7 @@ pub record AreEventsOf (caps : List ℕ) (events : List NamedEvent) : Type 0 whe
 no_events : (caps : List ℕ) → AreEvents caps []
 no_events caps = record { each = All-nil (IsEvent caps); few = omega arith; light = omega arith }
 
-events_of_kept : (caps : List ℕ) (events : List NamedEvent) → 1 ≤ length events → AreEvents caps events → AreEventsOf caps events
+pub events_of_kept : (caps : List ℕ) (events : List NamedEvent) → 1 ≤ length events → AreEvents caps events → AreEventsOf caps events
 events_of_kept caps events some kept =
     let sized : length (map (λ (e : NamedEvent). e.rate) events) ≡ length events = length-map events (λ (e : NamedEvent). e.rate) in
     let rates : All (λ r. (1 ≤ r) × (r ≤ 1048576)) (map (λ (e : NamedEvent). e.rate) events) =

@@ -39,7 +39,7 @@ use Rattle.psi_net.proofs.Pigeons.{not_true, neither, either_false, both, other_
 use Rattle.psi_net.proofs.KeptTargets.{AreSomeTargets, targets_kept, some_targets_kept, target_kept, once, away, among, is_other}
 
 -- where no cause is there, nothing is refused
-accepted : (caps : List ℕ) (kind : Kind) → lacks_queues kind ≡ false → repeats_queue kind ≡ false → targets_itself kind ≡ false → lacks_tables caps kind ≡ false
+pub accepted : (caps : List ℕ) (kind : Kind) → lacks_queues kind ≡ false → repeats_queue kind ≡ false → targets_itself kind ≡ false → lacks_tables caps kind ≡ false
     → is_out_of_size caps kind ≡ false → refusal_of_parts caps kind ≡ None → refusal_of caps kind ≡ None
 unfolding refusal_of
 accepted caps kind queues once away tables size parts = rw (queues, once, away, tables, size, parts) refl
@@ -54,7 +54,7 @@ queue_at : (caps : List ℕ) (names : List (List ℕ)) → length names ≡ leng
 queue_at caps names same place key d q h = subst (λ (n : ℕ). q < n) same (queue_small place key names d q h)
 
 -- a source that is read, with its first server
-first_source : (caps : List ℕ) → AreCapacities caps → (q : ℕ) → q < length caps → IsSource caps (first_server q)
+pub first_source : (caps : List ℕ) → AreCapacities caps → (q : ℕ) → q < length caps → IsSource caps (first_server q)
 first_source caps valid q small = record { queue = small; least = omega arith; most = valid.least q small }
 
 source_kept : (caps : List ℕ) (names : List (List ℕ)) → length names ≡ length caps → AreCapacities caps → (place : Place) (d : Data) (s : Option Source) → source_in place names d ≡ Ok s

@@ -130,7 +130,7 @@ grid_kept place caps queues d rows h =
     let count = kept.count in
     record { fits = subst (λ (qs : List ℕ). has_rows (held_by qs caps) rows ≡ true) (take_all (length rows) queues (omega arith)) kept.fits; small = kept.small }
 
-accepted : (caps : List ℕ) (k : RewardKind) → is_none_listed (queues_of k) ≡ false → has_repeat (queues_of k) ≡ false → has_lengths caps k ≡ true → refusal_of caps k ≡ None
+pub accepted : (caps : List ℕ) (k : RewardKind) → is_none_listed (queues_of k) ≡ false → has_repeat (queues_of k) ≡ false → has_lengths caps k ≡ true → refusal_of caps k ≡ None
 accepted caps k some once fits = rw (some, once, fits) refl
 
 made : (caps : List ℕ) (k : RewardKind) → AreSomeTargets (length caps) [] (queues_of k) → All IsSmall (numbers_of k) → has_lengths caps k ≡ true → IsReward caps k

@@ -15,3 +15,5 @@ pub mod KeptRewards
 pub mod KeptNetwork
 pub mod Parts
 pub mod Lowered
+pub mod Making
+pub mod KeptGenerated

@@ -18,3 +18,4 @@ pub mod RewardTables
 pub mod Reading
 pub mod Made
 pub mod Front
+pub mod Generated

@@ -3,7 +3,8 @@
 //! `net_of` gives the network of a file's bytes, or the first refusal. The definition of both,
 //! `specs/Reading.antt` with the files that it names, has one part for each key, table and array of the
 //! format, in the format's order, and each part has one function here that meets it. The events of a
-//! network are expanded over the servers of their sources.
+//! network are expanded over the servers of their sources. `generated` gives a large valid network for
+//! trials, made from a number.
 //!
 //! ```toml
 //! version = 1
@@ -27,6 +28,7 @@ mod building;
 mod entries;
 mod event_tables;
 mod expansion;
+mod generating;
 mod keys;
 mod kind_tables;
 mod naming;
@@ -41,6 +43,7 @@ mod reward_tables;
 mod tests;
 mod words;
 
+pub use generating::{OutOfMemory, generated};
 pub use naming::Name;
 pub use network::Net;
 pub use reading::net_of;

@@ -259,7 +259,7 @@ fn reward_queues(
 
 // The reward of a kind that isn't refused.
 #[tactic(auto, using(crate::proofs::KeptRewards::not_refused))]
-fn valued(caps: State, kind: RewardKind) -> Reward
+pub(crate) fn valued(caps: State, kind: RewardKind) -> Reward
     requires valid { AreCapacities caps }
     requires kind { IsReward caps kind }
     ensures { result ≡ record { caps = caps; kind = kind } }

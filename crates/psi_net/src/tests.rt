@@ -9,6 +9,8 @@ use std::alloc::{AllocError, Global};
 use std::process::Abort;
 use std::test::Fail;
 
+mod generated;
+
 // One queue with an arrival and a service, an item a line.
 const LINES: [&str; 14] = [
     "version = 1",
