@@ -10,6 +10,7 @@ use std::process::Abort;
 use std::test::Fail;
 
 mod generated;
+mod limits;
 
 // One queue with an arrival and a service, an item a line.
 const LINES: [&str; 14] = [
