@@ -1,7 +1,8 @@
 -- Which refusal comes first.
 use Rattle.std.proofs.Common.{◌≡◌, Option, Some, None, Bool, true, false, not, if◌then◌else◌, refl, ap, ◌∙◌}
+use Rattle.psi_state.specs.Repeats.{repeats}
 use Rattle.psi_route.specs.Routing.{Shape}
-use Rattle.psi_route.specs.Refusals.{is_self_target, repeats, fit_tables, is_size_off, refusal_of}
+use Rattle.psi_route.specs.Refusals.{is_self_target, fit_tables, is_size_off, refusal_of}
 use Rattle.psi_route.specs.declared.parts.RouteRefusal.{RouteRefusal}
 use Rattle.psi_route.specs.declared.parts.RouteRefusal.TheVariants.{SelfTarget, Repeated, TableLength, SizeRange}
 

@@ -1,11 +1,13 @@
 -- What is known of a route: the facts that no refusal leaves open.
-use Rattle.std.specs.Prelude.{◌≡◌, ◌≢◌, ◌⊎◌, ℕ, zero, suc, ◌<◌, ◌≤◌, List, [], ◌∷◌, length, get_or, slice_index, Option, Some, None, Bool, true, false, not, ◌&&◌, ◌||◌, nat_eq, nat_le, nat_lt, is_some, is_none, if◌then◌else◌, refl}
+use Rattle.std.specs.Prelude.{◌≡◌, ◌≢◌, ◌⊎◌, ℕ, ◌<◌, ◌≤◌, List, [], ◌∷◌, length, get_or, slice_index, Option, Some, None, Bool, true, false, not, ◌&&◌, ◌||◌, nat_eq, nat_le, nat_lt, is_some, is_none, if◌then◌else◌, refl}
 use Rattle.std.specs.List.{list_any}
 use Rattle.std.proofs.Common.{inl, inr, ap, sym, ◌∙◌, subst, arith}
-use Rattle.std.proofs.lemmas.Bool.{cases_order, le-leb, eqb-true, eqb-false, ltb-false, and_parts}
+use Rattle.std.proofs.lemmas.Bool.{le-leb, eqb-false, ltb-false, or_parts}
 use Rattle.psi_state.specs.State.{AreCapacities}
+use Rattle.psi_state.specs.Repeats.{repeats, any-false, apart-from_repeats}
 use Rattle.psi_route.specs.Routing.{Shape, routing, source_queue, source_least, IsRouting}
-use Rattle.psi_route.specs.Refusals.{is_self_target, repeats, are_tables, fit_tables, is_size_off, refusal_of}
+use Rattle.psi_route.specs.Refusals.{is_self_target, fit_tables, is_size_off, refusal_of}
+use Rattle.psi_route.specs.Tables.{are_tables-true}
 use Rattle.psi_route.specs.declared.parts.Source.{Source}
 use Rattle.psi_route.specs.declared.parts.Full.{Full}
 use Rattle.psi_route.specs.declared.parts.RouteRefusal.{RouteRefusal}
@@ -38,54 +40,6 @@ pub record IsRouteShape (s : Shape) : Type 0 where
   pub some : 2 ≤ s.size → 1 ≤ length s.targets
 
 -- ---- tests that failed
-
--- neither test passed
-pub or_parts : (a b : Bool) → (a || b) ≡ false → (a ≡ false) × (b ≡ false)
-or_parts true b is = absurd cc
-or_parts false b is = (refl, is)
-
--- no number of the list passes the test
-pub any-false : (p : ℕ → Bool) (xs : List ℕ) (i : ℕ) → list_any p xs ≡ false → i < length xs → p (slice_index xs i) ≡ false
-any-false p [] i is small = absurd (omega arith)
-any-false p (x ∷ xs) zero is small = (or_parts (p x) (list_any p xs) is).0
-any-false p (x ∷ xs) (suc i) is small = any-false p xs i ((or_parts (p x) (list_any p xs) is).1) (omega arith)
-
--- the numbers of a list without repeats differ
-pub repeats-false : (xs : List ℕ) (i j : ℕ) → repeats xs ≡ false → i < j → j < length xs → slice_index xs i ≡ slice_index xs j → ⊥
-repeats-false [] i j is less small same = absurd (omega arith)
-repeats-false (x ∷ xs) i zero is less small same = absurd (omega arith)
-repeats-false (x ∷ xs) zero (suc j) is less small same =
-    let first = (or_parts (list_any (λ p. nat_eq p x) xs) (repeats xs) is).0 in
-    eqb-false (slice_index xs j) x (any-false (λ p. nat_eq p x) xs j first (omega arith)) (sym same)
-repeats-false (x ∷ xs) (suc i) (suc j) is less small same =
-    repeats-false xs i j ((or_parts (list_any (λ p. nat_eq p x) xs) (repeats xs) is).1) (omega arith) (omega arith) same
-
-pub apart-from_repeats : (xs : List ℕ) (i j : ℕ) → repeats xs ≡ false → i < length xs → j < length xs → slice_index xs i ≡ slice_index xs j → i ≡ j
-apart-from_repeats xs i j is small other same =
-    elim (cases_order i j) [
-      | inl e ↦ e
-      | inr rest ↦ elim rest [
-        | inl less ↦ absurd (repeats-false xs i j is less other same)
-        | inr more ↦ absurd (repeats-false xs j i is more small (sym same))
-      ]
-    ]
-
--- each table is as long as its target's capacity
-pub are_tables-true : (caps qs : List ℕ) (ts : List (List ℕ)) → are_tables caps qs ts ≡ true
-    → (length ts ≡ length qs) × ((i : ℕ) → i < length ts → length (get_or ts i []) ≡ slice_index caps (slice_index qs i))
-are_tables-true caps [] [] is = (refl, λ i small. absurd (omega arith))
-are_tables-true caps [] (t ∷ ts) is = absurd cc
-are_tables-true caps (q ∷ qs) [] is = absurd cc
-are_tables-true caps (q ∷ qs) (t ∷ ts) is =
-    let both = and_parts (nat_eq (length t) (slice_index caps q)) (are_tables caps qs ts) is in
-    let rest = are_tables-true caps qs ts both.1 in
-    (ap suc rest.0, placed caps q qs t ts (eqb-true (length t) (slice_index caps q) both.0) rest.1)
-  where
-    placed : (caps : List ℕ) (q : ℕ) (qs t : List ℕ) (ts : List (List ℕ)) → length t ≡ slice_index caps q
-        → ((i : ℕ) → i < length ts → length (get_or ts i []) ≡ slice_index caps (slice_index qs i))
-        → (i : ℕ) → i < length (t ∷ ts) → length (get_or (t ∷ ts) i []) ≡ slice_index caps (slice_index (q ∷ qs) i)
-    placed caps q qs t ts here there zero small = here
-    placed caps q qs t ts here there (suc i) small = there i (omega arith)
 
 pub fit_tables-true : (caps targets : List ℕ) (tables : List (List ℕ)) → fit_tables caps targets tables ≡ true
     → (0 < length tables → length tables ≡ length targets)

@@ -2,7 +2,7 @@
 use Rattle.std.specs.Prelude.{◌≡◌, ◌≢◌, ◌⊎◌, ℕ, zero, suc, ◌+◌, ◌-◌, ◌<◌, ◌≤◌, List, length, slice_index, slice_set, Option, Some, None, Bool, true, false, ◌&&◌, ◌||◌, nat_eq, nat_lt, is_none, if◌then◌else◌, refl}
 use Rattle.std.specs.Bool.{then_some}
 use Rattle.std.proofs.Common.{inl, inr, ap, sym, ◌∙◌, subst, arith, length-set, get_or-set_same, get_or-set_other}
-use Rattle.std.proofs.lemmas.Bool.{cases_lt, cases_eq, cases_order, cases_Bool, lt-ltb, le-ltb, le-leb, lt-leb, leb-true, leb-false, eq-eqb, ne_eqb, and_parts, and_left, and_right, and_from}
+use Rattle.std.proofs.lemmas.Bool.{cases_lt, cases_eq, cases_order, cases_Bool, lt-ltb, le-ltb, le-leb, lt-leb, leb-true, leb-false, eq-eqb, ne_eqb, and_parts, and_left, and_right, and_from, or_left, or_right, or_from}
 use Rattle.std.proofs.lemmas.List.{set_past}
 use Rattle.psi_event.specs.Choice.{all_or_some, first_some, first_some-none, first_some-found, first_some-of_none, first_some-of_found}
 use Rattle.psi_route.specs.Routing.{Routing, has_room, beats, best_at, best, taken, moved, act, IsRouting, HasRoom, Lacks, IsBest, IsPassed, Leaves, Remains, Routed}
@@ -29,18 +29,6 @@ none-is (Some a) is = absurd cc
 
 pub is-none : {A : Type 0} (o : Option A) → o ≡ None → is_none o ≡ true
 is-none o is = ap (λ t. is_none t) is
-
-pub or_left : (a b : Bool) → a ≡ true → (a || b) ≡ true
-or_left true b is = refl
-or_left false b is = absurd cc
-
-pub or_right : (a b : Bool) → b ≡ true → (a || b) ≡ true
-or_right true b is = refl
-or_right false b is = is
-
-pub or_none : (a b : Bool) → a ≡ false → b ≡ false → (a || b) ≡ false
-or_none true b first second = absurd cc
-or_none false b first second = second
 
 pub room-is : (r : Routing) (x : List ℕ) (i : ℕ) → HasRoom r i (slice_index x (r.queue i)) → has_room r x i ≡ true
 room-is r x i room = le-leb (slice_index x (r.queue i) + r.size) (r.cap (r.queue i)) room
@@ -302,7 +290,7 @@ act-lost r x serves none_has gone =
 pub act-stay : (r : Routing) (x : List ℕ) → r.least ≤ slice_index x r.source → NoRoom r x r.places → r.lost ≡ false → 0 < r.places → act r x ≡ x
 act-stay r x serves none_has stays some =
     let keeps : (r.lost || nat_eq r.places 0) ≡ false =
-    or_none r.lost (nat_eq r.places 0) stays (ne_eqb r.places 0 (λ e. absurd (omega arith))) in
+    or_from r.lost (nat_eq r.places 0) stays (ne_eqb r.places 0 (λ e. absurd (omega arith))) in
     act-serves r x serves ∙ (ap (λ o. moved r x o) (best-none r x none_has) ∙ ap (λ t. if t then taken r x else x) keeps)
 
 -- without a source nobody is taken

@@ -1,30 +1,13 @@
 -- A route makes states of states.
-use Rattle.std.specs.Prelude.{◌≡◌, ℕ, ◌+◌, ◌-◌, ◌≤◌, List, length, slice_index, slice_set, Option, Some, None, Bool, true, false, ◌||◌, nat_eq, if◌then◌else◌, refl}
-use Rattle.std.proofs.Common.{inl, inr, ap, sym, ◌∙◌, subst, arith, length-set, get_or-set_same, get_or-set_other}
-use Rattle.std.proofs.lemmas.Bool.{cases_lt, cases_eq}
+use Rattle.std.specs.Prelude.{◌≡◌, ℕ, ◌+◌, ◌-◌, ◌≤◌, List, length, slice_index, Option, Some, None, Bool, true, false, ◌||◌, nat_eq, if◌then◌else◌, refl}
+use Rattle.std.proofs.Common.{inl, inr, sym, subst, arith}
+use Rattle.std.proofs.lemmas.Bool.{cases_lt}
 use Rattle.std.proofs.lemmas.List.{set_past}
 use Rattle.psi_state.specs.State.{IsBelow}
+use Rattle.psi_state.specs.Boxes.{set-below}
 use Rattle.psi_event.specs.Law.{IsClosed}
 use Rattle.psi_route.specs.Routing.{Shape, Routing, routing, best, taken, moved, routed}
 use Rattle.psi_route.specs.Acting.{act-idle, act-serves, best-place}
-
--- a state with another number at one place is below another where it was and that number is
-pub set-below : (x y : List ℕ) (q v : ℕ) → IsBelow x y → v ≤ slice_index y q → IsBelow (slice_set x q v) y
-set-below x y q v below small =
-    elim (cases_lt q (length x)) [
-      | inr past ↦ subst (λ (z : List ℕ). IsBelow z y) (sym (set_past {X = ℕ} x q v past)) below
-      | inl place ↦ record {
-        same_length = length-set {A = ℕ} x q v ∙ below.same_length;
-        each = λ i within. (let count : length (slice_set x q v) ≡ length x = length-set {A = ℕ} x q v in
-            let old : slice_index x i ≤ slice_index y i = below.each i (omega arith) in
-            elim (cases_eq i q) [
-              | inl e ↦ (let is : slice_index (slice_set x q v) q ≡ v = get_or-set_same {A = ℕ} x q v 0 place in
-                  let moved : slice_index (slice_set x q v) i ≡ slice_index (slice_set x q v) q = ap (λ j. slice_index (slice_set x q v) j) e in
-                  let there : slice_index y i ≡ slice_index y q = ap (λ j. slice_index y j) e in omega arith)
-              | inr ne ↦ (let is : slice_index (slice_set x q v) i ≡ slice_index x i = get_or-set_other {A = ℕ} x q i v 0 ne in omega arith)
-            ]);
-      }
-    ]
 
 pub taken-below : (r : Routing) (x y : List ℕ) → IsBelow x y → IsBelow (taken r x) y
 taken-below r x y below =

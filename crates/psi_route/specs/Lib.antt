@@ -1,5 +1,6 @@
 pub mod Routing
 pub mod Refusals
+pub mod Tables
 pub mod Acting
 pub mod Accepted
 pub mod Closed

@@ -1,6 +1,7 @@
 -- What makes no route, in the order in which it is told.
 use Rattle.std.specs.Prelude.{ℕ, List, [], ◌∷◌, length, slice_index, Option, Some, None, Bool, true, false, not, ◌&&◌, ◌||◌, nat_eq, nat_le, nat_lt, is_some, if◌then◌else◌}
 use Rattle.std.specs.List.{list_any}
+use Rattle.psi_state.specs.Repeats.{repeats}
 use Rattle.psi_route.specs.Routing.{Shape}
 use Rattle.psi_route.specs.declared.parts.Source.{Source}
 use Rattle.psi_route.specs.declared.parts.RouteRefusal.{RouteRefusal}
@@ -10,11 +11,6 @@ use Rattle.psi_route.specs.declared.parts.RouteRefusal.TheVariants.{SelfTarget, 
 abbrev pub is_self_target : Option Source → List ℕ → Bool
 is_self_target None targets = false
 is_self_target (Some source) targets = list_any (λ q. nat_eq q source.queue) targets
-
--- a queue stands twice in the list
-abbrev pub repeats : List ℕ → Bool
-repeats [] = false
-repeats (q ∷ qs) = list_any (λ p. nat_eq p q) qs || repeats qs
 
 -- there are as many tables as targets, and each is as long as its target's capacity
 abbrev pub are_tables : List ℕ → List ℕ → List (List ℕ) → Bool

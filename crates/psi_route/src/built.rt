@@ -6,7 +6,7 @@ ghost use Rattle.psi_route.specs.Routing.{routed, upset_of, weight};
 ghost use Rattle.psi_route.specs.Refusals.{refusal_of};
 ghost use Rattle.psi_route.specs.Accepted.{shape, IsRouteShape};
 
-use crate::judging::{fit_tables, is_self_target, is_size_off, repeats};
+use crate::judging::{fit_tables, is_self_target, is_size_off};
 use crate::parts::{Full, RouteRefusal, Source};
 use psi_event::EventLaw;
 use psi_index::IndexTable;
@@ -65,7 +65,7 @@ impl Route {
         if is_self_target(source, &targets) {
             return Err(RouteRefusal::SelfTarget);
         }
-        if repeats(&targets) {
+        if targets.repeats() {
             return Err(RouteRefusal::Repeated);
         }
         if !fit_tables(&caps, &targets, &tables) {

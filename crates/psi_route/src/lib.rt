@@ -23,4 +23,5 @@ mod passing;
 mod tests;
 
 pub use built::Route;
+pub use judging::{is_self_target, is_size_off};
 pub use parts::{Full, RouteRefusal, Source};
