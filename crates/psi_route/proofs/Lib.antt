@@ -7,3 +7,6 @@ mod Choosing
 mod Searching
 mod Worked
 mod Falling
+mod OnePass
+mod Leaving
+mod ByTables

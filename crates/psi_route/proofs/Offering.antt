@@ -1,10 +1,12 @@
 -- The least keys that places offer, and what they say of a target's number.
-use Rattle.std.proofs.Common.{◌≡◌, ◌≢◌, ◌⊎◌, ℕ, ◌+◌, ◌-◌, ◌<◌, ◌≤◌, min, List, slice_index, Option, Some, None, if◌then◌else◌, MatchOption, inl, inr, sym, ◌∙◌, subst, arith, refl}
+use Rattle.std.proofs.Common.{◌≡◌, ◌≢◌, ◌⊎◌, ℕ, ◌+◌, ◌<◌, ◌≤◌, List, slice_index, Option, Some, None, is_none, if◌then◌else◌, MatchOption, inl, inr, sym, ◌∙◌, subst, arith}
+use Rattle.std.specs.Bool.{MatchBool}
 use Rattle.std.proofs.lemmas.Bool.{cases_lt, cases_eq, eq-eqb, ne_eqb}
 use Rattle.psi_route.specs.Routing.{Routing, HasRoom, Lacks}
 use Rattle.psi_route.specs.Keys.{key_of, IsLesser}
-use Rattle.psi_route.specs.Ends.{CanChoose, CanPass, IsLowEnd, IsHighEnd}
+use Rattle.psi_route.specs.Ends.{CanChoose, CanPass, IsLeastAfter, IsGreatestAfter, IsLowEnd, IsHighEnd}
 use Rattle.psi_route.specs.Offers.{IsRival, IsBar, IsLeastKey, IsLeastOffer, AreLeastTwo, beside, MayStay, MustRise, MayRise, MustStay}
+use Rattle.psi_route.specs.Coming.{Comes, Misses}
 use Rattle.psi_route.specs.declared.keys.Key.{Key}
 
 -- no place yet
@@ -186,91 +188,74 @@ bar-not_chosen r l h j v key is most can =
       | inr less ↦ (let near : r.key key.place w.0 ≤ key_of key = own.most w.0 w.1 w.2 in omega arith)
     ]
 
-pub stay-can : (r : Routing) (l h : List ℕ) (j v : ℕ) (rival : Option Key) → IsLeastOffer (IsRival r l h) r.places j rival → MayStay r l j v rival → CanPass r l h j v
-stay-can r l h j v None is may =
-    elim may [ inl lacks ↦ inl lacks | inr rest ↦ elim rest [ inl idle ↦ inr (inl idle) | inr less ↦ absurd less ] ]
-stay-can r l h j v (Some key) is may =
-    elim may [ inl lacks ↦ inl lacks | inr rest ↦ elim rest [ inl idle ↦ inr (inl idle) | inr less ↦ passed-rival r l h j v key is less ] ]
+pub stay-can : (r : Routing) (l h : List ℕ) (j : ℕ) (rival : Option Key) (v : ℕ) → IsLeastOffer (IsRival r l h) r.places j rival → MayStay r j rival v → CanPass r l h j v
+stay-can r l h j None v is may = elim may [ inl lacks ↦ inl lacks | inr less ↦ absurd less ]
+stay-can r l h j (Some key) v is may = elim may [ inl lacks ↦ inl lacks | inr less ↦ passed-rival r l h j v key is less ]
 
-pub rise-must : (r : Routing) (l h : List ℕ) (j v : ℕ) (rival : Option Key) → IsLeastOffer (IsRival r l h) r.places j rival → MustRise r l j v rival → CanPass r l h j v → ⊥
-rise-must r l h j v None is must can = no_rival-passed r l h j v is must.0 must.1 can
-rise-must r l h j v (Some key) is must can = rival-passed r l h j v key is must.2 must.0 must.1 can
+pub rise-must : (r : Routing) (l h : List ℕ) (j : ℕ) (rival : Option Key) (v : ℕ) → IsLeastOffer (IsRival r l h) r.places j rival → r.least ≤ slice_index l r.source
+    → MustRise r j rival v → CanPass r l h j v → ⊥
+rise-must r l h j None v is serve must can = no_rival-passed r l h j v is must.0 serve can
+rise-must r l h j (Some key) v is serve must can = rival-passed r l h j v key is must.1 must.0 serve can
 
-pub rise-can : (r : Routing) (l h : List ℕ) (j v : ℕ) (bar : Option Key) → ((i : ℕ) → i < r.places → slice_index l (r.queue i) ≤ slice_index h (r.queue i))
-    → IsLeastOffer (IsBar r l h) r.places j bar → MayRise r h j v bar → CanChoose r l h j v
-rise-can r l h j v None ordered is may = no_bar-chosen r l h j v ordered is may.0 may.1
-rise-can r l h j v (Some key) ordered is may = bar-chosen r l h j v key ordered is may.2 may.0 may.1
+pub rise-can : (r : Routing) (l h : List ℕ) (j : ℕ) (bar : Option Key) (v : ℕ) → ((i : ℕ) → i < r.places → slice_index l (r.queue i) ≤ slice_index h (r.queue i))
+    → IsLeastOffer (IsBar r l h) r.places j bar → r.least ≤ slice_index h r.source → MayRise r j bar v → CanChoose r l h j v
+rise-can r l h j None v ordered is serve may = no_bar-chosen r l h j v ordered is may.0 serve
+rise-can r l h j (Some key) v ordered is serve may = bar-chosen r l h j v key ordered is may.1 may.0 serve
 
-pub stay-must : (r : Routing) (l h : List ℕ) (j v : ℕ) (bar : Option Key) → IsLeastOffer (IsBar r l h) r.places j bar → MustStay r h j v bar → CanChoose r l h j v → ⊥
-stay-must r l h j v None is must can =
-    (let room : HasRoom r j v = can.room in let serve = can.serve in
-    elim must [ inl lacks ↦ omega arith | inr rest ↦ elim rest [ inl idle ↦ omega arith | inr less ↦ less ] ])
-stay-must r l h j v (Some key) is must can =
-    (let room : HasRoom r j v = can.room in let serve = can.serve in
-    elim must [ inl lacks ↦ omega arith | inr rest ↦ elim rest [ inl idle ↦ omega arith | inr less ↦ bar-not_chosen r l h j v key is less can ] ])
+pub stay-must : (r : Routing) (l h : List ℕ) (j : ℕ) (bar : Option Key) (v : ℕ) → IsLeastOffer (IsBar r l h) r.places j bar → MustStay r j bar v → CanChoose r l h j v → ⊥
+stay-must r l h j None v is must can =
+    (let room : HasRoom r j v = can.room in elim must [ inl lacks ↦ omega arith | inr less ↦ less ])
+stay-must r l h j (Some key) v is must can =
+    (let room : HasRoom r j v = can.room in elim must [ inl lacks ↦ omega arith | inr less ↦ bar-not_chosen r l h j v key is less can ])
 
 -- ---- the ends at a target
 
-pub low-found : (r : Routing) (l h : List ℕ) (j low most more : ℕ) (rival : Option Key) → low ≡ slice_index l (r.queue j)
-    → slice_index l (r.queue j) ≤ slice_index h (r.queue j) → most ≡ min (slice_index h (r.queue j) - low) (r.size - 1) → 1 ≤ r.size → more < most + 1
-    → IsLeastOffer (IsRival r l h) r.places j rival → ((t : ℕ) → low ≤ t → t < low + more → CanPass r l h j t → ⊥) → MayStay r l j (low + more) rival
-    → IsLowEnd r l h j (low + more)
-low-found r l h j low most more rival at order is_most sized small offers before may =
-    inl (
-      low + more,
-      omega arith,
-      omega arith,
-      omega arith,
-      stay-can r l h j (low + more) rival offers may,
-      λ t over under can. before t (omega arith) under can,
-      refl,
-    )
-
-pub low-past : (r : Routing) (l h : List ℕ) (j low more : ℕ) (rival : Option Key) → IsLeastOffer (IsRival r l h) r.places j rival
-    → ((t : ℕ) → low ≤ t → t < low + more → CanPass r l h j t → ⊥) → MustRise r l j (low + more) rival
-    → (t : ℕ) → low ≤ t → t < low + (more + 1) → CanPass r l h j t → ⊥
-low-past r l h j low more rival offers before must t over under can =
-    elim (cases_lt t (low + more)) [
-      | inl less ↦ before t over less can
-      | inr last ↦ (let e : t ≡ low + more = omega arith in
-          rise-must r l h j (low + more) rival offers must (subst (λ n. CanPass r l h j n) e can))
+-- the least number after the route, where the source always serves
+pub low-weighed : (r : Routing) (l h : List ℕ) (j u : ℕ) (rival : Option Key) → IsLeastOffer (IsRival r l h) r.places j rival → r.least ≤ slice_index l r.source
+    → IsLeastAfter (MayStay r j rival) (MustRise r j rival) r.size (slice_index l (r.queue j)) (slice_index h (r.queue j)) u → IsLowEnd r l h j u
+low-weighed r l h j u rival offers serve end =
+    elim end [
+      | inl found ↦ inl (
+        found.0,
+        found.1,
+        found.2,
+        found.3,
+        stay-can r l h j rival found.0 offers found.4,
+        (λ t over under. rise-must r l h j rival t offers serve (found.5 t over under)),
+        found.6,
+      )
+      | inr all ↦ inr (λ t over under near. rise-must r l h j rival t offers serve (all.0 t over under near), all.1)
     ]
 
-pub low-missed : (r : Routing) (l h : List ℕ) (j low most more : ℕ) → low ≡ slice_index l (r.queue j)
-    → most ≡ min (slice_index h (r.queue j) - low) (r.size - 1) → most + 1 ≤ more → ((t : ℕ) → low ≤ t → t < low + more → CanPass r l h j t → ⊥)
-    → IsLowEnd r l h j (low + r.size)
-low-missed r l h j low most more at is_most past before =
-    inr (λ t over under near can. before t (omega arith) (omega arith) can, omega arith)
-
-pub high-found : (r : Routing) (l h : List ℕ) (j high most less : ℕ) (bar : Option Key) → high ≡ slice_index h (r.queue j)
-    → ((i : ℕ) → i < r.places → slice_index l (r.queue i) ≤ slice_index h (r.queue i)) → j < r.places
-    → most ≡ min (high - slice_index l (r.queue j)) (r.size - 1) → 1 ≤ r.size → less < most + 1
-    → IsLeastOffer (IsBar r l h) r.places j bar → ((t : ℕ) → t ≤ high → high < t + less → CanChoose r l h j t → ⊥) → MayRise r h j (high - less) bar
-    → IsHighEnd r l h j (high - less + r.size)
-high-found r l h j high most less bar at ordered place is_most sized small offers before may =
-    let order : slice_index l (r.queue j) ≤ slice_index h (r.queue j) = ordered j place in
-    inl (
-      high - less,
-      omega arith,
-      omega arith,
-      omega arith,
-      rise-can r l h j (high - less) bar ordered offers may,
-      λ t over under can. before t (omega arith) (omega arith) can,
-      refl,
-    )
-
-pub high-past : (r : Routing) (l h : List ℕ) (j high most less : ℕ) (bar : Option Key) → most ≤ high → less < most + 1
-    → IsLeastOffer (IsBar r l h) r.places j bar → ((t : ℕ) → t ≤ high → high < t + less → CanChoose r l h j t → ⊥) → MustStay r h j (high - less) bar
-    → (t : ℕ) → t ≤ high → high < t + (less + 1) → CanChoose r l h j t → ⊥
-high-past r l h j high most less bar bound small offers before must t under over can =
-    elim (cases_lt high (t + less)) [
-      | inl near ↦ before t under near can
-      | inr last ↦ (let e : t ≡ high - less = omega arith in
-          stay-must r l h j (high - less) bar offers must (subst (λ n. CanChoose r l h j n) e can))
+-- the greatest one, where it sometimes serves
+pub high-weighed : (r : Routing) (l h : List ℕ) (j u : ℕ) (bar : Option Key) → ((i : ℕ) → i < r.places → slice_index l (r.queue i) ≤ slice_index h (r.queue i))
+    → IsLeastOffer (IsBar r l h) r.places j bar → r.least ≤ slice_index h r.source
+    → IsGreatestAfter (MayRise r j bar) (MustStay r j bar) r.size (slice_index l (r.queue j)) (slice_index h (r.queue j)) u → IsHighEnd r l h j u
+high-weighed r l h j u bar ordered offers serve end =
+    elim end [
+      | inl found ↦ inl (
+        found.0,
+        found.1,
+        found.2,
+        found.3,
+        rise-can r l h j bar found.0 ordered offers serve found.4,
+        (λ t over under. stay-must r l h j bar t offers (found.5 t over under)),
+        found.6,
+      )
+      | inr all ↦ inr (λ t over under near. stay-must r l h j bar t offers (all.0 t over under near), all.1)
     ]
 
-pub high-missed : (r : Routing) (l h : List ℕ) (j high most less : ℕ) → high ≡ slice_index h (r.queue j)
-    → most ≡ min (high - slice_index l (r.queue j)) (r.size - 1) → most + 1 ≤ less → ((t : ℕ) → t ≤ high → high < t + less → CanChoose r l h j t → ⊥)
-    → IsHighEnd r l h j high
-high-missed r l h j high most less at is_most past before =
-    inr (λ t over under near can. before t (omega arith) (omega arith) can, at)
+-- no rival at all: the customers come past every target
+pub rival-passes : (r : Routing) (l h : List ℕ) (first : Option Key) → IsLeastOffer (IsRival r l h) r.places r.places first → r.least ≤ slice_index l r.source
+    → ((i : ℕ) → i < r.places → slice_index l (r.queue i) ≤ slice_index h (r.queue i)) → MatchBool (is_none first) (Comes r l r.places) (Misses r l r.places)
+rival-passes r l h None offers serve ordered = record { serve = serve; before = λ i small. offers i small (omega arith) (slice_index l (r.queue i)) (omega arith) (ordered i small) }
+rival-passes r l h (Some key) offers serve ordered =
+    (let own = offers.own in
+    let met = own.met in
+    let low : slice_index l (r.queue key.place) ≤ met.0 = met.1 in
+    let room : HasRoom r key.place met.0 = met.3 in inr (key.place, offers.place, omega arith))
+
+pub bar-passes : (r : Routing) (l h : List ℕ) (first : Option Key) → IsLeastOffer (IsBar r l h) r.places r.places first → r.least ≤ slice_index h r.source
+    → MatchBool (is_none first) (Comes r h r.places) (Misses r h r.places)
+bar-passes r l h None offers serve = record { serve = serve; before = λ i small. offers i small (omega arith) }
+bar-passes r l h (Some key) offers serve = (let own = offers.own in inr (key.place, offers.place, own.room))

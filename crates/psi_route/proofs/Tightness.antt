@@ -361,6 +361,13 @@ high_inside r is f routes l h x j u is_box between small end =
           ])
     ]
 
+-- so the two are in order
+pub target-ordered : (r : Routing) → IsRouting r → (f : List ℕ → List ℕ) → Routes r f → (l h : List ℕ) (j u w : ℕ) → IsBoxOf r l h → j < r.places
+    → IsLowEnd r l h j u → IsHighEnd r l h j w → u ≤ w
+target-ordered r is f routes l h j u w is_box small low high =
+    let first : u ≤ slice_index (f l) (r.queue j) = low_inside r is f routes l h l j u is_box (between-low l h is_box.below) small low in
+    let last : slice_index (f l) (r.queue j) ≤ w = high_inside r is f routes l h l j w is_box (between-low l h is_box.below) small high in omega arith
+
 -- a state of the box whose image has this number at the queue
 abbrev Meets : (List ℕ → List ℕ) → List ℕ → List ℕ → ℕ → ℕ → Type 0
 Meets f l h p u = (x : List ℕ) × IsBetween l h x × (slice_index (f x) p ≡ u)

@@ -14,21 +14,28 @@ abbrev pub CanPass : Routing → List ℕ → List ℕ → ℕ → ℕ → Type 
 CanPass r l h j v = Lacks r j v ⊎ (slice_index l r.source < r.least)
     ⊎ ((i : ℕ) × (i < r.places) × (i ≢ j) × ((w : ℕ) × (slice_index l (r.queue i) ≤ w) × (w ≤ slice_index h (r.queue i)) × HasRoom r i w × (r.key i w < r.key j v)))
 
--- the least number at a target: the least one that can stay, or else the least one raised
+-- the least number after some of those from low to high are raised by the size: the least one that may stay as it is, where each below it must rise,
+-- or else the least one raised
+abbrev pub IsLeastAfter : (ℕ → Type 0) → (ℕ → Type 0) → ℕ → ℕ → ℕ → ℕ → Type 0
+IsLeastAfter may_stay must_rise size low high u =
+    ((v : ℕ) × (low ≤ v) × (v ≤ high) × (v < low + size) × may_stay v × ((t : ℕ) → low ≤ t → t < v → must_rise t) × (u ≡ v))
+    ⊎ (((t : ℕ) → low ≤ t → t ≤ high → t < low + size → must_rise t) × (u ≡ low + size))
+
+-- the greatest number: the greatest one that may rise, with what it gains, where each above it must stay as it is, or else the greatest one as it is
+abbrev pub IsGreatestAfter : (ℕ → Type 0) → (ℕ → Type 0) → ℕ → ℕ → ℕ → ℕ → Type 0
+IsGreatestAfter may_rise must_stay size low high u =
+    ((v : ℕ) × (low ≤ v) × (v ≤ high) × (high < v + size) × may_rise v × ((t : ℕ) → v < t → t ≤ high → must_stay t) × (u ≡ v + size))
+    ⊎ (((t : ℕ) → low ≤ t → t ≤ high → high < t + size → must_stay t) × (u ≡ high))
+
+-- the least number at a target after the route
 abbrev pub IsLowEnd : Routing → List ℕ → List ℕ → ℕ → ℕ → Type 0
 IsLowEnd r l h j u =
-    ((v : ℕ) × (slice_index l (r.queue j) ≤ v) × (v ≤ slice_index h (r.queue j)) × (v < slice_index l (r.queue j) + r.size) × CanPass r l h j v
-    × ((t : ℕ) → slice_index l (r.queue j) ≤ t → t < v → CanPass r l h j t → ⊥) × (u ≡ v))
-    ⊎ (((t : ℕ) → slice_index l (r.queue j) ≤ t → t ≤ slice_index h (r.queue j) → t < slice_index l (r.queue j) + r.size → CanPass r l h j t → ⊥)
-    × (u ≡ slice_index l (r.queue j) + r.size))
+    IsLeastAfter (λ v. CanPass r l h j v) (λ v. CanPass r l h j v → ⊥) r.size (slice_index l (r.queue j)) (slice_index h (r.queue j)) u
 
--- the greatest number at a target: the greatest one that can be raised, with what it gains, or else the greatest one as it is
+-- the greatest one
 abbrev pub IsHighEnd : Routing → List ℕ → List ℕ → ℕ → ℕ → Type 0
 IsHighEnd r l h j u =
-    ((v : ℕ) × (slice_index l (r.queue j) ≤ v) × (v ≤ slice_index h (r.queue j)) × (slice_index h (r.queue j) < v + r.size) × CanChoose r l h j v
-    × ((t : ℕ) → v < t → t ≤ slice_index h (r.queue j) → CanChoose r l h j t → ⊥) × (u ≡ v + r.size))
-    ⊎ (((t : ℕ) → slice_index l (r.queue j) ≤ t → t ≤ slice_index h (r.queue j) → slice_index h (r.queue j) < t + r.size → CanChoose r l h j t → ⊥)
-    × (u ≡ slice_index h (r.queue j)))
+    IsGreatestAfter (λ v. CanChoose r l h j v) (λ v. CanChoose r l h j v → ⊥) r.size (slice_index l (r.queue j)) (slice_index h (r.queue j)) u
 
 -- u has the least numbers of what the function of a route makes of the box from l to h
 pub record AreLowEnds (r : Routing) (f : List ℕ → List ℕ) (l h u : List ℕ) : Type 0 where
@@ -48,3 +55,14 @@ pub record AreHighEnds (r : Routing) (f : List ℕ → List ℕ) (l h w : List �
 pub record AreEnds (r : Routing) (f : List ℕ → List ℕ) (l h u w : List ℕ) : Type 0 where
   pub low : AreLowEnds r f l h u
   pub high : AreHighEnds r f l h w
+
+-- the queues of the first n places have such a number, and the others have what they had
+pub record AreSet (queue : ℕ → ℕ) (E : ℕ → ℕ → Type 0) (start ends : List ℕ) (n : ℕ) : Type 0 where
+  pub count : length ends ≡ length start
+  pub set : (i : ℕ) → i < n → E i (slice_index ends (queue i))
+  pub rest : (p : ℕ) → ((i : ℕ) → i < n → queue i ≢ p) → slice_index ends p ≡ slice_index start p
+
+-- the first n targets have their ends in the box from u to w, and the other queues what they had in the box from l to h
+pub record AreTargetEnds (r : Routing) (l h u w : List ℕ) (n : ℕ) : Type 0 where
+  pub low : AreSet r.queue (λ i v. IsLowEnd r l h i v) l u n
+  pub high : AreSet r.queue (λ i v. IsHighEnd r l h i v) h w n

@@ -8,6 +8,7 @@ pub mod Route
 pub mod Leader
 pub mod Monotone
 pub mod Ends
+pub mod Coming
 pub mod Keys
 pub mod Offers
 pub mod Upset

@@ -47,18 +47,18 @@ pub record AreLeastTwo (O : ℕ → Option Key → Type 0) (n : ℕ) (first seco
   pub first_is : IsLeastOffer O n n first
   pub second_is : MatchOption first (Unit {0}) (λ key. IsLeastOffer O n key.place second)
 
--- v customers can stay as they are at place j: there is no room, the source doesn't serve, or another place has a lesser key
-abbrev pub MayStay : Routing → List ℕ → ℕ → ℕ → Option Key → Type 0
-MayStay r l j v rival = Lacks r j v ⊎ (slice_index l r.source < r.least) ⊎ MatchOption rival ⊥ (λ key. key_of key < r.key j v)
+-- where the source serves, v customers can stay as they are at place j: there is no room, or another place has a lesser key
+abbrev pub MayStay : Routing → ℕ → Option Key → ℕ → Type 0
+MayStay r j rival v = Lacks r j v ⊎ MatchOption rival ⊥ (λ key. key_of key < r.key j v)
 
 -- they can't
-abbrev pub MustRise : Routing → List ℕ → ℕ → ℕ → Option Key → Type 0
-MustRise r l j v rival = HasRoom r j v × (r.least ≤ slice_index l r.source) × MatchOption rival (Unit {0}) (λ key. r.key j v ≤ key_of key)
+abbrev pub MustRise : Routing → ℕ → Option Key → ℕ → Type 0
+MustRise r j rival v = HasRoom r j v × MatchOption rival (Unit {0}) (λ key. r.key j v ≤ key_of key)
 
--- v customers can become more at place j: there is room, the source serves, and no other place always has a lesser key
-abbrev pub MayRise : Routing → List ℕ → ℕ → ℕ → Option Key → Type 0
-MayRise r h j v bar = HasRoom r j v × (r.least ≤ slice_index h r.source) × MatchOption bar (Unit {0}) (λ key. r.key j v < key_of key)
+-- and they can become more: there is room, and no other place always has a lesser key
+abbrev pub MayRise : Routing → ℕ → Option Key → ℕ → Type 0
+MayRise r j bar v = HasRoom r j v × MatchOption bar (Unit {0}) (λ key. r.key j v < key_of key)
 
 -- they can't
-abbrev pub MustStay : Routing → List ℕ → ℕ → ℕ → Option Key → Type 0
-MustStay r h j v bar = Lacks r j v ⊎ (slice_index h r.source < r.least) ⊎ MatchOption bar ⊥ (λ key. key_of key ≤ r.key j v)
+abbrev pub MustStay : Routing → ℕ → Option Key → ℕ → Type 0
+MustStay r j bar v = Lacks r j v ⊎ MatchOption bar ⊥ (λ key. key_of key ≤ r.key j v)

@@ -1,73 +1,92 @@
-//! The envelope of a route.
+//! The envelope of a route, in place.
 
-ghost use Rattle.std.specs.Prelude.{◌≡◌, ◌≢◌, ℕ, ◌<◌, length, slice_index};
+ghost use Rattle.std.specs.Prelude.{◌≡◌, ◌<◌, ◌≤◌, true, length, slice_index, IfSome, if◌then◌else◌};
+ghost use Rattle.std.specs.Bool.{MatchBool};
 ghost use Rattle.psi_state.specs.State.{IsBelow, box};
 ghost use Rattle.psi_state.specs.Sets.{image};
 ghost use Rattle.psi_state.specs.Hull.{corners, IsTight};
 
 use crate::built::Route;
-use psi_state::{Bounds, State};
+use crate::coming::Coming;
+use crate::parts::Full;
+use psi_state::Bounds;
 
 impl Route {
     ghost use Rattle.psi_route.specs.Routing.{routing, routed};
     ghost use Rattle.psi_route.specs.Route.{shape_of};
-    ghost use Rattle.psi_route.specs.Ends.{AreLowEnds, AreHighEnds};
+    ghost use Rattle.psi_route.specs.Ends.{AreTargetEnds};
+    ghost use Rattle.psi_route.specs.Coming.{Comes, Misses, AreComing, is_gone, without};
 
-    /// The least box that holds what the route makes of the states from `lo` to `hi`.
-    pub(crate) fn hull(&self, lo: &State, hi: &State) -> Bounds
-        requires ordered { IsBelow lo.now hi.now }
-        requires within { IsBelow hi.now self.now.caps }
-        ensures hull { result ≡ corners (image (routed (shape_of self.now)) (box lo.now hi.now)) }
-        ensures tight { IsTight (image (routed (shape_of self.now)) (box lo.now hi.now)) result.lo result.hi }
+    /// Makes of the box the least one that holds what the route makes of its states.
+    ///
+    /// First the targets have their ends, and the source last, since the others are read off it.
+    pub(crate) fn spread(&self, b: &mut Bounds)
+        requires { IsBelow b.old.hi self.now.caps }
+        ensures hull { b.new ≡ corners (image (routed (shape_of self.now)) (box b.old.lo b.old.hi)) }
+        ensures tight { IsTight (image (routed (shape_of self.now)) (box b.old.lo b.old.hi)) b.new.lo b.new.hi }
     {
-        let low = self.low_ends(lo, hi);
-        let high = self.high_ends(lo, hi);
-        Bounds::new(low, high)
-    }
-
-    // The least number of customers of each queue after the route.
-    fn low_ends(&self, lo: &State, hi: &State) -> State
-        requires ordered { IsBelow lo.now hi.now }
-        requires within { IsBelow hi.now self.now.caps }
-        ensures { AreLowEnds (routing (shape_of self.now)) (routed (shape_of self.now)) lo.now hi.now result }
-    {
-        let rivals = self.rivals(lo, hi);
-        let mut ends = self.with_source(lo);
-        for j in 0..self.places() {
-            let end = self.target_low(lo, hi, j, rivals.beside(j));
-            ends.set(self.target(j), end);
+        let _queues = b.len();
+        let coming = self.coming(b);
+        if coming.sometimes {
+            let left = self.set_targets(b, coming.always);
+            self.set_source(b, coming, left);
         }
-        ends
     }
 
-    // The greatest number of customers of each queue after the route.
-    fn high_ends(&self, lo: &State, hi: &State) -> State
-        requires ordered { IsBelow lo.now hi.now }
-        requires within { IsBelow hi.now self.now.caps }
-        ensures { AreHighEnds (routing (shape_of self.now)) (routed (shape_of self.now)) lo.now hi.now result }
+    // Whether the source serves in each state of the box, and in some.
+    fn coming(&self, b: &Bounds) -> Coming
+        requires { length b.now.lo ≡ length self.now.caps }
+        ensures { AreComing (routing (shape_of self.now)) b.now.lo b.now.hi 0 result }
     {
-        let bars = self.bars(lo, hi);
-        let mut ends = self.with_source(hi);
-        for j in 0..self.places() {
-            let end = self.target_high(lo, hi, j, bars.beside(j));
-            ends.set(self.target(j), end);
+        match self.source {
+            None => Coming {
+                always: true,
+                sometimes: true,
+            },
+            Some(source) => Coming {
+                always: b.least(source.queue) >= source.k,
+                sometimes: b.greatest(source.queue) >= source.k,
+            },
         }
-        ends
     }
 
-    // The state `x` with what the route leaves at its source, if there is one.
-    fn with_source(&self, x: &State) -> State
-        requires { IsBelow x.now self.now.caps }
-        ensures count { length result ≡ length x.now }
-        ensures source { (routing (shape_of self.now)).source < length self.now.caps → slice_index result ((routing (shape_of self.now)).source) ≡ slice_index (routed (shape_of self.now) x.now) ((routing (shape_of self.now)).source) }
-        ensures others { (p : ℕ) → p ≢ (routing (shape_of self.now)).source → slice_index result p ≡ slice_index x.now p }
+    // Lets each target have its ends after the route, and tells how far the customers come past all of them;
+    // `always` says whether the source serves at the lower corner.
+    fn set_targets(&self, b: &mut Bounds, always: bool) -> Coming
+        requires ordered { IsBelow b.old.lo b.old.hi }
+        requires within { IsBelow b.old.hi self.now.caps }
+        requires low { MatchBool always (Comes (routing (shape_of self.now)) b.old.lo 0) (Misses (routing (shape_of self.now)) b.old.lo 0) }
+        requires high { Comes (routing (shape_of self.now)) b.old.hi 0 }
+        ensures ends { AreTargetEnds (routing (shape_of self.now)) b.old.lo b.old.hi b.new.lo b.new.hi (length self.now.targets) }
+        ensures left { AreComing (routing (shape_of self.now)) b.old.lo b.old.hi (length self.now.targets) result }
     {
-        let mut ends = *x;
+        if self.is_plain() {
+            self.sweep(b, always)
+        } else {
+            self.weigh(b, always)
+        }
+    }
+
+    // Lets the source have its ends, where the targets have theirs.
+    fn set_source(&self, b: &mut Bounds, coming: Coming, left: Coming)
+        requires length { length b.old.lo ≡ length self.now.caps }
+        requires low { coming.always ≡ true → IfSome self.now.source (λ s. 1 ≤ slice_index b.old.lo s.queue) }
+        requires high { coming.sometimes ≡ true → IfSome self.now.source (λ s. 1 ≤ slice_index b.old.hi s.queue) }
+        requires ordered { let r = routing (shape_of self.now) in IsBelow (without r (is_gone r coming.always left.always) b.old.lo) (without r (is_gone r coming.sometimes left.sometimes) b.old.hi) }
+        ensures { let r = routing (shape_of self.now) in b.new ≡ record { lo = without r (is_gone r coming.always left.always) b.old.lo; hi = without r (is_gone r coming.sometimes left.sometimes) b.old.hi } }
+    {
         if let Some(source) = self.source {
-            let mut image = *x;
-            self.pass(&mut image);
-            ends.set(source.queue, image.get(source.queue));
+            let least = b.least(source.queue) - self.gone(coming.always, left.always);
+            let greatest = b.greatest(source.queue) - self.gone(coming.sometimes, left.sometimes);
+            b.set(source.queue, least, greatest);
         }
-        ends
+    }
+
+    // How many leave the source, where it serves and where the customers come past every target.
+    fn gone(&self, serves: bool, passes: bool) -> u16
+        ensures value { result ≡ (if is_gone (routing (shape_of self.now)) serves passes then 1 else 0) }
+        ensures some { MatchBool serves (result ≤ 1) (result ≡ 0) }
+    {
+        (serves && (self.full == Full::Lost || self.places() == 0 || !passes)) as u16
     }
 }

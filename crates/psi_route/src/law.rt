@@ -32,7 +32,7 @@ impl EventLaw for Route {
     }
 
     fn envelope(&self, b: &mut Bounds) {
-        *b = self.hull(&b.lo(), &b.hi());
+        self.spread(b);
     }
 
     fn monotone(&self) -> bool {

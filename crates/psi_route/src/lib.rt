@@ -7,6 +7,7 @@
 #![tactic(auto)]
 
 mod built;
+mod coming;
 mod ends;
 mod envelope;
 #[cfg(test)]
@@ -19,8 +20,10 @@ mod moving;
 mod offers;
 mod parts;
 mod passing;
+mod sweeping;
 #[cfg(test)]
 mod tests;
+mod weighing;
 
 pub use built::Route;
 pub use judging::{is_self_target, is_size_off};

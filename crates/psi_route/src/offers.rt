@@ -5,7 +5,7 @@ ghost use Rattle.psi_state.specs.State.{IsBelow};
 
 use crate::built::Route;
 use crate::keys::Key;
-use psi_state::State;
+use psi_state::Bounds;
 
 /// The least of the keys that are offered, and the least of those of the other places.
 #[derive(Clone, Copy)]
@@ -37,92 +37,94 @@ impl Route {
     ghost use Rattle.psi_route.specs.Route.{shape_of};
     ghost use Rattle.psi_route.specs.Offers.{IsRival, IsBar, IsLeastOffer, AreLeastTwo};
 
-    /// The two least keys with which targets can be chosen in the box from `lo` to `hi`.
-    pub(crate) fn rivals(&self, lo: &State, hi: &State) -> Offers
-        requires ordered { IsBelow lo.now hi.now }
-        requires within { IsBelow hi.now self.now.caps }
-        ensures { AreLeastTwo (IsRival (routing (shape_of self.now)) lo.now hi.now) (length self.now.targets) result.first result.second }
+    /// The two least keys with which targets can be chosen in the box.
+    pub(crate) fn rivals(&self, b: &Bounds) -> Offers
+        requires ordered { IsBelow b.now.lo b.now.hi }
+        requires within { IsBelow b.now.hi self.now.caps }
+        ensures { AreLeastTwo (IsRival (routing (shape_of self.now)) b.now.lo b.now.hi) (length self.now.targets) result.first result.second }
     {
-        let first = self.least_rival(lo, hi, self.places());
+        let first = self.least_rival(b, self.places());
         let second = match first {
             None => None,
-            Some(key) => self.least_rival(lo, hi, key.place),
+            Some(key) => self.least_rival(b, key.place),
         };
         Offers { first, second }
     }
 
-    /// The two least of the greatest keys of the targets that always have room in the box from `lo` to `hi`.
-    pub(crate) fn bars(&self, lo: &State, hi: &State) -> Offers
-        requires ordered { IsBelow lo.now hi.now }
-        requires within { IsBelow hi.now self.now.caps }
-        ensures { AreLeastTwo (IsBar (routing (shape_of self.now)) lo.now hi.now) (length self.now.targets) result.first result.second }
+    /// The two least of the greatest keys of the targets that always have room in the box.
+    pub(crate) fn bars(&self, b: &Bounds) -> Offers
+        requires ordered { IsBelow b.now.lo b.now.hi }
+        requires within { IsBelow b.now.hi self.now.caps }
+        ensures { AreLeastTwo (IsBar (routing (shape_of self.now)) b.now.lo b.now.hi) (length self.now.targets) result.first result.second }
     {
-        let first = self.least_bar(lo, hi, self.places());
+        let first = self.least_bar(b, self.places());
         let second = match first {
             None => None,
-            Some(key) => self.least_bar(lo, hi, key.place),
+            Some(key) => self.least_bar(b, key.place),
         };
         Offers { first, second }
     }
 
     // The least key with which a target at a place other than `without` can be chosen.
-    fn least_rival(&self, lo: &State, hi: &State, without: u8) -> Option<Key>
-        requires ordered { IsBelow lo.now hi.now }
-        requires within { IsBelow hi.now self.now.caps }
-        ensures { IsLeastOffer (IsRival (routing (shape_of self.now)) lo.now hi.now) (length self.now.targets) without result }
+    fn least_rival(&self, b: &Bounds, without: u8) -> Option<Key>
+        requires ordered { IsBelow b.now.lo b.now.hi }
+        requires within { IsBelow b.now.hi self.now.caps }
+        ensures { IsLeastOffer (IsRival (routing (shape_of self.now)) b.now.lo b.now.hi) (length self.now.targets) without result }
     {
         let mut found = None;
         for i in 0..self.places() {
             if i != without {
-                found = Key::lesser(found, self.rival(lo, hi, i));
+                found = Key::lesser(found, self.rival(b, i));
             }
         }
         found
     }
 
     // The least of the greatest keys of the targets at places other than `without` that always have room.
-    fn least_bar(&self, lo: &State, hi: &State, without: u8) -> Option<Key>
-        requires ordered { IsBelow lo.now hi.now }
-        requires within { IsBelow hi.now self.now.caps }
-        ensures { IsLeastOffer (IsBar (routing (shape_of self.now)) lo.now hi.now) (length self.now.targets) without result }
+    fn least_bar(&self, b: &Bounds, without: u8) -> Option<Key>
+        requires ordered { IsBelow b.now.lo b.now.hi }
+        requires within { IsBelow b.now.hi self.now.caps }
+        ensures { IsLeastOffer (IsBar (routing (shape_of self.now)) b.now.lo b.now.hi) (length self.now.targets) without result }
     {
         let mut found = None;
         for i in 0..self.places() {
             if i != without {
-                found = Key::lesser(found, self.bar(lo, hi, i));
+                found = Key::lesser(found, self.bar(b, i));
             }
         }
         found
     }
 
     // The least key of the target at place `i` with a number of customers that leaves room.
-    fn rival(&self, lo: &State, hi: &State, i: u8) -> Option<Key>
+    fn rival(&self, b: &Bounds, i: u8) -> Option<Key>
         requires place { i < length self.now.targets }
-        requires ordered { IsBelow lo.now hi.now }
-        requires within { IsBelow hi.now self.now.caps }
-        ensures { IsRival (routing (shape_of self.now)) lo.now hi.now i result }
+        requires ordered { IsBelow b.now.lo b.now.hi }
+        requires within { IsBelow b.now.hi self.now.caps }
+        ensures { IsRival (routing (shape_of self.now)) b.now.lo b.now.hi i result }
     {
-        let least = self.held(lo, i);
+        let queue = self.target(i);
+        let least = b.least(queue);
         let most = self.cap(i) - self.size;
         if most < least {
             return None;
         }
-        let weight = self.least_weight(i, least, most.min(self.held(hi, i)));
+        let weight = self.least_weight(i, least, most.min(b.greatest(queue)));
         Some(Key { weight, place: i })
     }
 
     // The greatest key of the target at place `i`, where each number of customers leaves room.
-    fn bar(&self, lo: &State, hi: &State, i: u8) -> Option<Key>
+    fn bar(&self, b: &Bounds, i: u8) -> Option<Key>
         requires place { i < length self.now.targets }
-        requires ordered { IsBelow lo.now hi.now }
-        requires within { IsBelow hi.now self.now.caps }
-        ensures { IsBar (routing (shape_of self.now)) lo.now hi.now i result }
+        requires ordered { IsBelow b.now.lo b.now.hi }
+        requires within { IsBelow b.now.hi self.now.caps }
+        ensures { IsBar (routing (shape_of self.now)) b.now.lo b.now.hi i result }
     {
-        let most = self.held(hi, i);
+        let queue = self.target(i);
+        let most = b.greatest(queue);
         if self.cap(i) - self.size < most {
             return None;
         }
-        let weight = self.greatest_weight(i, self.held(lo, i), most);
+        let weight = self.greatest_weight(i, b.least(queue), most);
         Some(Key { weight, place: i })
     }
 

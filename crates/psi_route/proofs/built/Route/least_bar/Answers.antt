@@ -10,8 +10,8 @@ use Rattle.psi_route.proofs.built.Route.least_bar.Goals.{then-i-without, else-i-
 pub loop-i-preserved : goal.loop-i-preserved
 loop-i-preserved c =
     let r = routing (shape_of c.args.self.now) in
-    let l = c.args.lo.now in
-    let h = c.args.hi.now in
+    let l = c.args.b.now.lo in
+    let h = c.args.b.now.hi in
     elim c.if-i-without.branch [
       | then-i-without w ↦ subst (λ (o : Option Key). IsLeastOffer (IsBar r l h) (c.loop-i.i + 1) c.args.without o) (sym w.found-is)
           (least-more (IsBar r l h) (bar-placed r l h) c.loop-i.i c.args.without c.loop-i.found w.bar.result w.lesser-found.result

@@ -4,4 +4,4 @@ use Rattle.psi_route.specs.Offers.{IsRival, IsLeastOffer}
 use Rattle.psi_route.proofs.built.Route.least_rival.Given as goal
 
 abbrev pub invariant-loop-i : goal.invariant-loop-i
-invariant-loop-i l = IsLeastOffer (IsRival (routing (shape_of l.self)) l.lo l.hi) l.i l.without l.found
+invariant-loop-i l = IsLeastOffer (IsRival (routing (shape_of l.self)) l.b.lo l.b.hi) l.i l.without l.found
