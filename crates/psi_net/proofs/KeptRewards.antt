@@ -1,5 +1,5 @@
 -- Every reward that is read is accepted.
-use Rattle.std.specs.Prelude.{◌≡◌, ℕ, ◌+◌, ◌<◌, ℤ, List, [], ◌∷◌, ◌++◌, length, map, take, slice_index, codes, All, true, false, not, ◌==◌, Option, Some, None, Ok, refl}
+use Rattle.std.specs.Prelude.{◌≡◌, ℕ, ◌+◌, ◌<◌, ℤ, List, [], ◌∷◌, ◌++◌, length, map, take, slice_index, codes, All, true, false, ◌==◌, Option, Some, None, Ok, refl}
 use Rattle.std.proofs.Common.{ap, sym, ◌∙◌, subst, arith, length-append}
 use Rattle.std.specs.List.{flat_map}
 use Rattle.std.proofs.lemmas.Bool.{and_parts, eqb-true, eq-eqb}
@@ -7,16 +7,16 @@ use Rattle.std.proofs.lemmas.List.{map_push, take_more, take_all}
 use Rattle.std.proofs.lemmas.List.Elements.{All-nil, All-push, All-append, All-from_get_or}
 use Rattle.std.proofs.lemmas.List.Concat.{flat_map-append}
 use Rattle.toml.specs.Data.{Data, Members, get_member}
+use Rattle.psi_state.specs.Repeats.{repeats}
 use Rattle.psi_kinds.specs.Refusals.{is_empty}
 use Rattle.psi_reward.specs.Held.{held as held_by}
-use Rattle.psi_reward.specs.Refusing.{queues_of, numbers_of, IsSmall, is_none_listed, has_repeat, has_rows, has_lengths, refusal_of}
+use Rattle.psi_reward.specs.Refusing.{queues_of, numbers_of, IsSmall, is_none_listed, has_rows, has_lengths, refusal_of}
 use Rattle.psi_reward.specs.declared.RewardKind.{RewardKind}
 use Rattle.psi_reward.specs.declared.RewardKind.TheVariants as kind
 use Rattle.psi_reward.specs.declared.RewardRefusal.{RewardRefusal}
 use Rattle.psi_net.specs.Refusal.{holds_or}
 use Rattle.psi_net.specs.Values.{required, number_in, integer_in, array_in, each, integer_step}
-use Rattle.psi_net.specs.References.{is_in, some_targets_in}
-use Rattle.psi_net.specs.Targets.{are_distinct}
+use Rattle.psi_net.specs.References.{some_targets_in}
 use Rattle.psi_net.specs.RewardTables.{weights_in, grid_step, grid_in, worth_in}
 use Rattle.psi_net.specs.Draft.{named}
 use Rattle.psi_net.specs.Kept.{IsReward}
@@ -25,19 +25,13 @@ use Rattle.psi_net.specs.declared.refusals.Place.{Place}
 use Rattle.psi_net.specs.declared.words.RewardWord.{RewardWord}
 use Rattle.psi_net.specs.declared.words.RewardWord.TheVariants as word
 use Rattle.psi_net.proofs.Readings.{bind_ok, ok_same, held, required_ok, integer_range, each_kept, each_kept_below}
-use Rattle.psi_net.proofs.Pigeons.{not_true, either_false, both}
+use Rattle.psi_net.proofs.Pigeons.{both}
 use Rattle.psi_net.proofs.Found.{below_at}
-use Rattle.psi_net.proofs.KeptTargets.{AreSomeTargets, some_targets_kept}
+use Rattle.psi_net.proofs.KeptTargets.{AreSomeTargets, some_targets_kept, once}
 
 -- what is accepted isn't refused
 pub not_refused : (caps : List ℕ) (kind : RewardKind) (refusal : RewardRefusal) → IsReward caps kind → refusal_of caps kind ≡ Some refusal → ⊥
 not_refused caps kind refusal kept h = (let e : ◌≡◌ {A = Option RewardRefusal} None (Some refusal) = sym kept.accepted ∙ h in absurd cc)
-
-repeats_none : (qs : List ℕ) → are_distinct qs ≡ true → has_repeat qs ≡ false
-repeats_none [] h = refl
-repeats_none (q ∷ qs) h =
-    let parts = and_parts (not (is_in q qs)) (are_distinct qs) h in
-    either_false (is_in q qs) (has_repeat qs) (not_true (is_in q qs) parts.0) (repeats_none qs parts.1)
 
 listed_some : (qs : List ℕ) → is_empty qs ≡ false → is_none_listed qs ≡ false
 listed_some [] h = absurd cc
@@ -130,14 +124,14 @@ grid_kept place caps queues d rows h =
     let count = kept.count in
     record { fits = subst (λ (qs : List ℕ). has_rows (held_by qs caps) rows ≡ true) (take_all (length rows) queues (omega arith)) kept.fits; small = kept.small }
 
-pub accepted : (caps : List ℕ) (k : RewardKind) → is_none_listed (queues_of k) ≡ false → has_repeat (queues_of k) ≡ false → has_lengths caps k ≡ true → refusal_of caps k ≡ None
+pub accepted : (caps : List ℕ) (k : RewardKind) → is_none_listed (queues_of k) ≡ false → repeats (queues_of k) ≡ false → has_lengths caps k ≡ true → refusal_of caps k ≡ None
 accepted caps k some once fits = rw (some, once, fits) refl
 
 made : (caps : List ℕ) (k : RewardKind) → AreSomeTargets (length caps) [] (queues_of k) → All IsSmall (numbers_of k) → has_lengths caps k ≡ true → IsReward caps k
 made caps k targets small fits = record {
   queues = All-from_get_or (λ q. q < length caps) (queues_of k) 0 (λ i less. below_at (length caps) (queues_of k) i targets.targets.within less);
   numbers = small;
-  accepted = accepted caps k (listed_some (queues_of k) targets.some) (repeats_none (queues_of k) targets.targets.distinct) fits;
+  accepted = accepted caps k (listed_some (queues_of k) targets.some) (once (queues_of k) targets.targets.distinct) fits;
 }
 
 worth_kept : (place : Place) (w : RewardWord) (caps queues : List ℕ) (ms : Members) (k : RewardKind) → AreSomeTargets (length caps) [] queues → worth_in place w caps queues ms ≡ Ok k → IsReward caps k

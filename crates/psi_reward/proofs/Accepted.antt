@@ -2,6 +2,7 @@
 use Rattle.std.specs.Prelude.{◌≡◌, ℕ, ◌+◌, ◌<◌, ◌≤◌, ℤ, pos, List, [], length, map, slice_index, slice_index_or, All, Bool, true, false, None, count_by, nat_lt, refl}
 use Rattle.std.proofs.Common.{sym, ◌∙◌, subst, arith}
 use Rattle.psi_state.specs.State.{IsBelow, box}
+use Rattle.psi_state.specs.Repeats.{repeats}
 use Rattle.psi_reward.specs.declared.kinds.RewardKind.{RewardKind}
 use Rattle.psi_reward.specs.declared.kinds.RewardKind.TheVariants.{Linear, Table, Greatest, Least, Above}
 use Rattle.psi_reward.specs.Held.{held}
@@ -9,7 +10,7 @@ use Rattle.psi_reward.specs.Sums.{weighted, entry, added}
 use Rattle.psi_reward.specs.Ranges.{least, greatest}
 use Rattle.psi_reward.specs.Spans.{IsSpread, IsRange}
 use Rattle.psi_reward.specs.Worth.{worth_of}
-use Rattle.psi_reward.specs.Refusing.{queues_of, is_none_listed, has_repeat, has_lengths, first_refusal, IsValid, ReachRows}
+use Rattle.psi_reward.specs.Refusing.{queues_of, is_none_listed, has_lengths, first_refusal, IsValid, ReachRows}
 use Rattle.psi_reward.proofs.Listing.{listed-from_All, held-below, range-from_spread}
 use Rattle.psi_reward.proofs.Fitting.{length-has_rows, row-has_rows}
 use Rattle.psi_reward.proofs.Rising.{IsRising, spread-rising, greatest-rising, least-rising, count-rising}
@@ -26,8 +27,8 @@ fitting false true lengths none = absurd cc
 fitting false false true none = record { some = refl; once = refl; fit = refl }
 fitting false false false none = absurd cc
 
-accepted-fitting : (caps : List ℕ) (kind : RewardKind) → IsValid caps kind → AreFitting (is_none_listed (queues_of kind)) (has_repeat (queues_of kind)) (has_lengths caps kind)
-accepted-fitting caps kind valid = fitting (is_none_listed (queues_of kind)) (has_repeat (queues_of kind)) (has_lengths caps kind) valid.accepted
+accepted-fitting : (caps : List ℕ) (kind : RewardKind) → IsValid caps kind → AreFitting (is_none_listed (queues_of kind)) (repeats (queues_of kind)) (has_lengths caps kind)
+accepted-fitting caps kind valid = fitting (is_none_listed (queues_of kind)) (repeats (queues_of kind)) (has_lengths caps kind) valid.accepted
 
 pub length-table : (caps queues : List ℕ) (table : List (List ℤ)) (kind : RewardKind) → kind ≡ Table queues table → IsValid caps kind → length table ≡ length queues
 length-table caps queues table kind is valid =

@@ -1,15 +1,15 @@
 -- The numbers that the states of a box hold in distinct queues: all lists between those of its corners.
-use Rattle.std.specs.Prelude.{◌≡◌, ℕ, suc, ◌<◌, ◌≤◌, ℤ, List, [], ◌∷◌, length, slice_index, slice_set, All, Bool, true, false, ◌||◌, nat_eq, refl}
+use Rattle.std.specs.Prelude.{◌≡◌, ℕ, suc, ◌<◌, ◌≤◌, ℤ, List, [], ◌∷◌, length, slice_index, slice_set, All, false, nat_eq, refl}
 use Rattle.std.specs.List.{list_any}
-use Rattle.std.proofs.Common.{inl, inr, ap, sym, ◌∙◌, subst, arith, eq-eqb}
-use Rattle.std.proofs.lemmas.Bool.{cases_eq}
+use Rattle.std.proofs.Common.{inl, inr, ap, sym, ◌∙◌, subst, arith}
+use Rattle.std.proofs.lemmas.Bool.{cases_eq, eqb-false, or_parts}
 use Rattle.std.proofs.lemmas.List.{length-set, get_or-set_same, get_or-set_other}
 use Rattle.psi_state.specs.State.{IsBelow, box}
 use Rattle.psi_state.specs.Members.{In}
+use Rattle.psi_state.specs.Repeats.{repeats}
 use Rattle.psi_state.specs.Boxes.{IsBetween, In-box, In-of_box, below-head, below-tail, below-cons, below-itself}
 use Rattle.psi_reward.specs.Held.{held}
 use Rattle.psi_reward.specs.Ranges.{IsReached}
-use Rattle.psi_reward.specs.Refusing.{has_repeat}
 use Rattle.psi_reward.specs.Spans.{IsSpread, IsRange}
 
 -- each of these queues is below n
@@ -34,19 +34,13 @@ held-below (queue ∷ queues) x y listed below =
     below-cons (slice_index x queue) (held queues x) (slice_index y queue) (held queues y)
     (below.each queue (listed.each queue (inl refl))) (held-below queues x y (listed-tail (length x) queue queues listed) below)
 
--- a test by cases that fails fails in each
-or_parts : (a b : Bool) → (a || b) ≡ false → (a ≡ false) × (b ≡ false)
-or_parts true b is = absurd cc
-or_parts false b is = (refl, is)
-
 -- a queue that isn't listed can hold anything
-held-set : (queues x : List ℕ) (queue v : ℕ) → list_any (nat_eq queue) queues ≡ false → held queues (slice_set x queue v) ≡ held queues x
+held-set : (queues x : List ℕ) (queue v : ℕ) → list_any (λ p. nat_eq p queue) queues ≡ false → held queues (slice_set x queue v) ≡ held queues x
 held-set [] x queue v none = refl
 held-set (q ∷ queues) x queue v none =
-    let parts = or_parts (nat_eq queue q) (list_any (nat_eq queue) queues) none in
+    let parts = or_parts (nat_eq q queue) (list_any (λ p. nat_eq p queue) queues) none in
     let rest : held queues (slice_set x queue v) ≡ held queues x = held-set queues x queue v parts.1 in
-    let apart : q ≡ queue → ⊥ = λ e. (let same : nat_eq queue q ≡ true = eq-eqb queue q (sym e) in let d : nat_eq queue q ≡ false = parts.0 in absurd cc) in
-    let first : slice_index (slice_set x queue v) q ≡ slice_index x q = get_or-set_other x queue q v 0 apart in
+    let first : slice_index (slice_set x queue v) q ≡ slice_index x q = get_or-set_other x queue q v 0 (eqb-false q queue parts.0) in
     cc
 
 between-set : (l h x : List ℕ) (queue v : ℕ) → IsBetween l h x → queue < length l → slice_index l queue ≤ v → v ≤ slice_index h queue
@@ -75,13 +69,13 @@ between-set l h x queue v between small low high =
     }
 
 -- each list between those of the corners is what some state of the box holds
-pub held-all : (queues l h vs : List ℕ) → has_repeat queues ≡ false → AreListed (length l) queues → IsBelow l h
+pub held-all : (queues l h vs : List ℕ) → repeats queues ≡ false → AreListed (length l) queues → IsBelow l h
     → IsBetween (held queues l) (held queues h) vs → (x : List ℕ) × IsBetween l h x × (held queues x ≡ vs)
 held-all [] l h [] once listed ordered between = (l, record { low = below-itself l; high = ordered }, refl)
 held-all [] l h (v ∷ vs) once listed ordered between = absurd (let e : 0 ≡ suc (length vs) = between.low.same_length in omega arith)
 held-all (queue ∷ queues) l h [] once listed ordered between = absurd (let e : suc (length (held queues l)) ≡ 0 = between.low.same_length in omega arith)
 held-all (queue ∷ queues) l h (v ∷ vs) once listed ordered between =
-    let parts = or_parts (list_any (nat_eq queue) queues) (has_repeat queues) once in
+    let parts = or_parts (list_any (λ p. nat_eq p queue) queues) (repeats queues) once in
     let low : slice_index l queue ≤ v = below-head (slice_index l queue) (held queues l) v vs between.low in
     let high : v ≤ slice_index h queue = below-head v vs (slice_index h queue) (held queues h) between.high in
     let found = held-all queues l h vs parts.1 (listed-tail (length l) queue queues listed) ordered (record {
@@ -94,7 +88,7 @@ held-all (queue ∷ queues) l h (v ∷ vs) once listed ordered between =
     let rest : held queues (slice_set found.0 queue v) ≡ vs = held-set queues found.0 queue v parts.0 ∙ found.2 in
     (slice_set found.0 queue v, between-set l h found.0 queue v found.1 small low high, cc)
 
-reached-from : (f : List ℕ → ℤ) (queues l h : List ℕ) (z : ℤ) → has_repeat queues ≡ false → AreListed (length l) queues → IsBelow l h
+reached-from : (f : List ℕ → ℤ) (queues l h : List ℕ) (z : ℤ) → repeats queues ≡ false → AreListed (length l) queues → IsBelow l h
     → (vs : List ℕ) → IsBetween (held queues l) (held queues h) vs → f vs ≡ z → IsReached (λ x. f (held queues x)) (box l h) z
 reached-from f queues l h z once listed ordered vs between is =
     let found = held-all queues l h vs once listed ordered between in
@@ -110,7 +104,7 @@ held-between queues l h x listed member =
     }
 
 -- so the range of a function of the numbers held is that of the function between the numbers that the corners hold
-pub range-from_spread : (f : List ℕ → ℤ) (queues l h : List ℕ) (low high : ℤ) → has_repeat queues ≡ false → AreListed (length l) queues → IsBelow l h
+pub range-from_spread : (f : List ℕ → ℤ) (queues l h : List ℕ) (low high : ℤ) → repeats queues ≡ false → AreListed (length l) queues → IsBelow l h
     → IsSpread f (held queues l) (held queues h) low high → IsRange (λ x. f (held queues x)) (box l h) low high
 range-from_spread f queues l h low high once listed ordered spread = record {
   above = λ x member. spread.above (held queues x) (held-between queues l h x listed member);

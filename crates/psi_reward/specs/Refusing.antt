@@ -1,8 +1,9 @@
 -- Which kinds of rewards are refused, and what is kept of one that is accepted.
-use Rattle.std.specs.Prelude.{◌≡◌, ℕ, ◌+◌, ◌<◌, ◌≤◌, ℤ, List, [], ◌∷◌, length, slice_index, slice_index_or, All, Bool, true, false, ◌&&◌, ◌||◌, ◌==◌, nat_eq, Option, Some, None}
-use Rattle.std.specs.List.{flat_map, list_any}
+use Rattle.std.specs.Prelude.{◌≡◌, ℕ, ◌+◌, ◌<◌, ◌≤◌, ℤ, List, [], ◌∷◌, length, slice_index, slice_index_or, All, Bool, true, false, ◌&&◌, ◌==◌, Option, Some, None}
+use Rattle.std.specs.List.{flat_map}
 use Rattle.std.specs.Int.RustNames.{unsigned_abs}
 use Rattle.psi_state.specs.State.{AreCapacities}
+use Rattle.psi_state.specs.Repeats.{repeats}
 use Rattle.psi_reward.specs.declared.kinds.RewardKind.{RewardKind}
 use Rattle.psi_reward.specs.declared.kinds.RewardKind.TheVariants.{Linear, Table, Greatest, Least, Above}
 use Rattle.psi_reward.specs.declared.kinds.RewardRefusal.{RewardRefusal}
@@ -34,11 +35,6 @@ abbrev pub is_none_listed : List ℕ → Bool
 is_none_listed [] = true
 is_none_listed (queue ∷ queues) = false
 
--- some queue stands twice
-abbrev pub has_repeat : List ℕ → Bool
-has_repeat [] = false
-has_repeat (queue ∷ queues) = list_any (nat_eq queue) queues || has_repeat queues
-
 -- each queue has a row, with a number for 0 customers up to its capacity
 abbrev pub has_rows : List ℕ → List (List ℤ) → Bool
 has_rows [] [] = true
@@ -63,7 +59,7 @@ first_refusal false false true = None
 
 -- why a reward of these capacities is refused: no queue is listed, one stands twice, or the lengths don't fit, in this order
 abbrev pub refusal_of : List ℕ → RewardKind → Option RewardRefusal
-refusal_of caps kind = first_refusal (is_none_listed (queues_of kind)) (has_repeat (queues_of kind)) (has_lengths caps kind)
+refusal_of caps kind = first_refusal (is_none_listed (queues_of kind)) (repeats (queues_of kind)) (has_lengths caps kind)
 
 -- each row has an entry for the number that the state holds in its queue
 abbrev pub ReachRows : List ℕ → List ℕ → List (List ℤ) → Type 0

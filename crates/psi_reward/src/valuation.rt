@@ -6,7 +6,7 @@ ghost use Rattle.psi_reward.specs.Ranges.{least, greatest, IsReached};
 ghost use Rattle.psi_reward.specs.Refusing.{queues_of, numbers_of, IsSmall, refusal_of, has_lengths};
 ghost use Rattle.psi_reward.specs.Worth.{worth_of};
 
-use crate::checks::{has_repeat, has_rows};
+use crate::checks::has_rows;
 use crate::extremes::{count_above, greatest_held, least_held};
 use crate::kinds::{RewardKind, RewardRefusal};
 use crate::law::RewardLaw;
@@ -55,7 +55,7 @@ impl Reward {
         if queues.len() == 0 {
             return Err(RewardRefusal::Empty);
         }
-        if has_repeat(&queues) {
+        if queues.repeats() {
             return Err(RewardRefusal::Repeated);
         }
         if !has_lengths(&caps, &kind) {
