@@ -1,16 +1,18 @@
 -- What isn't refused of a kind isn't refused of its form.
-use Rattle.std.specs.Prelude.{◌≡◌, ℕ, suc, ◌<◌, ◌≤◌, List, [], ◌∷◌, length, Bool, true, false, cond, not, ◌&&◌, ◌||◌, nat_eq, nat_le, nat_lt, get_or, is_some, Option, Some, None, Result, Ok, Err, IfOk, IfErr, OnOk, slice_index, refl}
+use Rattle.std.specs.Prelude.{◌≡◌, ℕ, suc, ◌<◌, ◌≤◌, List, [], ◌∷◌, length, Bool, true, false, cond, not, ◌&&◌, ◌||◌, nat_eq, nat_le, nat_lt, get_or, is_some, Option, Some, None, slice_index, refl}
 use Rattle.std.specs.List.{list_any}
 use Rattle.std.proofs.Common.{ap, sym, arith}
-use Rattle.std.proofs.lemmas.Bool.{le-ltb, or_from}
+use Rattle.std.proofs.lemmas.Bool.{le-ltb, or_from, not-false}
 use Rattle.psi_state.specs.State.{AreCapacities}
+use Rattle.psi_state.specs.Repeats.{repeats}
 use Rattle.psi_event.specs.Choice.{first_or}
 use Rattle.psi_route.specs.declared.Source.{Source}
 use Rattle.psi_route.specs.declared.Full.{Full}
 use Rattle.psi_route.specs.declared.RouteRefusal.TheVariants as route
-use Rattle.psi_route.specs.Accepted.{shape, are_tables-true}
+use Rattle.psi_route.specs.Accepted.{shape}
+use Rattle.psi_route.specs.Tables.{are_tables-true}
 use Rattle.psi_route.specs.Refusals as shapes
-use Rattle.psi_route.specs.Refusals.{is_self_target, repeats, are_tables, fit_tables, is_size_off}
+use Rattle.psi_route.specs.Refusals.{is_self_target, are_tables, fit_tables, is_size_off}
 use Rattle.psi_kinds.specs.declared.kinds.Kind.{Kind}
 use Rattle.psi_kinds.specs.declared.refusals.KindRefusal.{KindRefusal}
 use Rattle.psi_kinds.specs.declared.refusals.KindRefusal.TheVariants.{SelfTarget, Repeated, TableLength, SizeRange, Empty, PartRange, EmptyGuard, OutOfMemory}
@@ -51,11 +53,7 @@ listed-accepted caps source to full valid places away once =
     (one-fits caps to valid places) refl)
 
 pub tables-true : (caps to : List ℕ) (tables : List (List ℕ)) → not (are_tables caps to tables) ≡ false → are_tables caps to tables ≡ true
-tables-true caps to tables is = not_false (are_tables caps to tables) is
-  where
-    not_false : (b : Bool) → not b ≡ false → b ≡ true
-    not_false true is = refl
-    not_false false is = absurd cc
+tables-true caps to tables is = not-false (are_tables caps to tables) is
 
 -- tables that fit
 pub tables-fit : (caps to : List ℕ) (tables : List (List ℕ)) → not (are_tables caps to tables) ≡ false → fit_tables caps to tables ≡ true
@@ -100,15 +98,3 @@ refused-listed caps kind refusal is =
 pub refusal-parts : (caps : List ℕ) (kind : Kind) → listed_refusal caps kind ≡ None → refusal_of_parts caps kind ≡ refusal_of caps kind
 unfolding refusal_of
 refusal-parts caps kind is = sym (ap (λ o. first_or o (refusal_of_parts caps kind)) is)
-
-pub if_ok-map : {A E : Type 0} (r : Result A E) (P Q : A → Type 0) → ((a : A) → P a → Q a) → IfOk r P → IfOk r Q
-if_ok-map (Ok a) P Q f is = f a is
-if_ok-map (Err e) P Q f is = tt
-
-pub if_err-map : {A E : Type 0} (r : Result A E) (P Q : E → Type 0) → ((e : E) → P e → Q e) → IfErr r P → IfErr r Q
-if_err-map (Ok a) P Q f is = tt
-if_err-map (Err e) P Q f is = f e is
-
-pub on_ok-map : {A E : Type 0} (r : Result A E) (P Q : Type 0) → (P → Q) → OnOk r P → OnOk r Q
-on_ok-map (Ok a) P Q f is = f is
-on_ok-map (Err e) P Q f is = tt

@@ -1,23 +1,22 @@
 -- What an accepted kind of event does makes states of states.
-use Rattle.std.specs.Prelude.{◌≡◌, ℕ, zero, suc, ◌-◌, ◌<◌, ◌≤◌, List, [], ◌∷◌, ◌++◌, length, Bool, true, false, cond, if◌then◌else◌, Option, Some, None, IfSome, slice_index, slice_set, refl}
+use Rattle.std.specs.Prelude.{◌≡◌, ℕ, ◌-◌, ◌≤◌, List, [], ◌∷◌, ◌++◌, length, Bool, true, false, if◌then◌else◌, Option, Some, None, slice_index, refl}
 use Rattle.std.specs.Option.{option_map}
-use Rattle.std.proofs.Common.{inl, inr, ap, sym, ◌∙◌, subst, arith, append_assoc, length-set}
+use Rattle.std.proofs.Common.{sym, ◌∙◌, subst, arith, append_assoc, length-set}
+use Rattle.std.proofs.lemmas.List.{append-nil}
 use Rattle.psi_state.specs.State.{IsBelow, AreCapacities}
+use Rattle.psi_state.specs.Repeats.{apart-from_repeats}
 use Rattle.psi_event.specs.Law.{IsClosed}
 use Rattle.psi_event.specs.Choice.{first_or}
 use Rattle.psi_guard.specs.declared.Part.{Part}
-use Rattle.psi_guard.specs.declared.GuardRefusal.{GuardRefusal}
 use Rattle.psi_guard.specs.Refusals.{AreGuards, refusal_at, refusal_after}
 use Rattle.psi_guard.specs.Refusals as guard
 use Rattle.psi_guard.specs.Rule.{guarded-closed}
 use Rattle.psi_guard.proofs.Accepted.{few_places, guards-empty, guards-push}
 use Rattle.psi_route.specs.declared.Source.{Source}
 use Rattle.psi_route.specs.declared.Full.TheVariants.{Lost}
-use Rattle.psi_route.specs.Accepted.{apart-from_repeats}
 use Rattle.psi_route.specs.Closed.{routed-closed}
 use Rattle.psi_kinds.specs.declared.kinds.Kind.{Kind}
 use Rattle.psi_kinds.specs.declared.kinds.Kind.TheVariants.{Arrival, Service, Index, Batch, Negative, Fork, Join, Guarded}
-use Rattle.psi_kinds.specs.declared.refusals.KindRefusal.{KindRefusal}
 use Rattle.psi_kinds.specs.Kinds.{lose, leave, may_serve, do_kind, IsKindOf, Does}
 use Rattle.psi_kinds.specs.Refusals.{refusal_of, refusal_of_parts, listed_refusal, of_parts, IsUnrefused, IsShort}
 use Rattle.psi_kinds.specs.Forms.{fork_parts, join_parts, form_of, function_of}
@@ -36,11 +35,7 @@ map-none f (Some a) is = absurd cc
 
 -- parts that aren't refused are those of a guarded event
 guards-after : (caps : List ℕ) (kept parts : List Part) → AreGuards caps kept → refusal_after caps kept parts ≡ None → AreGuards caps (kept ++ parts)
-guards-after caps kept [] guards is = subst (λ (p : List Part). AreGuards caps p) (sym (append_nil kept)) guards
-  where
-    append_nil : (xs : List Part) → xs ++ [] ≡ xs
-    append_nil [] = refl
-    append_nil (x ∷ xs) = ap (λ (ys : List Part). x ∷ ys) (append_nil xs)
+guards-after caps kept [] guards is = subst (λ (p : List Part). AreGuards caps p) (sym (append-nil kept)) guards
 guards-after caps kept (part ∷ parts) guards is =
     let both = first_or-none (refusal_at caps kept part) (refusal_after caps (kept ++ part ∷ []) parts) is in
     subst (λ (p : List Part). AreGuards caps p) (append_assoc kept (part ∷ []) parts)

@@ -4,13 +4,14 @@ use Rattle.std.specs.List.{list_any, list_all}
 use Rattle.std.proofs.Common.{ap, ◌∙◌, arith}
 use Rattle.std.proofs.lemmas.Bool.{le-leb, leb-true, and_parts}
 use Rattle.psi_state.specs.State.{IsBelow, AreCapacities}
+use Rattle.psi_state.specs.Repeats.{repeats}
 use Rattle.psi_guard.specs.declared.Part.{Part}
 use Rattle.psi_guard.specs.Guarding.{moved, allows, all_allow, guarded}
 use Rattle.psi_route.specs.declared.Source.{Source}
 use Rattle.psi_route.specs.declared.Full.{Full}
 use Rattle.psi_route.specs.declared.Full.TheVariants.{Lost}
 use Rattle.psi_route.specs.Routing.{routed}
-use Rattle.psi_route.specs.Refusals.{is_self_target, repeats}
+use Rattle.psi_route.specs.Refusals.{is_self_target}
 use Rattle.psi_kinds.specs.declared.kinds.Kind.{Kind}
 use Rattle.psi_kinds.specs.declared.kinds.Kind.TheVariants.{Arrival, Service, Index, Batch, Negative, Fork, Join, Guarded}
 use Rattle.psi_kinds.specs.Kinds.{has_room, is_held, serves, first_with_room, best, gain, lose, gain_each, lose_each, do_kind, IsSource, AreQueues, IsKindOf, Does}

@@ -3,13 +3,14 @@ use Rattle.std.specs.Prelude.{◌≡◌, ℕ, zero, suc, ◌<◌, ◌≤◌, Lis
 use Rattle.std.proofs.Common.{ap, sym, ◌∙◌, arith}
 use Rattle.std.proofs.lemmas.Bool.{lt-leb, le-ltb, ne_eqb, eqb-false, or_parts, or_from}
 use Rattle.psi_state.specs.State.{AreCapacities}
+use Rattle.psi_state.specs.Repeats.{repeats}
 use Rattle.psi_event.specs.Choice.{first_or}
 use Rattle.psi_guard.specs.declared.Part.{Part}
 use Rattle.psi_guard.specs.declared.GuardRefusal.TheVariants.{Empty, Repeated, OutOfRange}
 use Rattle.psi_guard.specs.Refusals as guard
 use Rattle.psi_guard.specs.Refusals.{is_out, names, is_empty, refusal_at, refusal_after, FitsQueue}
 use Rattle.psi_route.specs.declared.Source.{Source}
-use Rattle.psi_route.specs.Refusals.{is_self_target, repeats}
+use Rattle.psi_route.specs.Refusals.{is_self_target}
 use Rattle.psi_kinds.specs.Kinds.{IsSource, AreQueues}
 use Rattle.psi_kinds.specs.Refusals.{has_given}
 use Rattle.psi_kinds.specs.Forms.{losing_part, gaining_part, source_parts, fork_parts, join_parts}

@@ -1,4 +1,3 @@
-mod Judged
 mod Taking
 mod Chosen
 mod Routes

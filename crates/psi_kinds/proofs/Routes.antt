@@ -1,9 +1,10 @@
 -- What routes do to a state, in the words of the kinds that they are the form of.
-use Rattle.std.specs.Prelude.{◌≡◌, ◌≢◌, ℕ, zero, suc, ◌+◌, ◌-◌, ◌<◌, ◌≤◌, List, [], ◌∷◌, length, false, cond, nat_eq, Option, Some, None, slice_index, slice_set, ◌⊎◌, refl}
+use Rattle.std.specs.Prelude.{◌≡◌, ◌≢◌, ℕ, ◌+◌, ◌-◌, ◌<◌, ◌≤◌, List, [], ◌∷◌, length, false, cond, nat_eq, Option, Some, None, slice_index, slice_set, ◌⊎◌, refl}
 use Rattle.std.specs.List.{list_any}
 use Rattle.std.specs.Option.{option_map}
 use Rattle.std.proofs.Common.{inl, inr, ap, sym, ◌∙◌, subst, arith, get_or-set_other}
-use Rattle.std.proofs.lemmas.Bool.{cases_lt, cases_eq, le-leb, lt-leb, or_parts, eqb-false}
+use Rattle.std.proofs.lemmas.Bool.{cases_lt, cases_eq, le-leb, lt-leb, eqb-false}
+use Rattle.psi_state.specs.Repeats.{any-false}
 use Rattle.psi_route.specs.declared.Source.{Source}
 use Rattle.psi_route.specs.declared.Full.{Full}
 use Rattle.psi_route.specs.declared.Full.TheVariants.{Lost, Stay}
@@ -139,6 +140,4 @@ routed-with caps source size targets tables full x o apart choice =
 
 -- a queue that is found nowhere in a list is none of it
 pub absent : (queues : List ℕ) (s : ℕ) → list_any (λ q. nat_eq q s) queues ≡ false → (i : ℕ) → i < length queues → slice_index queues i ≢ s
-absent [] s is i small = absurd (omega arith)
-absent (q ∷ queues) s is zero small = eqb-false q s (or_parts (nat_eq q s) (list_any (λ p. nat_eq p s) queues) is).0
-absent (q ∷ queues) s is (suc i) small = absent queues s (or_parts (nat_eq q s) (list_any (λ p. nat_eq p s) queues) is).1 i (omega arith)
+absent queues s is i small = eqb-false (slice_index queues i) s (any-false (λ q. nat_eq q s) queues i is small)

@@ -6,7 +6,8 @@ use Rattle.psi_event.specs.Choice.{first_or}
 use Rattle.psi_guard.specs.Refusals as guard
 use Rattle.psi_guard.specs.declared.GuardRefusal.{GuardRefusal}
 use Rattle.psi_guard.specs.declared.GuardRefusal.TheVariants as part
-use Rattle.psi_route.specs.Refusals.{is_self_target, repeats, are_tables, is_size_off}
+use Rattle.psi_state.specs.Repeats.{repeats}
+use Rattle.psi_route.specs.Refusals.{is_self_target, are_tables, is_size_off}
 use Rattle.psi_kinds.specs.declared.kinds.Kind.{Kind}
 use Rattle.psi_kinds.specs.declared.kinds.Kind.TheVariants.{Arrival, Service, Index, Batch, Negative, Fork, Join, Guarded}
 use Rattle.psi_kinds.specs.declared.refusals.KindRefusal.{KindRefusal}

@@ -1,13 +1,12 @@
 //! Which kinds are refused for their lists and numbers.
 
-ghost use Rattle.std.specs.Prelude.{◌≡◌, ◌==◌, ◌<◌, ℕ, length, slice_index, nat_eq, nat_lt, drop, None, EachIndex, IfSome};
-ghost use Rattle.std.specs.List.{list_any};
-ghost use Rattle.psi_route.specs.Refusals.{repeats, is_self_target, are_tables, is_size_off};
+ghost use Rattle.std.specs.Prelude.{◌≡◌};
+ghost use Rattle.psi_route.specs.Refusals.{are_tables};
 ghost use Rattle.psi_kinds.specs.Kinds.{IsKindOf, AreQueues};
-ghost use Rattle.psi_kinds.specs.Refusals.{is_empty, lacks_queues, repeats_queue, targets_itself, lacks_tables, is_out_of_size, has_given, listed_refusal};
+ghost use Rattle.psi_kinds.specs.Refusals.{is_empty, lacks_queues, repeats_queue, targets_itself, lacks_tables, is_out_of_size, listed_refusal};
 
 use crate::{Kind, KindRefusal, Tables};
-use psi_route::Source;
+use psi_route::{is_self_target, is_size_off};
 use psi_state::{Queues, State};
 
 // The first cause for which the lists and numbers of a kind are refused.
@@ -61,13 +60,13 @@ fn repeats_queue(kind: &Kind) -> bool
     ensures { result ≡ repeats_queue kind.now }
 {
     match kind {
-        Kind::Arrival { to } => repeats(to),
-        Kind::Service { to, .. } => repeats(to),
-        Kind::Index { to, .. } => repeats(to),
-        Kind::Batch { to, .. } => repeats(to),
+        Kind::Arrival { to } => to.repeats(),
+        Kind::Service { to, .. } => to.repeats(),
+        Kind::Index { to, .. } => to.repeats(),
+        Kind::Batch { to, .. } => to.repeats(),
         Kind::Negative { .. } => false,
-        Kind::Fork { to, .. } => repeats(to),
-        Kind::Join { from, .. } => repeats(from),
+        Kind::Fork { to, .. } => to.repeats(),
+        Kind::Join { from, .. } => from.repeats(),
         Kind::Guarded { .. } => false,
     }
 }
@@ -78,17 +77,17 @@ fn targets_itself(kind: &Kind) -> bool
 {
     match kind {
         Kind::Arrival { .. } => false,
-        Kind::Service { from, to, .. } => stands_behind(to, 0, from.queue),
-        Kind::Index { from, to, .. } => has_source(to, *from),
+        Kind::Service { from, to, .. } => to.contains(from.queue),
+        Kind::Index { from, to, .. } => is_self_target(*from, to),
         Kind::Batch { .. } => false,
         Kind::Negative { from, on, .. } => match from {
             None => false,
             Some(source) => *on == source.queue,
         },
-        Kind::Fork { from, to } => has_source(to, *from),
+        Kind::Fork { from, to } => is_self_target(*from, to),
         Kind::Join { from, to } => match to {
             None => false,
-            Some(queue) => stands_behind(from, 0, *queue),
+            Some(queue) => from.contains(*queue),
         },
         Kind::Guarded { .. } => false,
     }
@@ -118,40 +117,6 @@ fn is_out_of_size(caps: &State, kind: &Kind) -> bool
     }
 }
 
-// Whether the source's queue stands in the list.
-fn has_source(queues: &Queues, source: Option<Source>) -> bool
-    ensures { result ≡ is_self_target source queues.now }
-{
-    match source {
-        None => false,
-        Some(source) => stands_behind(queues, 0, source.queue),
-    }
-}
-
-// Whether a queue stands in the list, at a place from `first` on.
-fn stands_behind(queues: &Queues, first: u8, queue: u8) -> bool
-    ensures { result ≡ list_any (λ q. nat_eq q queue) (drop first queues.now) }
-{
-    for i in first..queues.len() {
-        if queues.get(i) == queue {
-            return true;
-        }
-    }
-    false
-}
-
-// Whether a queue stands twice in the list.
-fn repeats(queues: &Queues) -> bool
-    ensures { result ≡ repeats queues.now }
-{
-    for i in 0..queues.len() {
-        if stands_behind(queues, i + 1, queues.get(i)) {
-            return true;
-        }
-    }
-    false
-}
-
 // Whether there is a table for each queue of the list, as long as the queue's capacity.
 fn are_tables(caps: &State, queues: &Queues, tables: &Tables) -> bool
     requires { AreQueues caps.now queues.now }
@@ -166,28 +131,4 @@ fn are_tables(caps: &State, queues: &Queues, tables: &Tables) -> bool
         }
     }
     true
-}
-
-// Whether the size is 0, above the capacity of a queue of the list, or 2 and more with a source or an empty
-// list.
-fn is_size_off(caps: &State, source: Option<Source>, size: u16, queues: &Queues) -> bool
-    requires { AreQueues caps.now queues.now }
-    ensures { result ≡ is_size_off caps.now source size queues.now }
-{
-    size == 0
-        || is_above_a_queue(caps, size, queues)
-        || (size >= 2 && (source.is_some() || queues.len() == 0))
-}
-
-// Whether the size is above the capacity of a queue of the list.
-fn is_above_a_queue(caps: &State, size: u16, queues: &Queues) -> bool
-    requires { AreQueues caps.now queues.now }
-    ensures { result ≡ list_any (λ q. nat_lt (slice_index caps.now q) size) queues.now }
-{
-    for i in 0..queues.len() {
-        if caps.get(queues.get(i)) < size {
-            return true;
-        }
-    }
-    false
 }

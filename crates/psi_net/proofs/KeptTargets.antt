@@ -4,7 +4,7 @@ use Rattle.std.proofs.Common.{subst, arith, length-append}
 use Rattle.std.specs.List.{list_all, list_any}
 use Rattle.std.proofs.lemmas.Bool.{and_parts, ltb-true}
 use Rattle.toml.specs.Data.{Data}
-use Rattle.psi_route.specs.Refusals.{repeats}
+use Rattle.psi_state.specs.Repeats.{repeats}
 use Rattle.psi_kinds.specs.Refusals.{is_empty}
 use Rattle.psi_net.specs.Refusal.{holds_or}
 use Rattle.psi_net.specs.Values.{array_in, each}

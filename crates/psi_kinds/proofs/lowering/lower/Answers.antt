@@ -1,10 +1,11 @@
 use Rattle.std.proofs.Common.{List, ℕ, sym, ◌∙◌, subst}
 use Rattle.std.specs.Prelude.{Option}
+use Rattle.std.proofs.lemmas.Result.{IfOk-weaker, IfErr-weaker, on_ok_weaker}
 use Rattle.psi_kinds.specs.declared.refusals.KindRefusal.{KindRefusal}
 use Rattle.psi_kinds.specs.Kinds.{Does}
 use Rattle.psi_kinds.specs.Forms.{upset_of}
 use Rattle.psi_kinds.specs.Refusals.{IsKindRefusal}
-use Rattle.psi_kinds.proofs.Accepting.{refused-listed, refusal-parts, if_ok-map, if_err-map, on_ok-map}
+use Rattle.psi_kinds.proofs.Accepting.{refused-listed, refusal-parts}
 use Rattle.psi_kinds.proofs.Does.{form-does, unrefused}
 use Rattle.psi_kinds.proofs.lowering.lower.Goals as goal
 
@@ -14,7 +15,7 @@ returns-in-Some-clause-refused c =
 
 pub returns-in-None-clause-does : goal.returns-in-None-clause-does
 returns-in-None-clause-does c =
-    if_ok-map c.event_of.result _ _ (λ event is. subst (λ (f : List ℕ → List ℕ). Does c.args.caps f c.args.kind.now) (sym is)
+    IfOk-weaker c.event_of.result _ _ (λ event is. subst (λ (f : List ℕ → List ℕ). Does c.args.caps f c.args.kind.now) (sym is)
     (form-does c.args.caps c.args.kind.now c.requires.caps c.requires.named c.note_length.ensures
     (unrefused c.args.caps c.args.kind.now (sym c.listed_refusal.ensures ∙ c.in-None.is)))) c.event_of.ensures.function
 
@@ -24,9 +25,9 @@ returns-in-None-clause-upset c = c.event_of.ensures.upset
 
 pub returns-in-None-clause-accepted : goal.returns-in-None-clause-accepted
 returns-in-None-clause-accepted c =
-    on_ok-map c.event_of.result _ _ (λ is. sym (refusal-parts c.args.caps c.args.kind.now (sym c.listed_refusal.ensures ∙ c.in-None.is)) ∙ is) c.event_of.ensures.accepted
+    on_ok_weaker c.event_of.result (λ is. sym (refusal-parts c.args.caps c.args.kind.now (sym c.listed_refusal.ensures ∙ c.in-None.is)) ∙ is) c.event_of.ensures.accepted
 
 pub returns-in-None-clause-refused : goal.returns-in-None-clause-refused
 returns-in-None-clause-refused c =
-    if_err-map c.event_of.result _ _ (λ refusal is. subst (λ (cause : Option KindRefusal). IsKindRefusal refusal cause)
+    IfErr-weaker c.event_of.result _ _ (λ refusal is. subst (λ (cause : Option KindRefusal). IsKindRefusal refusal cause)
     (refusal-parts c.args.caps c.args.kind.now (sym c.listed_refusal.ensures ∙ c.in-None.is)) is) c.event_of.ensures.refused
