@@ -1,22 +1,30 @@
 -- Choosing a target: by the list alone, and by the keys.
-use Rattle.std.proofs.Common.{◌≡◌, ◌≢◌, ℕ, suc, ◌+◌, ◌<◌, ◌≤◌, List, length, slice_index, Option, Some, None, IfSome, nat_le, Bool, true, false, inl, inr, ap, sym, ◌∙◌, subst, arith}
+use Rattle.std.proofs.Common.{◌≡◌, ◌≢◌, ℕ, suc, ◌+◌, ◌<◌, ◌≤◌, List, length, slice_index, slice_set, Option, Some, None, IfSome, nat_le, Bool, true, false, inl, inr, ap, sym, ◌∙◌, subst, arith}
 use Rattle.std.proofs.lemmas.Bool.{cases_lt, leb-true, leb-false}
-use Rattle.psi_route.specs.Routing.{Shape, Routing, IsRouting, routing, has_room, best, moved, routed, HasRoom}
-use Rattle.psi_route.specs.Acting.{Leads, NoRoom, leads-first, leads-still, leads-anew, best-from_leads, best-is, best-none, best-place, act-serves, act-idle, is-room}
+use Rattle.psi_route.specs.Routing.{Shape, Routing, IsRouting, routing, best, taken, moved, routed, HasRoom}
+use Rattle.psi_route.specs.Acting.{Leads, NoRoom, leads-first, leads-still, leads-anew, best-from_leads, best-is, best-none, best-place, act-serves, act-idle}
 use Rattle.psi_route.specs.Plain.{first_best}
 use Rattle.psi_route.specs.Keys.{key_of, IsLesser}
 use Rattle.psi_route.specs.Leader.{IsLeading, IsLeader}
 use Rattle.psi_route.specs.declared.keys.Key.{Key}
 
--- the first place with room, as a loop finds it
-pub first-is : (s : Shape) (x : List ℕ) (j : ℕ) → length s.tables ≡ 0 → j < length s.targets → has_room (routing s) x j ≡ true
-    → NoRoom (routing s) x j → Some j ≡ best (routing s) x
-first-is s x j plain place room before =
-    sym (best-is (routing s) x j (first_best s x j plain place (is-room (routing s) x j room) before))
-
 -- none has room
 pub none-is : (s : Shape) (x : List ℕ) (n : ℕ) → length s.targets ≤ n → NoRoom (routing s) x n → None ≡ best (routing s) x
 none-is s x n all none_has = sym (best-none (routing s) x (record { each = λ i small. none_has.each i (omega arith) }))
+
+-- the customers join the first place with room, where there are no tables
+pub moved-first : (s : Shape) (x : List ℕ) (i q held : ℕ) → length s.tables ≡ 0 → i < length s.targets → q ≡ slice_index s.targets i
+    → held ≡ slice_index x (slice_index s.targets i) → HasRoom (routing s) i (slice_index x (slice_index s.targets i)) → NoRoom (routing s) x i
+    → slice_set (taken (routing s) x) q (held + s.size) ≡ moved (routing s) x (best (routing s) x)
+moved-first s x i q held plain small at is_held room before =
+    ap (λ k. slice_set (taken (routing s) x) k (held + s.size)) at
+    ∙ (ap (λ v. slice_set (taken (routing s) x) (slice_index s.targets i) (v + s.size)) is_held
+    ∙ ap (λ o. moved (routing s) x o) (sym (best-is (routing s) x i (first_best s x i plain small room before))))
+
+-- and none where none has room
+pub moved-none : (s : Shape) (x : List ℕ) (n : ℕ) → length s.targets ≤ n → NoRoom (routing s) x n
+    → moved (routing s) x None ≡ moved (routing s) x (best (routing s) x)
+moved-none s x n all none_has = ap (λ o. moved (routing s) x o) (none-is s x n all none_has)
 
 -- what is chosen is a place with room
 pub chosen-place : (s : Shape) (x : List ℕ) (o : Option ℕ) → o ≡ best (routing s) x → IfSome o (λ j. j < length s.targets)

@@ -6,7 +6,7 @@ use crate::parts::Full;
 use psi_state::State;
 
 impl Route {
-    ghost use Rattle.std.specs.Prelude.{◌≡◌, ◌+◌, ◌<◌, ◌≤◌, length, slice_index, nat_le, OnSome, IfSome};
+    ghost use Rattle.std.specs.Prelude.{◌≡◌, ◌+◌, ◌<◌, ◌≤◌, length, slice_index, nat_le, IfSome, None};
     ghost use Rattle.psi_route.specs.Routing.{routing, has_room, best, taken, moved, routed, HasRoom};
     ghost use Rattle.psi_route.specs.Route.{shape_of};
     ghost use Rattle.psi_route.specs.Leader.{IsLeader};
@@ -16,9 +16,14 @@ impl Route {
         requires { length x.old ≡ length self.now.caps }
         ensures { x.new ≡ routed (shape_of self.now) x.old }
     {
-        if self.serves(x) {
-            let chosen = self.best(x);
-            self.move_to(x, chosen);
+        if !self.serves(x) {
+            return;
+        }
+        if self.is_plain() {
+            self.join_first(x);
+        } else {
+            let chosen = self.least_key(x);
+            self.join(x, chosen);
         }
     }
 
@@ -42,33 +47,26 @@ impl Route {
         self.held(x, i) as u32 + self.size as u32 <= self.cap(i) as u32
     }
 
-    // The place of the chosen target, if any has room.
-    pub(crate) fn best(&self, x: &State) -> Option<u8>
-        requires { length x.now ≡ length self.now.caps }
-        ensures { result ≡ best (routing (shape_of self.now)) x.now }
-    {
-        if self.is_plain() {
-            self.first_with_room(x)
-        } else {
-            self.least_key(x)
-        }
-    }
-
-    // The same without tables, where each key is the place.
-    fn first_with_room(&self, x: &State) -> Option<u8>
-        requires length { length x.now ≡ length self.now.caps }
+    // Lets the customers join the first target with room, where the source serves and there are no tables.
+    fn join_first(&self, x: &mut State)
+        requires length { length x.old ≡ length self.now.caps }
         requires plain { length self.now.tables.items ≡ 0 }
-        ensures { result ≡ best (routing (shape_of self.now)) x.now }
+        requires serve { let r = routing (shape_of self.now) in r.least ≤ slice_index x.old r.source }
+        ensures { x.new ≡ moved (routing (shape_of self.now)) x.old (best (routing (shape_of self.now)) x.old) }
     {
         for i in 0..self.places() {
-            if self.has_room(x, i) {
-                return Some(i);
+            let queue = self.target(i);
+            let held = x.get(queue);
+            if held <= self.caps.get(queue) - self.size {
+                self.take_one(x);
+                x.set(queue, held + self.size);
+                return;
             }
         }
-        None
+        self.turn_away(x);
     }
 
-    // The same by the keys.
+    // The place of the chosen target by the keys, if any has room.
     fn least_key(&self, x: &State) -> Option<u8>
         requires { length x.now ≡ length self.now.caps }
         ensures { result ≡ best (routing (shape_of self.now)) x.now }
@@ -97,35 +95,44 @@ impl Route {
         Key::lesser(found, Some(key))
     }
 
-    // Lets the customers join the target at the chosen place; without one, lets a customer leave the source
-    // who is lost or has nowhere to go.
-    fn move_to(&self, x: &mut State, chosen: Option<u8>)
+    // Lets the customers join the target at the chosen place, if there is one, where the source serves.
+    fn join(&self, x: &mut State, chosen: Option<u8>)
         requires length { length x.old ≡ length self.now.caps }
+        requires serve { let r = routing (shape_of self.now) in r.least ≤ slice_index x.old r.source }
         requires place { IfSome chosen (λ j. j < length self.now.targets) }
         requires room { IfSome chosen (λ j. HasRoom (routing (shape_of self.now)) j (slice_index x.old (slice_index self.now.targets j))) }
         ensures { x.new ≡ moved (routing (shape_of self.now)) x.old chosen }
     {
         match chosen {
             Some(place) => {
-                let number = self.held(x, place) + self.size;
+                let queue = self.target(place);
+                let number = x.get(queue) + self.size;
                 self.take_one(x);
-                x.set(self.target(place), number);
+                x.set(queue, number);
             }
-            None => {
-                if self.full == Full::Lost || self.places() == 0 {
-                    self.take_one(x);
-                }
-            }
+            None => self.turn_away(x),
         }
     }
 
-    // Lets one customer leave the source, if there is one.
+    // Lets a customer leave the source for whom no target has room, if it is lost or has nowhere to go.
+    fn turn_away(&self, x: &mut State)
+        requires length { length x.old ≡ length self.now.caps }
+        requires serve { let r = routing (shape_of self.now) in r.least ≤ slice_index x.old r.source }
+        ensures { x.new ≡ moved (routing (shape_of self.now)) x.old None }
+    {
+        if self.full == Full::Lost || self.places() == 0 {
+            self.take_one(x);
+        }
+    }
+
+    // Lets one customer leave the source, if there is one; it serves.
     fn take_one(&self, x: &mut State)
-        requires { length x.old ≡ length self.now.caps }
+        requires length { length x.old ≡ length self.now.caps }
+        requires serve { let r = routing (shape_of self.now) in r.least ≤ slice_index x.old r.source }
         ensures { x.new ≡ taken (routing (shape_of self.now)) x.old }
     {
         if let Some(source) = self.source {
-            x.set(source.queue, x.get(source.queue).saturating_sub(1));
+            x.set(source.queue, x.get(source.queue) - 1);
         }
     }
 }
