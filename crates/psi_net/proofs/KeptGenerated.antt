@@ -10,7 +10,8 @@ use Rattle.psi_rate.specs.Rates.{total}
 use Rattle.psi_route.specs.declared.Source.{Source}
 use Rattle.psi_route.specs.declared.Full.TheVariants.{Lost}
 use Rattle.psi_kinds.specs.declared.Kind.TheVariants.{Arrival, Service, Batch, Negative}
-use Rattle.psi_reward.specs.Refusing.{IsSmall, is_none_listed, has_repeat}
+use Rattle.psi_state.specs.Repeats.{repeats}
+use Rattle.psi_reward.specs.Refusing.{IsSmall, is_none_listed}
 use Rattle.psi_reward.specs.declared.RewardKind.TheVariants.{Linear}
 use Rattle.psi_net.specs.Targets.{are_below}
 use Rattle.psi_net.specs.Expansion.{source_of, servers_at, expanded}
@@ -235,13 +236,13 @@ numbers_below : (first n most : ℕ) → first + n ≤ most → All (λ q. q < m
 numbers_below first zero most small = All-nil (λ q. q < most)
 numbers_below first (suc n) most small = All-cons (λ q. q < most) first (numbers_from (suc first) n) (omega arith) (numbers_below (suc first) n most (omega arith))
 
-absent : (q first n : ℕ) → q < first → list_any (nat_eq q) (numbers_from first n) ≡ false
+absent : (q first n : ℕ) → q < first → list_any (λ p. nat_eq p q) (numbers_from first n) ≡ false
 absent q first zero less = refl
-absent q first (suc n) less = either_false (nat_eq q first) (list_any (nat_eq q) (numbers_from (suc first) n)) (ne_eqb q first (λ e. omega arith)) (absent q (suc first) n (omega arith))
+absent q first (suc n) less = either_false (nat_eq first q) (list_any (λ p. nat_eq p q) (numbers_from (suc first) n)) (ne_eqb first q (λ e. omega arith)) (absent q (suc first) n (omega arith))
 
-numbers_once : (first n : ℕ) → has_repeat (numbers_from first n) ≡ false
+numbers_once : (first n : ℕ) → repeats (numbers_from first n) ≡ false
 numbers_once first zero = refl
-numbers_once first (suc n) = either_false (list_any (nat_eq first) (numbers_from (suc first) n)) (has_repeat (numbers_from (suc first) n)) (absent first (suc first) n (omega arith)) (numbers_once (suc first) n)
+numbers_once first (suc n) = either_false (list_any (λ p. nat_eq p first) (numbers_from (suc first) n)) (repeats (numbers_from (suc first) n)) (absent first (suc first) n (omega arith)) (numbers_once (suc first) n)
 
 numbers_some : (n : ℕ) → 1 ≤ n → is_none_listed (numbers_from 0 n) ≡ false
 numbers_some zero some = absurd (omega arith)
