@@ -47,7 +47,7 @@ keeping r caps l h x q fit between refused =
       })
     ]
 
-pub low_inside : (r : Rule) (caps : List ℕ) (f : List ℕ → List ℕ) (l h x : List ℕ) (q u : ℕ) → IsRuleOf r caps f → IsBoxOf r caps l h → IsBetween l h x → q < r.queues
+low_inside : (r : Rule) (caps : List ℕ) (f : List ℕ → List ℕ) (l h x : List ℕ) (q u : ℕ) → IsRuleOf r caps f → IsBoxOf r caps l h → IsBetween l h x → q < r.queues
     → IsLow r l h q u → u ≤ slice_index (f x) q
 low_inside r caps f l h x q u is fit between place low =
     let made = is.makes x (below-through x h caps between.high fit.within) in
@@ -62,7 +62,7 @@ low_inside r caps f l h x q u is fit between place low =
           let end : u ≤ slice_index x q = low.kept (slice_index x q) start stop (keeping r caps l h x q fit between b.0) in omega arith)
     ]
 
-pub high_inside : (r : Rule) (caps : List ℕ) (f : List ℕ → List ℕ) (l h x : List ℕ) (q w : ℕ) → IsRuleOf r caps f → IsBoxOf r caps l h → IsBetween l h x → q < r.queues
+high_inside : (r : Rule) (caps : List ℕ) (f : List ℕ → List ℕ) (l h x : List ℕ) (q w : ℕ) → IsRuleOf r caps f → IsBoxOf r caps l h → IsBetween l h x → q < r.queues
     → IsHigh r l h q w → slice_index (f x) q ≤ w
 high_inside r caps f l h x q w is fit between place high =
     let made = is.makes x (below-through x h caps between.high fit.within) in
