@@ -1,20 +1,16 @@
 -- The buckets of a table: chain 0 has the free nodes, chain 1 those that wait, and each other chain is a bucket.
-use Rattle.std.specs.Prelude.{◌≡◌, ℕ, zero, suc, ◌+◌, ◌-◌, ◌*◌, ◌/◌, ◌%◌, ◌^◌, ◌<◌, ◌≤◌, List, [], ◌∷◌, ◌++◌, length, slice_index, drop, refl}
-use Rattle.std.proofs.Common.{inl, inr, ap, sym, ◌∙◌, subst, arith, length-append, drop_of_length-le}
+use Rattle.std.specs.Prelude.{◌≡◌, ℕ, zero, suc, ◌+◌, ◌-◌, ◌*◌, ◌/◌, ◌%◌, ◌^◌, ◌<◌, ◌≤◌, List, [], ◌∷◌, ◌++◌, length, refl}
+use Rattle.std.specs.Int.{div_ceil}
+use Rattle.std.proofs.Common.{inl, inr, sym, subst, arith, length-append}
 use Rattle.std.proofs.Math.Nat.{mod-lt, div-lt_iff_lt-mul, mul_comm, mul-lt-mul_of_pos_right}
-use Rattle.std.proofs.Math.Seq.{drop-cons}
 use Rattle.psi_state.specs.Members.{In, In-append, In-append_left, In-append_right}
 use Rattle.psi_state.specs.Ascending.{IsDistinct}
+use Rattle.psi_state.specs.Hashing.{quad, mixed, hash}
 use Rattle.psi_pool.specs.Chains.{chain, rest, lengths}
-
--- the hash of a state, by multiplication (Knuth, The Art of Computer Programming, volume 3, section 6.4)
-abbrev pub hash_from : ℕ → List ℕ → ℕ
-hash_from h [] = h
-hash_from h (v ∷ x) = hash_from ((h + v) % 2 ^ 32 * 2654435769 % 2 ^ 32) x
 
 -- the bucket of a state where so many chains are in use
 unfoldable pub bucket : ℕ → List ℕ → ℕ
-bucket chains x = hash_from 0 x * (chains - 2) / 2 ^ 32 + 2
+bucket chains x = hash x * (chains - 2) / 2 ^ 32 + 2
 
 -- one chain after another
 abbrev pub flat : {A : Type 0} → List (List A) → List A
@@ -30,9 +26,14 @@ pub record IsBuckets (cs : List (List (List ℕ))) (used : ℕ) : Type 0 where
   pub own : (b : ℕ) (z : List ℕ) → 2 ≤ b → In z (chain cs b) → bucket used z ≡ b
   pub once : (b : ℕ) → 2 ≤ b → IsDistinct (chain cs b)
 
-hash_from-small : (h : ℕ) (x : List ℕ) → h < 2 ^ 32 → hash_from h x < 2 ^ 32
-hash_from-small h [] small = small
-hash_from-small h (v ∷ x) small = hash_from-small ((h + v) % 2 ^ 32 * 2654435769 % 2 ^ 32) x (mod-lt ((h + v) % 2 ^ 32 * 2654435769) (omega arith))
+mixed-small : (x : List ℕ) (n : ℕ) → mixed x n < 2 ^ 64
+mixed-small x zero = omega arith
+mixed-small x (suc n) = mod-lt ((mixed x n + quad x n) % 2 ^ 64 * 11400714819323198485) (omega arith)
+
+-- a hash has 32 bits
+hash-small : (x : List ℕ) → hash x < 2 ^ 32
+unfolding hash
+hash-small x = (let small = mixed-small x (div_ceil (length x) 4) in omega arith)
 
 pub bucket-low : (chains : ℕ) (x : List ℕ) → 2 ≤ bucket chains x
 unfolding bucket
@@ -41,11 +42,11 @@ bucket-low chains x = omega arith
 pub bucket-high : (chains : ℕ) (x : List ℕ) → 3 ≤ chains → bucket chains x < chains
 unfolding bucket
 bucket-high chains x enough =
-    let small : hash_from 0 x < 2 ^ 32 = hash_from-small 0 x (omega arith) in
+    let small : hash x < 2 ^ 32 = hash-small x in
     let some : 0 < chains - 2 = omega arith in
-    let product : hash_from 0 x * (chains - 2) < (chains - 2) * 2 ^ 32 = subst (λ n. hash_from 0 x * (chains - 2) < n) (mul_comm (2 ^ 32) (chains - 2)) (mul-lt-mul_of_pos_right small some) in
+    let product : hash x * (chains - 2) < (chains - 2) * 2 ^ 32 = subst (λ n. hash x * (chains - 2) < n) (mul_comm (2 ^ 32) (chains - 2)) (mul-lt-mul_of_pos_right small some) in
     let width : 0 < 2 ^ 32 = omega arith in
-    let quotient : hash_from 0 x * (chains - 2) / 2 ^ 32 < chains - 2 = (div-lt_iff_lt-mul width).1 product in
+    let quotient : hash x * (chains - 2) / 2 ^ 32 < chains - 2 = (div-lt_iff_lt-mul width).1 product in
     omega arith
 
 -- where a chain begins
@@ -127,22 +128,3 @@ held-distinct (c ∷ d ∷ cs) used buckets =
     (let first = buckets.own (suc (suc a)) z (omega arith) here in
     let second = buckets.own (suc (suc b)) z (omega arith) there in
     omega arith))
-
--- The hash is computed number by number.
-pub hash-start : (x : List ℕ) → hash_from 0 (drop 0 x) ≡ hash_from 0 x
-hash-start x = refl
-
-pub hash-next : (x : List ℕ) (i h v : ℕ) → i < length x → v ≡ slice_index x i → hash_from h (drop i x) ≡ hash_from 0 x
-    → hash_from ((h + v) % 2 ^ 32 * 2654435769 % 2 ^ 32) (drop (i + 1) x) ≡ hash_from 0 x
-hash-next x i h v within read left =
-    let next : i + 1 ≡ suc i = omega arith in
-    ap (λ w. hash_from ((h + w) % 2 ^ 32 * 2654435769 % 2 ^ 32) (drop (i + 1) x)) read
-    ∙ (ap (λ k. hash_from ((h + slice_index x i) % 2 ^ 32 * 2654435769 % 2 ^ 32) (drop k x)) next
-    ∙ (sym (ap (λ (xs : List ℕ). hash_from h xs) (drop-cons x i 0 within)) ∙ left))
-
-pub hash-end : (x : List ℕ) (i h chains : ℕ) → length x ≤ i → hash_from h (drop i x) ≡ hash_from 0 x → h * (chains - 2) / 2 ^ 32 + 2 ≡ bucket chains x
-unfolding bucket
-hash-end x i h chains all left =
-    let none : drop i x ≡ [] = drop_of_length-le x all in
-    let same : h ≡ hash_from 0 x = sym (ap (λ (xs : List ℕ). hash_from h xs) none) ∙ left in
-    ap (λ k. k * (chains - 2) / 2 ^ 32 + 2) same

@@ -5,11 +5,8 @@ ghost use Rattle.psi_pool.specs.Buckets.{bucket};
 
 use psi_state::State;
 
-// The odd number nearest to 2^32 over the golden ratio: products with it differ in their high bits
-// (multiplicative hashing, Knuth, volume 3, section 6.4).
-const MULTIPLIER: u32 = 2_654_435_769;
-
 /// The bucket of a state where so many chains are in use: one of the chains from 2 on.
+#[tactic(auto, unfolding(crate::specs::Buckets::bucket))]
 pub(crate) fn bucket_of(x: &State, used: usize) -> usize
     requires enough { 3 ≤ used }
     requires few { used ≤ 4099 }
@@ -17,11 +14,5 @@ pub(crate) fn bucket_of(x: &State, used: usize) -> usize
     ensures low { 2 ≤ result }
     ensures high { result < used }
 {
-    let mut hash: u32 = 0;
-    for place in 0..x.len() {
-        hash = hash
-            .wrapping_add(x.get(place) as u32)
-            .wrapping_mul(MULTIPLIER);
-    }
-    ((hash as u64 * (used as u64 - 2)) >> 32) as usize + 2
+    ((x.hash() as u64 * (used as u64 - 2)) >> 32) as usize + 2
 }
