@@ -7,23 +7,23 @@ use Rattle.psi_pool.specs.Buckets.{held, bucket}
 use Rattle.psi_pool.specs.Pooled.{Pooled}
 use Rattle.psi_pool.specs.Holding.{IsPool, pool-back, pool-free}
 
-module _ (cs : List (List (List ℕ))) (x : List ℕ) (b used : ℕ) (found : Bool) (place : b ≡ bucket used x)
+module _ (cs : List (List (List ℕ))) (x : List ℕ) (b start used : ℕ) (found : Bool) (place : b ≡ bucket start used x)
     (told : IsTrue found ↔ In x (chain cs b)) where
-  pub insert-here : found ≡ true → In x (chain cs (bucket used x))
+  pub insert-here : found ≡ true → In x (chain cs (bucket start used x))
   insert-here is = subst (λ k. In x (chain cs k)) place (told.0 is)
 
-  pub insert-absent : found ≡ false → In x (chain cs (bucket used x)) → ⊥
+  pub insert-absent : found ≡ false → In x (chain cs (bucket start used x)) → ⊥
   insert-absent empty member = (let yes : found ≡ true = told.1 (subst (λ k. In x (chain cs k)) (sym place) member) in absurd cc)
 
-  pub insert-free : (pool : Pooled) (len most room : ℕ) → IsPool cs used len most room → record { most = most; states = ascending (held cs) } ≡ pool
+  pub insert-free : (pool : Pooled) (len most room : ℕ) → IsPool cs start used len most room → record { most = most; states = ascending (held cs) } ≡ pool
       → (length pool.states < pool.most) ⊎ In x pool.states → found ≡ false → 1 ≤ length (chain cs 0)
   insert-free pool len most room keeps is fits empty =
       let states : ascending (held cs) ≡ pool.states = ap (λ (p : Pooled). p.states) is in
       let mosts : most ≡ pool.most = ap (λ (p : Pooled). p.most) is in
       let count_same = ap (λ (xs : List (List ℕ)). length xs) states in
       elim fits [
-        | inl fewer ↦ pool-free cs used len most room keeps (omega arith)
-        | inr there ↦ absurd (insert-absent empty (pool-back cs used x keeps.buckets (subst (λ (xs : List (List ℕ)). In x xs) (sym states) there)))
+        | inl fewer ↦ pool-free cs start used len most room keeps (omega arith)
+        | inr there ↦ absurd (insert-absent empty (pool-back cs start used x keeps.buckets (subst (λ (xs : List (List ℕ)). In x xs) (sym states) there)))
       ]
 
 module _ (cs put : List (List (List ℕ))) (x : List ℕ) (is : put ≡ with_first cs 0 x) (small : 0 < length cs) where

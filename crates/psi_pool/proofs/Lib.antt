@@ -1,5 +1,5 @@
 pub mod Reading
 pub mod Seeking
-pub mod Relinking
+pub mod Gathering
 pub mod Inserting
 pub mod Within

@@ -1,5 +1,5 @@
--- The buckets of a table: chain 0 has the free nodes, chain 1 those that wait, and each other chain is a bucket.
-use Rattle.std.specs.Prelude.{◌≡◌, ℕ, zero, suc, ◌+◌, ◌-◌, ◌*◌, ◌/◌, ◌%◌, ◌^◌, ◌<◌, ◌≤◌, List, [], ◌∷◌, ◌++◌, length, refl}
+-- The buckets of a table: chain 0 has the free nodes, and each other chain is a bucket of one of two halves.
+use Rattle.std.specs.Prelude.{◌≡◌, ℕ, zero, suc, ◌+◌, ◌-◌, ◌*◌, ◌/◌, ◌%◌, ◌^◌, ◌<◌, ◌≤◌, List, [], ◌∷◌, ◌++◌, ◌⊎◌, length, refl}
 use Rattle.std.specs.Int.{div_ceil}
 use Rattle.std.proofs.Common.{inl, inr, sym, subst, arith, length-append}
 use Rattle.std.proofs.Math.Nat.{mod-lt, div-lt_iff_lt-mul, mul_comm, mul-lt-mul_of_pos_right}
@@ -8,9 +8,9 @@ use Rattle.psi_state.specs.Ascending.{IsDistinct}
 use Rattle.psi_state.specs.Hashing.{quad, mixed, hash}
 use Rattle.psi_pool.specs.Chains.{chain, rest, lengths}
 
--- the bucket of a state where so many chains are in use
-unfoldable pub bucket : ℕ → List ℕ → ℕ
-bucket chains x = hash x * (chains - 2) / 2 ^ 32 + 2
+-- the bucket of a state in the half that begins with this chain, where so many of its buckets are in use
+unfoldable pub bucket : ℕ → ℕ → List ℕ → ℕ
+bucket start used x = hash x * used / 2 ^ 32 + start
 
 -- one chain after another
 abbrev pub flat : {A : Type 0} → List (List A) → List A
@@ -19,12 +19,20 @@ flat (c ∷ cs) = c ++ flat cs
 
 -- the states of all buckets
 abbrev pub held : List (List (List ℕ)) → List (List ℕ)
-held cs = flat (rest (rest cs))
+held cs = flat (rest cs)
 
--- where so many chains are in use, each state is in its own bucket, and there once
-pub record IsBuckets (cs : List (List (List ℕ))) (used : ℕ) : Type 0 where
-  pub own : (b : ℕ) (z : List ℕ) → 2 ≤ b → In z (chain cs b) → bucket used z ≡ b
-  pub once : (b : ℕ) → 2 ≤ b → IsDistinct (chain cs b)
+-- each state is in its own bucket, and there once
+pub record IsBuckets (cs : List (List (List ℕ))) (start used : ℕ) : Type 0 where
+  pub own : (b : ℕ) (z : List ℕ) → 1 ≤ b → In z (chain cs b) → bucket start used z ≡ b
+  pub once : (b : ℕ) → 1 ≤ b → IsDistinct (chain cs b)
+
+-- the buckets in use of the half that begins with this chain
+abbrev pub IsOf : ℕ → ℕ → ℕ → Type 0
+IsOf start used b = (start ≤ b) × (b < start + used)
+
+-- the other chains
+abbrev pub IsApart : ℕ → ℕ → ℕ → Type 0
+IsApart start used c = (c < start) ⊎ (start + used ≤ c)
 
 mixed-small : (x : List ℕ) (n : ℕ) → mixed x n < 2 ^ 64
 mixed-small x zero = omega arith
@@ -35,18 +43,18 @@ hash-small : (x : List ℕ) → hash x < 2 ^ 32
 unfolding hash
 hash-small x = (let small = mixed-small x (div_ceil (length x) 4) in omega arith)
 
-pub bucket-low : (chains : ℕ) (x : List ℕ) → 2 ≤ bucket chains x
+pub bucket-low : (start used : ℕ) (x : List ℕ) → start ≤ bucket start used x
 unfolding bucket
-bucket-low chains x = omega arith
+bucket-low start used x = omega arith
 
-pub bucket-high : (chains : ℕ) (x : List ℕ) → 3 ≤ chains → bucket chains x < chains
+pub bucket-high : (start used : ℕ) (x : List ℕ) → 1 ≤ used → bucket start used x < start + used
 unfolding bucket
-bucket-high chains x enough =
+bucket-high start used x enough =
     let small : hash x < 2 ^ 32 = hash-small x in
-    let some : 0 < chains - 2 = omega arith in
-    let product : hash x * (chains - 2) < (chains - 2) * 2 ^ 32 = subst (λ n. hash x * (chains - 2) < n) (mul_comm (2 ^ 32) (chains - 2)) (mul-lt-mul_of_pos_right small some) in
+    let some : 0 < used = omega arith in
+    let product : hash x * used < used * 2 ^ 32 = subst (λ n. hash x * used < n) (mul_comm (2 ^ 32) used) (mul-lt-mul_of_pos_right small some) in
     let width : 0 < 2 ^ 32 = omega arith in
-    let quotient : hash x * (chains - 2) / 2 ^ 32 < chains - 2 = (div-lt_iff_lt-mul width).1 product in
+    let quotient : hash x * used / 2 ^ 32 < used = (div-lt_iff_lt-mul width).1 product in
     omega arith
 
 -- where a chain begins
@@ -63,45 +71,41 @@ chain-append z (c ∷ cs) member = elim (In-append z c (flat cs) member) [
 ]
 
 -- what is in a bucket is held
-pub In-held : (z : List ℕ) (cs : List (List (List ℕ))) (b : ℕ) → 2 ≤ b → In z (chain cs b) → In z (held cs)
+pub In-held : (z : List ℕ) (cs : List (List (List ℕ))) (b : ℕ) → 1 ≤ b → In z (chain cs b) → In z (held cs)
 In-held z [] b low member = absurd member
-In-held z (c ∷ []) zero low member = absurd (omega arith)
-In-held z (c ∷ []) (suc b) low member = absurd member
-In-held z (c ∷ d ∷ cs) zero low member = absurd (omega arith)
-In-held z (c ∷ d ∷ cs) (suc zero) low member = absurd (omega arith)
-In-held z (c ∷ d ∷ cs) (suc (suc b)) low member = append-chain z cs b member
+In-held z (c ∷ cs) zero low member = absurd (omega arith)
+In-held z (c ∷ cs) (suc b) low member = append-chain z cs b member
 
 -- and what is held is in a bucket
-pub In-of_held : (z : List ℕ) (cs : List (List (List ℕ))) → In z (held cs) → (b : ℕ) × (2 ≤ b) × In z (chain cs b)
+pub In-of_held : (z : List ℕ) (cs : List (List (List ℕ))) → In z (held cs) → (b : ℕ) × (1 ≤ b) × In z (chain cs b)
 In-of_held z [] member = absurd member
-In-of_held z (c ∷ []) member = absurd member
-In-of_held z (c ∷ d ∷ cs) member = (let found = chain-append z cs member in (suc (suc found.0), omega arith, found.1))
+In-of_held z (c ∷ cs) member = (let found = chain-append z cs member in (suc found.0, omega arith, found.1))
 
 -- in its own
-pub In-own : (z : List ℕ) (cs : List (List (List ℕ))) (used : ℕ) → IsBuckets cs used → In z (held cs) → In z (chain cs (bucket used z))
-In-own z cs used buckets member =
+pub In-own : (z : List ℕ) (cs : List (List (List ℕ))) (start used : ℕ) → IsBuckets cs start used → In z (held cs) → In z (chain cs (bucket start used z))
+In-own z cs start used buckets member =
     let found = In-of_held z cs member in
     subst (λ b. In z (chain cs b)) (sym (buckets.own found.0 z found.1 found.2)) found.2
 
-pub In-bucket : (z : List ℕ) (cs : List (List (List ℕ))) (used : ℕ) → In z (chain cs (bucket used z)) → In z (held cs)
-In-bucket z cs used member = In-held z cs (bucket used z) (bucket-low used z) member
+pub In-bucket : (z : List ℕ) (cs : List (List (List ℕ))) (start used : ℕ) → 1 ≤ start → In z (chain cs (bucket start used z)) → In z (held cs)
+In-bucket z cs start used some member = (let low = bucket-low start used z in In-held z cs (bucket start used z) (omega arith) member)
 
 -- no bucket has a state but those in use
-pub own-past : (z : List ℕ) (cs : List (List (List ℕ))) (used b : ℕ) → IsBuckets cs used → 3 ≤ used → used ≤ b → In z (chain cs b) → ⊥
-own-past z cs used b buckets enough past member =
-    let own = buckets.own b z (omega arith) member in
-    let high = bucket-high used z enough in
-    omega arith
+pub own-used : (z : List ℕ) (cs : List (List (List ℕ))) (start used b : ℕ) → IsBuckets cs start used → 1 ≤ used → 1 ≤ b → In z (chain cs b) → IsOf start used b
+own-used z cs start used b buckets enough some member =
+    let own = buckets.own b z some member in
+    let low = bucket-low start used z in
+    let high = bucket-high start used z enough in
+    (omega arith, omega arith)
 
 length-flat : (cs : List (List (List ℕ))) → length (flat cs) ≡ lengths cs
 length-flat [] = refl
 length-flat (c ∷ cs) = (let both = length-append c (flat cs) in let rest = length-flat cs in omega arith)
 
--- each node is free, or waits, or is held
-pub lengths-held : (cs : List (List (List ℕ))) → lengths cs ≡ length (chain cs 0) + length (chain cs 1) + length (held cs)
+-- each node is free or held
+pub lengths-held : (cs : List (List (List ℕ))) → lengths cs ≡ length (chain cs 0) + length (held cs)
 lengths-held [] = omega arith
-lengths-held (c ∷ []) = omega arith
-lengths-held (c ∷ d ∷ cs) = (let rest = length-flat cs in omega arith)
+lengths-held (c ∷ cs) = (let rest = length-flat cs in omega arith)
 
 distinct-append : (xs ys : List (List ℕ)) → IsDistinct xs → IsDistinct ys → ((z : List ℕ) → In z xs → In z ys → ⊥) → IsDistinct (xs ++ ys)
 distinct-append [] ys first second apart = second
@@ -119,12 +123,11 @@ distinct-flat (c ∷ cs) each apart =
     (λ z here there. (let found = chain-append z cs there in let same : 0 ≡ suc found.0 = apart z 0 (suc found.0) here found.1 in omega arith))
 
 -- no state is held twice
-pub held-distinct : (cs : List (List (List ℕ))) (used : ℕ) → IsBuckets cs used → IsDistinct (held cs)
-held-distinct [] used buckets = tt
-held-distinct (c ∷ []) used buckets = tt
-held-distinct (c ∷ d ∷ cs) used buckets =
-    distinct-flat cs (λ a. buckets.once (suc (suc a)) (omega arith))
+pub held-distinct : (cs : List (List (List ℕ))) (start used : ℕ) → IsBuckets cs start used → IsDistinct (held cs)
+held-distinct [] start used buckets = tt
+held-distinct (c ∷ cs) start used buckets =
+    distinct-flat cs (λ a. buckets.once (suc a) (omega arith))
     (λ z a b here there.
-    (let first = buckets.own (suc (suc a)) z (omega arith) here in
-    let second = buckets.own (suc (suc b)) z (omega arith) there in
+    (let one = buckets.own (suc a) z (omega arith) here in
+    let other = buckets.own (suc b) z (omega arith) there in
     omega arith))

@@ -1,5 +1,5 @@
 -- Chains of nodes, seen as lists of what the nodes hold, and how a node goes from one chain to another.
-use Rattle.std.specs.Prelude.{◌≡◌, ◌≢◌, ℕ, zero, suc, ◌+◌, ◌<◌, ◌≤◌, List, [], ◌∷◌, length, slice_set, refl}
+use Rattle.std.specs.Prelude.{◌≡◌, ◌≢◌, ℕ, zero, suc, ◌+◌, ◌*◌, ◌<◌, ◌≤◌, List, [], ◌∷◌, length, slice_set, refl}
 use Rattle.std.proofs.Common.{get_or, ap, ◌∙◌, arith, length-set, get_or-set_same, get_or-set_other}
 use Rattle.std.proofs.lemmas.List.{set-set}
 
@@ -32,9 +32,9 @@ carried cs a b x =
 unfoldable pub with_first : {A : Type 0} → List (List A) → ℕ → A → List (List A)
 with_first cs a x = slice_set cs a (x ∷ rest (chain cs a))
 
--- so many nodes that are all in the first chain, of three more
+-- so many nodes that are all in the first chain, of twice as many and three
 pub record IsFresh (cs : List (List (List ℕ))) (most : ℕ) : Type 0 where
-  pub count : length cs ≡ most + 3
+  pub count : length cs ≡ 2 * most + 3
   pub none : (a : ℕ) → 1 ≤ a → chain cs a ≡ []
   pub all : lengths cs ≡ most
 

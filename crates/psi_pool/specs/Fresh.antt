@@ -1,5 +1,5 @@
 -- A table of nodes that is new: all nodes are in one chain, in their order.
-use Rattle.std.specs.Prelude.{◌≡◌, ℕ, zero, suc, ◌+◌, ◌<◌, ◌≤◌, List, [], ◌∷◌, ◌++◌, length, map, replicate, slice_index, nat_eq, true, false, refl}
+use Rattle.std.specs.Prelude.{◌≡◌, ℕ, zero, suc, ◌+◌, ◌*◌, ◌<◌, ◌≤◌, List, [], ◌∷◌, ◌++◌, length, map, replicate, slice_index, nat_eq, true, false, refl}
 use Rattle.std.proofs.Common.{inl, inr, ap, sym, ◌∙◌, subst, arith, length-append}
 use Rattle.std.proofs.lemmas.Bool.{cases_eq, cases_lt, eq-eqb, ne_eqb}
 use Rattle.std.proofs.lemmas.List.{get_or_past, length-replicate, length-map, get_or_append_left}
@@ -16,7 +16,7 @@ pub record AreFree (nodes : List Node) (most : ℕ) : Type 0 where
 
 -- the first chain begins at the first node, and the others are empty
 pub record AreHeads (heads : List ℕ) (most : ℕ) : Type 0 where
-  pub count : length heads ≡ most + 3
+  pub count : length heads ≡ 2 * most + 3
   pub first : slice_index heads 0 ≡ 0
   pub none : (a : ℕ) → 1 ≤ a → a < length heads → most ≤ slice_index heads a
 
@@ -159,7 +159,7 @@ heads-more heads more most n is some begun =
       ];
     })
 
-pub heads-all : (heads : List ℕ) (most n : ℕ) → n ≡ most + 3 → BeginHeads heads most n → AreHeads heads most
+pub heads-all : (heads : List ℕ) (most n : ℕ) → n ≡ 2 * most + 3 → BeginHeads heads most n → AreHeads heads most
 heads-all heads most n whole begun =
     let count = begun.count in
     record {

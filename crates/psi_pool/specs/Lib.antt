@@ -2,8 +2,8 @@ pub mod Chains
 pub mod Links
 pub mod Fresh
 pub mod Buckets
-pub mod Gathering
-pub mod Linking
+pub mod Emptying
+pub mod Moving
 pub mod Pooled
 pub mod Sorting
 pub mod Holding

@@ -10,8 +10,8 @@ ghost use Rattle.psi_state.specs.Sets.{insert_state, image, single};
 ghost use Rattle.psi_state.specs.Ascending.{IsRising};
 ghost use Rattle.psi_pool.specs.contracts.linked_set.Pool.{the_row};
 
-use crate::hashing::bucket_of;
-use crate::moving::{gather, pour_all, relink, some_held};
+use crate::hashing::{Half, bucket_of};
+use crate::moving::{gather, move_all, pour_all, some_held};
 use crate::nodes::Table;
 use psi_event::EventLaw;
 use psi_state::State;
@@ -36,8 +36,8 @@ impl From<AllocError> for OutOfMemory {
 #[derive(Drop)]
 pub struct Pool {
     table: Table,
-    // The chains in use: a state's hash chooses one of these.
-    used: usize,
+    // The half of the buckets that the states are in. A step moves them to the other half.
+    half: Half,
     len: u16,
     most: u16,
     order: Vec<State>,
@@ -57,7 +57,7 @@ impl Model for Pool {
       states = ascending (held p.table);
     } };
 
-    ghost invariant = { λ p. IsPool p.table p.used p.len p.most (vec_capacity p.order) };
+    ghost invariant = { λ p. IsPool p.table p.half.start p.half.used p.len p.most (vec_capacity p.order) };
 }
 
 impl Pool {
@@ -73,7 +73,10 @@ impl Pool {
         let order = Vec::with_capacity(alloc, most as usize)?;
         Ok(Pool {
             table,
-            used: most as usize + 3,
+            half: Half {
+                start: 1,
+                used: most as usize + 1,
+            },
             len: 0,
             most,
             order,
@@ -96,8 +99,8 @@ impl Pool {
     pub fn clear(&mut self)
         ensures { self.new ≡ record { most = self.old.most; states = [] } }
     {
-        pour_all(&mut self.table, self.used, 0);
-        self.used = self.most as usize + 3;
+        pour_all(&mut self.table, self.half);
+        self.half.used = self.most as usize + 1;
         self.len = 0;
     }
 
@@ -105,7 +108,7 @@ impl Pool {
     pub fn contains(&self, x: &State) -> bool
         ensures { IsTrue result ↔ In x.now self.now.states }
     {
-        self.table.has(bucket_of(x, self.used), x)
+        self.table.has(bucket_of(x, self.half), x)
     }
 
     /// Puts `x` into the set, and answers whether it was not there. There has to be room for it, or it is
@@ -116,7 +119,7 @@ impl Pool {
         ensures most { self.new.most ≡ self.old.most }
         ensures fresh { IsTrue result ↔ (In x self.old.states → ⊥) }
     {
-        let bucket = bucket_of(&x, self.used);
+        let bucket = bucket_of(&x, self.half);
         if self.table.has(bucket, &x) {
             return false;
         }
@@ -133,9 +136,12 @@ impl Pool {
         ensures states { self.new.states ≡ image (E.function e.now) self.old.states }
         ensures most { self.new.most ≡ self.old.most }
     {
-        pour_all(&mut self.table, self.used, 1);
-        self.used = self.len as usize + 3;
-        self.len = relink(&mut self.table, self.used, e);
+        let other = Half {
+            start: self.most as usize + 3 - self.half.start,
+            used: self.len as usize + 1,
+        };
+        self.len -= move_all(&mut self.table, self.half, other, e);
+        self.half = other;
     }
 
     /// The states in ascending order. The set stays as it is.

@@ -1,58 +1,58 @@
-//! How the nodes of a table go from chain to chain: chain 0 has the free nodes, chain 1 those that wait,
-//! and each other chain is a bucket.
+//! How the nodes of a table go from chain to chain: chain 0 has the free nodes, and each other chain is a
+//! bucket of one of two halves.
 
-ghost use Rattle.std.specs.Prelude.{◌≡◌, ℕ, ◌++◌, ◌+◌, ◌<◌, ◌≤◌, List, [], length, vec_capacity, MatchOption};
+ghost use Rattle.std.specs.Prelude.{◌≡◌, ℕ, ◌++◌, ◌+◌, ◌<◌, ◌≤◌, ◌⊎◌, List, [], length, vec_capacity, MatchOption};
 ghost use Rattle.psi_state.specs.State.{IsBelow};
 ghost use Rattle.psi_state.specs.Members.{In};
 ghost use Rattle.psi_pool.specs.Chains.{chain, first, lengths};
-ghost use Rattle.psi_pool.specs.Buckets.{held};
-ghost use Rattle.psi_pool.specs.Gathering.{IsPoured, IsGathered};
-ghost use Rattle.psi_pool.specs.Linking.{IsTarget, IsRelinked};
+ghost use Rattle.psi_pool.specs.Buckets.{held, IsApart};
+ghost use Rattle.psi_pool.specs.Emptying.{IsPoured, IsEmptied};
+ghost use Rattle.psi_pool.specs.Moving.{IsTarget, IsHalf, IsMoving, IsMoved};
 
-use crate::hashing::bucket_of;
+use crate::hashing::{Half, bucket_of};
 use crate::nodes::Table;
 use psi_event::EventLaw;
 use psi_state::State;
 
-// The nodes of bucket `a` go to chain `b`.
-fn pour(table: &mut Table, a: usize, b: usize)
-    requires bucket { 2 ≤ a }
+// The nodes of bucket `a` are free again.
+fn pour(table: &mut Table, a: usize)
+    requires bucket { 1 ≤ a }
     requires within { a < length table.old }
-    requires other { b < 2 }
-    ensures poured { IsPoured table.old table.new a b }
+    ensures poured { IsPoured table.old table.new a }
     ensures none { chain table.new a ≡ [] }
 {
     while table.has_some(a) {
-        table.carry(a, b);
+        table.carry(a, 0);
     }
 }
 
-/// The nodes of all buckets go to chain `b`, where so many chains are in use.
-pub(crate) fn pour_all(table: &mut Table, used: usize, b: usize)
-    requires other { b < 2 }
-    requires low { 2 ≤ used }
-    requires whole { used ≤ length table.old }
-    requires rest { (c : ℕ) → used ≤ c → chain table.old c ≡ [] }
-    ensures { IsGathered table.old table.new b }
+/// The nodes of all buckets are free again; the buckets outside this half have none.
+pub(crate) fn pour_all(table: &mut Table, half: Half)
+    requires some { 1 ≤ half.start }
+    requires few { half.start + half.used ≤ 8195 }
+    requires whole { half.start + half.used ≤ length table.old }
+    requires rest { (c : ℕ) → 1 ≤ c → IsApart half.start half.used c → chain table.old c ≡ [] }
+    ensures { IsEmptied table.old table.new }
 {
-    for bucket in 2..used {
-        pour(table, bucket, b);
+    for bucket in half.start..half.start + half.used {
+        pour(table, bucket);
     }
 }
 
-// Where the first waiting node goes: to the bucket of its state, or to the free nodes where that bucket
-// has the state. Most buckets are empty, so that is tried for first.
+// Where the first node of chain `a` goes: to the bucket of its state in the half, or to the free nodes where
+// that bucket has the state. Most buckets are empty, so that is tried for first.
 #[inline]
-fn target(table: &Table, used: usize) -> usize
-    requires enough { 3 ≤ used }
-    requires few { used ≤ 4099 }
-    requires whole { used ≤ length table.now }
-    requires some { 1 ≤ length (chain table.now 1) }
-    ensures value { IsTarget table.now used (first (chain table.now 1)) result }
+fn target(table: &Table, a: usize, half: Half) -> usize
+    requires enough { 1 ≤ half.used }
+    requires few { half.start + half.used ≤ 8195 }
+    requires whole { half.start + half.used ≤ length table.now }
+    requires chain { a < length table.now }
+    requires some { 1 ≤ length (chain table.now a) }
+    ensures value { IsTarget table.now half.start half.used (first (chain table.now a)) result }
     ensures within { result < length table.now }
 {
-    let x = table.first(1);
-    let bucket = bucket_of(x, used);
+    let x = table.first(a);
+    let bucket = bucket_of(x, half);
     if !table.has_some(bucket) {
         return bucket;
     }
@@ -62,27 +62,55 @@ fn target(table: &Table, used: usize) -> usize
     bucket
 }
 
-/// Links the waiting nodes into the buckets, each after the event has moved its state on, and answers how
-/// many are linked, where so many chains are in use. A node whose state is there already is free again.
-pub(crate) fn relink<E: EventLaw>(table: &mut Table, used: usize, e: &E) -> u16
-    requires enough { 3 ≤ used }
-    requires few { used ≤ 4099 }
-    requires whole { used ≤ length table.old }
+// Links the nodes of chain `a` into the buckets of the half, each after the event has moved its state on, and
+// answers how many are free again, since their state is there already.
+fn move_chain<E: EventLaw>(table: &mut Table, a: usize, half: Half, e: &E) -> u16
+    requires bucket { 1 ≤ a }
+    requires within { a < length table.old }
+    requires start { 1 ≤ half.start }
+    requires enough { 1 ≤ half.used }
+    requires few { half.start + half.used ≤ 8195 }
+    requires whole { half.start + half.used ≤ length table.old }
+    requires apart { IsApart half.start half.used a }
     requires small { lengths table.old ≤ 4096 }
-    requires none { held table.old ≡ [] }
-    requires below { (x : List ℕ) → In x (chain table.old 1) → IsBelow x (E.capacities e.now) }
-    ensures { IsRelinked (E.function e.now) table.old table.new used result }
+    requires half { IsHalf table.old half.start half.used }
+    requires below { (x : List ℕ) → In x (chain table.old a) → IsBelow x (E.capacities e.now) }
+    ensures moved { IsMoving (E.function e.now) table.old table.new a half.start half.used result }
+    ensures none { chain table.new a ≡ [] }
 {
-    let mut len = 0;
-    while table.has_some(1) {
-        table.apply_first(1, e);
-        let to = target(table, used);
-        table.carry(1, to);
-        if to >= 2 {
-            len += 1;
+    let mut back = 0;
+    while table.has_some(a) {
+        table.apply_first(a, e);
+        let to = target(table, a, half);
+        table.carry(a, to);
+        if to == 0 {
+            back += 1;
         }
     }
-    len
+    back
+}
+
+/// Links the nodes of one half into the buckets of the other, each after the event has moved its state on,
+/// and answers how many are free again, since their state is there already.
+pub(crate) fn move_all<E: EventLaw>(table: &mut Table, from: Half, to: Half, e: &E) -> u16
+    requires from_start { 1 ≤ from.start }
+    requires from_few { from.start + from.used ≤ 8195 }
+    requires from_whole { from.start + from.used ≤ length table.old }
+    requires start { 1 ≤ to.start }
+    requires enough { 1 ≤ to.used }
+    requires few { to.start + to.used ≤ 8195 }
+    requires whole { to.start + to.used ≤ length table.old }
+    requires halves { (from.start + from.used ≤ to.start) ⊎ (to.start + to.used ≤ from.start) }
+    requires small { lengths table.old ≤ 4096 }
+    requires rest { (c : ℕ) → 1 ≤ c → IsApart from.start from.used c → chain table.old c ≡ [] }
+    requires below { (x : List ℕ) → In x (held table.old) → IsBelow x (E.capacities e.now) }
+    ensures { IsMoved (E.function e.now) table.old table.new to.start to.used result }
+{
+    let mut back = 0;
+    for bucket in from.start..from.start + from.used {
+        back += move_chain(table, bucket, to, e);
+    }
+    back
 }
 
 /// Puts the states of all buckets into the list.
@@ -92,7 +120,7 @@ pub(crate) fn gather(table: &Table, out: &mut Vec<State>)
     ensures capacity { vec_capacity out.new ≡ vec_capacity out.old }
 {
     out.clear();
-    for bucket in 2..table.count() {
+    for bucket in 1..table.count() {
         table.copy(bucket, out);
     }
 }
@@ -101,7 +129,7 @@ pub(crate) fn gather(table: &Table, out: &mut Vec<State>)
 pub(crate) fn some_held(table: &Table) -> Option<State>
     ensures { MatchOption result (held table.now ≡ []) (λ x. In x (held table.now)) }
 {
-    for bucket in 2..table.count() {
+    for bucket in 1..table.count() {
         if table.has_some(bucket) {
             return Some(*table.first(bucket));
         }

@@ -39,7 +39,7 @@ impl Model for Table {
 }
 
 impl Table {
-    /// So many nodes, all in chain 0, and two empty chains more than there are nodes.
+    /// So many nodes, all in chain 0, and two empty chains for each node, and two more.
     pub(crate) fn reserve(alloc: Global, most: u16) -> Result<Table, AllocError>
         requires least { 1 ≤ most }
         requires most { most ≤ 4096 }
@@ -165,7 +165,7 @@ fn first_heads(alloc: Global, most: u16) -> Result<Vec<u16>, AllocError>
     requires { most ≤ 4096 }
     ensures { IfOk result (λ heads. AreHeads heads.items most) }
 {
-    let others = most + 2;
+    let others = 2 * most + 2;
     let mut heads = Vec::with_capacity(alloc, others as usize + 1)?;
     heads.push_reserved(0);
     for _chain in 0..others {

@@ -1,7 +1,7 @@
 use Rattle.std.proofs.Common.{◌<◌, ◌≤◌, ◌+◌, length, arith, ◌∙◌}
 use Rattle.psi_pool.specs.Chains.{chain}
 use Rattle.psi_pool.specs.Buckets.{held}
-use Rattle.psi_pool.proofs.Relinking.{gather-start, gather-room, gather-next, gather-end}
+use Rattle.psi_pool.proofs.Gathering.{gather-start, gather-room, gather-next, gather-end}
 use Rattle.psi_pool.proofs.moving.gather.Goals as goal
 
 pub loop-bucket-init : goal.loop-bucket-init

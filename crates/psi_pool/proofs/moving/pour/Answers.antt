@@ -1,11 +1,11 @@
 use Rattle.std.proofs.Common.{◌≤◌, length, arith}
 use Rattle.psi_pool.specs.Chains.{chain}
-use Rattle.psi_pool.specs.Gathering.{poured-none}
-use Rattle.psi_pool.proofs.Relinking.{chain-none, pour-step, pour-fewer}
+use Rattle.psi_pool.specs.Emptying.{poured-none, poured-more}
+use Rattle.psi_pool.proofs.Gathering.{chain-none, pour-fewer}
 use Rattle.psi_pool.proofs.moving.pour.Goals as goal
 
 pub loop-table-init : goal.loop-table-init
-loop-table-init c = record { poured = poured-none c.args.table.now c.args.a c.args.b }
+loop-table-init c = record { poured = poured-none c.args.table.now c.args.a }
 
 pub has_some-requires : goal.has_some-requires
 has_some-requires c = (let poured = c.loop-table.invariant.poured in let count = poured.count in omega arith)
@@ -15,7 +15,7 @@ loop-table-smaller c =
     let some : 1 ≤ length (chain c.loop-table.table c.args.a) = c.has_some.ensures.0 c.loop-table-test.true in
     let poured = c.loop-table.invariant.poured in
     let count = poured.count in
-    pour-fewer c.loop-table.table c.carry.new.self c.args.a c.args.b c.requires.bucket c.requires.other (omega arith) some c.carry.ensures
+    pour-fewer c.loop-table.table c.carry.new.self c.args.a c.requires.bucket (omega arith) some c.carry.ensures
 
 pub loop-table-preserved : goal.loop-table-preserved
 loop-table-preserved c =
@@ -23,8 +23,8 @@ loop-table-preserved c =
     let poured = c.loop-table.invariant.poured in
     let count = poured.count in
     record {
-      poured = pour-step c.args.table.now c.loop-table.table c.carry.new.self c.args.a c.args.b c.requires.bucket c.requires.other (omega arith) some
-          c.carry.ensures c.loop-table.invariant.poured;
+      poured = poured-more c.args.table.now c.loop-table.table c.carry.new.self c.args.a c.requires.bucket (omega arith) some c.carry.ensures
+          c.loop-table.invariant.poured;
     }
 
 pub returns-clause-poured : goal.returns-clause-poured

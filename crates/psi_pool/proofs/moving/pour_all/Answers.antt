@@ -1,21 +1,25 @@
-use Rattle.std.proofs.Common.{◌≡◌, arith}
-use Rattle.psi_pool.specs.Gathering.{gathering-none, gathering-more, gathering-all}
+use Rattle.std.proofs.Common.{◌≡◌, ◌⊎◌, inl, inr, arith}
+use Rattle.psi_pool.specs.Emptying.{emptying-none, emptying-more, emptying-all}
 use Rattle.psi_pool.proofs.moving.pour_all.Goals as goal
 
 pub loop-bucket-init : goal.loop-bucket-init
-loop-bucket-init c = record { gathering = gathering-none c.args.table.now c.args.b }
+loop-bucket-init c = record { emptying = emptying-none c.args.table.now c.args.half.start; bound = omega arith }
 
 pub pour-requires-clause-within : goal.pour-requires-clause-within
-pour-requires-clause-within c = (let gathering = c.loop-bucket.invariant.gathering in let count = gathering.count in let whole = c.requires.whole in omega arith)
+pour-requires-clause-within c = (let emptying = c.loop-bucket.invariant.emptying in let count = emptying.count in let whole = c.requires.whole in omega arith)
 
 pub loop-bucket-preserved : goal.loop-bucket-preserved
 loop-bucket-preserved c = record {
-  gathering = gathering-more c.args.table.now c.loop-bucket.table c.pour.new.table c.loop-bucket.bucket c.args.b c.loop-bucket.auto.bucket c.requires.other
-      c.loop-bucket.invariant.gathering c.pour.ensures.poured c.pour.ensures.none;
+  emptying = emptying-more c.args.table.now c.loop-bucket.table c.pour.new.table c.args.half.start c.loop-bucket.bucket c.requires.some c.loop-bucket.auto.bucket
+      c.loop-bucket.invariant.emptying c.pour.ensures.poured c.pour.ensures.none;
+  bound = omega arith;
 }
 
 pub returns : goal.returns
 returns c =
-    let end : c.loop-bucket.bucket ≡ c.args.used = (let low = c.requires.low in let past = c.loop-bucket.auto.bucket-end in omega arith) in
-    gathering-all c.args.table.now c.loop-bucket.table c.args.b c.loop-bucket.bucket c.loop-bucket.auto.bucket
-    (λ k past. c.requires.rest k (omega arith)) c.loop-bucket.invariant.gathering
+    emptying-all c.args.table.now c.loop-bucket.table c.args.half.start c.loop-bucket.bucket
+    (λ k some outside. c.requires.rest k some (elim outside [
+      | inl under ↦ inl under
+      | inr over ↦ inr (let past = c.loop-bucket.auto.bucket-end in omega arith)
+    ]))
+    c.loop-bucket.invariant.emptying

@@ -2,8 +2,8 @@ use Rattle.std.proofs.Common.{length, arith, ap, ◌∙◌, inl, inr}
 use Rattle.std.proofs.lemmas.Bool.{cases_eq, cases_lt}
 use Rattle.std.proofs.lemmas.List.{get_or_past}
 use Rattle.psi_pool.specs.Chains.{chain}
-use Rattle.psi_pool.specs.Gathering.{held-none}
-use Rattle.psi_pool.proofs.Relinking.{chain-none, held-first}
+use Rattle.psi_pool.specs.Emptying.{held-none}
+use Rattle.psi_pool.proofs.Gathering.{chain-none, held-first}
 use Rattle.psi_pool.proofs.moving.some_held.Goals as goal
 
 pub loop-bucket-init : goal.loop-bucket-init

@@ -6,15 +6,15 @@ use Rattle.psi_pool.proofs.linked_set.Pool.len.Goals as goal
 
 pub returns-clause-value : goal.returns-clause-value
 returns-clause-value c =
-    pool-length c.self.inside.table c.self.inside.used c.self.inside.len c.self.inside.most (vec_capacity c.self.inside.order) c.self.invariant
+    pool-length c.self.inside.table c.self.inside.half.start c.self.inside.half.used c.self.inside.len c.self.inside.most (vec_capacity c.self.inside.order) c.self.invariant
     ∙ ap (λ (p : Pooled). length p.states) c.self.view_is
 
 pub returns-clause-few : goal.returns-clause-few
 returns-clause-few c =
-    let few = pool-few c.self.inside.table c.self.inside.used c.self.inside.len c.self.inside.most (vec_capacity c.self.inside.order) c.self.invariant in
+    let few = pool-few c.self.inside.table c.self.inside.half.start c.self.inside.half.used c.self.inside.len c.self.inside.most (vec_capacity c.self.inside.order) c.self.invariant in
     let holds = c.self.invariant.holds in
     let same : c.self.inside.len ≡ length c.args.self.now.states =
-    pool-length c.self.inside.table c.self.inside.used c.self.inside.len c.self.inside.most (vec_capacity c.self.inside.order) c.self.invariant
+    pool-length c.self.inside.table c.self.inside.half.start c.self.inside.half.used c.self.inside.len c.self.inside.most (vec_capacity c.self.inside.order) c.self.invariant
     ∙ ap (λ (p : Pooled). length p.states) c.self.view_is in
     let most : c.self.inside.most ≡ c.args.self.now.most = ap (λ (p : Pooled). p.most) c.self.view_is in
     omega arith

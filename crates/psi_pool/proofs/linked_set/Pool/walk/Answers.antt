@@ -8,7 +8,7 @@ use Rattle.psi_pool.proofs.linked_set.Pool.walk.Goals as goal
 
 pub gather-requires : goal.gather-requires
 gather-requires c =
-    let few = pool-few c.self.inside.table c.self.inside.used c.self.inside.len c.self.inside.most (vec_capacity c.self.inside.order) c.self.invariant in
+    let few = pool-few c.self.inside.table c.self.inside.half.start c.self.inside.half.used c.self.inside.len c.self.inside.most (vec_capacity c.self.inside.order) c.self.invariant in
     let listed = c.self.invariant.listed in
     omega arith
 
@@ -18,7 +18,7 @@ returns c = (
   record {
     states =
         c.as_slice.ensures.value
-        ∙ (sorted-is (held c.self.inside.table) c.sort_unstable.new.self.items (held-distinct c.self.inside.table c.self.inside.used c.self.invariant.buckets)
+        ∙ (sorted-is (held c.self.inside.table) c.sort_unstable.new.self.items (held-distinct c.self.inside.table c.self.inside.half.start c.self.inside.half.used c.self.invariant.buckets)
         (subst (λ (xs : List (List ℕ)). IsPermutation xs c.sort_unstable.new.self.items) c.gather.ensures.items c.sort_unstable.ensures.permutation)
         c.sort_unstable.ensures.sorted
         ∙ ap (λ (p : Pooled). p.states) c.self.view_is);
