@@ -1,5 +1,5 @@
 -- What is listed of the buckets, and what is left.
-use Rattle.std.proofs.Common.{◌≡◌, ℕ, suc, ◌+◌, ◌<◌, ◌≤◌, List, [], ◌∷◌, ◌++◌, length, drop, inl, inr, ap, sym, ◌∙◌, subst, arith, refl, append_assoc, length-append, drop_of_length-le}
+use Rattle.std.proofs.Common.{◌≡◌, ℕ, suc, ◌+◌, ◌<◌, ◌≤◌, List, [], ◌∷◌, ◌++◌, length, drop, inl, ap, sym, ◌∙◌, subst, arith, refl, append_assoc, length-append, drop_of_length-le}
 use Rattle.std.proofs.Math.Seq.{drop-cons}
 use Rattle.psi_state.specs.Members.{In}
 use Rattle.psi_pool.specs.Chains.{chain, first, rest, carried, chain-carried_off}

@@ -1,4 +1,5 @@
 pub mod Reading
+pub mod Sending
 pub mod Seeking
 pub mod Gathering
 pub mod Inserting

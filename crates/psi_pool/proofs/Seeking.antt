@@ -1,5 +1,5 @@
 -- A state is looked for from node to node.
-use Rattle.std.proofs.Common.{◌≡◌, ℕ, ◌+◌, ◌-◌, ◌<◌, ◌≤◌, ◌↔◌, List, [], ◌∷◌, ◌++◌, length, get_or, nat_eq, IsTrue, true, false, inl, inr, ap, sym, ◌∙◌, subst, arith, refl, append_assoc, length-append}
+use Rattle.std.proofs.Common.{◌≡◌, ℕ, Bool, ◌+◌, ◌-◌, ◌<◌, ◌≤◌, ◌↔◌, List, [], ◌∷◌, ◌++◌, length, get_or, nat_eq, IsTrue, true, false, inl, inr, ap, sym, ◌∙◌, subst, arith, refl, append_assoc, length-append}
 use Rattle.std.specs.Cmp.Lexicographic.{pointwise}
 use Rattle.psi_state.specs.Members.{In}
 use Rattle.psi_state.specs.States.{same-from_eq, apart-from_eq}
@@ -8,34 +8,41 @@ use Rattle.psi_pool.specs.Chains.{chain}
 use Rattle.psi_pool.specs.Links.{states_from, chains_of, states_from-past}
 use Rattle.psi_pool.proofs.Reading.{from-head, from-next, from-end, node-read}
 
-pub seek-start : (nodes : List Node) (heads : List ℕ) (v : List (List (List ℕ))) (a r : ℕ) (x : List ℕ) → chains_of nodes heads ≡ v → a < length v → r ≡ get_or heads a r
-    → In x (states_from nodes (length nodes - 0) r) ↔ In x (chain v a)
-seek-start nodes heads v a r x is small read =
+pub seek-start : (nodes : List Node) (from : ℕ) (x : List ℕ)
+    → In x (states_from nodes (length nodes - 0) from) ↔ In x (states_from nodes (length nodes) from)
+seek-start nodes from x =
     let whole : length nodes - 0 ≡ length nodes = omega arith in
-    let e : states_from nodes (length nodes - 0) r ≡ chain v a = ap (λ n. states_from nodes n r) whole ∙ from-head nodes heads v a r is small read in
+    let e : states_from nodes (length nodes - 0) from ≡ states_from nodes (length nodes) from = ap (λ n. states_from nodes n from) whole in
     (λ member. subst (λ (c : List (List ℕ)). In x c) e member, λ member. subst (λ (c : List (List ℕ)). In x c) (sym e) member)
 
-pub seek-past : (nodes : List Node) (v : List (List (List ℕ))) (a at n : ℕ) (x : List ℕ) → length nodes ≤ at
-    → In x (states_from nodes n at) ↔ In x (chain v a) → IsTrue false ↔ In x (chain v a)
-seek-past nodes v a at n x past left =
+-- a chain that is looked through from its head
+pub seek-chain : (nodes : List Node) (heads : List ℕ) (v : List (List (List ℕ))) (a r : ℕ) (x : List ℕ) (found : Bool) → chains_of nodes heads ≡ v → a < length v → r ≡ get_or heads a r
+    → IsTrue found ↔ In x (states_from nodes (length nodes) r) → IsTrue found ↔ In x (chain v a)
+seek-chain nodes heads v a r x found is small read told =
+    let e : states_from nodes (length nodes) r ≡ chain v a = from-head nodes heads v a r is small read in
+    (λ yes. subst (λ (c : List (List ℕ)). In x c) e (told.0 yes), λ member. told.1 (subst (λ (c : List (List ℕ)). In x c) (sym e) member))
+
+pub seek-past : (nodes : List Node) (whole : List (List ℕ)) (at n : ℕ) (x : List ℕ) → length nodes ≤ at
+    → In x (states_from nodes n at) ↔ In x whole → IsTrue false ↔ In x whole
+seek-past nodes whole at n x past left =
     (λ no. absurd cc, λ member. absurd (subst (λ (c : List (List ℕ)). In x c) (states_from-past nodes n at past) (left.1 member)))
 
-pub seek-end : (nodes : List Node) (v : List (List (List ℕ))) (a seen at : ℕ) (x : List ℕ) → length nodes ≤ seen
-    → In x (states_from nodes (length nodes - seen) at) ↔ In x (chain v a) → IsTrue false ↔ In x (chain v a)
-seek-end nodes v a seen at x all left =
+pub seek-end : (nodes : List Node) (whole : List (List ℕ)) (seen at : ℕ) (x : List ℕ) → length nodes ≤ seen
+    → In x (states_from nodes (length nodes - seen) at) ↔ In x whole → IsTrue false ↔ In x whole
+seek-end nodes whole seen at x all left =
     (λ no. absurd cc, λ member. absurd (subst (λ (c : List (List ℕ)). In x c) (from-end nodes seen at all) (left.1 member)))
 
-pub seek-found : (nodes : List Node) (v : List (List (List ℕ))) (a seen at : ℕ) (n : Node) (x : List ℕ) → at < length nodes → seen < length nodes
+pub seek-found : (nodes : List Node) (whole : List (List ℕ)) (seen at : ℕ) (n : Node) (x : List ℕ) → at < length nodes → seen < length nodes
     → n ≡ get_or nodes at n → pointwise nat_eq n.state x ≡ true
-    → In x (states_from nodes (length nodes - seen) at) ↔ In x (chain v a) → IsTrue true ↔ In x (chain v a)
-seek-found nodes v a seen at n x within more node same left =
+    → In x (states_from nodes (length nodes - seen) at) ↔ In x whole → IsTrue true ↔ In x whole
+seek-found nodes whole seen at n x within more node same left =
     (λ yes. left.0 (subst (λ (c : List (List ℕ)). In x c) (sym (from-next nodes seen at n within more node)) (inl (sym (same-from_eq n.state x same)))), λ member. refl)
 
-pub seek-next : (nodes : List Node) (v : List (List (List ℕ))) (a seen at : ℕ) (n w : Node) (x : List ℕ) → at < length nodes → seen < length nodes
+pub seek-next : (nodes : List Node) (whole : List (List ℕ)) (seen at : ℕ) (n w : Node) (x : List ℕ) → at < length nodes → seen < length nodes
     → n ≡ get_or nodes at n → w ≡ get_or nodes at w → pointwise nat_eq n.state x ≡ false
-    → In x (states_from nodes (length nodes - seen) at) ↔ In x (chain v a)
-    → In x (states_from nodes (length nodes - (seen + 1)) w.next) ↔ In x (chain v a)
-seek-next nodes v a seen at n w x within more node own apart left =
+    → In x (states_from nodes (length nodes - seen) at) ↔ In x whole
+    → In x (states_from nodes (length nodes - (seen + 1)) w.next) ↔ In x whole
+seek-next nodes whole seen at n w x within more node own apart left =
     let e = from-next nodes seen at n within more node in
     let same : n.next ≡ w.next = ap (λ (m : Node). m.next) (node-read nodes at n within node ∙ sym (node-read nodes at w within own)) in (
       λ member. left.0 (subst (λ (c : List (List ℕ)). In x c) (sym e)

@@ -4,7 +4,7 @@ use Rattle.std.proofs.Common.{inl, inr, ap, sym, ◌∙◌, subst, arith}
 use Rattle.std.proofs.lemmas.Bool.{cases_eq, cases_lt}
 use Rattle.psi_state.specs.Members.{In}
 use Rattle.psi_pool.specs.Chains.{chain, first, rest, lengths, carried, length-carried, lengths-carried, chain-carried_other}
-use Rattle.psi_pool.specs.Buckets.{held, IsOf, In-held, In-of_held}
+use Rattle.psi_pool.specs.Buckets.{held, In-held, In-of_held}
 
 -- a chain with a node begins with its first state
 pub chain-begins : (c : List (List ℕ)) → 1 ≤ length c → c ≡ first c ∷ rest c

@@ -5,7 +5,7 @@ use Rattle.psi_state.specs.Members.{In}
 use Rattle.psi_state.specs.Sets.{insert_state, ascending, image, single, In-ascending, In-of_ascending}
 use Rattle.psi_state.specs.Ascending.{IsRising, HaveSame, ascending-members, ascending-rising, length-ascending, image-ascending}
 use Rattle.psi_pool.specs.Chains.{chain, lengths, carried, IsFresh, length-carried}
-use Rattle.psi_pool.specs.Buckets.{held, bucket, IsBuckets, IsOf, IsApart, bucket-low, In-held, In-of_held, In-own, In-bucket, own-used, lengths-held, held-distinct}
+use Rattle.psi_pool.specs.Buckets.{held, bucket, IsBuckets, IsApart, bucket-low, In-held, In-of_held, In-own, In-bucket, own-used, lengths-held, held-distinct}
 use Rattle.psi_pool.specs.Emptying.{IsEmptied, chain-begins, list-none, held-none}
 use Rattle.psi_pool.specs.Moving.{IsMoved, buckets-none, new-off, new-member, new-old, new-here, new-once, new-all}
 use Rattle.psi_pool.specs.Sorting.{insert_state-there}
@@ -117,8 +117,8 @@ module _ (cs : List (List (List ℕ))) (start used len most room : ℕ) (x : Lis
   whole : start + used ≤ length cs
   whole = pool-whole cs start used len most room pool
 
-  apart : IsApart start used 0
-  apart = (let some = low in inl (omega arith))
+  free-apart : IsApart start used 0
+  free-apart = (let some = low in inl (omega arith))
 
   small : 0 < length cs
   small = (let count = pool.count in omega arith)
@@ -127,7 +127,7 @@ module _ (cs : List (List (List ℕ))) (start used len most room : ℕ) (x : Lis
   held-inserted : HaveSame (held (carried cs 0 (bucket start used x) x)) (x ∷ held cs)
   held-inserted = record {
     there = λ z member. (let found = In-of_held z (carried cs 0 (bucket start used x) x) member in
-        elim (new-member cs 0 start used x low pool.enough whole apart small free z found.0 (λ e. (let some = found.1 in omega arith)) found.2) [
+        elim (new-member cs 0 start used x low pool.enough whole free-apart small free z found.0 (λ e. (let some = found.1 in omega arith)) found.2) [
           | inl here ↦ inl here.0
           | inr there ↦ inr (In-held z cs found.0 found.1 there)
         ]);
@@ -135,10 +135,10 @@ module _ (cs : List (List (List ℕ))) (start used len most room : ℕ) (x : Lis
       | inl e ↦ (let least = bucket-low start used x in let some = low in
           In-held z (carried cs 0 (bucket start used x) x) (bucket start used x) (omega arith)
           (subst (λ (y : List ℕ). In y (chain (carried cs 0 (bucket start used x) x) (bucket start used x))) (sym e)
-          (new-here cs 0 start used x low pool.enough whole apart small free)))
+          (new-here cs 0 start used x low pool.enough whole free-apart small free)))
       | inr there ↦ (let found = In-of_held z cs there in
           In-held z (carried cs 0 (bucket start used x) x) found.0 found.1
-          (new-old cs 0 start used x low pool.enough whole apart small free z found.0 (λ e. (let some = found.1 in omega arith)) found.2))
+          (new-old cs 0 start used x low pool.enough whole free-apart small free z found.0 (λ e. (let some = found.1 in omega arith)) found.2))
     ];
   }
 
@@ -146,8 +146,8 @@ module _ (cs : List (List (List ℕ))) (start used len most room : ℕ) (x : Lis
   count-inserted =
       let before = lengths-held cs in
       let after = lengths-held (carried cs 0 (bucket start used x) x) in
-      let same = new-all cs 0 start used x low pool.enough whole apart small free in
-      let taken = ap (λ (c : List (List ℕ)). length c) (new-off cs 0 start used x low pool.enough whole apart small free) in
+      let same = new-all cs 0 start used x low pool.enough whole free-apart small free in
+      let taken = ap (λ (c : List (List ℕ)). length c) (new-off cs 0 start used x low pool.enough whole free-apart small free) in
       let begins = ap (λ (c : List (List ℕ)). length c) (chain-begins (chain cs 0) free) in
       omega arith
 
@@ -160,15 +160,15 @@ module _ (cs : List (List (List ℕ))) (start used len most room : ℕ) (x : Lis
     few = pool.few;
     buckets = record {
       own = λ b z some member.
-          elim (new-member cs 0 start used x low pool.enough whole apart small free z b (λ e. (omega arith)) member) [
+          elim (new-member cs 0 start used x low pool.enough whole free-apart small free z b (λ e. (omega arith)) member) [
             | inl here ↦ ap (λ (y : List ℕ). bucket start used y) here.0 ∙ sym here.1
             | inr there ↦ pool.buckets.own b z some there
           ];
       once = λ b some.
-          new-once cs 0 start used x low pool.enough whole apart small free b (λ e. (omega arith)) absent (pool.buckets.once b some);
+          new-once cs 0 start used x low pool.enough whole free-apart small free b (λ e. (omega arith)) absent (pool.buckets.once b some);
     };
     holds = ap (λ n. n + 1) pool.holds ∙ sym count-inserted;
-    all = new-all cs 0 start used x low pool.enough whole apart small free ∙ pool.all;
+    all = new-all cs 0 start used x low pool.enough whole free-apart small free ∙ pool.all;
     small = pool.small;
     listed = pool.listed;
   }

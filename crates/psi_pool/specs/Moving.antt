@@ -4,7 +4,7 @@ use Rattle.std.proofs.Common.{inl, inr, ap, sym, ◌∙◌, subst, arith}
 use Rattle.std.proofs.lemmas.Bool.{cases_eq, cases_lt}
 use Rattle.psi_state.specs.Members.{In, In-map, In-of_map}
 use Rattle.psi_state.specs.Ascending.{IsDistinct, HaveSame}
-use Rattle.psi_pool.specs.Chains.{chain, first, rest, lengths, carried, with_first, length-carried, lengths-carried, chain-carried_off, chain-carried_on, chain-carried_other, length-with_first, chain-with_first, chain-with_first_other, carried-with_first}
+use Rattle.psi_pool.specs.Chains.{chain, first, rest, lengths, carried, with_first, length-carried, lengths-carried, chain-carried_off, chain-carried_on, chain-carried_other, chain-with_first_other}
 use Rattle.psi_pool.specs.Buckets.{held, bucket, IsBuckets, IsOf, IsApart, In-held, In-of_held, bucket-low, bucket-high}
 use Rattle.psi_pool.specs.Emptying.{chain-begins, bucket-none}
 
@@ -41,6 +41,16 @@ pub record IsGoing (f : List ℕ → List ℕ) (old now : List (List (List ℕ))
   pub there : (b : ℕ) (z : List ℕ) → IsOf start used b → In z (chain now b) → In z (map f (held old))
   pub moved : (c : ℕ) (y : List ℕ) → from ≤ c → c < before → In y (chain old c) → In (f y) (chain now (bucket start used (f y)))
 
+-- so have the nodes of the buckets from one on to before another, and a part of those of that one
+pub record IsStepping (f : List ℕ → List ℕ) (old now : List (List (List ℕ))) (from many a start used back : ℕ) : Type 0 where
+  pub mid : List (List (List ℕ))
+  pub before : ℕ
+  pub more : ℕ
+  pub going : IsGoing f old mid from a start used before
+  pub moving : IsMoving f mid now a start used more
+  pub sum : back ≡ before + more
+  pub end : from + many ≤ a → (now ≡ mid) × (more ≡ 0)
+
 -- all nodes that hold a state have
 pub record IsMoved (f : List ℕ → List ℕ) (old now : List (List (List ℕ))) (start used back : ℕ) : Type 0 where
   pub count : length now ≡ length old
@@ -67,6 +77,11 @@ moving-none f cs a start used half = record {
   moved = λ y member. inl member;
   waits = λ y member. member;
 }
+
+-- the first state of a chain is in it
+pub first-of : (c : List (List ℕ)) → 1 ≤ length c → In (first c) c
+first-of [] some = absurd (omega arith)
+first-of (x ∷ c) some = inl refl
 
 -- a node from chain a goes to the bucket of its state, which hasn't got it
 module _ (cs : List (List (List ℕ))) (a start used : ℕ) (x : List ℕ) (low : 1 ≤ start) (enough : 1 ≤ used) (whole : start + used ≤ length cs)
@@ -126,9 +141,6 @@ module _ (f : List ℕ → List ℕ) (old now : List (List (List ℕ))) (a start
 
   rest-waits : (z : List ℕ) → In z (rest (chain now a)) → In z (chain now a)
   rest-waits z member = subst (λ (c : List (List ℕ)). In z c) (sym begins) (inr member)
-
-  pub first-waits : In (first (chain now a)) (chain now a)
-  first-waits = subst (λ (c : List (List ℕ)). In (first (chain now a)) c) (sym begins) (inl refl)
 
   -- no bucket of the half is chain a, nor the free nodes
   bucket-other : (c : ℕ) → IsOf start used c → c ≢ a
@@ -196,7 +208,7 @@ module _ (f : List ℕ → List ℕ) (old now : List (List (List ℕ))) (a start
             ∙ moving.others c least ne away;
         there = λ b z of member. elim (new-member now a start used x low enough whole apart small some z b (bucket-other b of) member) [
           | inl here ↦ inr (subst (λ (y : List ℕ). In y (map f (chain old a))) (sym here.0)
-              (In-map f (first (chain now a)) (chain old a) (moving.waits (first (chain now a)) first-waits)))
+              (In-map f (first (chain now a)) (chain old a) (moving.waits (first (chain now a)) (first-of (chain now a) some))))
           | inr before ↦ moving.there b z of before
         ];
         kept = λ b z of member. new-old now a start used x low enough whole apart small some z b (bucket-other b of) (moving.kept b z of member);
@@ -211,51 +223,29 @@ module _ (f : List ℕ → List ℕ) (old now : List (List (List ℕ))) (a start
         waits = λ y member. moving.waits y (rest-waits y (subst (λ (c : List (List ℕ)). In y c) off member));
       }
 
-  pub moved-first : first (chain (with_first now a (f (first (chain now a)))) a) ≡ f (first (chain now a))
-  moved-first = ap (λ (c : List (List ℕ)). first c) (chain-with_first now a (f (first (chain now a))) small)
-
-  pub moved-some : 1 ≤ length (chain (with_first now a (f (first (chain now a)))) a)
-  moved-some = (let longer = ap (λ (c : List (List ℕ)). length c) (chain-with_first now a (f (first (chain now a))) small) in omega arith)
-
-  pub moved-count : length (with_first now a (f (first (chain now a)))) ≡ length now
-  moved-count = length-with_first now a (f (first (chain now a)))
-
   moved-bucket : chain (with_first now a (f (first (chain now a)))) (bucket start used (f (first (chain now a))))
       ≡ chain now (bucket start used (f (first (chain now a))))
   moved-bucket =
       let x = f (first (chain now a)) in
       chain-with_first_other now a (bucket start used x) x (bucket-other (bucket start used x) (own-bucket x))
 
-  -- the target of the first node, read where the node has its new state
-  target-read : (to : ℕ) → IsTarget (with_first now a (f (first (chain now a)))) start used (first (chain (with_first now a (f (first (chain now a)))) a)) to
-      → IsTarget now start used (f (first (chain now a))) to
-  target-read to target =
-      let x = f (first (chain now a)) in
-      let mid = with_first now a x in
-      let known : IsTarget mid start used x to = subst (λ (y : List ℕ). IsTarget mid start used y to) moved-first target in
-      elim known [
-        | inl back ↦ inl (back.0, subst (λ (c : List (List ℕ)). In x c) moved-bucket back.1)
-        | inr new ↦ inr (new.0, λ there. new.1 (subst (λ (c : List (List ℕ)). In x c) (sym moved-bucket) there))
-      ]
-
-  module _ (mid new : List (List (List ℕ))) (to : ℕ) (made : mid ≡ with_first now a (f (first (chain now a))))
-      (target : IsTarget mid start used (first (chain mid a)) to) (carries : new ≡ carried mid a to (first (chain mid a))) where
+  module _ (new : List (List (List ℕ))) (to : ℕ) (target : IsTarget (with_first now a (f (first (chain now a)))) start used (f (first (chain now a))) to)
+      (carries : new ≡ carried now a to (f (first (chain now a)))) where
+    -- the target of the first node, read where the node has its old state
     aim : IsTarget now start used (f (first (chain now a))) to
-    aim = target-read to (subst (λ (cs : List (List (List ℕ))). IsTarget cs start used (first (chain cs a)) to) made target)
-
-    whole_move : new ≡ carried now a to (f (first (chain now a)))
-    whole_move =
-        carries
-        ∙ (ap (λ (cs : List (List (List ℕ))). carried cs a to (first (chain cs a))) made
-        ∙ (carried-with_first now a to (f (first (chain now a))) (first (chain (with_first now a (f (first (chain now a)))) a)) small
-        ∙ ap (λ (y : List ℕ). carried now a to y) moved-first))
+    aim =
+        let x = f (first (chain now a)) in
+        elim target [
+          | inl back ↦ inl (back.0, subst (λ (c : List (List ℕ)). In x c) moved-bucket back.1)
+          | inr new ↦ inr (new.0, λ there. new.1 (subst (λ (c : List (List ℕ)). In x c) (sym moved-bucket) there))
+        ]
 
     pub step-back : to ≡ 0 → IsMoving f old new a start used (back + 1)
     step-back none =
         let x = f (first (chain now a)) in
         elim aim [
           | inl given ↦ subst (λ (cs : List (List (List ℕ))). IsMoving f old cs a start used (back + 1))
-              (sym (whole_move ∙ ap (λ k. carried now a k x) given.0)) (moving-back given.1)
+              (sym (carries ∙ ap (λ k. carried now a k x) given.0)) (moving-back given.1)
           | inr linked ↦ absurd (let is = linked.0 in let least = bucket-low start used x in omega arith)
         ]
 
@@ -265,7 +255,7 @@ module _ (f : List ℕ → List ℕ) (old now : List (List (List ℕ))) (a start
         elim aim [
           | inl given ↦ absurd (not given.0)
           | inr linked ↦ subst (λ (cs : List (List (List ℕ))). IsMoving f old cs a start used back)
-              (sym (whole_move ∙ ap (λ k. carried now a k x) linked.0)) (moving-new linked.1)
+              (sym (carries ∙ ap (λ k. carried now a k x) linked.0)) (moving-new linked.1)
         ]
 
     pub step-fewer : length (chain new a) < length (chain now a)
@@ -276,7 +266,7 @@ module _ (f : List ℕ → List ℕ) (old now : List (List (List ℕ))) (a start
           | inr linked ↦ bucket-other (bucket start used x) (own-bucket x) (sym (e ∙ linked.0))
         ]) in
         let fewer : length (chain new a) ≡ length (rest (chain now a)) =
-        ap (λ (cs : List (List (List ℕ))). length (chain cs a)) whole_move
+        ap (λ (cs : List (List (List ℕ))). length (chain cs a)) carries
         ∙ ap (λ (c : List (List ℕ)). length c) (chain-carried_off now a to x small ne) in
         let longer = ap (λ (c : List (List ℕ)). length c) begins in
         omega arith
@@ -406,3 +396,90 @@ module _ (f : List ℕ → List ℕ) (old : List (List (List ℕ))) (from many s
         back = image-back;
       };
     }
+
+  pub stepping-none : IsStepping f old old from many from start used 0
+  stepping-none = record {
+    mid = old;
+    before = 0;
+    more = 0;
+    going = going-none;
+    moving = moving-none f old from start used (half-none old start used other-none);
+    sum = refl;
+    end = λ past. (refl, refl);
+  }
+
+  module _ (now : List (List (List ℕ))) (a back : ℕ) (least : from ≤ a) (enough : 1 ≤ used) (stepping : IsStepping f old now from many a start used back) where
+    pub stepping-count : length now ≡ length old
+    stepping-count = stepping.moving.count ∙ stepping.going.count
+
+    pub stepping-total : lengths now ≡ lengths old
+    stepping-total = stepping.moving.all ∙ stepping.going.all
+
+    pub stepping-free : length (chain now 0) ≡ length (chain old 0) + back
+    stepping-free = (let first_part = stepping.going.free in let second_part = stepping.moving.free in let sum = stepping.sum in omega arith)
+
+    -- the buckets before the last one are done
+    pub stepping-all : from + many ≤ a → a ≤ from + many → IsMoved f old now start used back
+    stepping-all past bound =
+        let end : a ≡ from + many = omega arith in
+        let none : stepping.more ≡ 0 = (stepping.end past).1 in
+        let count : stepping.before ≡ back = (let sum = stepping.sum in omega arith) in
+        going-all now back enough
+        (subst (λ (cs : List (List (List ℕ))). IsGoing f old cs from (from + many) start used back) (sym (stepping.end past).0)
+        (subst (λ n. IsGoing f old stepping.mid from (from + many) start used n) count
+        (subst (λ n. IsGoing f old stepping.mid from n start used stepping.before) end stepping.going)))
+
+    module _ (within : a < from + many) where
+      -- the next bucket is begun when this one is empty
+      pub stepping-next : chain now a ≡ [] → IsStepping f old now from many (a + 1) start used back
+      stepping-next empty = record {
+        mid = now;
+        before = back;
+        more = 0;
+        going = subst (λ n. IsGoing f old now from (a + 1) start used n) (sym stepping.sum)
+            (going-more stepping.mid now a stepping.before stepping.more least within enough stepping.going stepping.moving empty);
+        moving = moving-none f now (a + 1) start used stepping.moving.half;
+        sum = omega arith;
+        end = λ past. (refl, refl);
+      }
+
+      -- its nodes hold states that were held from the start
+      pub stepping-held : (z : List ℕ) → In z (chain now a) → In z (held old)
+      stepping-held z member =
+          In-held z old a (omega arith) (subst (λ (c : List (List ℕ)). In z c)
+          (stepping.going.others a (omega arith) (from-apart a least within) (inr (omega arith))) (stepping.moving.waits z member))
+
+      module _ (whole : start + used ≤ length now) (small : a < length now) (some : 1 ≤ length (chain now a)) (new : List (List (List ℕ))) (to : ℕ)
+          (target : IsTarget (with_first now a (f (first (chain now a)))) start used (f (first (chain now a))) to)
+          (carries : new ≡ carried now a to (f (first (chain now a)))) where
+        known : 1 ≤ a
+        known = omega arith
+
+        pub stepping-back : to ≡ 0 → IsStepping f old new from many a start used (back + 1)
+        stepping-back none = record {
+          mid = stepping.mid;
+          before = stepping.before;
+          more = stepping.more + 1;
+          going = stepping.going;
+          moving = step-back f stepping.mid now a start used stepping.more known low enough whole (from-apart a least within) small some stepping.moving
+              new to target carries none;
+          sum = (let sum = stepping.sum in omega arith);
+          end = λ past. absurd (omega arith);
+        }
+
+        pub stepping-new : to ≢ 0 → IsStepping f old new from many a start used back
+        stepping-new not = record {
+          mid = stepping.mid;
+          before = stepping.before;
+          more = stepping.more;
+          going = stepping.going;
+          moving = step-new f stepping.mid now a start used stepping.more known low enough whole (from-apart a least within) small some stepping.moving
+              new to target carries not;
+          sum = stepping.sum;
+          end = λ past. absurd (omega arith);
+        }
+
+        pub stepping-fewer : length (chain new a) < length (chain now a)
+        stepping-fewer =
+            step-fewer f stepping.mid now a start used stepping.more known low enough whole (from-apart a least within) small some stepping.moving
+            new to target carries

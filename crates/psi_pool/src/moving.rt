@@ -4,12 +4,12 @@
 ghost use Rattle.std.specs.Prelude.{◌≡◌, ℕ, ◌++◌, ◌+◌, ◌<◌, ◌≤◌, ◌⊎◌, List, [], length, vec_capacity, MatchOption};
 ghost use Rattle.psi_state.specs.State.{IsBelow};
 ghost use Rattle.psi_state.specs.Members.{In};
-ghost use Rattle.psi_pool.specs.Chains.{chain, first, lengths};
+ghost use Rattle.psi_pool.specs.Chains.{chain, lengths};
 ghost use Rattle.psi_pool.specs.Buckets.{held, IsApart};
 ghost use Rattle.psi_pool.specs.Emptying.{IsPoured, IsEmptied};
-ghost use Rattle.psi_pool.specs.Moving.{IsTarget, IsHalf, IsMoving, IsMoved};
+ghost use Rattle.psi_pool.specs.Moving.{IsMoved};
 
-use crate::hashing::{Half, bucket_of};
+use crate::hashing::Half;
 use crate::nodes::Table;
 use psi_event::EventLaw;
 use psi_state::State;
@@ -39,57 +39,6 @@ pub(crate) fn pour_all(table: &mut Table, half: Half)
     }
 }
 
-// Where the first node of chain `a` goes: to the bucket of its state in the half, or to the free nodes where
-// that bucket has the state. Most buckets are empty, so that is tried for first.
-#[inline]
-fn target(table: &Table, a: usize, half: Half) -> usize
-    requires enough { 1 ≤ half.used }
-    requires few { half.start + half.used ≤ 8195 }
-    requires whole { half.start + half.used ≤ length table.now }
-    requires chain { a < length table.now }
-    requires some { 1 ≤ length (chain table.now a) }
-    ensures value { IsTarget table.now half.start half.used (first (chain table.now a)) result }
-    ensures within { result < length table.now }
-{
-    let x = table.first(a);
-    let bucket = bucket_of(x, half);
-    if !table.has_some(bucket) {
-        return bucket;
-    }
-    if table.has(bucket, x) {
-        return 0;
-    }
-    bucket
-}
-
-// Links the nodes of chain `a` into the buckets of the half, each after the event has moved its state on, and
-// answers how many are free again, since their state is there already.
-fn move_chain<E: EventLaw>(table: &mut Table, a: usize, half: Half, e: &E) -> u16
-    requires bucket { 1 ≤ a }
-    requires within { a < length table.old }
-    requires start { 1 ≤ half.start }
-    requires enough { 1 ≤ half.used }
-    requires few { half.start + half.used ≤ 8195 }
-    requires whole { half.start + half.used ≤ length table.old }
-    requires apart { IsApart half.start half.used a }
-    requires small { lengths table.old ≤ 4096 }
-    requires half { IsHalf table.old half.start half.used }
-    requires below { (x : List ℕ) → In x (chain table.old a) → IsBelow x (E.capacities e.now) }
-    ensures moved { IsMoving (E.function e.now) table.old table.new a half.start half.used result }
-    ensures none { chain table.new a ≡ [] }
-{
-    let mut back = 0;
-    while table.has_some(a) {
-        table.apply_first(a, e);
-        let to = target(table, a, half);
-        table.carry(a, to);
-        if to == 0 {
-            back += 1;
-        }
-    }
-    back
-}
-
 /// Links the nodes of one half into the buckets of the other, each after the event has moved its state on,
 /// and answers how many are free again, since their state is there already.
 pub(crate) fn move_all<E: EventLaw>(table: &mut Table, from: Half, to: Half, e: &E) -> u16
@@ -106,9 +55,17 @@ pub(crate) fn move_all<E: EventLaw>(table: &mut Table, from: Half, to: Half, e: 
     requires below { (x : List ℕ) → In x (held table.old) → IsBelow x (E.capacities e.now) }
     ensures { IsMoved (E.function e.now) table.old table.new to.start to.used result }
 {
+    let end = from.start + from.used;
+    let mut bucket = from.start;
     let mut back = 0;
-    for bucket in from.start..from.start + from.used {
-        back += move_chain(table, bucket, to, e);
+    while bucket < end {
+        if !table.has_some(bucket) {
+            bucket += 1;
+            continue;
+        }
+        if table.move_first(bucket, to, e) == 0 {
+            back += 1;
+        }
     }
     back
 }

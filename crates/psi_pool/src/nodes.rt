@@ -4,8 +4,11 @@ ghost use Rattle.std.specs.Prelude.{◌≡◌, ℕ, ◌++◌, ◌+◌, ◌<◌, 
 ghost use Rattle.psi_state.specs.State.{IsBelow};
 ghost use Rattle.psi_state.specs.Members.{In};
 ghost use Rattle.psi_pool.specs.Chains.{chain, first, rest, carried, with_first, IsFresh};
+ghost use Rattle.psi_pool.specs.Links.{states_from, chains_of, node_at};
 ghost use Rattle.psi_pool.specs.Fresh.{AreFree, AreHeads};
+ghost use Rattle.psi_pool.specs.Moving.{IsTarget};
 
+use crate::hashing::{Half, bucket_of};
 use psi_event::EventLaw;
 use psi_state::State;
 use std::alloc::{AllocError, Global};
@@ -75,22 +78,11 @@ impl Table {
     }
 
     /// Whether chain `a` has a node with the state `x`.
-    #[inline(never)]
     pub(crate) fn has(&self, a: usize, x: &State) -> bool
         requires { a < length self.now }
         ensures { IsTrue result ↔ In x.now (chain self.now a) }
     {
-        let mut at = self.heads[a] as usize;
-        for _seen in 0..self.nodes.len() {
-            if at >= self.nodes.len() {
-                return false;
-            }
-            if self.nodes[at].state == *x {
-                return true;
-            }
-            at = self.nodes[at].next as usize;
-        }
-        false
+        has_from(self.nodes.as_slice(), self.heads[a] as usize, x)
     }
 
     /// Puts `x` in the place of the state of the first node of chain `a`.
@@ -103,15 +95,26 @@ impl Table {
         self.nodes[place].state = x;
     }
 
-    /// Puts what the event makes of the state of the first node of chain `a` in its place.
-    pub(crate) fn apply_first<E: EventLaw>(&mut self, a: usize, e: &E)
+    /// Moves the state of the first node of chain `a` on by the event, and the node to the bucket of that state
+    /// in the half, or to chain 0 where that bucket has the state already. Answers which chain it is.
+    #[inline]
+    pub(crate) fn move_first<E: EventLaw>(&mut self, a: usize, half: Half, e: &E) -> usize
         requires chain { a < length self.old }
         requires some { 1 ≤ length (chain self.old a) }
+        requires enough { 1 ≤ half.used }
+        requires few { half.start + half.used ≤ 8195 }
+        requires whole { half.start + half.used ≤ length self.old }
         requires below { IsBelow (first (chain self.old a)) (E.capacities e.now) }
-        ensures { self.new ≡ with_first self.old a (E.function e.now (first (chain self.old a))) }
+        ensures target { IsTarget (with_first self.old a (E.function e.now (first (chain self.old a)))) half.start half.used (E.function e.now (first (chain self.old a))) result }
+        ensures carries { self.new ≡ carried self.old a result (E.function e.now (first (chain self.old a))) }
     {
         let place = self.heads[a] as usize;
         e.apply(&mut self.nodes[place].state);
+        let to = target(self.nodes.as_slice(), self.heads.as_slice(), place, half);
+        self.heads[a] = self.nodes[place].next;
+        self.nodes[place].next = self.heads[to];
+        self.heads[to] = place as u16;
+        to
     }
 
     /// Takes the first node off chain `a` and puts it before those of chain `b`.
@@ -143,6 +146,46 @@ impl Table {
             place = self.nodes[place].next as usize;
         }
     }
+}
+
+// Whether a node with the state `x` is in the chain from this place on.
+fn has_from(nodes: &[Node], from: usize, x: &State) -> bool
+    ensures { IsTrue result ↔ In x.now (states_from nodes.now (length nodes.now) from) }
+{
+    let mut at = from;
+    for _seen in 0..nodes.len() {
+        if at >= nodes.len() {
+            return false;
+        }
+        if nodes[at].state == *x {
+            return true;
+        }
+        at = nodes[at].next as usize;
+    }
+    false
+}
+
+// Where the node at a place goes: to the bucket of its state in the half, or to chain 0 where that bucket has
+// the state. Most buckets are empty, so that is tried for first.
+#[inline]
+fn target(nodes: &[Node], heads: &[u16], place: usize, half: Half) -> usize
+    requires place { place < length nodes.now }
+    requires enough { 1 ≤ half.used }
+    requires few { half.start + half.used ≤ 8195 }
+    requires whole { half.start + half.used ≤ length heads.now }
+    ensures value { IsTarget (chains_of nodes.now heads.now) half.start half.used (node_at nodes.now place).state result }
+    ensures within { result < length heads.now }
+{
+    let x = &nodes[place].state;
+    let bucket = bucket_of(x, half);
+    let from = heads[bucket] as usize;
+    if from >= nodes.len() {
+        return bucket;
+    }
+    if has_from(nodes, from, x) {
+        return 0;
+    }
+    bucket
 }
 
 // So many nodes, each of which leads to the next, and the last past all of them.

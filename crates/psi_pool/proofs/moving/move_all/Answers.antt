@@ -1,73 +1,146 @@
-use Rattle.std.proofs.Common.{◌≡◌, ◌+◌, ◌<◌, ◌≤◌, ℕ, List, length, inr, subst, arith}
-use Rattle.psi_state.specs.Members.{In}
-use Rattle.psi_pool.specs.Chains.{chain, lengths, lengths-part}
-use Rattle.psi_pool.specs.Buckets.{In-held}
-use Rattle.psi_pool.specs.Moving.{IsGoing, from-apart, going-none, going-more, going-all}
+use Rattle.std.proofs.Common.{◌≡◌, ◌+◌, ◌<◌, ◌≤◌, length, arith}
+use Rattle.psi_pool.specs.Chains.{chain, first, lengths, lengths-part}
+use Rattle.psi_pool.specs.Moving.{first-of, stepping-none, stepping-count, stepping-total, stepping-free, stepping-all, stepping-next, stepping-held, stepping-back, stepping-new, stepping-fewer}
+use Rattle.psi_pool.proofs.Gathering.{chain-none}
 use Rattle.psi_pool.proofs.moving.move_all.Goals as goal
 
 pub loop-bucket-init : goal.loop-bucket-init
 loop-bucket-init g c = record {
-  going = going-none (g.E.EventLaw.function c.args.e.now) c.args.table.now c.args.from.start c.args.from.used c.args.to.start c.args.to.used c.requires.from_start c.requires.start c.requires.halves c.requires.rest;
+  stepping = stepping-none (g.E.EventLaw.function c.args.e.now) c.args.table.now c.args.from.start c.args.from.used c.args.to.start c.args.to.used c.requires.from_start c.requires.start c.requires.halves c.requires.rest;
+  least = omega arith;
   bound = omega arith;
 }
 
-pub move_chain-back-requires-clause-within : goal.move_chain-back-requires-clause-within
-move_chain-back-requires-clause-within g c =
-    let going = c.loop-bucket.invariant.going in
-    let count = going.count in
+pub has_some-requires : goal.has_some-requires
+has_some-requires g c =
+    let count : length c.loop-bucket.table ≡ length c.args.table.now =
+    stepping-count (g.E.EventLaw.function c.args.e.now) c.args.table.now c.args.from.start c.args.from.used c.args.to.start c.args.to.used c.requires.from_start c.requires.start c.requires.halves c.requires.rest
+    c.loop-bucket.table c.loop-bucket.bucket c.loop-bucket.back c.loop-bucket.invariant.least c.requires.enough c.loop-bucket.invariant.stepping in
     let whole = c.requires.from_whole in
     omega arith
 
-pub move_chain-back-requires-clause-whole : goal.move_chain-back-requires-clause-whole
-move_chain-back-requires-clause-whole g c =
-    let going = c.loop-bucket.invariant.going in
-    let count = going.count in
+pub loop-bucket-preserved-then-not-has_some : goal.loop-bucket-preserved-then-not-has_some
+loop-bucket-preserved-then-not-has_some g c =
+    let within : c.loop-bucket.bucket < c.args.from.start + c.args.from.used = omega arith in
+    record {
+      stepping = stepping-next (g.E.EventLaw.function c.args.e.now) c.args.table.now c.args.from.start c.args.from.used c.args.to.start c.args.to.used c.requires.from_start c.requires.start c.requires.halves c.requires.rest
+          c.loop-bucket.table c.loop-bucket.bucket c.loop-bucket.back c.loop-bucket.invariant.least c.requires.enough c.loop-bucket.invariant.stepping within
+          (chain-none (chain c.loop-bucket.table c.loop-bucket.bucket) (λ some. (let yes = c.has_some.ensures.1 some in let empty = c.if-not-has_some.true in cc)));
+      least = (let least = c.loop-bucket.invariant.least in omega arith);
+      bound = omega arith;
+    }
+
+pub loop-bucket-smaller-then-not-has_some : goal.loop-bucket-smaller-then-not-has_some
+loop-bucket-smaller-then-not-has_some g c =
+    let total : lengths c.loop-bucket.table ≡ lengths c.args.table.now =
+    stepping-total (g.E.EventLaw.function c.args.e.now) c.args.table.now c.args.from.start c.args.from.used c.args.to.start c.args.to.used c.requires.from_start c.requires.start c.requires.halves c.requires.rest
+    c.loop-bucket.table c.loop-bucket.bucket c.loop-bucket.back c.loop-bucket.invariant.least c.requires.enough c.loop-bucket.invariant.stepping in
+    let small = c.requires.small in
+    let part = lengths-part c.loop-bucket.table (c.loop-bucket.bucket + 1) in
+    omega arith
+
+pub move_first-requires-clause-chain : goal.move_first-requires-clause-chain
+move_first-requires-clause-chain g c =
+    let count : length c.loop-bucket.table ≡ length c.args.table.now =
+    stepping-count (g.E.EventLaw.function c.args.e.now) c.args.table.now c.args.from.start c.args.from.used c.args.to.start c.args.to.used c.requires.from_start c.requires.start c.requires.halves c.requires.rest
+    c.loop-bucket.table c.loop-bucket.bucket c.loop-bucket.back c.loop-bucket.invariant.least c.requires.enough c.loop-bucket.invariant.stepping in
+    let whole = c.requires.from_whole in
+    omega arith
+
+pub move_first-requires-clause-some : goal.move_first-requires-clause-some
+move_first-requires-clause-some g c =
+    c.has_some.ensures.0 c.if-not-has_some.false
+
+pub move_first-requires-clause-whole : goal.move_first-requires-clause-whole
+move_first-requires-clause-whole g c =
+    let count : length c.loop-bucket.table ≡ length c.args.table.now =
+    stepping-count (g.E.EventLaw.function c.args.e.now) c.args.table.now c.args.from.start c.args.from.used c.args.to.start c.args.to.used c.requires.from_start c.requires.start c.requires.halves c.requires.rest
+    c.loop-bucket.table c.loop-bucket.bucket c.loop-bucket.back c.loop-bucket.invariant.least c.requires.enough c.loop-bucket.invariant.stepping in
     let whole = c.requires.whole in
     omega arith
 
-pub move_chain-back-requires-clause-small : goal.move_chain-back-requires-clause-small
-move_chain-back-requires-clause-small g c = (let going = c.loop-bucket.invariant.going in let all = going.all in let small = c.requires.small in omega arith)
-
-pub move_chain-back-requires-clause-half : goal.move_chain-back-requires-clause-half
-move_chain-back-requires-clause-half g c = (let going = c.loop-bucket.invariant.going in going.half)
-
-pub move_chain-back-requires-clause-apart : goal.move_chain-back-requires-clause-apart
-move_chain-back-requires-clause-apart g c =
-    from-apart (g.E.EventLaw.function c.args.e.now) c.args.table.now c.args.from.start c.args.from.used c.args.to.start c.args.to.used c.requires.from_start c.requires.start c.requires.halves c.requires.rest c.loop-bucket.bucket c.loop-bucket.auto.bucket (omega arith)
-
-pub move_chain-back-requires-clause-below : goal.move_chain-back-requires-clause-below
-move_chain-back-requires-clause-below g c x member =
-    let going = c.loop-bucket.invariant.going in
-    let least = c.loop-bucket.auto.bucket in
-    let some = c.requires.from_start in
-    c.requires.below x (In-held x c.args.table.now c.loop-bucket.bucket (omega arith)
-    (subst (λ (d : List (List ℕ)). In x d) (going.others c.loop-bucket.bucket (omega arith)
-    (from-apart (g.E.EventLaw.function c.args.e.now) c.args.table.now c.args.from.start c.args.from.used c.args.to.start c.args.to.used c.requires.from_start c.requires.start c.requires.halves c.requires.rest c.loop-bucket.bucket c.loop-bucket.auto.bucket (omega arith)) (inr (omega arith))) member))
+pub move_first-requires-clause-below : goal.move_first-requires-clause-below
+move_first-requires-clause-below g c =
+    let within : c.loop-bucket.bucket < c.args.from.start + c.args.from.used = omega arith in
+    let some = c.has_some.ensures.0 c.if-not-has_some.false in
+    c.requires.below (first (chain c.loop-bucket.table c.loop-bucket.bucket))
+    (stepping-held (g.E.EventLaw.function c.args.e.now) c.args.table.now c.args.from.start c.args.from.used c.args.to.start c.args.to.used c.requires.from_start c.requires.start c.requires.halves c.requires.rest
+    c.loop-bucket.table c.loop-bucket.bucket c.loop-bucket.back c.loop-bucket.invariant.least c.requires.enough c.loop-bucket.invariant.stepping within
+    (first (chain c.loop-bucket.table c.loop-bucket.bucket)) (first-of (chain c.loop-bucket.table c.loop-bucket.bucket) some))
 
 pub overflow_add-back : goal.overflow_add-back
 overflow_add-back g c =
-    let going = c.loop-bucket.invariant.going in
-    let moving = c.move_chain-back.ensures.moved in
-    let before = going.free in
-    let after = moving.free in
-    let all = going.all in
-    let more = moving.all in
+    let total : lengths c.loop-bucket.table ≡ lengths c.args.table.now =
+    stepping-total (g.E.EventLaw.function c.args.e.now) c.args.table.now c.args.from.start c.args.from.used c.args.to.start c.args.to.used c.requires.from_start c.requires.start c.requires.halves c.requires.rest
+    c.loop-bucket.table c.loop-bucket.bucket c.loop-bucket.back c.loop-bucket.invariant.least c.requires.enough c.loop-bucket.invariant.stepping in
     let small = c.requires.small in
-    let part = lengths-part c.move_chain-back.new.table 0 in
+    let free = stepping-free (g.E.EventLaw.function c.args.e.now) c.args.table.now c.args.from.start c.args.from.used c.args.to.start c.args.to.used c.requires.from_start c.requires.start c.requires.halves c.requires.rest
+    c.loop-bucket.table c.loop-bucket.bucket c.loop-bucket.back c.loop-bucket.invariant.least c.requires.enough c.loop-bucket.invariant.stepping in
+    let part = lengths-part c.loop-bucket.table 0 in
     omega arith
 
+pub loop-bucket-smaller-then-move_first-eq0 : goal.loop-bucket-smaller-then-move_first-eq0
+loop-bucket-smaller-then-move_first-eq0 g c =
+    let count : length c.loop-bucket.table ≡ length c.args.table.now =
+    stepping-count (g.E.EventLaw.function c.args.e.now) c.args.table.now c.args.from.start c.args.from.used c.args.to.start c.args.to.used c.requires.from_start c.requires.start c.requires.halves c.requires.rest
+    c.loop-bucket.table c.loop-bucket.bucket c.loop-bucket.back c.loop-bucket.invariant.least c.requires.enough c.loop-bucket.invariant.stepping in
+    let within : c.loop-bucket.bucket < c.args.from.start + c.args.from.used = omega arith in
+    let whole : c.args.to.start + c.args.to.used ≤ length c.loop-bucket.table = (let known = c.requires.whole in omega arith) in
+    let inside : c.loop-bucket.bucket < length c.loop-bucket.table = (let known = c.requires.from_whole in omega arith) in
+    let some : 1 ≤ length (chain c.loop-bucket.table c.loop-bucket.bucket) = c.has_some.ensures.0 c.if-not-has_some.false in
+    let fewer = stepping-fewer (g.E.EventLaw.function c.args.e.now) c.args.table.now c.args.from.start c.args.from.used c.args.to.start c.args.to.used c.requires.from_start c.requires.start c.requires.halves c.requires.rest
+    c.loop-bucket.table c.loop-bucket.bucket c.loop-bucket.back c.loop-bucket.invariant.least c.requires.enough c.loop-bucket.invariant.stepping within whole inside some c.move_first.new.self c.move_first.result c.move_first.ensures.target c.move_first.ensures.carries in
+    omega arith
+
+pub loop-bucket-smaller : goal.loop-bucket-smaller
+loop-bucket-smaller g c =
+    let count : length c.loop-bucket.table ≡ length c.args.table.now =
+    stepping-count (g.E.EventLaw.function c.args.e.now) c.args.table.now c.args.from.start c.args.from.used c.args.to.start c.args.to.used c.requires.from_start c.requires.start c.requires.halves c.requires.rest
+    c.loop-bucket.table c.loop-bucket.bucket c.loop-bucket.back c.loop-bucket.invariant.least c.requires.enough c.loop-bucket.invariant.stepping in
+    let within : c.loop-bucket.bucket < c.args.from.start + c.args.from.used = omega arith in
+    let whole : c.args.to.start + c.args.to.used ≤ length c.loop-bucket.table = (let known = c.requires.whole in omega arith) in
+    let inside : c.loop-bucket.bucket < length c.loop-bucket.table = (let known = c.requires.from_whole in omega arith) in
+    let some : 1 ≤ length (chain c.loop-bucket.table c.loop-bucket.bucket) = c.has_some.ensures.0 c.if-not-has_some.false in
+    let fewer = stepping-fewer (g.E.EventLaw.function c.args.e.now) c.args.table.now c.args.from.start c.args.from.used c.args.to.start c.args.to.used c.requires.from_start c.requires.start c.requires.halves c.requires.rest
+    c.loop-bucket.table c.loop-bucket.bucket c.loop-bucket.back c.loop-bucket.invariant.least c.requires.enough c.loop-bucket.invariant.stepping within whole inside some c.move_first.new.self c.move_first.result c.move_first.ensures.target c.move_first.ensures.carries in
+    omega arith
+
+pub loop-bucket-preserved-then-move_first-eq0 : goal.loop-bucket-preserved-then-move_first-eq0
+loop-bucket-preserved-then-move_first-eq0 g c =
+    let count : length c.loop-bucket.table ≡ length c.args.table.now =
+    stepping-count (g.E.EventLaw.function c.args.e.now) c.args.table.now c.args.from.start c.args.from.used c.args.to.start c.args.to.used c.requires.from_start c.requires.start c.requires.halves c.requires.rest
+    c.loop-bucket.table c.loop-bucket.bucket c.loop-bucket.back c.loop-bucket.invariant.least c.requires.enough c.loop-bucket.invariant.stepping in
+    let within : c.loop-bucket.bucket < c.args.from.start + c.args.from.used = omega arith in
+    let whole : c.args.to.start + c.args.to.used ≤ length c.loop-bucket.table = (let known = c.requires.whole in omega arith) in
+    let inside : c.loop-bucket.bucket < length c.loop-bucket.table = (let known = c.requires.from_whole in omega arith) in
+    let some : 1 ≤ length (chain c.loop-bucket.table c.loop-bucket.bucket) = c.has_some.ensures.0 c.if-not-has_some.false in
+    record {
+      stepping = stepping-back (g.E.EventLaw.function c.args.e.now) c.args.table.now c.args.from.start c.args.from.used c.args.to.start c.args.to.used c.requires.from_start c.requires.start c.requires.halves c.requires.rest
+          c.loop-bucket.table c.loop-bucket.bucket c.loop-bucket.back c.loop-bucket.invariant.least c.requires.enough c.loop-bucket.invariant.stepping within whole inside some c.move_first.new.self c.move_first.result c.move_first.ensures.target c.move_first.ensures.carries
+          c.if-move_first-eq0.true;
+      least = c.loop-bucket.invariant.least;
+      bound = c.loop-bucket.invariant.bound;
+    }
+
 pub loop-bucket-preserved : goal.loop-bucket-preserved
-loop-bucket-preserved g c = record {
-  going = going-more (g.E.EventLaw.function c.args.e.now) c.args.table.now c.args.from.start c.args.from.used c.args.to.start c.args.to.used c.requires.from_start c.requires.start c.requires.halves c.requires.rest
-      c.loop-bucket.table c.move_chain-back.new.table c.loop-bucket.bucket c.loop-bucket.back c.move_chain-back.result c.loop-bucket.auto.bucket (omega arith) c.requires.enough
-      c.loop-bucket.invariant.going c.move_chain-back.ensures.moved c.move_chain-back.ensures.none;
-  bound = omega arith;
-}
+loop-bucket-preserved g c =
+    let count : length c.loop-bucket.table ≡ length c.args.table.now =
+    stepping-count (g.E.EventLaw.function c.args.e.now) c.args.table.now c.args.from.start c.args.from.used c.args.to.start c.args.to.used c.requires.from_start c.requires.start c.requires.halves c.requires.rest
+    c.loop-bucket.table c.loop-bucket.bucket c.loop-bucket.back c.loop-bucket.invariant.least c.requires.enough c.loop-bucket.invariant.stepping in
+    let within : c.loop-bucket.bucket < c.args.from.start + c.args.from.used = omega arith in
+    let whole : c.args.to.start + c.args.to.used ≤ length c.loop-bucket.table = (let known = c.requires.whole in omega arith) in
+    let inside : c.loop-bucket.bucket < length c.loop-bucket.table = (let known = c.requires.from_whole in omega arith) in
+    let some : 1 ≤ length (chain c.loop-bucket.table c.loop-bucket.bucket) = c.has_some.ensures.0 c.if-not-has_some.false in
+    record {
+      stepping = stepping-new (g.E.EventLaw.function c.args.e.now) c.args.table.now c.args.from.start c.args.from.used c.args.to.start c.args.to.used c.requires.from_start c.requires.start c.requires.halves c.requires.rest
+          c.loop-bucket.table c.loop-bucket.bucket c.loop-bucket.back c.loop-bucket.invariant.least c.requires.enough c.loop-bucket.invariant.stepping within whole inside some c.move_first.new.self c.move_first.result c.move_first.ensures.target c.move_first.ensures.carries
+          c.if-move_first-eq0.false;
+      least = c.loop-bucket.invariant.least;
+      bound = c.loop-bucket.invariant.bound;
+    }
 
 pub returns : goal.returns
 returns g c =
-    let end : c.loop-bucket.bucket ≡ c.args.from.start + c.args.from.used =
-    (let bound = c.loop-bucket.invariant.bound in let past = c.loop-bucket.auto.bucket-end in omega arith) in
-    going-all (g.E.EventLaw.function c.args.e.now) c.args.table.now c.args.from.start c.args.from.used c.args.to.start c.args.to.used c.requires.from_start c.requires.start c.requires.halves c.requires.rest c.loop-bucket.table c.loop-bucket.back c.requires.enough
-    (subst (λ n. IsGoing (g.E.EventLaw.function c.args.e.now) c.args.table.now c.loop-bucket.table c.args.from.start n c.args.to.start c.args.to.used c.loop-bucket.back) end
-    c.loop-bucket.invariant.going)
+    let past : c.args.from.start + c.args.from.used ≤ c.loop-bucket.bucket = omega arith in
+    stepping-all (g.E.EventLaw.function c.args.e.now) c.args.table.now c.args.from.start c.args.from.used c.args.to.start c.args.to.used c.requires.from_start c.requires.start c.requires.halves c.requires.rest
+    c.loop-bucket.table c.loop-bucket.bucket c.loop-bucket.back c.loop-bucket.invariant.least c.requires.enough c.loop-bucket.invariant.stepping past c.loop-bucket.invariant.bound

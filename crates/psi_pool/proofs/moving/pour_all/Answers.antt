@@ -1,4 +1,4 @@
-use Rattle.std.proofs.Common.{◌≡◌, ◌⊎◌, inl, inr, arith}
+use Rattle.std.proofs.Common.{inl, inr, arith}
 use Rattle.psi_pool.specs.Emptying.{emptying-none, emptying-more, emptying-all}
 use Rattle.psi_pool.proofs.moving.pour_all.Goals as goal
 

@@ -3,7 +3,7 @@ use Rattle.psi_state.specs.Members.{In}
 use Rattle.psi_state.specs.Sets.{image, In-ascending}
 use Rattle.psi_pool.specs.Buckets.{held}
 use Rattle.psi_pool.specs.Pooled.{Pooled}
-use Rattle.psi_pool.specs.Holding.{pool-few, pool-start, pool-used, pool-whole, pool-rest, other-start, other-used, other-whole, other-apart, back-few, pool-stepped, states-stepped}
+use Rattle.psi_pool.specs.Holding.{pool-start, pool-used, pool-whole, pool-rest, other-start, other-used, other-whole, other-apart, back-few, pool-stepped, states-stepped}
 use Rattle.psi_pool.proofs.linked_set.Pool.step.Goals as goal
 
 pub move_all-requires-clause-from_start : goal.move_all-requires-clause-from_start
