@@ -20,6 +20,8 @@ mod moving;
 mod offers;
 mod parts;
 mod passing;
+#[cfg(test)]
+mod sweep_tests;
 mod sweeping;
 #[cfg(test)]
 mod tests;
