@@ -181,5 +181,9 @@ fn envelopes_without_tables_are_the_least_around_all_images(rt: HostRuntime) {
     assert_eq!(rt; assert_capacities(&rt, alloc, 0, 1), 567);
     assert_eq!(rt; assert_capacities(&rt, alloc, 1, 4), 8_343);
     assert_eq!(rt; assert_capacities(&rt, alloc, 2, 16), 89_127);
-    assert_eq!(rt; assert_capacities(&rt, alloc, 3, 64), 971_757);
+}
+
+#[test]
+fn so_are_those_of_a_list_of_three(rt: HostRuntime) {
+    assert_eq!(rt; assert_capacities(&rt, rt.alloc(), 3, 64), 971_757);
 }
