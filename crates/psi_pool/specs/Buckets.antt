@@ -1,11 +1,10 @@
 -- The buckets of a table: chain 0 has the free nodes, and each other chain is a bucket of one of two halves.
 use Rattle.std.specs.Prelude.{◌≡◌, ℕ, zero, suc, ◌+◌, ◌*◌, ◌/◌, ◌%◌, ◌^◌, ◌<◌, ◌≤◌, List, [], ◌∷◌, ◌++◌, ◌⊎◌, length, refl}
-use Rattle.std.specs.Int.{div_ceil}
 use Rattle.std.proofs.Common.{inl, inr, sym, subst, arith, length-append}
 use Rattle.std.proofs.Math.Nat.{mod-lt, div-lt_iff_lt-mul, mul_comm, mul-lt-mul_of_pos_right}
 use Rattle.psi_state.specs.Members.{In, In-append, In-append_left, In-append_right}
 use Rattle.psi_state.specs.Ascending.{IsDistinct}
-use Rattle.psi_state.specs.Hashing.{quad, mixed, hash}
+use Rattle.psi_state.specs.Hashing.{quad, quads, mixed, hash}
 use Rattle.psi_pool.specs.Chains.{chain, rest, lengths}
 
 -- the bucket of a state in the half that begins with this chain, where so many of its buckets are in use
@@ -41,7 +40,7 @@ mixed-small x (suc n) = mod-lt ((mixed x n + quad x n) % 2 ^ 64 * 11400714819323
 -- a hash has 32 bits
 hash-small : (x : List ℕ) → hash x < 2 ^ 32
 unfolding hash
-hash-small x = (let small = mixed-small x (div_ceil (length x) 4) in omega arith)
+hash-small x = (let small = mixed-small x (quads (length x)) in omega arith)
 
 pub bucket-low : (start used : ℕ) (x : List ℕ) → start ≤ bucket start used x
 unfolding bucket

@@ -7,7 +7,7 @@ ghost use Rattle.std.specs.Cmp.Rules.{comparing};
 ghost use Rattle.std.specs.Cmp.Lexicographic.{pointwise, slice_cmp};
 ghost use Rattle.std.specs.Ordering.{nat_cmp, as_partial_cmp};
 ghost use Rattle.psi_state.specs.State.{IsVector, IsBelow};
-ghost use Rattle.psi_state.specs.Hashing.{quad, hash};
+ghost use Rattle.psi_state.specs.Hashing.{quad, mixed, hash};
 
 use std::cmp::Ordering;
 use std::fmt;
@@ -97,14 +97,27 @@ impl State {
 
     /// A number of 32 bits that is the same for the same state, and is spread well over states: for tables of
     /// states.
+    #[tactic(auto, unfolding(crate::specs::Hashing::hash))]
     pub fn hash(&self) -> u32
         ensures { result ≡ hash self.now }
     {
-        let mut hash: u64 = 0;
-        for i in 0..self.len.div_ceil(4) {
-            hash = hash.wrapping_add(self.quad(i)).wrapping_mul(MULTIPLIER);
+        if self.len() <= 8 {
+            return (self.mixed(2) >> 32) as u32;
         }
-        (hash >> 32) as u32
+        (self.mixed(8) >> 32) as u32
+    }
+
+    // The product of the first so many quads. Their number is given as a constant, so that it is no loop.
+    #[inline]
+    fn mixed(&self, quads: u8) -> u64
+        requires { quads ≤ 8 }
+        ensures { result ≡ mixed self.now quads }
+    {
+        let mut product: u64 = 0;
+        for i in 0..quads {
+            product = product.wrapping_add(self.quad(i)).wrapping_mul(MULTIPLIER);
+        }
+        product
     }
 
     // The numbers of four queues side by side, from queue 4 i on; past the last queue they are 0.
