@@ -22,7 +22,7 @@ pub record AreBothEnds (s : Shape) (l h : List ℕ) (j low high : ℕ) : Type 0 
 pub both-ends : (s : Shape) → IsRouteShape s → (l h u w : List ℕ) (j least greatest low high : ℕ) (always : Bool) (first second bar other : Option Key)
     → IsBelow l h → IsBelow h s.caps → AreTargetEnds (routing s) l h u w j → j < length s.targets → least ≡ slice_index u (slice_index s.targets j)
     → greatest ≡ slice_index w (slice_index s.targets j) → MatchBool always (Comes (routing s) l 0) (Misses (routing s) l 0) → Comes (routing s) h 0
-    → AreLeastTwo (IsRival (routing s) l h) (length s.targets) first second → AreLeastTwo (IsBar (routing s) l h) (length s.targets) bar other
+    → (always ≡ true → AreLeastTwo (IsRival (routing s) l h) (length s.targets) first second) → AreLeastTwo (IsBar (routing s) l h) (length s.targets) bar other
     → (always ≡ false → low ≡ least)
     → (always ≡ true → IsLeastAfter (MayStay (routing s) j (beside first second j)) (MustRise (routing s) j (beside first second j)) s.size least greatest low)
     → IsGreatestAfter (MayRise (routing s) j (beside bar other j)) (MustStay (routing s) j (beside bar other j)) s.size least greatest high
@@ -32,7 +32,7 @@ both-ends s is l h u w j least greatest low high always first second bar other o
     let old = target-ends_kept r l h u w j (routing-is s is) ends small in
     let low_is : least ≡ slice_index l (slice_index s.targets j) = is_least ∙ old.0 in
     let high_is : greatest ≡ slice_index h (slice_index s.targets j) = is_greatest ∙ old.1 in
-    let first_end : IsLowEnd r l h j low = low-end always coming low_is high_is kept served in
+    let first_end : IsLowEnd r l h j low = low-end always coming low_is high_is rivals kept served in
     let last_end : IsHighEnd r l h j high =
     high-weighed r l h j high (beside bar other j) (targets-ordered s is l h ordered within) (least-beside (IsBar r l h) (length s.targets) j bar other small bars) comes.serve
     (subst (λ n. IsGreatestAfter (MayRise r j (beside bar other j)) (MustStay r j (beside bar other j)) s.size n (slice_index h (slice_index s.targets j)) high) low_is
@@ -44,14 +44,15 @@ both-ends s is l h u w j least greatest low high always first second bar other o
     }
   where
     low-end : (always : Bool) → MatchBool always (Comes (routing s) l 0) (Misses (routing s) l 0) → least ≡ slice_index l (slice_index s.targets j)
-        → greatest ≡ slice_index h (slice_index s.targets j) → (always ≡ false → low ≡ least)
+        → greatest ≡ slice_index h (slice_index s.targets j)
+        → (always ≡ true → AreLeastTwo (IsRival (routing s) l h) (length s.targets) first second) → (always ≡ false → low ≡ least)
         → (always ≡ true → IsLeastAfter (MayStay (routing s) j (beside first second j)) (MustRise (routing s) j (beside first second j)) s.size least greatest low)
         → IsLowEnd (routing s) l h j low
-    low-end true comes low_is high_is kept served =
-        low-weighed (routing s) l h j low (beside first second j) (least-beside (IsRival (routing s) l h) (length s.targets) j first second small rivals) comes.serve
+    low-end true comes low_is high_is offers kept served =
+        low-weighed (routing s) l h j low (beside first second j) (least-beside (IsRival (routing s) l h) (length s.targets) j first second small (offers refl)) comes.serve
         (subst (λ n. IsLeastAfter (MayStay (routing s) j (beside first second j)) (MustRise (routing s) j (beside first second j)) s.size n (slice_index h (slice_index s.targets j)) low) low_is
         (subst (λ n. IsLeastAfter (MayStay (routing s) j (beside first second j)) (MustRise (routing s) j (beside first second j)) s.size least n low) high_is (served refl)))
-    low-end false misses low_is high_is kept served =
+    low-end false misses low_is high_is offers kept served =
         subst (λ n. IsLowEnd (routing s) l h j n) (sym (kept refl ∙ low_is)) (low-missed-source (routing s) l h j is.sized (targets-ordered s is l h ordered within j small) misses)
 
 pub ends-weighed : (s : Shape) → IsRouteShape s → (l h u w : List ℕ) (j low high : ℕ) → IsBelow l h → IsBelow h s.caps → AreTargetEnds (routing s) l h u w j
@@ -65,12 +66,12 @@ ends-weighed s is l h u w j low high ordered within ends small both =
 -- how far the customers come past all targets
 pub coming-weighed : (s : Shape) → IsRouteShape s → (l h : List ℕ) (always passes some : Bool) (first bar : Option Key) → IsBelow l h → IsBelow h s.caps
     → MatchBool always (Comes (routing s) l 0) (Misses (routing s) l 0) → Comes (routing s) h 0 → (second other : Option Key)
-    → AreLeastTwo (IsRival (routing s) l h) (length s.targets) first second → AreLeastTwo (IsBar (routing s) l h) (length s.targets) bar other
+    → (always ≡ true → AreLeastTwo (IsRival (routing s) l h) (length s.targets) first second) → AreLeastTwo (IsBar (routing s) l h) (length s.targets) bar other
     → (always ≡ true → passes ≡ is_none first) → (always ≡ false → passes ≡ false) → some ≡ is_none bar
     → AreComing (routing s) l h (length s.targets) (record { always = passes; sometimes = some })
 coming-weighed s is l h true passes some first bar ordered within comes high second other rivals bars tells quiet said = record {
   low = subst (λ b. MatchBool b (Comes (routing s) l (length s.targets)) (Misses (routing s) l (length s.targets))) (sym (tells refl))
-      (rival-passes (routing s) l h first rivals.first_is comes.serve (targets-ordered s is l h ordered within));
+      (rival-passes (routing s) l h first ((rivals refl).first_is) comes.serve (targets-ordered s is l h ordered within));
   high = subst (λ b. MatchBool b (Comes (routing s) h (length s.targets)) (Misses (routing s) h (length s.targets))) (sym said)
       (bar-passes (routing s) l h bar bars.first_is high.serve);
 }

@@ -30,7 +30,7 @@ impl Route {
         ensures ends { AreTargetEnds (routing (shape_of self.now)) b.old.lo b.old.hi b.new.lo b.new.hi (length self.now.targets) }
         ensures left { AreComing (routing (shape_of self.now)) b.old.lo b.old.hi (length self.now.targets) result }
     {
-        let rivals = self.rivals(b);
+        let rivals = self.served_rivals(b, always);
         let bars = self.bars(b);
         for j in 0..self.places() {
             let queue = self.target(j);
@@ -44,6 +44,22 @@ impl Route {
             always: always && rivals.first.is_none(),
             sometimes: bars.first.is_none(),
         }
+    }
+
+    // The two least keys with which targets can be chosen in the box, where the source always serves; else they
+    // aren't asked for.
+    fn served_rivals(&self, b: &Bounds, always: bool) -> Offers
+        requires ordered { IsBelow b.now.lo b.now.hi }
+        requires within { IsBelow b.now.hi self.now.caps }
+        ensures { always ≡ true → AreLeastTwo (IsRival (routing (shape_of self.now)) b.now.lo b.now.hi) (length self.now.targets) result.first result.second }
+    {
+        if !always {
+            return Offers {
+                first: None,
+                second: None,
+            };
+        }
+        self.rivals(b)
     }
 
     // The least number of customers that the route leaves at the target at place `j`, which held from `least`

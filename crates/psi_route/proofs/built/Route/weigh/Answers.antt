@@ -17,11 +17,11 @@ set-requires-clause-ordered c =
     let small : c.loop-j.j < length s.targets = omega (arith, c.loop-j-test.true, c.places-j-end.ensures.value) in
     let both =
     both-ends s c.args.self.now.valid c.args.b.now.lo c.args.b.now.hi c.loop-j.b.lo c.loop-j.b.hi c.loop-j.j c.least-least.result c.greatest-greatest.result
-    c.low_after-low.result c.target_high-high.result c.args.always c.rivals-rivals.result.first c.rivals-rivals.result.second c.bars-bars.result.first c.bars-bars.result.second
+    c.low_after-low.result c.target_high-high.result c.args.always c.served_rivals-rivals.result.first c.served_rivals-rivals.result.second c.bars-bars.result.first c.bars-bars.result.second
     c.requires.ordered c.requires.within c.loop-j.invariant small
     (c.least-least.ensures.value ∙ ap (λ n. slice_index c.loop-j.b.lo n) c.target-queue.ensures.value)
     (c.greatest-greatest.ensures.value ∙ ap (λ n. slice_index c.loop-j.b.hi n) c.target-queue.ensures.value)
-    c.requires.low c.requires.high c.rivals-rivals.ensures c.bars-bars.ensures c.low_after-low.ensures.kept
+    c.requires.low c.requires.high c.served_rivals-rivals.ensures c.bars-bars.ensures c.low_after-low.ensures.kept
     (λ e. subst (λ (o : Option Key). IsLeastAfter (MayStay r c.loop-j.j o) (MustRise r c.loop-j.j o) s.size c.least-least.result c.greatest-greatest.result c.low_after-low.result)
     c.beside.ensures (c.low_after-low.ensures.served e))
     (subst (λ (o : Option Key). IsGreatestAfter (MayRise r c.loop-j.j o) (MustStay r c.loop-j.j o) s.size c.least-least.result c.greatest-greatest.result c.target_high-high.result)
@@ -35,11 +35,11 @@ loop-j-preserved c =
     let small : c.loop-j.j < length s.targets = omega (arith, c.loop-j-test.true, c.places-j-end.ensures.value) in
     let both =
     both-ends s c.args.self.now.valid c.args.b.now.lo c.args.b.now.hi c.loop-j.b.lo c.loop-j.b.hi c.loop-j.j c.least-least.result c.greatest-greatest.result
-    c.low_after-low.result c.target_high-high.result c.args.always c.rivals-rivals.result.first c.rivals-rivals.result.second c.bars-bars.result.first c.bars-bars.result.second
+    c.low_after-low.result c.target_high-high.result c.args.always c.served_rivals-rivals.result.first c.served_rivals-rivals.result.second c.bars-bars.result.first c.bars-bars.result.second
     c.requires.ordered c.requires.within c.loop-j.invariant small
     (c.least-least.ensures.value ∙ ap (λ n. slice_index c.loop-j.b.lo n) c.target-queue.ensures.value)
     (c.greatest-greatest.ensures.value ∙ ap (λ n. slice_index c.loop-j.b.hi n) c.target-queue.ensures.value)
-    c.requires.low c.requires.high c.rivals-rivals.ensures c.bars-bars.ensures c.low_after-low.ensures.kept
+    c.requires.low c.requires.high c.served_rivals-rivals.ensures c.bars-bars.ensures c.low_after-low.ensures.kept
     (λ e. subst (λ (o : Option Key). IsLeastAfter (MayStay r c.loop-j.j o) (MustRise r c.loop-j.j o) s.size c.least-least.result c.greatest-greatest.result c.low_after-low.result)
     c.beside.ensures (c.low_after-low.ensures.served e))
     (subst (λ (o : Option Key). IsGreatestAfter (MayRise r c.loop-j.j o) (MustStay r c.loop-j.j o) s.size c.least-least.result c.greatest-greatest.result c.target_high-high.result)
@@ -55,10 +55,10 @@ pub returns-clause-left : goal.returns-clause-left
 returns-clause-left c =
     let s = shape_of c.args.self.now in
     elim c.if-always.branch [
-      | then-always w ↦ coming-weighed s c.args.self.now.valid c.args.b.now.lo c.args.b.now.hi c.args.always c.if-always.result c.is_none-2.result c.rivals-rivals.result.first
-          c.bars-bars.result.first c.requires.ordered c.requires.within c.requires.low c.requires.high c.rivals-rivals.result.second c.bars-bars.result.second
-          c.rivals-rivals.ensures c.bars-bars.ensures (λ e. w.result-is ∙ absent-is c.rivals-rivals.result.first w.is_none.result w.is_none.ensures) (λ e. absurd (cc)) (absent-is c.bars-bars.result.first c.is_none-2.result c.is_none-2.ensures)
-      | else-always w ↦ coming-weighed s c.args.self.now.valid c.args.b.now.lo c.args.b.now.hi c.args.always c.if-always.result c.is_none-2.result c.rivals-rivals.result.first
-          c.bars-bars.result.first c.requires.ordered c.requires.within c.requires.low c.requires.high c.rivals-rivals.result.second c.bars-bars.result.second
-          c.rivals-rivals.ensures c.bars-bars.ensures (λ e. absurd (cc)) (λ e. w.result-is ∙ e) (absent-is c.bars-bars.result.first c.is_none-2.result c.is_none-2.ensures)
+      | then-always w ↦ coming-weighed s c.args.self.now.valid c.args.b.now.lo c.args.b.now.hi c.args.always c.if-always.result c.is_none-2.result c.served_rivals-rivals.result.first
+          c.bars-bars.result.first c.requires.ordered c.requires.within c.requires.low c.requires.high c.served_rivals-rivals.result.second c.bars-bars.result.second
+          c.served_rivals-rivals.ensures c.bars-bars.ensures (λ e. w.result-is ∙ absent-is c.served_rivals-rivals.result.first w.is_none.result w.is_none.ensures) (λ e. absurd (cc)) (absent-is c.bars-bars.result.first c.is_none-2.result c.is_none-2.ensures)
+      | else-always w ↦ coming-weighed s c.args.self.now.valid c.args.b.now.lo c.args.b.now.hi c.args.always c.if-always.result c.is_none-2.result c.served_rivals-rivals.result.first
+          c.bars-bars.result.first c.requires.ordered c.requires.within c.requires.low c.requires.high c.served_rivals-rivals.result.second c.bars-bars.result.second
+          c.served_rivals-rivals.ensures c.bars-bars.ensures (λ e. absurd (cc)) (λ e. w.result-is ∙ e) (absent-is c.bars-bars.result.first c.is_none-2.result c.is_none-2.ensures)
     ]
