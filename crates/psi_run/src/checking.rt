@@ -54,9 +54,9 @@ fn push_events(alloc: Global, text: &mut Vec<u8>, net: &Net) -> Result<bool, All
     Ok(monotone)
 }
 
-// The description of a network.
+/// The description of a network.
 #[tactic(auto, unfolding(crate::specs::Check::check_text))]
-fn check_text(alloc: Global, net: &Net) -> Result<Vec<u8>, AllocError>
+pub(crate) fn check_text(alloc: Global, net: &Net) -> Result<Vec<u8>, AllocError>
     ensures text { IfOk result (λ text. text.items ≡ check_text net.now) }
     ensures marks { OnOk result (AreMarked net.now) }
 {

@@ -8,7 +8,11 @@
 mod answer;
 mod answering;
 mod checking;
+#[cfg(test)]
+mod covers;
 mod describing;
+#[cfg(test)]
+mod made;
 #[cfg(test)]
 mod plain;
 mod program;
