@@ -150,6 +150,7 @@ impl Region {
     }
 
     // A region of at most the split number of states becomes split, keeping its states.
+    #[inline]
     fn settle(&mut self)
         ensures area { self.new.area ≡ settled self.old.most self.old.area }
         ensures most { self.new.most ≡ self.old.most }
@@ -163,7 +164,9 @@ impl Region {
     }
 }
 
-// Puts the states of the box into the set, which holds none.
+// Puts the states of the box into the set, which holds none. It is done once a run at most, so it stays out of
+// the step's way.
+#[inline(never)]
 fn fill(bounds: &Bounds, pool: &mut Pool)
     requires empty { pool.old.states ≡ [] }
     requires room { length (box bounds.now.lo bounds.now.hi) ≤ pool.old.most }
