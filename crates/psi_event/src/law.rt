@@ -32,11 +32,14 @@ pub trait EventLaw {
 
     /// Puts the envelope of the box in its place: the least box that holds what the event makes of each
     /// state of the old one. Each of its ends is reached by some state of the old box (the tight envelope
-    /// of Bušić, Gaujal and Vincent 2008).
+    /// of Bušić, Gaujal and Vincent 2008). It stays within the capacities, and where the event is monotone it
+    /// goes from what the event makes of the lower corner to what it makes of the upper one.
     fn envelope(&self, b: &mut Bounds)
         requires { IsBelow b.old.hi (capacities self.now) }
         ensures hull { b.new ≡ corners (image (function self.now) (box b.old.lo b.old.hi)) }
-        ensures tight { IsTight (image (function self.now) (box b.old.lo b.old.hi)) b.new.lo b.new.hi };
+        ensures tight { IsTight (image (function self.now) (box b.old.lo b.old.hi)) b.new.lo b.new.hi }
+        ensures within { IsBelow b.new.hi (capacities self.now) }
+        ensures monotone { IsMonotone (capacities self.now) (function self.now) → b.new ≡ record { lo = function self.now b.old.lo; hi = function self.now b.old.hi } };
 
     /// Whether the event keeps the componentwise order of all states (Propp and Wilson 1996).
     fn monotone(&self) -> bool

@@ -34,6 +34,7 @@ impl EventLaw for Guarded {
     }
 
     fn envelope(&self, b: &mut Bounds) {
+        let _queues = b.len();
         self.move_ends(b);
     }
 

@@ -32,6 +32,7 @@ impl EventLaw for Route {
     }
 
     fn envelope(&self, b: &mut Bounds) {
+        let _queues = b.len();
         self.spread(b);
     }
 
