@@ -1,7 +1,6 @@
 //! The network that a sample runs.
 
 ghost use Rattle.std.specs.Prelude.{◌≡◌, ◌<◌, ◌≤◌, length, All, slice_get, Some};
-ghost use Rattle.psi_state.specs.State.{AreCapacities};
 ghost use Rattle.psi_rate.specs.System.{IsSystem};
 
 use crate::Wheel;
@@ -46,7 +45,6 @@ impl<'n, E: EventLaw> System<'n, E> {
         limit: u8,
         split: u16,
     ) -> System<'n, E>
-        requires valid { AreCapacities caps }
         requires same_caps { All (λ e. E.capacities e ≡ caps) events.now }
         requires same_count { length wheel.now ≡ length events.now }
         requires most_limit { limit ≤ 22 }
@@ -55,6 +53,8 @@ impl<'n, E: EventLaw> System<'n, E> {
         ensures { result ≡ record { caps = caps; events = events.entry.now; rates = wheel.entry.now; limit = limit; split = split } }
     {
         let _events = wheel.events();
+        // A wheel has a rate, so there is an event, and its capacities are the network's.
+        let _caps = events[0].caps();
         System {
             caps,
             events,
