@@ -6,3 +6,4 @@ mod Fitting
 mod Does
 mod Accepting
 pub mod Closing
+mod Worked

@@ -411,3 +411,26 @@ fn tables_are_kept_in_order(rt: HostRuntime) -> Result<(), Fail> {
     assert_eq!(rt; tables.row(2), [2].as_slice());
     Ok(())
 }
+
+// The pairs are found by listing all places and numbers in a program apart.
+#[test]
+fn the_pair_is_the_first_by_places_then_by_numbers(rt: HostRuntime) -> Result<(), Fail> {
+    let alloc = rt.alloc();
+    let by_places: [&[u32]; 3] = [&[5, 4, 3], &[3, 4, 4], &[4, 0, 1]];
+    let by_numbers: [&[u32]; 3] = [&[3, 1, 1], &[6, 3, 0], &[4, 0, 4]];
+    for (rows, x, y) in [
+        (by_places, [1, 3, 0], [1, 3, 1]),
+        (by_numbers, [1, 3, 0], [2, 3, 0]),
+    ] {
+        let kind = Kind::Index {
+            from: None,
+            to: list(&[2, 0, 1]),
+            table: tables(alloc, &rows)?,
+            full: Full::Lost,
+            size: 1,
+        };
+        let pair = Some((state(&x), state(&y)));
+        assert_pair(&rt, alloc, &[3, 3, 3], &kind, pair);
+    }
+    Ok(())
+}
