@@ -8,8 +8,8 @@ use psi_state::Queues;
 /// What an event does to a state. Queues are counted from 0, sizes and amounts are in customers.
 ///
 /// A queue has room for b where its capacity is at least b above what it holds. A source is a queue with
-/// the least number of customers at which one of its servers works; it serves where the queue holds as
-/// many.
+/// the least number of customers at which one of its servers works; it serves where the queue holds at least
+/// as many.
 #[derive(Drop, Debug)]
 pub enum Kind {
     /// One customer joins the first queue of the list that has room; if none has, nothing changes.
@@ -21,7 +21,7 @@ pub enum Kind {
     /// leaves the network where the list is empty; where no queue of the list has room, `full` tells
     /// whether it is lost or stays.
     Service {
-        /// The source, none of the list.
+        /// The source, not one of the list.
         from: Source,
         /// The list, which may be empty.
         to: Queues,
@@ -32,7 +32,7 @@ pub enum Kind {
     /// least index among those with room for as many: the least value of its table at what it holds, and
     /// the first of these in the list.
     Index {
-        /// The source, none of the list.
+        /// The source, not one of the list.
         from: Option<Source>,
         /// The list, not empty.
         to: Queues,
@@ -64,7 +64,7 @@ pub enum Kind {
     /// Where there is no source or the source serves, and every queue of the list has room, one customer
     /// leaves the source and one joins every queue of the list; otherwise nothing changes.
     Fork {
-        /// The source, none of the list.
+        /// The source, not one of the list.
         from: Option<Source>,
         /// The list, not empty.
         to: Queues,
@@ -74,7 +74,7 @@ pub enum Kind {
     Join {
         /// The list, not empty.
         from: Queues,
-        /// The queue that is joined, none of the list, if any.
+        /// The queue that is joined, not one of the list, if any.
         to: Option<u8>,
     },
     /// Where every queue that a part names holds a number between the part's bounds, each of them is

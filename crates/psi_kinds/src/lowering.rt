@@ -27,12 +27,12 @@ use std::alloc::Global;
 /// The event of a kind in a network of these capacities: it does to every state what the kind does.
 ///
 /// `caps` are capacities, 1 to 32 queues with room for 1 to 65,535 customers each. Every queue and source
-/// that the kind names is one of these queues, and a source serves from 1 customer on, up to as many as its
-/// queue can hold; the parts of a guarded kind may name any.
+/// that the kind names is one of these queues, and the number of customers from which a source serves is from
+/// 1 to its queue's capacity; the parts of a guarded kind may name any.
 ///
 /// The refusals come in this order: `Empty`, `Repeated`, `SelfTarget`, `TableLength`, `SizeRange`. Then,
-/// part by part, come `PartRange`, `Repeated` and `EmptyGuard`. `OutOfMemory` comes only where memory runs
-/// out.
+/// part by part, come `PartRange`, `Repeated` and `EmptyGuard`. `OutOfMemory` is the answer where there is no
+/// memory for the event; no clause says when that is.
 pub fn lower(alloc: Global, caps: State, kind: &Kind) -> Result<Event, KindRefusal>
     requires caps { AreCapacities caps }
     requires named { IsKindOf caps kind.now }

@@ -19,9 +19,10 @@ pub enum KindRefusal {
     /// The size is 0, or above the capacity of a queue of the list, or 2 or more with a source; or the
     /// amount is 0.
     SizeRange,
-    /// The list, which may not be empty, is, or there is no part.
+    /// A list that must not be empty is empty, or a guarded kind has no part.
     Empty,
-    /// A part names no queue of the network, or a number or shift out of range.
+    /// A part names no queue of the network, its most or its ceiling is above the queue's capacity, or its
+    /// shift isn't from -65,535 to 65,535.
     PartRange,
     /// The least number of a part is above its most, or its floor above its ceiling.
     EmptyGuard,
