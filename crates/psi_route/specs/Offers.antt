@@ -1,4 +1,4 @@
--- What each place offers in a box of states: the least key with which it can be chosen, and the greatest one where it always has room.
+-- What each place offers in a box of states: its least key with room in some state of the box, and its greatest one where it always has room.
 use Rattle.std.specs.Prelude.{◌≡◌, ◌≢◌, ◌⊎◌, ℕ, ◌<◌, ◌≤◌, List, slice_index, Option, Some, None, nat_eq, if◌then◌else◌, MatchOption}
 use Rattle.psi_route.specs.Routing.{Routing, HasRoom, Lacks}
 use Rattle.psi_route.specs.Keys.{key_of}

@@ -34,6 +34,9 @@ impl Route {
 
     /// The route of these parts.
     ///
+    /// `caps` are capacities. The source and the targets are queues of it, counted from 0, and the source's `k`
+    /// is from 1 to its queue's capacity.
+    ///
     /// `source` is where a served customer comes from; without one, customers come from outside. `size` is
     /// how many come at once. `tables` has one table for each target, in the targets' order, with a value
     /// for each number of customers at which the target has room for one more; it is empty where the first
@@ -83,6 +86,7 @@ impl Route {
             full,
         })
     }
+
     // Whether there are no tables, so that the first target with room is chosen.
     pub(crate) fn is_plain(&self) -> bool
         ensures { IsTrue result ↔ (length self.now.tables.items ≡ 0) }

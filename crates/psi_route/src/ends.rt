@@ -14,8 +14,8 @@ impl Route {
     ghost use Rattle.psi_route.specs.Offers.{MayStay, MustRise, MayRise, MustStay};
 
     /// The least number of customers that the route leaves at the target at place `j`, which held from
-    /// `least` to `greatest`, where the source serves; `rival` is the least key with which another target
-    /// can be chosen.
+    /// `least` to `greatest`, where the source serves; `rival` is the least key of another target with room in
+    /// some state of the box.
     pub(crate) fn target_low(&self, j: u8, least: u16, greatest: u16, rival: Option<Key>) -> u16
         requires place { j < length self.now.targets }
         requires ordered { least ≤ greatest }

@@ -19,7 +19,8 @@ impl Route {
 
     /// Makes of the box the least one that holds what the route makes of its states.
     ///
-    /// First the targets have their ends, and the source last, since the others are read off it.
+    /// First the targets have their ends. Whether the source loses a customer at a corner follows from how far
+    /// the customers come past the targets, so the source comes last.
     pub(crate) fn spread(&self, b: &mut Bounds)
         requires { IsBelow b.old.hi self.now.caps }
         ensures hull { b.new ≡ corners (image (routed (shape_of self.now)) (box b.old.lo b.old.hi)) }

@@ -37,7 +37,7 @@ impl Route {
     ghost use Rattle.psi_route.specs.Route.{shape_of};
     ghost use Rattle.psi_route.specs.Offers.{IsRival, IsBar, IsLeastOffer, AreLeastTwo};
 
-    /// The two least keys with which targets can be chosen in the box.
+    /// The least key of a target with room in some state of the box, and the least one of the other targets.
     pub(crate) fn rivals(&self, b: &Bounds) -> Offers
         requires ordered { IsBelow b.now.lo b.now.hi }
         requires within { IsBelow b.now.hi self.now.caps }
@@ -65,7 +65,7 @@ impl Route {
         Offers { first, second }
     }
 
-    // The least key with which a target at a place other than `without` can be chosen.
+    // The least key of a target at a place other than `without` with room in some state of the box.
     fn least_rival(&self, b: &Bounds, without: u8) -> Option<Key>
         requires ordered { IsBelow b.now.lo b.now.hi }
         requires within { IsBelow b.now.hi self.now.caps }

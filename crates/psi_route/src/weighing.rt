@@ -46,8 +46,8 @@ impl Route {
         }
     }
 
-    // The two least keys with which targets can be chosen in the box, where the source always serves; else they
-    // aren't asked for.
+    // The least key of a target with room in some state of the box, and the least one of the other targets, where
+    // the source always serves; else they aren't asked for.
     fn served_rivals(&self, b: &Bounds, always: bool) -> Offers
         requires ordered { IsBelow b.now.lo b.now.hi }
         requires within { IsBelow b.now.hi self.now.caps }
