@@ -3,7 +3,7 @@ use Rattle.std.proofs.Common.{◌≡◌, ◌≢◌, ℕ, suc, ◌+◌, ◌<◌, 
 use Rattle.std.proofs.lemmas.Bool.{cases_lt, leb-true, leb-false}
 use Rattle.psi_route.specs.Routing.{Shape, Routing, IsRouting, routing, best, taken, moved, routed, HasRoom}
 use Rattle.psi_route.specs.Acting.{Leads, NoRoom, leads-first, leads-still, leads-anew, best-from_leads, best-is, best-none, best-place, act-serves, act-idle}
-use Rattle.psi_route.specs.Plain.{first_best}
+use Rattle.psi_route.proofs.Plain.{first_best}
 use Rattle.psi_route.specs.Keys.{key_of, IsLesser}
 use Rattle.psi_route.specs.Leader.{IsLeading, IsLeader}
 use Rattle.psi_route.specs.declared.keys.Key.{Key}

@@ -4,7 +4,7 @@ use Rattle.std.proofs.lemmas.Bool.{cases_lt}
 use Rattle.psi_event.specs.Choice.{first_some-none, first_some-found}
 use Rattle.psi_route.specs.Routing.{Shape, routing, crosses, pair_of, pair_at, pair_from, pair_between}
 use Rattle.psi_route.specs.Acting.{then_some-true, then_some-false}
-use Rattle.psi_route.specs.Upset.{is-crosses}
+use Rattle.psi_route.proofs.Upset.{is-crosses}
 use Rattle.psi_route.specs.Falls.{NoFall, NoFalls, IsLeastFall, AreFalls}
 
 -- one number more, past which no key falls

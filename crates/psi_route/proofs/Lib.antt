@@ -10,3 +10,6 @@ mod Falling
 mod OnePass
 mod Leaving
 mod ByTables
+mod Upset
+mod Monotone
+mod Plain

@@ -4,7 +4,7 @@ use Rattle.std.specs.Bool.{MatchBool}
 use Rattle.std.proofs.lemmas.Bool.{cases_lt}
 use Rattle.psi_state.specs.State.{IsBelow}
 use Rattle.psi_route.specs.Routing.{Shape, Routing, IsRouting, routing, HasRoom, Lacks, weight}
-use Rattle.psi_route.specs.Plain.{weight-none}
+use Rattle.psi_route.proofs.Plain.{weight-none}
 use Rattle.psi_route.specs.Ends.{CanChoose, CanPass, IsLowEnd, IsHighEnd, AreSet, AreTargetEnds}
 use Rattle.psi_route.specs.Coming.{Comes, Misses}
 use Rattle.psi_route.specs.Accepted.{IsRouteShape, routing-is}

@@ -6,8 +6,8 @@ use Rattle.psi_index.specs.Extremes.{IsRising}
 use Rattle.psi_route.specs.Routing.{Shape, routing, weight, crosses, pair_of, pair_at, pair_from, pair_between, pair_behind, first_pair, batch_pair, upset_of}
 use Rattle.psi_route.specs.Acting.{then_some-false}
 use Rattle.psi_route.specs.Accepted.{IsRouteShape}
-use Rattle.psi_route.specs.Upset.{is-crosses}
-use Rattle.psi_route.specs.Plain.{weight-none}
+use Rattle.psi_route.proofs.Upset.{is-crosses}
+use Rattle.psi_route.proofs.Plain.{weight-none}
 
 -- the first answer, as a loop finds it
 pub search-found : {A : Type 0} (f : ℕ → Option A) (n i : ℕ) (o : Option A) (b : Bool) → i < n → o ≡ f i → b ≡ is_some o → b ≡ true

@@ -6,11 +6,8 @@ pub mod Accepted
 pub mod Closed
 pub mod Route
 pub mod Leader
-pub mod Monotone
 pub mod Ends
 pub mod Coming
 pub mod Keys
 pub mod Offers
-pub mod Upset
-pub mod Plain
 pub mod Falls

@@ -1,5 +1,5 @@
 use Rattle.std.proofs.Common.{ℕ, List, Some, None, sym, ◌∙◌, ap}
-use Rattle.psi_route.specs.Upset.{upset-several}
+use Rattle.psi_route.proofs.Upset.{upset-several}
 use Rattle.psi_route.specs.Route.{shape_of}
 use Rattle.psi_route.proofs.Searching.{single-is, plain-none}
 use Rattle.psi_route.proofs.built.Route.broken.Goals as goal

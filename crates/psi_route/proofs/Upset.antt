@@ -9,7 +9,7 @@ use Rattle.psi_event.specs.Choice.{first_some-of_none, first_some-of_found}
 use Rattle.psi_route.specs.Routing.{Shape, Routing, routing, routed, act, Lacks, IsBest, IsPassed, crosses, Crosses, full_but, pair_of, pair_at, pair_from, pair_between, pair_behind, first_pair, batch_pair, upset_of}
 use Rattle.psi_route.specs.Acting.{act-routed, true-then_some, false-then_some}
 use Rattle.psi_route.specs.Accepted.{IsRouteShape, routing-is, source-most}
-use Rattle.psi_route.specs.Monotone.{ordered-without}
+use Rattle.psi_route.proofs.Monotone.{ordered-without}
 
 -- ---- the test for crossing keys
 
