@@ -1,5 +1,6 @@
 -- Guarded events: what they make of a state, and the two states by which they break the order.
-use Rattle.std.specs.Prelude.{ℕ, suc, ◌+◌, ◌-◌, min, max, ℤ, pos, negsuc, Bool, true, ◌&&◌, not, nat_eq, nat_lt, nat_le, if◌then◌else◌, List, [], ◌∷◌, length, map, slice_index, slice_set, Option, Some, None}
+use Rattle.std.specs.Prelude.{ℕ, suc, ◌+◌, ◌-◌, min, max, ℤ, pos, negsuc, Bool, ◌&&◌, not, nat_eq, nat_lt, nat_le, if◌then◌else◌, List, [], ◌∷◌, length, map, slice_index, slice_set, Option, Some, None}
+use Rattle.std.specs.List.{list_all}
 use Rattle.psi_state.specs.State.{numbers_from}
 use Rattle.psi_event.specs.Choice.{first_or, first_some}
 use Rattle.psi_guard.specs.declared.named.Part.{Part}
@@ -19,8 +20,7 @@ allows part v = nat_le part.least v && nat_le v part.most
 
 -- whether every named queue holds a number from its least to its most
 abbrev pub all_allow : List Part → List ℕ → Bool
-all_allow [] x = true
-all_allow (part ∷ parts) x = allows part (slice_index x part.queue) && all_allow parts x
+all_allow parts x = list_all (λ part. allows part (slice_index x part.queue)) parts
 
 -- what becomes of the number of queue q: a queue that is named moves, and each other one stays
 abbrev pub next : List Part → ℕ → ℕ → ℕ

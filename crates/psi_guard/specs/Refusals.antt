@@ -1,5 +1,6 @@
 -- Which parts make no guarded event.
-use Rattle.std.specs.Prelude.{◌≡◌, ℕ, ◌≤◌, ◌<◌, Bool, false, ◌||◌, nat_eq, nat_lt, nat_le, unsigned_abs, if◌then◌else◌, List, [], ◌∷◌, ◌++◌, length, slice_index, slice_index_or, Option, Some, None}
+use Rattle.std.specs.Prelude.{◌≡◌, ℕ, ◌≤◌, ◌<◌, Bool, ◌||◌, nat_eq, nat_lt, nat_le, unsigned_abs, if◌then◌else◌, List, [], ◌∷◌, ◌++◌, length, slice_index, slice_index_or, Option, Some, None}
+use Rattle.std.specs.List.{list_any}
 use Rattle.psi_event.specs.Choice.{first_or}
 use Rattle.psi_guard.specs.Inverse.{no_part}
 use Rattle.psi_guard.specs.declared.named.Part.{Part}
@@ -14,8 +15,7 @@ is_out caps part =
 
 -- whether one of the parts names queue q
 abbrev pub names : List Part → ℕ → Bool
-names [] q = false
-names (part ∷ parts) q = nat_eq part.queue q || names parts q
+names parts q = list_any (λ part. nat_eq part.queue q) parts
 
 -- whether no number is from least to most, or none from floor to ceiling
 abbrev pub is_empty : Part → Bool

@@ -15,9 +15,10 @@ use Rattle.psi_route.specs.Refusals.{is_self_target}
 use Rattle.psi_kinds.specs.declared.kinds.Kind.{Kind}
 use Rattle.psi_kinds.specs.declared.kinds.Kind.TheVariants.{Arrival, Service, Index, Batch, Negative, Fork, Join, Guarded}
 use Rattle.psi_kinds.specs.Kinds.{has_room, is_held, serves, first_with_room, best, gain, lose, gain_each, lose_each, do_kind, IsSource, AreQueues, IsKindOf, Does}
+use Rattle.std.specs.Bool.{then_some}
 use Rattle.psi_event.specs.Choice.{first_or}
 use Rattle.psi_kinds.specs.declared.refusals.KindRefusal.TheVariants.{SelfTarget, Repeated, TableLength, SizeRange, Empty}
-use Rattle.psi_kinds.specs.Refusals.{IsUnrefused, IsShort, refused_where, listed_refusal, lacks_queues, repeats_queue, targets_itself, lacks_tables, is_out_of_size, has_given}
+use Rattle.psi_kinds.specs.Refusals.{IsUnrefused, IsShort, listed_refusal, lacks_queues, repeats_queue, targets_itself, lacks_tables, is_out_of_size, has_given}
 use Rattle.psi_kinds.specs.Forms.{losing_part, gaining_part, source_parts, joined_parts, form_of, function_of}
 use Rattle.psi_kinds.proofs.Routes.{first-choice, best-choice, without, with, routed-without, routed-with, absent}
 use Rattle.psi_kinds.proofs.Guards.{move_each, AreApart, guarded-by, allows-losing, allows-gaining, moved-losing, moved-gaining, all_allow-append, move_each-append, all_allow-gaining, all_allow-losing, HoldAtMost, HaveCaps, lose-less, lose_each-less, move_each-losing, move_each-gaining, room-all, names-map, single-map, single-append, apart-map}
@@ -179,8 +180,8 @@ unrefused caps kind is =
     record { queues = tests.0; once = tests.1; away = tests.2; tables = tests.3; size = tests.4 }
   where
     all_false : (a b c d e : Bool)
-        → first_or (refused_where a Empty) (first_or (refused_where b Repeated) (first_or (refused_where c SelfTarget)
-        (first_or (refused_where d TableLength) (refused_where e SizeRange)))) ≡ None
+        → first_or (then_some a Empty) (first_or (then_some b Repeated) (first_or (then_some c SelfTarget)
+        (first_or (then_some d TableLength) (then_some e SizeRange)))) ≡ None
         → (a ≡ false) × (b ≡ false) × (c ≡ false) × (d ≡ false) × (e ≡ false)
     all_false true b c d e is = absurd cc
     all_false false true c d e is = absurd cc

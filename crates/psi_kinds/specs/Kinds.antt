@@ -1,9 +1,10 @@
 -- What each kind of event does to a state, under the capacities of the network's queues.
-use Rattle.std.specs.Prelude.{◌≡◌, ℕ, suc, ◌+◌, ◌-◌, List, [], ◌∷◌, Bool, true, ◌&&◌, ◌||◌, nat_le, nat_lt, nat_eq, if◌then◌else◌, Option, Some, None, IfSome, slice_index, slice_index_or, slice_set, EachIndex, ◌<◌, ◌≤◌, length}
+use Rattle.std.specs.Prelude.{◌≡◌, ℕ, suc, ◌+◌, ◌-◌, List, [], ◌∷◌, Bool, true, ◌&&◌, ◌||◌, nat_le, nat_lt, nat_eq, if◌then◌else◌, Option, Some, None, IfSome, slice_index, slice_index_or, slice_set, EachIndex, ◌<◌, length}
 use Rattle.std.specs.List.{list_all}
 use Rattle.std.specs.Option.{option_map}
 use Rattle.psi_state.specs.State.{IsBelow}
 use Rattle.psi_guard.specs.Guarding.{guarded}
+pub use Rattle.psi_route.specs.Accepted.{IsSource}
 use Rattle.psi_route.specs.declared.Source.{Source}
 use Rattle.psi_route.specs.declared.Full.{Full}
 use Rattle.psi_route.specs.declared.Full.TheVariants.{Lost, Stay}
@@ -115,12 +116,6 @@ do_kind caps (Negative from on amount) x = if may_serve from x then lose on amou
 do_kind caps (Fork from to) x = if may_serve from x && list_all (has_room caps 1 x) to then gain_each to (leave from x) else x
 do_kind caps (Join from to) x = if list_all (is_held x) from && may_join caps to x then gain_chosen to 1 (lose_each from x) else x
 do_kind caps (Guarded parts) x = guarded parts x
-
--- a source among queues of these capacities, whose server works from some number of customers on that the queue can hold
-pub record IsSource (caps : List ℕ) (source : Source) : Type 0 where
-  pub queue : source.queue < length caps
-  pub least : 1 ≤ source.k
-  pub most : source.k ≤ slice_index caps source.queue
 
 -- each queue of the list is one of those with these capacities
 abbrev pub AreQueues : List ℕ → List ℕ → Type 0

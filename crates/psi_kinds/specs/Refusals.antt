@@ -1,5 +1,6 @@
 -- Which kinds are refused, and why.
-use Rattle.std.specs.Prelude.{◌≡◌, ◌≤◌, length, ℕ, List, [], ◌∷◌, Bool, true, false, not, nat_eq, if◌then◌else◌, Option, Some, None}
+use Rattle.std.specs.Prelude.{◌≡◌, ◌≤◌, length, ℕ, List, [], ◌∷◌, Bool, true, false, not, nat_eq, Option, Some, None}
+use Rattle.std.specs.Bool.{then_some}
 use Rattle.std.specs.List.{list_any}
 use Rattle.std.specs.Option.{option_map}
 use Rattle.psi_event.specs.Choice.{first_or}
@@ -95,18 +96,14 @@ refusal_of_parts caps (Fork from to) = None
 refusal_of_parts caps (Join from to) = None
 refusal_of_parts caps (Guarded parts) = option_map of_parts (guard.refusal_of caps parts)
 
--- a refusal exactly where there is a cause
-abbrev pub refused_where : Bool → KindRefusal → Option KindRefusal
-refused_where cause refusal = if cause then Some refusal else None
-
 -- the first cause for which the lists and numbers of a kind are refused
 abbrev pub listed_refusal : List ℕ → Kind → Option KindRefusal
 listed_refusal caps kind =
-    first_or (refused_where (lacks_queues kind) Empty)
-    (first_or (refused_where (repeats_queue kind) Repeated)
-    (first_or (refused_where (targets_itself kind) SelfTarget)
-    (first_or (refused_where (lacks_tables caps kind) TableLength)
-    (refused_where (is_out_of_size caps kind) SizeRange))))
+    first_or (then_some (lacks_queues kind) Empty)
+    (first_or (then_some (repeats_queue kind) Repeated)
+    (first_or (then_some (targets_itself kind) SelfTarget)
+    (first_or (then_some (lacks_tables caps kind) TableLength)
+    (then_some (is_out_of_size caps kind) SizeRange))))
 
 -- why a kind is refused: the first of these causes, or else of those of its parts
 unfoldable pub refusal_of : List ℕ → Kind → Option KindRefusal

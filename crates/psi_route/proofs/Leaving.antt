@@ -1,11 +1,12 @@
 -- The ends of the source: who leaves it at the two corners of a box.
 use Rattle.std.proofs.Common.{◌≡◌, ℕ, ◌+◌, ◌-◌, ◌<◌, ◌≤◌, List, length, slice_index, Option, Some, None, IfSome, Bool, true, false, not, ◌||◌, nat_eq, if◌then◌else◌, inl, inr, refl, ap, sym, ◌∙◌, subst, arith, length-set, get_or-set_same, get_or-set_other}
 use Rattle.std.specs.Bool.{MatchBool}
+use Rattle.std.specs.Option.{ForSome}
 use Rattle.std.proofs.lemmas.Bool.{or_left, or_right, or_from, eq-eqb, ne_eqb}
 use Rattle.psi_state.specs.State.{IsBelow}
 use Rattle.psi_route.specs.Routing.{Shape, Routing, routing, routed, source_least, source_queue, HasRoom, Lacks, Leaves, Remains, Routed}
 use Rattle.psi_route.specs.Acting.{leaves_or_remains}
-use Rattle.psi_route.specs.Accepted.{IsRouteShape, IsSource, routing-is}
+use Rattle.psi_route.specs.Accepted.{IsRouteShape, routing-is}
 use Rattle.psi_route.specs.Ends.{IsLowEnd, IsHighEnd, AreLowEnds, AreHighEnds, AreEnds, AreTargetEnds}
 use Rattle.psi_route.specs.Coming.{Comes, Misses, AreComing, is_gone, without}
 use Rattle.psi_route.specs.declared.parts.Source.{Source}
@@ -143,15 +144,15 @@ ends-idle s is l h ordered within misses =
     }
 
 -- a source that serves has someone to lose
-served-some : (caps : List ℕ) (source : Option Source) (x u : List ℕ) → IsSource caps source
+served-some : (caps : List ℕ) (source : Option Source) (x u : List ℕ) → ForSome source (λ s. 1 ≤ s.k)
     → source_least source ≤ slice_index x (source_queue source (length caps))
     → slice_index u (source_queue source (length caps)) ≡ slice_index x (source_queue source (length caps)) → IfSome source (λ t. 1 ≤ slice_index u t.queue)
 served-some caps None x u is serve same = tt
-served-some caps (Some t) x u is serve same = (let least : 1 ≤ t.k = is.least t refl in omega arith)
+served-some caps (Some t) x u is serve same = (let least : 1 ≤ t.k = is t refl in omega arith)
 
 pub source-some : (s : Shape) → IsRouteShape s → (x u : List ℕ) (b : Bool) → MatchBool b (Comes (routing s) x 0) (Misses (routing s) x 0)
     → slice_index u ((routing s).source) ≡ slice_index x ((routing s).source) → b ≡ true → IfSome s.source (λ t. 1 ≤ slice_index u t.queue)
-source-some s is x u true comes same e = served-some s.caps s.source x u is.source comes.serve same
+source-some s is x u true comes same e = served-some s.caps s.source x u is.least comes.serve same
 source-some s is x u false misses same e = absurd cc
 
 -- one fewer at both ends, or at one of them

@@ -1,6 +1,7 @@
 -- What is known of a route: the facts that no refusal leaves open.
-use Rattle.std.specs.Prelude.{◌≡◌, ◌≢◌, ◌⊎◌, ℕ, ◌<◌, ◌≤◌, List, [], ◌∷◌, length, get_or, slice_index, Option, Some, None, Bool, true, false, not, ◌&&◌, ◌||◌, nat_eq, nat_le, nat_lt, is_some, is_none, if◌then◌else◌, refl}
+use Rattle.std.specs.Prelude.{◌≡◌, ◌≢◌, ◌⊎◌, ℕ, ◌<◌, ◌≤◌, List, [], ◌∷◌, length, get_or, slice_index, Option, Some, None, IfSome, Bool, true, false, not, ◌&&◌, ◌||◌, nat_eq, nat_le, nat_lt, is_some, is_none, if◌then◌else◌, refl}
 use Rattle.std.specs.List.{list_any}
+use Rattle.std.specs.Option.{ForSome}
 use Rattle.std.proofs.Common.{inl, inr, ap, sym, ◌∙◌, subst, arith}
 use Rattle.std.proofs.lemmas.Bool.{le-leb, eqb-false, ltb-false, or_parts}
 use Rattle.psi_state.specs.State.{AreCapacities}
@@ -18,16 +19,18 @@ abbrev pub shape : List ℕ → Option Source → ℕ → List ℕ → List (Lis
 shape caps source size targets tables full =
     record { caps = caps; source = source; size = size; targets = targets; tables = tables; full = full }
 
--- the source is a queue, and its server one of those that it has room for
-pub record IsSource (caps : List ℕ) (source : Option Source) : Type 0 where
-  pub queue : (s : Source) → source ≡ Some s → s.queue < length caps
-  pub least : (s : Source) → source ≡ Some s → 1 ≤ s.k
-  pub most : (s : Source) → source ≡ Some s → s.k ≤ slice_index caps s.queue
+-- a source among queues of these capacities, whose server works from some number of customers on that the queue can hold
+pub record IsSource (caps : List ℕ) (source : Source) : Type 0 where
+  pub queue : source.queue < length caps
+  pub least : 1 ≤ source.k
+  pub most : source.k ≤ slice_index caps source.queue
 
 -- capacities, and targets that are different queues, none of them the source, each with room for the size and with its table if there are any
 pub record IsRouteShape (s : Shape) : Type 0 where
   pub caps : AreCapacities s.caps
-  pub source : IsSource s.caps s.source
+  pub source : ForSome s.source (λ t. t.queue < length s.caps)
+  pub least : ForSome s.source (λ t. 1 ≤ t.k)
+  pub most : ForSome s.source (λ t. t.k ≤ slice_index s.caps t.queue)
   pub few : length s.targets ≤ 32
   pub named : (i : ℕ) → i < length s.targets → slice_index s.targets i < length s.caps
   pub away : (source : Source) → s.source ≡ Some source → (i : ℕ) → i < length s.targets → slice_index s.targets i ≢ source.queue
@@ -69,8 +72,13 @@ some_none : (source : Option Source) → is_some source ≡ false → is_none so
 some_none None is = refl
 some_none (Some s) is = absurd cc
 
+-- what is so of the source, if there is one
+if_some : (caps : List ℕ) (source : Option Source) → IfSome source (λ t. IsSource caps t) → ForSome source (λ t. IsSource caps t)
+if_some caps None is = λ t e. absurd cc
+if_some caps (Some s) is = λ t e. (let same : s ≡ t = cc in subst (λ (u : Source). IsSource caps u) same is)
+
 -- so what isn't refused is a route
-pub accepted : (s : Shape) → AreCapacities s.caps → IsSource s.caps s.source → length s.targets ≤ 32
+pub accepted : (s : Shape) → AreCapacities s.caps → IfSome s.source (λ t. IsSource s.caps t) → length s.targets ≤ 32
     → ((i : ℕ) → i < length s.targets → slice_index s.targets i < length s.caps) → refusal_of s ≡ None → IsRouteShape s
 unfolding refusal_of
 accepted s caps source few named is =
@@ -84,7 +92,9 @@ accepted s caps source few named is =
     λ more. subst (λ (t : Bool). (t && (is_some s.source || nat_eq (length s.targets) 0)) ≡ false) (le-leb 2 s.size more) sizes.1 in
     record {
       caps = caps;
-      source = source;
+      source = λ t same. (if_some s.caps s.source source t same).queue;
+      least = λ t same. (if_some s.caps s.source source t same).least;
+      most = λ t same. (if_some s.caps s.source source t same).most;
       few = few;
       named = named;
       away = λ from_there is_there i small. away-from_test s.source s.targets from_there i tests.0 is_there small;
@@ -101,14 +111,15 @@ accepted s caps source few named is =
 
 -- ---- the facts by places
 
-source-facts : (caps : List ℕ) (source : Option Source) → IsSource caps source
+source-facts : (caps : List ℕ) (source : Option Source) → ForSome source (λ s. s.queue < length caps) → ForSome source (λ s. 1 ≤ s.k)
+    → ForSome source (λ s. s.k ≤ slice_index caps s.queue)
     → ((source_queue source (length caps) < length caps) ⊎ (source_least source ≡ 0))
     × (source_queue source (length caps) < length caps → 1 ≤ source_least source)
     × (source_least source ≤ slice_index caps (source_queue source (length caps)))
     × (source_queue source (length caps) ≤ length caps)
-source-facts caps None is = (inr refl, λ small. absurd (omega arith), omega arith, omega arith)
-source-facts caps (Some s) is =
-    (inl (is.queue s refl), λ small. is.least s refl, is.most s refl, (let small = is.queue s refl in omega (arith, small)))
+source-facts caps None queue least most = (inr refl, λ small. absurd (omega arith), omega arith, omega arith)
+source-facts caps (Some s) queue least most =
+    (inl (queue s refl), λ small. least s refl, most s refl, (let small = queue s refl in omega (arith, small)))
 
 no_source-facts : (caps : List ℕ) (source : Option Source) (q : ℕ) → ((s : Source) → source ≡ Some s → q ≢ s.queue) → q < length caps
     → q ≢ source_queue source (length caps)
@@ -122,14 +133,14 @@ routing-is s is = record {
   no_source = λ i small. no_source-facts s.caps s.source (slice_index s.targets i) (λ source from_there. is.away source from_there i small) (is.named i small);
   differ = λ i j v w small other apart e. (let few = is.few in let ne : i ≢ j = apart in absurd (omega arith));
   sized = is.sized;
-  sourced = (source-facts s.caps s.source is.source).0;
-  counts = (source-facts s.caps s.source is.source).1;
+  sourced = (source-facts s.caps s.source is.source is.least is.most).0;
+  counts = (source-facts s.caps s.source is.source is.least is.most).1;
 }
 
 -- a source that is full serves
 pub source-most : (s : Shape) → IsRouteShape s → (routing s).least ≤ slice_index s.caps ((routing s).source)
-source-most s is = (source-facts s.caps s.source is.source).2
+source-most s is = (source-facts s.caps s.source is.source is.least is.most).2
 
 -- a source is a queue, or past the last
 pub source-within : (s : Shape) → IsRouteShape s → (routing s).source ≤ length s.caps
-source-within s is = (source-facts s.caps s.source is.source).3
+source-within s is = (source-facts s.caps s.source is.source is.least is.most).3

@@ -4,7 +4,7 @@ ghost use Rattle.std.specs.Prelude.{◌≡◌, ◌<◌, ◌≤◌, ◌↔◌, �
 ghost use Rattle.psi_state.specs.State.{AreCapacities, IsBelow};
 ghost use Rattle.psi_route.specs.Routing.{routed, upset_of, weight};
 ghost use Rattle.psi_route.specs.Refusals.{refusal_of};
-ghost use Rattle.psi_route.specs.Accepted.{shape, IsRouteShape};
+ghost use Rattle.psi_route.specs.Accepted.{shape, IsSource, IsRouteShape};
 
 use crate::judging::{fit_tables, is_self_target, is_size_off};
 use crate::parts::{Full, RouteRefusal, Source};
@@ -55,9 +55,7 @@ impl Route {
     ) -> Result<Route, RouteRefusal>
         requires caps { AreCapacities caps }
         requires targets { EachIndex targets (λ i. slice_index targets i < length caps) }
-        requires queue { IfSome source (λ s. s.queue < length caps) }
-        requires least { IfSome source (λ s. 1 ≤ s.k) }
-        requires most { IfSome source (λ s. s.k ≤ slice_index caps s.queue) }
+        requires source { IfSome source (λ s. IsSource caps s) }
         ensures accepted { OnOk result (refusal_of (shape caps source size targets tables.items full) ≡ None) }
         ensures refused { IfErr result (λ refusal. refusal_of (shape caps source size targets tables.items full) ≡ Some refusal) }
         ensures caps { IfOk result (λ route. ⟦<Route as EventLaw>⟧.capacities route ≡ caps) }

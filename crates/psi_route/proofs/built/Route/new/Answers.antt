@@ -1,7 +1,6 @@
 use Rattle.std.proofs.Common.{List, ℕ, sym, ◌∙◌, ap}
 use Rattle.psi_route.specs.Refusals.{fit_tables}
 use Rattle.psi_route.specs.Accepted.{shape, accepted}
-use Rattle.psi_route.proofs.Judged.{source-is}
 use Rattle.psi_route.proofs.Told.{told-self, told-repeated, told-length, told-size, told-none}
 use Rattle.psi_route.proofs.built.Route.new.Goals as goal
 
@@ -32,7 +31,7 @@ pub invariant_of-result : goal.invariant_of-result
 invariant_of-result c = record {
   valid =
       accepted (shape c.args.caps c.args.source c.args.size c.args.targets c.args.tables.items c.args.full) c.requires.caps
-      (source-is c.args.caps c.args.source c.requires.queue c.requires.least c.requires.most) c.len-few.ensures.numbers.few c.requires.targets
+      c.requires.source c.len-few.ensures.numbers.few c.requires.targets
       (told-none (shape c.args.caps c.args.source c.args.size c.args.targets c.args.tables.items c.args.full)
       (sym c.is_self_target.ensures ∙ c.if-is_self_target.false) (sym c.repeats.ensures ∙ c.if-repeats.false)
       (ap (λ (ts : List (List ℕ)). fit_tables c.args.caps c.args.targets ts) (sym c.deref.ensures.value) ∙ (sym c.fit_tables.ensures ∙ c.if-not-fit_tables.false))

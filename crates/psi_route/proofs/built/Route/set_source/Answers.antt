@@ -12,7 +12,7 @@ set-requires-clause-ordered c =
     let r = routing s in
     let q = c.in-Some.source.queue in
     let at : r.source ≡ q = ap (λ (o : Option Source). source_queue o (length s.caps)) c.in-Some.is in
-    let named : q < length s.caps = c.args.self.now.valid.source.queue c.in-Some.source c.in-Some.is in
+    let named : q < length s.caps = c.args.self.now.valid.source c.in-Some.source c.in-Some.is in
     let order =
     without-ordered r c.args.b.now.lo c.args.b.now.hi (is_gone r c.args.coming.always c.args.left.always) (is_gone r c.args.coming.sometimes c.args.left.sometimes) q
     c.least.result c.greatest.result c.requires.ordered at (omega (arith, c.requires.length)) c.least.ensures.value c.greatest.ensures.value in
