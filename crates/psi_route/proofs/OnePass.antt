@@ -258,18 +258,17 @@ target-is s is l h j ordered within small = record {
 -- a target that sometimes has room has its ends
 pub ends-raised : (s : Shape) → IsRouteShape s → length s.tables ≡ 0 → (l h u w : List ℕ) (j q least greatest room low high : ℕ) (always : Bool)
     → IsBelow l h → IsBelow h s.caps → AreTargetEnds (routing s) l h u w j → j < length s.targets → q ≡ slice_index s.targets j
-    → room + s.size ≡ slice_index s.caps q → least ≡ slice_index u q → greatest ≡ slice_index w q → least ≤ room
+    → room + s.size ≡ slice_index s.caps (slice_index s.targets j) → least ≡ slice_index u q → greatest ≡ slice_index w q → least ≤ room
     → MatchBool always (Comes (routing s) l j) (Misses (routing s) l j) → Comes (routing s) h j
     → (always ≡ false → low ≡ least) → (always ≡ true → greatest ≤ room → low ≡ least + s.size)
     → (always ≡ true → room < greatest → low ≡ min (least + s.size) (room + 1)) → high ≡ min greatest room + s.size
     → AreTargetEnds (routing s) l h (slice_set u q low) (slice_set w q high) (j + 1)
-ends-raised s is plain l h u w j q least greatest room low high always ordered within ends small at fits is_least is_greatest roomy coming comes kept first second is_high =
+ends-raised s is plain l h u w j q least greatest room low high always ordered within ends small at cap is_least is_greatest roomy coming comes kept first second is_high =
     let r = routing s in
     let target = target-is s is l h j ordered within small in
     let keys = plain-keys s plain in
     let old = target-ends_kept r l h u w j (routing-is s is) ends small in
     let place : slice_index s.targets j < length s.caps = is.named j small in
-    let cap : room + s.size ≡ slice_index s.caps (slice_index s.targets j) = fits ∙ ap (λ n. slice_index s.caps n) at in
     let low_is : least ≡ slice_index l (slice_index s.targets j) = is_least ∙ (ap (λ n. slice_index u n) at ∙ old.0) in
     let high_is : greatest ≡ slice_index h (slice_index s.targets j) = is_greatest ∙ (ap (λ n. slice_index w n) at ∙ old.1) in
     let low_end : IsLowEnd r l h j low =

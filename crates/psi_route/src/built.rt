@@ -1,6 +1,6 @@
 //! The route.
 
-ghost use Rattle.std.specs.Prelude.{◌≡◌, ◌<◌, ◌≤◌, ◌↔◌, ℕ, IsTrue, length, slice_index, get_or, OnOk, IfOk, IfErr, IfSome, EachIndex, Some, None};
+ghost use Rattle.std.specs.Prelude.{◌≡◌, ◌+◌, ◌<◌, ◌≤◌, ◌↔◌, ℕ, IsTrue, length, slice_index, get_or, OnOk, IfOk, IfErr, IfSome, EachIndex, Some, None};
 ghost use Rattle.psi_state.specs.State.{AreCapacities, IsBelow};
 ghost use Rattle.psi_route.specs.Routing.{routed, upset_of, weight};
 ghost use Rattle.psi_route.specs.Refusals.{refusal_of};
@@ -115,6 +115,15 @@ impl Route {
         ensures { result ≡ slice_index self.now.caps (slice_index self.now.targets i) }
     {
         self.caps.get(self.target(i))
+    }
+
+    // The greatest number of customers with which the target at place `i` has room for those who come.
+    #[inline]
+    pub(crate) fn most_with_room(&self, i: u8) -> u16
+        requires { i < length self.now.targets }
+        ensures { result + self.now.size ≡ slice_index self.now.caps (slice_index self.now.targets i) }
+    {
+        self.cap(i) - self.size
     }
 
     // The number of customers at the target at place `i`.

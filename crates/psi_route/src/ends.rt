@@ -84,7 +84,7 @@ impl Route {
         requires place { j < length self.now.targets }
         ensures { IsTrue result ↔ (v + self.now.size ≤ slice_index self.now.caps (slice_index self.now.targets j)) }
     {
-        v <= self.cap(j) - self.size
+        v <= self.most_with_room(j)
     }
 
     // The key of a target that holds `v` customers, with room for more.

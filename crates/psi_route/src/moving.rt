@@ -44,7 +44,7 @@ impl Route {
         requires length { length x.now ≡ length self.now.caps }
         ensures { result ≡ has_room (routing (shape_of self.now)) x.now i }
     {
-        self.held(x, i) as u32 + self.size as u32 <= self.cap(i) as u32
+        self.held(x, i) <= self.most_with_room(i)
     }
 
     // Lets the customers join the first target with room, where the source serves and there are no tables.
@@ -57,7 +57,7 @@ impl Route {
         for i in 0..self.places() {
             let queue = self.target(i);
             let held = x.get(queue);
-            if held <= self.caps.get(queue) - self.size {
+            if held <= self.most_with_room(i) {
                 self.take_one(x);
                 x.set(queue, held + self.size);
                 return;

@@ -104,7 +104,7 @@ impl Route {
     {
         let queue = self.target(i);
         let least = b.least(queue);
-        let most = self.cap(i) - self.size;
+        let most = self.most_with_room(i);
         if most < least {
             return None;
         }
@@ -121,7 +121,7 @@ impl Route {
     {
         let queue = self.target(i);
         let most = b.greatest(queue);
-        if self.cap(i) - self.size < most {
+        if self.most_with_room(i) < most {
             return None;
         }
         let weight = self.greatest_weight(i, b.least(queue), most);

@@ -30,7 +30,7 @@ impl Route {
         let mut always = always;
         for j in 0..self.places() {
             let queue = self.target(j);
-            let room = self.caps.get(queue) - self.size;
+            let room = self.most_with_room(j);
             let least = b.least(queue);
             if least <= room {
                 let greatest = b.greatest(queue);

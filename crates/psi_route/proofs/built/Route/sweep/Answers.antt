@@ -1,4 +1,4 @@
-use Rattle.std.proofs.Common.{◌≡◌, ◌+◌, ◌-◌, ◌<◌, ◌≤◌, length, slice_index, ap, sym, ◌∙◌, subst, arith}
+use Rattle.std.proofs.Common.{◌≡◌, ◌+◌, ◌<◌, ◌≤◌, length, slice_index, ap, sym, ◌∙◌, subst, arith}
 use Rattle.std.specs.Bool.{MatchBool}
 use Rattle.psi_state.specs.State.{Corners}
 use Rattle.psi_route.specs.Routing.{routing, Lacks}
@@ -27,18 +27,17 @@ returns-then-greatest-room-clause-ends c =
     let q = c.target-queue.result in
     let small : c.loop-j.j < length s.targets = omega (arith, c.loop-j-test.true, c.places-j-end.ensures.value) in
     let at : q ≡ slice_index s.targets c.loop-j.j = c.target-queue.ensures.value in
-    let most : s.size ≤ slice_index s.caps (slice_index s.targets c.loop-j.j) = valid.fits c.loop-j.j small in
-    let cap : c.get.result ≡ slice_index s.caps (slice_index s.targets c.loop-j.j) = c.get.ensures ∙ ap (λ n. slice_index s.caps n) at in
+    let cap = c.most_with_room-room.ensures in
     let old = target-ends_kept r l h c.loop-j.b.lo c.loop-j.b.hi c.loop-j.j (routing-is s valid) c.loop-j.invariant.ends small in
     let high : c.greatest-greatest.result ≡ slice_index h (slice_index s.targets c.loop-j.j) =
     c.greatest-greatest.ensures.value ∙ (ap (λ n. slice_index c.loop-j.b.hi n) at ∙ old.1) in
     ends-behind s valid c.requires.plain l h c.set.new.self.lo c.set.new.self.hi c.loop-j.j c.requires.ordered c.requires.within
     (subst (λ (m : Corners). AreTargetEnds r l h m.lo m.hi (c.loop-j.j + 1)) (sym c.set.ensures)
-    (ends-raised s valid c.requires.plain l h c.loop-j.b.lo c.loop-j.b.hi c.loop-j.j q c.least-least.result c.greatest-greatest.result (c.get.result - s.size) c.lowest-low.result
-    (c.min.result + s.size) c.loop-j.always c.requires.ordered c.requires.within c.loop-j.invariant.ends small at (omega (arith, c.get.ensures, cap, most)) c.least-least.ensures.value
+    (ends-raised s valid c.requires.plain l h c.loop-j.b.lo c.loop-j.b.hi c.loop-j.j q c.least-least.result c.greatest-greatest.result c.most_with_room-room.result c.lowest-low.result
+    (c.min.result + s.size) c.loop-j.always c.requires.ordered c.requires.within c.loop-j.invariant.ends small at cap c.least-least.ensures.value
     c.greatest-greatest.ensures.value c.if-least-room.true c.loop-j.invariant.low c.loop-j.invariant.high c.lowest-low.ensures.kept c.lowest-low.ensures.roomy c.lowest-low.ensures.narrow
     (ap (λ n. n + s.size) c.min.ensures)))
-    small (omega (arith, c.if-greatest-room.true, high, cap, most))
+    small (omega (arith, c.if-greatest-room.true, high, cap))
 
 pub loop-j-preserved : goal.loop-j-preserved
 loop-j-preserved c =
@@ -51,8 +50,7 @@ loop-j-preserved c =
     let q = c.target-queue.result in
     let small : j < length s.targets = omega (arith, c.loop-j-test.true, c.places-j-end.ensures.value) in
     let at : q ≡ slice_index s.targets j = c.target-queue.ensures.value in
-    let most : s.size ≤ slice_index s.caps (slice_index s.targets j) = valid.fits j small in
-    let cap : c.get.result ≡ slice_index s.caps (slice_index s.targets j) = c.get.ensures ∙ ap (λ n. slice_index s.caps n) at in
+    let cap = c.most_with_room-room.ensures in
     let old = target-ends_kept r l h c.loop-j.b.lo c.loop-j.b.hi j (routing-is s valid) c.loop-j.invariant.ends small in
     let low : c.least-least.result ≡ slice_index l (slice_index s.targets j) =
     c.least-least.ensures.value ∙ (ap (λ n. slice_index c.loop-j.b.lo n) at ∙ old.0) in
@@ -62,16 +60,16 @@ loop-j-preserved c =
           record {
             ends =
                 subst (λ (m : Corners). AreTargetEnds r l h m.lo m.hi (j + 1)) (sym (w.b-is ∙ w.set.ensures))
-                (ends-raised s valid c.requires.plain l h c.loop-j.b.lo c.loop-j.b.hi j q c.least-least.result w.greatest-greatest.result (c.get.result - s.size) w.lowest-low.result
-                (w.min.result + s.size) c.loop-j.always c.requires.ordered c.requires.within c.loop-j.invariant.ends small at (omega (arith, c.get.ensures, cap, most)) c.least-least.ensures.value
+                (ends-raised s valid c.requires.plain l h c.loop-j.b.lo c.loop-j.b.hi j q c.least-least.result w.greatest-greatest.result c.most_with_room-room.result w.lowest-low.result
+                (w.min.result + s.size) c.loop-j.always c.requires.ordered c.requires.within c.loop-j.invariant.ends small at cap c.least-least.ensures.value
                 w.greatest-greatest.ensures.value w.if-least-room.true c.loop-j.invariant.low c.loop-j.invariant.high w.lowest-low.ensures.kept w.lowest-low.ensures.roomy w.lowest-low.ensures.narrow
                 (ap (λ n. n + s.size) w.min.ensures));
             low =
                 subst (λ b. MatchBool b (Comes r l (j + 1)) (Misses r l (j + 1))) (sym w.always-is)
-                (misses-here r l j (j + 1) (omega arith) (omega (arith, w.if-least-room.true, low, cap, most)));
-            high = comes-more r h j c.loop-j.invariant.high (omega (arith, w.if-greatest-room.false, high, cap, most));
+                (misses-here r l j (j + 1) (omega arith) (omega (arith, w.if-least-room.true, low, cap)));
+            high = comes-more r h j c.loop-j.invariant.high (omega (arith, w.if-greatest-room.false, high, cap));
           })
-      | else-least-room w ↦ (let lacks : Lacks r j (slice_index l (slice_index s.targets j)) = omega (arith, w.if-least-room.false, low, cap, most) in
+      | else-least-room w ↦ (let lacks : Lacks r j (slice_index l (slice_index s.targets j)) = omega (arith, w.if-least-room.false, low, cap) in
           let order : slice_index l (slice_index s.targets j) ≤ slice_index h (slice_index s.targets j) = targets-ordered s valid l h c.requires.ordered c.requires.within j small in
           record {
             ends =
