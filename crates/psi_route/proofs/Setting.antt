@@ -1,7 +1,7 @@
 -- Numbers that are put at one queue after another.
-use Rattle.std.proofs.Common.{◌≡◌, ◌≢◌, ℕ, ◌+◌, ◌<◌, ◌≤◌, List, [], ◌∷◌, length, get_or, slice_index, slice_set, inl, inr, sym, ◌∙◌, subst, arith, refl, length-set, get_or-set_same, get_or-set_other}
+use Rattle.std.proofs.Common.{◌≡◌, ◌≢◌, ℕ, ◌+◌, ◌<◌, ◌≤◌, List, length, slice_index, slice_set, inl, inr, sym, ◌∙◌, subst, arith, refl, length-set, get_or-set_same, get_or-set_other}
 use Rattle.std.proofs.lemmas.Bool.{cases_lt}
-use Rattle.psi_route.specs.Routing.{Shape, routing, routed, weight}
+use Rattle.psi_route.specs.Routing.{Shape, routing, routed}
 use Rattle.psi_state.specs.State.{Corners, IsBelow, box}
 use Rattle.psi_state.specs.Sets.{image}
 use Rattle.psi_state.specs.Hull.{corners, IsTight}
@@ -29,14 +29,6 @@ set-more queue E start ends n places v are within apart place is = record {
   rest = λ p free.
       get_or-set_other {A = ℕ} ends (queue n) p v 0 (λ e. free n (omega arith) (sym e)) ∙ are.rest p (λ i small. free i (omega arith));
 }
-
--- without tables each weight is 0
-pub weight-plain : (s : Shape) (i v : ℕ) → length s.tables ≡ 0 → weight s i v ≡ 0
-weight-plain s i v plain = plain_from s.tables plain
-  where
-    plain_from : (ts : List (List ℕ)) → length ts ≡ 0 → slice_index (get_or ts i []) v ≡ 0
-    plain_from [] none_there = refl
-    plain_from (t ∷ ts) none_there = absurd (omega arith)
 
 -- a route's function routes each state
 pub shape-routes : (s : Shape) → IsRouteShape s → Routes (routing s) (routed s)

@@ -135,15 +135,13 @@ impl Route {
         x.get(self.target(i))
     }
 
-    // The first part of the key of the target at place `i` with `v` customers; without tables it is 0.
+    // The first part of the key of the target at place `i` with `v` customers: the value of its table there.
     pub(crate) fn weight(&self, i: u8, v: u16) -> u32
+        requires tables { 0 < length self.now.tables.items }
         requires place { i < length self.now.targets }
         requires number { v < slice_index self.now.caps (slice_index self.now.targets i) }
         ensures { result ≡ weight (shape_of self.now) i v }
     {
-        if self.tables.is_empty() {
-            return 0;
-        }
         self.tables[i as usize].at(v)
     }
 }

@@ -17,6 +17,7 @@ impl Route {
     /// `least` to `greatest`, where the source serves; `rival` is the least key of another target with room in
     /// some state of the box.
     pub(crate) fn target_low(&self, j: u8, least: u16, greatest: u16, rival: Option<Key>) -> u16
+        requires tables { 0 < length self.now.tables.items }
         requires place { j < length self.now.targets }
         requires ordered { least ≤ greatest }
         requires within { greatest ≤ slice_index self.now.caps (slice_index self.now.targets j) }
@@ -35,6 +36,7 @@ impl Route {
     /// `least` to `greatest`, where the source serves; `bar` is the least key above which another target is
     /// always chosen.
     pub(crate) fn target_high(&self, j: u8, least: u16, greatest: u16, bar: Option<Key>) -> u16
+        requires tables { 0 < length self.now.tables.items }
         requires place { j < length self.now.targets }
         requires ordered { least ≤ greatest }
         requires within { greatest ≤ slice_index self.now.caps (slice_index self.now.targets j) }
@@ -51,6 +53,7 @@ impl Route {
 
     // Whether `v` customers can stay as they are at a target where the source serves.
     fn may_stay(&self, j: u8, v: u16, rival: Option<Key>) -> bool
+        requires tables { 0 < length self.now.tables.items }
         requires place { j < length self.now.targets }
         requires bound { v ≤ slice_index self.now.caps (slice_index self.now.targets j) }
         ensures { MatchBool result (MayStay (routing (shape_of self.now)) j rival v) (MustRise (routing (shape_of self.now)) j rival v) }
@@ -66,6 +69,7 @@ impl Route {
 
     // Whether `v` customers at a target can become more where the source serves.
     fn may_rise(&self, j: u8, v: u16, bar: Option<Key>) -> bool
+        requires tables { 0 < length self.now.tables.items }
         requires place { j < length self.now.targets }
         requires bound { v ≤ slice_index self.now.caps (slice_index self.now.targets j) }
         ensures { MatchBool result (MayRise (routing (shape_of self.now)) j bar v) (MustStay (routing (shape_of self.now)) j bar v) }
@@ -89,6 +93,7 @@ impl Route {
 
     // The key of a target that holds `v` customers, with room for more.
     pub(crate) fn key(&self, j: u8, v: u16) -> Key
+        requires tables { 0 < length self.now.tables.items }
         requires place { j < length self.now.targets }
         requires room { v < slice_index self.now.caps (slice_index self.now.targets j) }
         ensures place { result.place ≡ j }

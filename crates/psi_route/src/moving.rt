@@ -68,7 +68,8 @@ impl Route {
 
     // The place of the chosen target by the keys, if any has room.
     fn least_key(&self, x: &State) -> Option<u8>
-        requires { length x.now ≡ length self.now.caps }
+        requires tables { 0 < length self.now.tables.items }
+        requires length { length x.now ≡ length self.now.caps }
         ensures { result ≡ best (routing (shape_of self.now)) x.now }
     {
         let mut found = None;
@@ -83,6 +84,7 @@ impl Route {
 
     // The least key of the places up to `i` that have room, from the least of those before it.
     fn better(&self, x: &State, i: u8, found: Option<Key>) -> Option<Key>
+        requires tables { 0 < length self.now.tables.items }
         requires place { i < length self.now.targets }
         requires length { length x.now ≡ length self.now.caps }
         requires found { IsLeader (routing (shape_of self.now)) x.now i found }

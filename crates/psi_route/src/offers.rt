@@ -39,6 +39,7 @@ impl Route {
 
     /// The least key of a target with room in some state of the box, and the least one of the other targets.
     pub(crate) fn rivals(&self, b: &Bounds) -> Offers
+        requires tables { 0 < length self.now.tables.items }
         requires ordered { IsBelow b.now.lo b.now.hi }
         requires within { IsBelow b.now.hi self.now.caps }
         ensures { AreLeastTwo (IsRival (routing (shape_of self.now)) b.now.lo b.now.hi) (length self.now.targets) result.first result.second }
@@ -53,6 +54,7 @@ impl Route {
 
     /// The two least of the greatest keys of the targets that always have room in the box.
     pub(crate) fn bars(&self, b: &Bounds) -> Offers
+        requires tables { 0 < length self.now.tables.items }
         requires ordered { IsBelow b.now.lo b.now.hi }
         requires within { IsBelow b.now.hi self.now.caps }
         ensures { AreLeastTwo (IsBar (routing (shape_of self.now)) b.now.lo b.now.hi) (length self.now.targets) result.first result.second }
@@ -67,6 +69,7 @@ impl Route {
 
     // The least key of a target at a place other than `without` with room in some state of the box.
     fn least_rival(&self, b: &Bounds, without: u8) -> Option<Key>
+        requires tables { 0 < length self.now.tables.items }
         requires ordered { IsBelow b.now.lo b.now.hi }
         requires within { IsBelow b.now.hi self.now.caps }
         ensures { IsLeastOffer (IsRival (routing (shape_of self.now)) b.now.lo b.now.hi) (length self.now.targets) without result }
@@ -82,6 +85,7 @@ impl Route {
 
     // The least of the greatest keys of the targets at places other than `without` that always have room.
     fn least_bar(&self, b: &Bounds, without: u8) -> Option<Key>
+        requires tables { 0 < length self.now.tables.items }
         requires ordered { IsBelow b.now.lo b.now.hi }
         requires within { IsBelow b.now.hi self.now.caps }
         ensures { IsLeastOffer (IsBar (routing (shape_of self.now)) b.now.lo b.now.hi) (length self.now.targets) without result }
@@ -97,6 +101,7 @@ impl Route {
 
     // The least key of the target at place `i` with a number of customers that leaves room.
     fn rival(&self, b: &Bounds, i: u8) -> Option<Key>
+        requires tables { 0 < length self.now.tables.items }
         requires place { i < length self.now.targets }
         requires ordered { IsBelow b.now.lo b.now.hi }
         requires within { IsBelow b.now.hi self.now.caps }
@@ -114,6 +119,7 @@ impl Route {
 
     // The greatest key of the target at place `i`, where each number of customers leaves room.
     fn bar(&self, b: &Bounds, i: u8) -> Option<Key>
+        requires tables { 0 < length self.now.tables.items }
         requires place { i < length self.now.targets }
         requires ordered { IsBelow b.now.lo b.now.hi }
         requires within { IsBelow b.now.hi self.now.caps }
@@ -130,29 +136,25 @@ impl Route {
 
     // The least value of a target's table from one number of customers to another.
     fn least_weight(&self, i: u8, first: u16, last: u16) -> u32
+        requires tables { 0 < length self.now.tables.items }
         requires place { i < length self.now.targets }
         requires ordered { first ≤ last }
         requires room { last < slice_index self.now.caps (slice_index self.now.targets i) }
         ensures below { (v : ℕ) → first ≤ v → v ≤ last → result ≤ weight (shape_of self.now) i v }
         ensures met { (v : ℕ) × (first ≤ v) × (v ≤ last) × (weight (shape_of self.now) i v ≡ result) }
     {
-        if self.tables.is_empty() {
-            return 0;
-        }
         self.tables[i as usize].least(first, last)
     }
 
     // The greatest value of a target's table from one number of customers to another.
     fn greatest_weight(&self, i: u8, first: u16, last: u16) -> u32
+        requires tables { 0 < length self.now.tables.items }
         requires place { i < length self.now.targets }
         requires ordered { first ≤ last }
         requires room { last < slice_index self.now.caps (slice_index self.now.targets i) }
         ensures above { (v : ℕ) → first ≤ v → v ≤ last → weight (shape_of self.now) i v ≤ result }
         ensures met { (v : ℕ) × (first ≤ v) × (v ≤ last) × (weight (shape_of self.now) i v ≡ result) }
     {
-        if self.tables.is_empty() {
-            return 0;
-        }
         self.tables[i as usize].greatest(first, last)
     }
 }

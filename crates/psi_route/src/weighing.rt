@@ -23,6 +23,7 @@ impl Route {
     /// What the targets offer is read off the box before the first of them changes; then each reads no ends
     /// but its own.
     pub(crate) fn weigh(&self, b: &mut Bounds, always: bool) -> Coming
+        requires tables { 0 < length self.now.tables.items }
         requires ordered { IsBelow b.old.lo b.old.hi }
         requires within { IsBelow b.old.hi self.now.caps }
         requires low { MatchBool always (Comes (routing (shape_of self.now)) b.old.lo 0) (Misses (routing (shape_of self.now)) b.old.lo 0) }
@@ -49,6 +50,7 @@ impl Route {
     // The least key of a target with room in some state of the box, and the least one of the other targets, where
     // the source always serves; else they aren't asked for.
     fn served_rivals(&self, b: &Bounds, always: bool) -> Offers
+        requires tables { 0 < length self.now.tables.items }
         requires ordered { IsBelow b.now.lo b.now.hi }
         requires within { IsBelow b.now.hi self.now.caps }
         ensures { always ≡ true → AreLeastTwo (IsRival (routing (shape_of self.now)) b.now.lo b.now.hi) (length self.now.targets) result.first result.second }
@@ -65,6 +67,7 @@ impl Route {
     // The least number of customers that the route leaves at the target at place `j`, which held from `least`
     // to `greatest`; it is the least one as it was where the source doesn't always serve.
     fn low_after(&self, always: bool, j: u8, least: u16, greatest: u16, rival: Option<Key>) -> u16
+        requires tables { 0 < length self.now.tables.items }
         requires place { j < length self.now.targets }
         requires ordered { least ≤ greatest }
         requires within { greatest ≤ slice_index self.now.caps (slice_index self.now.targets j) }
