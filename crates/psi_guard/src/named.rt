@@ -18,7 +18,7 @@ pub struct Part {
     pub least: u16,
     /// The greatest number of customers with which the event happens.
     pub most: u16,
-    /// How many customers come to the queue, or leave it where this is below 0.
+    /// How many customers come to the queue, or leave it where this is below 0: from -65,535 to 65,535.
     pub shift: i32,
     /// The least number of customers that the queue holds afterwards.
     pub floor: u16,

@@ -366,15 +366,12 @@ fn tried(rules: &Rules, test: u8, p: u8, q: u8) -> Option<Two> {
     }
 }
 
-// The pair of the first test that succeeds, at the least queues.
+// The pair of the first test that succeeds, at the least queues: four tests at four pairs of queues.
 fn fixed(rules: &Rules) -> Option<Two> {
-    for test in 1..5 {
-        for p in 0..2 {
-            for q in 0..2 {
-                if let Some(pair) = tried(rules, test, p, q) {
-                    return Some(pair);
-                }
-            }
+    for number in 0..16 {
+        let pair = tried(rules, 1 + number / 4, number / 2 % 2, number % 2);
+        if pair.is_some() {
+            return pair;
         }
     }
     None
