@@ -1,6 +1,7 @@
-pub mod Reading
-pub mod Sending
+pub mod Sorting
+pub mod Places
+pub mod Linking
 pub mod Seeking
-pub mod Gathering
-pub mod Inserting
+pub mod Relinking
+pub mod Keeping
 pub mod Within

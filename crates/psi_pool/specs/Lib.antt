@@ -1,9 +1,3 @@
-pub mod Chains
-pub mod Links
-pub mod Fresh
-pub mod Buckets
-pub mod Emptying
-pub mod Moving
 pub mod Pooled
-pub mod Sorting
-pub mod Holding
+pub mod Buckets
+pub mod Nodes

@@ -1,6 +1,6 @@
 //! The set of states.
 
-ghost use Rattle.std.specs.Prelude.{◌≡◌, ◌<◌, ◌≤◌, ◌↔◌, ◌⊎◌, ℕ, List, [], IsTrue, IfOk, length};
+ghost use Rattle.std.specs.Prelude.{◌≡◌, ◌+◌, ◌*◌, ◌<◌, ◌≤◌, ◌↔◌, ◌⊎◌, ℕ, List, [], IsTrue, IfOk, length};
 ghost use Rattle.std.specs.Prelude.{⊤};
 ghost use Rattle.std.specs.Borrow.{sem, follows_so};
 ghost use mathlib.Core.Option.{none};
@@ -10,9 +10,8 @@ ghost use Rattle.psi_state.specs.Sets.{insert_state, image, single};
 ghost use Rattle.psi_state.specs.Ascending.{IsRising};
 ghost use Rattle.psi_pool.specs.contracts.linked_set.Pool.{the_row};
 
-use crate::hashing::{Half, bucket_of};
-use crate::moving::{gather, move_all, pour_all, some_held};
-use crate::nodes::Table;
+use crate::hashing::bucket_of;
+use crate::nodes::{Node, empty, free_heads, free_nodes, gather, has, relink};
 use psi_event::EventLaw;
 use psi_state::State;
 use std::alloc::{AllocError, Global};
@@ -30,14 +29,16 @@ impl From<AllocError> for OutOfMemory {
 
 /// A set of at most `most` states, seen as the lexicographically ascending list of them.
 ///
-/// All its memory is taken by `reserve`: one vector of nodes, linked by index, and room for the list of
-/// the states. No other call takes memory. The work of a step grows with the number of states, not with
-/// the room for them: it passes over each state and over as many buckets as there are states.
+/// All its memory is taken by `reserve`: one vector of nodes, linked by index, the heads of the buckets, and
+/// room for the list of the states. No other call takes memory. The work of a step grows with the number of
+/// states, not with the room for them: it passes over each state and over four buckets for each.
 #[derive(Drop)]
 pub struct Pool {
-    table: Table,
-    // The half of the buckets that the states are in. A step moves them to the other half.
-    half: Half,
+    // The nodes in use are the first `len`.
+    nodes: Vec<Node>,
+    // The buckets in use are the first `used`.
+    heads: Vec<u16>,
+    used: u16,
     len: u16,
     most: u16,
     order: Vec<State>,
@@ -46,18 +47,26 @@ pub struct Pool {
 impl Model for Pool {
     ghost use Rattle.std.specs.Prelude.{vec_capacity};
     ghost use Rattle.psi_state.specs.Sets.{ascending};
-    ghost use Rattle.psi_pool.specs.Buckets.{held};
-    ghost use Rattle.psi_pool.specs.Holding.{IsPool};
+    ghost use Rattle.psi_pool.specs.Nodes.{states};
+    ghost use Rattle.psi_pool.specs.Nodes.{IsPool};
     ghost use Rattle.psi_pool.specs.Pooled.{Pooled};
 
     ghost Value = { Pooled };
 
     ghost view = { λ p. record {
       most = p.most;
-      states = ascending (held p.table);
+      states = ascending (states p.nodes.items p.len);
     } };
 
-    ghost invariant = { λ p. IsPool p.table p.half.start p.half.used p.len p.most (vec_capacity p.order) };
+    ghost invariant = { λ p. IsPool p.nodes.items p.heads.items p.used p.len p.most (vec_capacity p.order) };
+}
+
+// The number of buckets for so many states: it keeps their chains short.
+fn buckets_for(states: u16) -> u16
+    requires { states ≤ 4096 }
+    ensures { result ≡ 4 * states + 1 }
+{
+    4 * states + 1
 }
 
 impl Pool {
@@ -69,14 +78,14 @@ impl Pool {
         requires most { most ≤ 4096 }
         ensures { IfOk result (λ pool. pool ≡ record { most = most; states = [] }) }
     {
-        let table = Table::reserve(alloc, most)?;
+        let used = buckets_for(most);
+        let nodes = free_nodes(alloc, most)?;
+        let heads = free_heads(alloc, used)?;
         let order = Vec::with_capacity(alloc, most as usize)?;
         Ok(Pool {
-            table,
-            half: Half {
-                start: 1,
-                used: most as usize + 1,
-            },
+            nodes,
+            heads,
+            used,
             len: 0,
             most,
             order,
@@ -99,8 +108,8 @@ impl Pool {
     pub fn clear(&mut self)
         ensures { self.new ≡ record { most = self.old.most; states = [] } }
     {
-        pour_all(&mut self.table, self.half);
-        self.half.used = self.most as usize + 1;
+        empty(self.heads.as_mut_slice());
+        self.used = buckets_for(self.most);
         self.len = 0;
     }
 
@@ -108,7 +117,10 @@ impl Pool {
     pub fn contains(&self, x: &State) -> bool
         ensures { IsTrue result ↔ In x.now self.now.states }
     {
-        self.table.has(bucket_of(x, self.half), x)
+        let home = bucket_of(x, self.used as usize);
+        let nodes = &self.nodes[..self.len as usize];
+        let heads = &self.heads[..self.used as usize];
+        has(nodes, heads, home, x)
     }
 
     /// Puts `x` into the set, and answers whether it was not there. There has to be room for it, or it is
@@ -119,13 +131,18 @@ impl Pool {
         ensures most { self.new.most ≡ self.old.most }
         ensures fresh { IsTrue result ↔ (In x self.old.states → ⊥) }
     {
-        let bucket = bucket_of(&x, self.half);
-        if self.table.has(bucket, &x) {
+        let home = bucket_of(&x, self.used as usize);
+        let nodes = &self.nodes[..self.len as usize];
+        let heads = &self.heads[..self.used as usize];
+        if has(nodes, heads, home, &x) {
             return false;
         }
-        self.table.put_first(0, x);
-        self.table.carry(0, bucket);
+        self.nodes[self.len as usize] = Node {
+            state: x,
+            next: self.heads[home],
+        };
         self.len += 1;
+        self.heads[home] = self.len;
         true
     }
 
@@ -136,12 +153,14 @@ impl Pool {
         ensures states { self.new.states ≡ image (E.function e.now) self.old.states }
         ensures most { self.new.most ≡ self.old.most }
     {
-        let other = Half {
-            start: self.most as usize + 3 - self.half.start,
-            used: self.len as usize + 1,
-        };
-        self.len -= move_all(&mut self.table, self.half, other, e);
-        self.half = other;
+        self.used = buckets_for(self.len);
+        self.len = relink(
+            self.nodes.as_mut_slice(),
+            self.heads.as_mut_slice(),
+            self.used as usize,
+            self.len as usize,
+            e,
+        ) as u16;
     }
 
     /// The states in ascending order. The set stays as it is.
@@ -149,7 +168,7 @@ impl Pool {
         ensures states { result.now ≡ self.old.states }
         ensures* same { sem 𝓛 (follows_so the_row the_row self.entry.ghost_name none (λ _ _. ⊤) (λ v. v ≡ self.old)) }
     {
-        gather(&self.table, &mut self.order);
+        gather(&self.nodes[..self.len as usize], &mut self.order);
         self.order.sort_unstable();
         self.order.as_slice()
     }
@@ -158,10 +177,9 @@ impl Pool {
     pub fn only(&self) -> Option<State>
         ensures { result ≡ single self.now.states }
     {
-        let len = self.len;
-        if len != 1 {
+        if self.len != 1 {
             return None;
         }
-        some_held(&self.table)
+        Some(self.nodes[0].state)
     }
 }

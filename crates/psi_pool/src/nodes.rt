@@ -1,218 +1,175 @@
-//! Chains of nodes in one vector, linked by index.
+//! Nodes in one vector, linked by index into the chains of a hash table.
+//!
+//! The nodes in use are the first ones. A link is the place of a node and one, or 0 where there is none. It
+//! leads to the last node of a bucket before some place, so links fall along a chain, and every chain ends.
 
-ghost use Rattle.std.specs.Prelude.{◌≡◌, ℕ, ◌++◌, ◌+◌, ◌<◌, ◌≤◌, ◌↔◌, [], ◌∷◌, IsTrue, IfOk, length, slice_set, vec_capacity};
+ghost use Rattle.std.specs.Prelude.{◌≡◌, ℕ, ◌+◌, ◌<◌, ◌≤◌, ◌↔◌, List, IsTrue, IfOk, MatchOption, length, map, slice_index, vec_capacity};
 ghost use Rattle.psi_state.specs.State.{IsBelow};
 ghost use Rattle.psi_state.specs.Members.{In};
-ghost use Rattle.psi_pool.specs.Chains.{chain, first, rest, carried, with_first, IsFresh};
-ghost use Rattle.psi_pool.specs.Links.{states_from, chains_of, node_at};
-ghost use Rattle.psi_pool.specs.Fresh.{AreFree, AreHeads};
-ghost use Rattle.psi_pool.specs.Moving.{IsTarget};
+ghost use Rattle.psi_pool.specs.Buckets.{bucket};
+ghost use Rattle.psi_pool.specs.Nodes.{node_at, states, IsLinked, IsNew, HoldSet};
 
-use crate::hashing::{Half, bucket_of};
+use crate::hashing::bucket_of;
 use psi_event::EventLaw;
 use psi_state::State;
 use std::alloc::{AllocError, Global};
-use std::marker::Model;
 
-/// A state, and the place of the node that comes after it in its chain. A place past all nodes ends a
-/// chain.
+/// A state, and the link to the node before it in its bucket.
 #[derive(Clone, Copy)]
 pub(crate) struct Node {
-    state: State,
-    next: u16,
+    pub(crate) state: State,
+    pub(crate) next: u16,
 }
 
-/// Nodes in chains, each node in exactly one. It is seen as the list of the chains, each the list of its
-/// states. The chains are counted from 0.
-#[derive(Drop)]
-pub(crate) struct Table {
-    nodes: Vec<Node>,
-    heads: Vec<u16>,
-}
-
-impl Model for Table {
-    ghost use Rattle.std.specs.Prelude.{ℕ, ◌≤◌, List, length};
-    ghost use Rattle.psi_pool.specs.Links.{IsLinked, chains_of};
-
-    ghost Value = { List (List (List ℕ)) };
-
-    ghost view = { λ t. chains_of t.nodes.items t.heads.items };
-
-    ghost invariant = { λ t. IsLinked t.nodes.items t.heads.items };
-}
-
-impl Table {
-    /// So many nodes, all in chain 0, and two empty chains for each node, and two more.
-    pub(crate) fn reserve(alloc: Global, most: u16) -> Result<Table, AllocError>
-        requires least { 1 ≤ most }
-        requires most { most ≤ 4096 }
-        ensures { IfOk result (λ t. IsFresh t most) }
-    {
-        let nodes = free_nodes(alloc, most)?;
-        let heads = first_heads(alloc, most)?;
-        Ok(Table { nodes, heads })
-    }
-
-    /// The number of chains.
-    pub(crate) fn count(&self) -> usize
-        ensures { result ≡ length self.now }
-    {
-        self.heads.len()
-    }
-
-    /// Whether chain `a` has a node.
-    pub(crate) fn has_some(&self, a: usize) -> bool
-        requires { a < length self.now }
-        ensures { IsTrue result ↔ (1 ≤ length (chain self.now a)) }
-    {
-        (self.heads[a] as usize) < self.nodes.len()
-    }
-
-    /// The state of the first node of chain `a`.
-    pub(crate) fn first(&self, a: usize) -> &State
-        requires chain { a < length self.now }
-        requires some { 1 ≤ length (chain self.now a) }
-        ensures { result.now ≡ first (chain self.now a) }
-    {
-        &self.nodes[self.heads[a] as usize].state
-    }
-
-    /// Whether chain `a` has a node with the state `x`.
-    pub(crate) fn has(&self, a: usize, x: &State) -> bool
-        requires { a < length self.now }
-        ensures { IsTrue result ↔ In x.now (chain self.now a) }
-    {
-        has_from(self.nodes.as_slice(), self.heads[a] as usize, x)
-    }
-
-    /// Puts `x` in the place of the state of the first node of chain `a`.
-    pub(crate) fn put_first(&mut self, a: usize, x: State)
-        requires chain { a < length self.old }
-        requires some { 1 ≤ length (chain self.old a) }
-        ensures { self.new ≡ with_first self.old a x }
-    {
-        let place = self.heads[a] as usize;
-        self.nodes[place].state = x;
-    }
-
-    /// Moves the state of the first node of chain `a` on by the event, and the node to the bucket of that state
-    /// in the half, or to chain 0 where that bucket has the state already. Answers which chain it is.
-    #[inline]
-    pub(crate) fn move_first<E: EventLaw>(&mut self, a: usize, half: Half, e: &E) -> usize
-        requires chain { a < length self.old }
-        requires some { 1 ≤ length (chain self.old a) }
-        requires enough { 1 ≤ half.used }
-        requires few { half.start + half.used ≤ 8195 }
-        requires whole { half.start + half.used ≤ length self.old }
-        requires below { IsBelow (first (chain self.old a)) (E.capacities e.now) }
-        ensures target { IsTarget (with_first self.old a (E.function e.now (first (chain self.old a)))) half.start half.used (E.function e.now (first (chain self.old a))) result }
-        ensures carries { self.new ≡ carried self.old a result (E.function e.now (first (chain self.old a))) }
-    {
-        let place = self.heads[a] as usize;
-        e.apply(&mut self.nodes[place].state);
-        let to = target(self.nodes.as_slice(), self.heads.as_slice(), place, half);
-        self.heads[a] = self.nodes[place].next;
-        self.nodes[place].next = self.heads[to];
-        self.heads[to] = place as u16;
-        to
-    }
-
-    /// Takes the first node off chain `a` and puts it before those of chain `b`.
-    pub(crate) fn carry(&mut self, a: usize, b: usize)
-        requires old_chain { a < length self.old }
-        requires new_chain { b < length self.old }
-        requires some { 1 ≤ length (chain self.old a) }
-        ensures { self.new ≡ carried self.old a b (first (chain self.old a)) }
-    {
-        let place = self.heads[a];
-        self.heads[a] = self.nodes[place as usize].next;
-        self.nodes[place as usize].next = self.heads[b];
-        self.heads[b] = place;
-    }
-
-    /// Appends the states of chain `a`.
-    pub(crate) fn copy(&self, a: usize, out: &mut Vec<State>)
-        requires chain { a < length self.now }
-        requires room { length out.old.items + length (chain self.now a) ≤ vec_capacity out.old }
-        ensures items { out.new.items ≡ out.old.items ++ chain self.now a }
-        ensures capacity { vec_capacity out.new ≡ vec_capacity out.old }
-    {
-        let mut place = self.heads[a] as usize;
-        for _seen in 0..self.nodes.len() {
-            if place >= self.nodes.len() {
-                return;
-            }
-            out.push_reserved(self.nodes[place].state);
-            place = self.nodes[place].next as usize;
-        }
-    }
-}
-
-// Whether a node with the state `x` is in the chain from this place on.
-fn has_from(nodes: &[Node], from: usize, x: &State) -> bool
-    ensures { IsTrue result ↔ In x.now (states_from nodes.now (length nodes.now) from) }
-{
-    let mut at = from;
-    for _seen in 0..nodes.len() {
-        if at >= nodes.len() {
-            return false;
-        }
-        if nodes[at].state == *x {
-            return true;
-        }
-        at = nodes[at].next as usize;
-    }
-    false
-}
-
-// Where the node at a place goes: to the bucket of its state in the half, or to chain 0 where that bucket has
-// the state. Most buckets are empty, so that is tried for first.
-#[inline]
-fn target(nodes: &[Node], heads: &[u16], place: usize, half: Half) -> usize
-    requires place { place < length nodes.now }
-    requires enough { 1 ≤ half.used }
-    requires few { half.start + half.used ≤ 8195 }
-    requires whole { half.start + half.used ≤ length heads.now }
-    ensures value { IsTarget (chains_of nodes.now heads.now) half.start half.used (node_at nodes.now place).state result }
-    ensures within { result < length heads.now }
-{
-    let x = &nodes[place].state;
-    let bucket = bucket_of(x, half);
-    let from = heads[bucket] as usize;
-    if from >= nodes.len() {
-        return bucket;
-    }
-    if has_from(nodes, from, x) {
-        return 0;
-    }
-    bucket
-}
-
-// So many nodes, each of which leads to the next, and the last past all of them.
-fn free_nodes(alloc: Global, most: u16) -> Result<Vec<Node>, AllocError>
-    requires { most ≤ 4096 }
-    ensures { IfOk result (λ nodes. AreFree nodes.items most) }
+/// So many nodes, all of them free.
+pub(crate) fn free_nodes(alloc: Global, most: u16) -> Result<Vec<Node>, AllocError>
+    ensures { IfOk result (λ nodes. length nodes.items ≡ most) }
 {
     let mut nodes = Vec::with_capacity(alloc, most as usize)?;
-    for place in 0..most {
+    for _place in 0..most {
         nodes.push_reserved(Node {
             state: State::zero(1),
-            next: place + 1,
+            next: 0,
         });
     }
     Ok(nodes)
 }
 
-// The heads of chains of which the first begins at place 0 and the others are empty.
-fn first_heads(alloc: Global, most: u16) -> Result<Vec<u16>, AllocError>
-    requires { most ≤ 4096 }
-    ensures { IfOk result (λ heads. AreHeads heads.items most) }
+/// The heads of so many buckets, all of them empty.
+pub(crate) fn free_heads(alloc: Global, count: u16) -> Result<Vec<u16>, AllocError>
+    ensures count { IfOk result (λ heads. length heads.items ≡ count) }
+    ensures none { IfOk result (λ heads. (b : ℕ) → slice_index heads.items b ≡ 0) }
 {
-    let others = 2 * most + 2;
-    let mut heads = Vec::with_capacity(alloc, others as usize + 1)?;
-    heads.push_reserved(0);
-    for _chain in 0..others {
-        heads.push_reserved(most);
+    let mut heads = Vec::with_capacity(alloc, count as usize)?;
+    for _bucket in 0..count {
+        heads.push_reserved(0);
     }
     Ok(heads)
+}
+
+/// Empties all buckets.
+pub(crate) fn empty(heads: &mut [u16])
+    ensures { (b : ℕ) → slice_index heads.new b ≡ 0 }
+{
+    for bucket in 0..heads.len() {
+        heads[bucket] = 0;
+    }
+}
+
+/// Whether one of the nodes has the state `x`, whose bucket is given: all nodes are in use.
+#[inline]
+pub(crate) fn has(nodes: &[Node], heads: &[u16], home: usize, x: &State) -> bool
+    requires linked { IsLinked (length heads.now) nodes.now heads.now (length nodes.now) }
+    requires own { home ≡ bucket (length heads.now) x.now }
+    requires within { home < length heads.now }
+    ensures { IsTrue result ↔ In x.now (states nodes.now (length nodes.now)) }
+{
+    let mut link = heads[home] as usize;
+    while link > 0 {
+        let node = &nodes[link - 1];
+        if node.state == *x {
+            return true;
+        }
+        link = node.next as usize;
+    }
+    false
+}
+
+/// Links the node at a place into its bucket where its state is new, and answers whether it is.
+#[inline]
+pub(crate) fn link(nodes: &mut [Node], heads: &mut [u16], place: usize) -> bool
+    requires place { place < length nodes.old }
+    requires few { place < 4096 }
+    requires some { 1 ≤ length heads.old }
+    requires buckets { length heads.old ≤ 16385 }
+    requires linked { IsLinked (length heads.old) nodes.old heads.old place }
+    ensures fresh { IsTrue result → In (node_at nodes.old place).state (states nodes.old place) → ⊥ }
+    ensures linked { IsTrue result → IsLinked (length heads.new) nodes.new heads.new (place + 1) }
+    ensures there { (IsTrue result → ⊥) → In (node_at nodes.old place).state (states nodes.old place) }
+    ensures still { (IsTrue result → ⊥) → IsLinked (length heads.new) nodes.new heads.new place }
+    ensures states { (i : ℕ) → (node_at nodes.new i).state ≡ (node_at nodes.old i).state }
+{
+    let Some(home) = home_if_new(nodes, heads, place) else {
+        return false;
+    };
+    nodes[place].next = heads[home];
+    heads[home] = place as u16 + 1;
+    true
+}
+
+// The bucket of the node at a place where its state is new: no node before it has that state.
+#[inline]
+fn home_if_new(nodes: &[Node], heads: &[u16], place: usize) -> Option<usize>
+    requires place { place < length nodes.now }
+    requires some { 1 ≤ length heads.now }
+    requires buckets { length heads.now ≤ 16385 }
+    requires linked { IsLinked (length heads.now) nodes.now heads.now place }
+    ensures { MatchOption result (In (node_at nodes.now place).state (states nodes.now place)) (λ home. IsNew (length heads.now) nodes.now place home) }
+{
+    let x = &nodes[place].state;
+    let home = bucket_of(x, heads.len());
+    if has(&nodes[..place], heads, home, x) {
+        return None;
+    }
+    Some(home)
+}
+
+/// Moves the states of the first `len` nodes on by the event, and links these nodes anew into the first
+/// `used` buckets. Answers how many nodes are in use from then on.
+pub(crate) fn relink<E: EventLaw>(
+    nodes: &mut [Node],
+    heads: &mut [u16],
+    used: usize,
+    len: usize,
+    e: &E,
+) -> usize
+    requires some { 1 ≤ used }
+    requires few { used ≤ 16385 }
+    requires used { used ≤ length heads.old }
+    requires small { len ≤ 4096 }
+    requires len { len ≤ length nodes.old }
+    requires below { (x : List ℕ) → In x (states nodes.old len) → IsBelow x (E.capacities e.now) }
+    ensures holds { HoldSet used nodes.new heads.new result (map (E.function e.now) (states nodes.old len)) }
+    ensures fewer { result ≤ len }
+{
+    empty(&mut heads[..used]);
+    link_all(nodes, &mut heads[..used], len, e)
+}
+
+// The same where all buckets are in use and empty. A node whose state is there already is free again: the
+// last node that waits comes to its place.
+fn link_all<E: EventLaw>(nodes: &mut [Node], heads: &mut [u16], len: usize, e: &E) -> usize
+    requires some { 1 ≤ length heads.old }
+    requires few { length heads.old ≤ 16385 }
+    requires none { (b : ℕ) → slice_index heads.old b ≡ 0 }
+    requires small { len ≤ 4096 }
+    requires len { len ≤ length nodes.old }
+    requires below { (x : List ℕ) → In x (states nodes.old len) → IsBelow x (E.capacities e.now) }
+    ensures holds { HoldSet (length heads.new) nodes.new heads.new result (map (E.function e.now) (states nodes.old len)) }
+    ensures fewer { result ≤ len }
+{
+    let mut place = 0;
+    let mut left = len;
+    while place < left {
+        e.apply(&mut nodes[place].state);
+        if link(nodes, heads, place) {
+            place += 1;
+        } else {
+            left -= 1;
+            nodes[place].state = nodes[left].state;
+        }
+    }
+    left
+}
+
+/// Lists the states of the nodes.
+pub(crate) fn gather(nodes: &[Node], out: &mut Vec<State>)
+    requires { length nodes.now ≤ vec_capacity out.old }
+    ensures items { out.new.items ≡ states nodes.now (length nodes.now) }
+    ensures capacity { vec_capacity out.new ≡ vec_capacity out.old }
+{
+    out.clear();
+    for node in nodes {
+        out.push_reserved(node.state);
+    }
 }

@@ -1,10 +1,8 @@
-use Rattle.std.proofs.Common.{◌≤◌, vec_capacity}
-use Rattle.psi_pool.specs.Fresh.{AreFree}
+use Rattle.std.proofs.Common.{◌≡◌, ◌≤◌, length, vec_capacity}
 use Rattle.psi_pool.proofs.nodes.free_nodes.Given as goal
 
 abbrev pub invariant-loop-place : goal.invariant-loop-place
 invariant-loop-place l = record {
-  free : AreFree l.nodes.items l.place;
-  bound : l.place ≤ l.most;
-  capacity : l.most ≤ vec_capacity l.nodes;
+  room : l.most ≤ vec_capacity l.nodes;
+  count : length l.nodes.items ≡ l._place;
 }

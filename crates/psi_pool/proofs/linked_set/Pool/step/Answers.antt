@@ -1,52 +1,35 @@
-use Rattle.std.proofs.Common.{ap, ◌∙◌, subst, arith, vec_capacity}
-use Rattle.psi_state.specs.Members.{In}
-use Rattle.psi_state.specs.Sets.{image, In-ascending}
-use Rattle.psi_pool.specs.Buckets.{held}
+use Rattle.std.proofs.Common.{◌++◌, ◌∙◌, List, ℕ, take, drop, length, map, ap, sym, subst, vec_capacity}
+use Rattle.psi_state.specs.Sets.{ascending, image}
+use Rattle.psi_pool.specs.declared.nodes.Node.{Node}
 use Rattle.psi_pool.specs.Pooled.{Pooled}
-use Rattle.psi_pool.specs.Holding.{pool-start, pool-used, pool-whole, pool-rest, other-start, other-used, other-whole, other-apart, back-few, pool-stepped, states-stepped}
+use Rattle.psi_pool.specs.Nodes.{states, IsPool}
+use Rattle.psi_pool.proofs.Keeping.{seen, written, pool-stepped, states-stepped}
 use Rattle.psi_pool.proofs.linked_set.Pool.step.Goals as goal
 
-pub move_all-requires-clause-from_start : goal.move_all-requires-clause-from_start
-move_all-requires-clause-from_start g c = pool-start c.self.inside.table c.self.inside.half.start c.self.inside.half.used c.self.inside.len c.self.inside.most (vec_capacity c.self.inside.order) c.self.invariant
-
-pub move_all-requires-clause-from_few : goal.move_all-requires-clause-from_few
-move_all-requires-clause-from_few g c = pool-used c.self.inside.table c.self.inside.half.start c.self.inside.half.used c.self.inside.len c.self.inside.most (vec_capacity c.self.inside.order) c.self.invariant
-
-pub move_all-requires-clause-from_whole : goal.move_all-requires-clause-from_whole
-move_all-requires-clause-from_whole g c = pool-whole c.self.inside.table c.self.inside.half.start c.self.inside.half.used c.self.inside.len c.self.inside.most (vec_capacity c.self.inside.order) c.self.invariant
-
-pub move_all-requires-clause-start : goal.move_all-requires-clause-start
-move_all-requires-clause-start g c = other-start (g.E.EventLaw.function c.args.e.now) c.self.inside.table c.self.inside.half.start c.self.inside.half.used c.self.inside.len c.self.inside.most (vec_capacity c.self.inside.order) c.self.invariant
-
-pub move_all-requires-clause-few : goal.move_all-requires-clause-few
-move_all-requires-clause-few g c = other-used (g.E.EventLaw.function c.args.e.now) c.self.inside.table c.self.inside.half.start c.self.inside.half.used c.self.inside.len c.self.inside.most (vec_capacity c.self.inside.order) c.self.invariant
-
-pub move_all-requires-clause-whole : goal.move_all-requires-clause-whole
-move_all-requires-clause-whole g c = other-whole (g.E.EventLaw.function c.args.e.now) c.self.inside.table c.self.inside.half.start c.self.inside.half.used c.self.inside.len c.self.inside.most (vec_capacity c.self.inside.order) c.self.invariant
-
-pub move_all-requires-clause-halves : goal.move_all-requires-clause-halves
-move_all-requires-clause-halves g c = other-apart (g.E.EventLaw.function c.args.e.now) c.self.inside.table c.self.inside.half.start c.self.inside.half.used c.self.inside.len c.self.inside.most (vec_capacity c.self.inside.order) c.self.invariant
-
-pub move_all-requires-clause-small : goal.move_all-requires-clause-small
-move_all-requires-clause-small g c = (let all = c.self.invariant.all in let small = c.self.invariant.small in omega arith)
-
-pub move_all-requires-clause-rest : goal.move_all-requires-clause-rest
-move_all-requires-clause-rest g c = pool-rest c.self.inside.table c.self.inside.half.start c.self.inside.half.used c.self.inside.len c.self.inside.most (vec_capacity c.self.inside.order) c.self.invariant
-
-pub move_all-requires-clause-below : goal.move_all-requires-clause-below
-move_all-requires-clause-below g c x member =
-    c.requires.below x (subst (λ (p : Pooled). In x p.states) c.self.view_is (In-ascending x (held c.self.inside.table) member))
-
-pub overflow_sub-self : goal.overflow_sub-self
-overflow_sub-self g c =
-    let few = back-few (g.E.EventLaw.function c.args.e.now) c.self.inside.table c.self.inside.half.start c.self.inside.half.used c.self.inside.len c.self.inside.most (vec_capacity c.self.inside.order) c.self.invariant c.move_all.new.table c.move_all.result c.move_all.ensures in
-    omega arith
+pub relink-requires-clause-below : goal.relink-requires-clause-below
+relink-requires-clause-below g c x member =
+    c.requires.below x
+    (seen c.self.inside.nodes.items c.as_mut_slice.result.now c.self.inside.len c.self.inside.most c.args.self.now x c.as_mut_slice.ensures.value c.self.view_is member)
 
 pub invariant_of-self : goal.invariant_of-self
 invariant_of-self g c =
-    pool-stepped (g.E.EventLaw.function c.args.e.now) c.self.inside.table c.self.inside.half.start c.self.inside.half.used c.self.inside.len c.self.inside.most (vec_capacity c.self.inside.order) c.self.invariant c.move_all.new.table c.move_all.result c.move_all.ensures
+    let nodes = written c.self.inside.nodes.items c.relink.new.nodes c.self.inside.nodes.len (c.relink.auto.nodes ∙ c.as_mut_slice.ensures.len) in
+    let heads = written c.self.inside.heads.items c.relink.new.heads c.self.inside.heads.len (c.relink.auto.heads ∙ c.as_mut_slice-2.ensures.len) in
+    subst (λ (ns : List Node). IsPool ns (take c.self.inside.heads.len (c.relink.new.heads ++ drop (length c.relink.new.heads) c.self.inside.heads.items))
+    c.buckets_for-self-inside.result c.relink.result c.self.inside.most (vec_capacity c.self.inside.order)) (sym nodes)
+    (subst (λ (hs : List ℕ). IsPool c.relink.new.nodes hs c.buckets_for-self-inside.result c.relink.result c.self.inside.most (vec_capacity c.self.inside.order)) (sym heads)
+    (pool-stepped c.self.inside.nodes.items c.relink.new.nodes c.self.inside.heads.items c.relink.new.heads c.self.inside.used c.self.inside.len c.self.inside.most
+    (vec_capacity c.self.inside.order) c.buckets_for-self-inside.result c.relink.result
+    (map (g.E.EventLaw.function c.args.e.now) (states c.as_mut_slice.result.now c.self.inside.len)) c.self.invariant
+    (c.relink.auto.nodes ∙ ap (λ (ns : List Node). length ns) c.as_mut_slice.ensures.value)
+    (c.relink.auto.heads ∙ ap (λ (hs : List ℕ). length hs) c.as_mut_slice-2.ensures.value)
+    c.buckets_for-self-inside.ensures c.relink.ensures.fewer c.relink.ensures.holds))
 
 pub returns-clause-states : goal.returns-clause-states
 returns-clause-states g c =
-    states-stepped (g.E.EventLaw.function c.args.e.now) c.self.inside.table c.self.inside.half.start c.self.inside.half.used c.self.inside.len c.self.inside.most (vec_capacity c.self.inside.order) c.self.invariant c.move_all.new.table c.move_all.result c.move_all.ensures
-    ∙ ap (λ (p : Pooled). image (g.E.EventLaw.function c.args.e.now) p.states) c.self.view_is
+    let nodes = written c.self.inside.nodes.items c.relink.new.nodes c.self.inside.nodes.len (c.relink.auto.nodes ∙ c.as_mut_slice.ensures.len) in
+    ap (λ (ns : List Node). ascending (states ns c.relink.result)) nodes
+    ∙ (states-stepped (g.E.EventLaw.function c.args.e.now) (states c.as_mut_slice.result.now c.self.inside.len) (states c.relink.new.nodes c.relink.result)
+    c.relink.ensures.holds.members
+    ∙ (ap (λ (ns : List Node). image (g.E.EventLaw.function c.args.e.now) (ascending (states ns c.self.inside.len))) c.as_mut_slice.ensures.value
+    ∙ ap (λ (p : Pooled). image (g.E.EventLaw.function c.args.e.now) p.states) c.self.view_is))

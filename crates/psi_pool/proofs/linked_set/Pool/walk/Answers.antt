@@ -1,16 +1,11 @@
-use Rattle.std.proofs.Common.{ℕ, List, ap, ◌∙◌, subst, refl, arith, vec_capacity}
+use Rattle.std.proofs.Common.{List, ap, ◌∙◌, subst, refl}
 use Rattle.std.specs.List.Sorted.{IsPermutation}
-use Rattle.psi_pool.specs.Buckets.{held, held-distinct}
+use Rattle.psi_pool.specs.declared.nodes.Node.{Node}
 use Rattle.psi_pool.specs.Pooled.{Pooled}
-use Rattle.psi_pool.specs.Holding.{pool-few}
-use Rattle.psi_pool.specs.Sorting.{sorted-is}
+use Rattle.psi_pool.specs.Nodes.{states}
+use Rattle.psi_pool.proofs.Sorting.{sorted-is}
+use Rattle.psi_pool.proofs.Places.{states-take}
 use Rattle.psi_pool.proofs.linked_set.Pool.walk.Goals as goal
-
-pub gather-requires : goal.gather-requires
-gather-requires c =
-    let few = pool-few c.self.inside.table c.self.inside.half.start c.self.inside.half.used c.self.inside.len c.self.inside.most (vec_capacity c.self.inside.order) c.self.invariant in
-    let listed = c.self.invariant.listed in
-    omega arith
 
 pub returns : goal.returns
 returns c = (
@@ -18,8 +13,10 @@ returns c = (
   record {
     states =
         c.as_slice.ensures.value
-        ∙ (sorted-is (held c.self.inside.table) c.sort_unstable.new.self.items (held-distinct c.self.inside.table c.self.inside.half.start c.self.inside.half.used c.self.invariant.buckets)
-        (subst (λ (xs : List (List ℕ)). IsPermutation xs c.sort_unstable.new.self.items) c.gather.ensures.items c.sort_unstable.ensures.permutation)
+        ∙ (sorted-is (states c.self.inside.nodes.items c.self.inside.len) c.sort_unstable.new.self.items c.self.invariant.distinct
+        (subst (λ xs. IsPermutation xs c.sort_unstable.new.self.items)
+        (c.gather.ensures.items ∙ (states-take c.deref.result.now c.self.inside.len ∙ ap (λ (ns : List Node). states ns c.self.inside.len) c.deref.ensures.value))
+        c.sort_unstable.ensures.permutation)
         c.sort_unstable.ensures.sorted
         ∙ ap (λ (p : Pooled). p.states) c.self.view_is);
     same = tt;

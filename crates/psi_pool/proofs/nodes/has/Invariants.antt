@@ -1,0 +1,9 @@
+use Rattle.std.proofs.Common.{length}
+use Rattle.psi_pool.proofs.Seeking.{IsSeeking}
+use Rattle.psi_pool.proofs.nodes.has.Given as goal
+
+abbrev pub invariant-loop-link : goal.invariant-loop-link
+invariant-loop-link l = IsSeeking (length l.heads) l.nodes (length l.nodes) l.x l.link
+
+abbrev pub decreases-loop-link : goal.decreases-loop-link
+decreases-loop-link l = l.link

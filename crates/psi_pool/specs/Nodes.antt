@@ -1,0 +1,53 @@
+-- Nodes that are linked by index into the buckets of a hash table.
+use Rattle.std.specs.Prelude.{◌≡◌, ◌≢◌, ℕ, suc, ◌+◌, ◌*◌, ◌<◌, ◌≤◌, List, [], length, map, take, slice_index, get_or}
+use Rattle.psi_state.specs.Members.{In}
+use Rattle.psi_state.specs.Ascending.{IsDistinct, HaveSame}
+use Rattle.psi_pool.specs.declared.nodes.Node.{Node}
+use Rattle.psi_pool.specs.Buckets.{bucket}
+
+-- the node at a place, and an empty one past the last
+abbrev pub node_at : List Node → ℕ → Node
+node_at nodes i = get_or nodes i (record { state = []; next = 0 })
+
+-- the states of the first n nodes
+abbrev pub states : List Node → ℕ → List (List ℕ)
+states nodes n = map (λ (m : Node). m.state) (take n nodes)
+
+-- the bucket that the node at a place belongs to
+abbrev pub bucket_at : ℕ → List Node → ℕ → ℕ
+bucket_at used nodes i = bucket used (node_at nodes i).state
+
+-- the link to the last of the first n nodes that belongs to the bucket: its place and one, or 0 where there is none
+pub record IsLast (used : ℕ) (nodes : List Node) (n b link : ℕ) : Type 0 where
+  pub within : link ≤ n
+  pub own : (i : ℕ) → suc i ≡ link → bucket_at used nodes i ≡ b
+  pub last : (i : ℕ) → link ≤ i → i < n → bucket_at used nodes i ≢ b
+
+-- the first n nodes are linked: each head leads to the last node of its bucket, and each node to the last one of its own bucket before it
+pub record IsLinked (used : ℕ) (nodes : List Node) (heads : List ℕ) (n : ℕ) : Type 0 where
+  pub heads_lead : (b : ℕ) → b < used → IsLast used nodes n b (slice_index heads b)
+  pub nodes_lead : (i : ℕ) → i < n → IsLast used nodes i (bucket_at used nodes i) (node_at nodes i).next
+
+-- the state of the node at a place stands in no node before it, and this is its bucket
+pub record IsNew (used : ℕ) (nodes : List Node) (place home : ℕ) : Type 0 where
+  pub own : home ≡ bucket_at used nodes place
+  pub small : home < used
+  pub absent : In (node_at nodes place).state (states nodes place) → ⊥
+
+-- the first n nodes are linked, and hold the set of these states: each of them once
+pub record HoldSet (used : ℕ) (nodes : List Node) (heads : List ℕ) (n : ℕ) (xs : List (List ℕ)) : Type 0 where
+  pub linked : IsLinked used nodes heads n
+  pub distinct : IsDistinct (states nodes n)
+  pub members : HaveSame (states nodes n) xs
+
+-- what a pool keeps: the nodes in use are its first, they are linked, no state stands twice, and there is room to list them all
+pub record IsPool (nodes : List Node) (heads : List ℕ) (used len most room : ℕ) : Type 0 where
+  pub count : length nodes ≡ most
+  pub buckets : length heads ≡ 4 * most + 1
+  pub small : most ≤ 4096
+  pub some : 1 ≤ used
+  pub few : used ≤ 4 * most + 1
+  pub fits : len ≤ most
+  pub linked : IsLinked used nodes heads len
+  pub distinct : IsDistinct (states nodes len)
+  pub listed : most ≤ room
