@@ -47,8 +47,7 @@ pub struct Pool {
 impl Model for Pool {
     ghost use Rattle.std.specs.Prelude.{vec_capacity};
     ghost use Rattle.psi_state.specs.Sets.{ascending};
-    ghost use Rattle.psi_pool.specs.Nodes.{states};
-    ghost use Rattle.psi_pool.specs.Nodes.{IsPool};
+    ghost use Rattle.psi_pool.specs.Nodes.{states, IsPool};
     ghost use Rattle.psi_pool.specs.Pooled.{Pooled};
 
     ghost Value = { Pooled };

@@ -75,9 +75,9 @@ pub(crate) fn has(nodes: &[Node], heads: &[u16], home: usize, x: &State) -> bool
     false
 }
 
-/// Links the node at a place into its bucket where its state is new, and answers whether it is.
+// Links the node at a place into its bucket where its state is new, and answers whether it is.
 #[inline]
-pub(crate) fn link(nodes: &mut [Node], heads: &mut [u16], place: usize) -> bool
+fn link(nodes: &mut [Node], heads: &mut [u16], place: usize) -> bool
     requires place { place < length nodes.old }
     requires few { place < 4096 }
     requires some { 1 ≤ length heads.old }

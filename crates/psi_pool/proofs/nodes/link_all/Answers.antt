@@ -23,7 +23,7 @@ apply-requires g c =
 pub loop-place-preserved-then-link : goal.loop-place-preserved-then-link
 loop-place-preserved-then-link g c = record {
   relinking = relink-more (g.E.EventLaw.function c.args.e.now) (states c.args.nodes.now c.args.len) (length c.loop-place.heads) c.loop-place.nodes c.loop-place.heads
-      c.loop-place.place c.loop-place.left c.loop-place.invariant.relinking c.loop-place-test.true
+      c.loop-place.place c.loop-place.left c.loop-place.invariant.relinking (omega arith)
       (record { state = c.apply.new.x; next = (get_or c.loop-place.nodes c.loop-place.place c.index-nodes-place.result).next }) c.index-nodes-place.result
       c.apply.ensures.value c.link.new.nodes c.link.auto.nodes c.link.ensures.states
       (length c.link.new.heads) c.link.new.heads (c.link.ensures.linked c.if-link.true) (c.link.ensures.fresh c.if-link.true);
@@ -35,7 +35,7 @@ loop-place-preserved g c =
     let no : c.link.result ≡ true → ⊥ = λ yes. (let not = c.if-link.false in cc) in
     record {
       relinking = relink-fewer (g.E.EventLaw.function c.args.e.now) (states c.args.nodes.now c.args.len) (length c.loop-place.heads) c.loop-place.nodes c.loop-place.heads
-          c.loop-place.place c.loop-place.left c.loop-place.invariant.relinking c.loop-place-test.true
+          c.loop-place.place c.loop-place.left c.loop-place.invariant.relinking (omega arith)
           (record { state = c.apply.new.x; next = (get_or c.loop-place.nodes c.loop-place.place c.index-nodes-place.result).next }) c.index-nodes-place.result
           c.apply.ensures.value c.link.new.nodes c.link.auto.nodes c.link.ensures.states
           (c.loop-place.left - 1) (omega arith)
