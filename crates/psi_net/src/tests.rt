@@ -10,6 +10,7 @@ use std::process::Abort;
 use std::test::Fail;
 
 mod generated;
+mod guarded;
 mod limits;
 
 // One queue with an arrival and a service, an item a line.
@@ -30,9 +31,9 @@ const LINES: [&str; 14] = [
     "from = \"a\"",
 ];
 
-// Two queues of capacity 2, without events.
+// Two queues of capacity 2.
 const TWO: &str =
-    "version = 2\n[[queue]]\nname = \"a\"\ncapacity = 2\nservers = 2\n[[queue]]\nname = \"b\"\ncapacity = 2\n";
+    "[[queue]]\nname = \"a\"\ncapacity = 2\nservers = 2\n[[queue]]\nname = \"b\"\ncapacity = 2\n";
 
 // The file with another text in place of the line at this place, counted from 0; past the last line it is
 // the file as it is.
@@ -50,6 +51,12 @@ fn joined(alloc: Global, first: &str, second: &str) -> Result<String, AllocError
     let mut file = String::from_str(alloc, first)?;
     file.push_str(second)?;
     Ok(file)
+}
+
+// A file of this version with two queues and an event of these keys.
+fn with_event(alloc: Global, version: u32, keys: &str) -> Result<String, AllocError> {
+    let queues = TWO;
+    format!(in alloc; "version = {version}\n{queues}[[event]]\nname = \"e\"\nrate = 1\n{keys}\n")
 }
 
 // Whether the file is accepted.
@@ -105,7 +112,7 @@ fn pair(a: u16, b: u16) -> State {
 }
 
 // A place, the text in place of its line, and the refusal.
-const LINE_CASES: [(usize, &str, u8, Section, u32, &str); 44] = [
+const LINE_CASES: [(usize, &str, u8, Section, u32, &str); 45] = [
     (0, "", 4, Section::Top, 0, "version"),
     (0, "version = 3", 2, Section::Top, 0, "version"),
     (0, "version = -1", 2, Section::Top, 0, "version"),
@@ -142,6 +149,7 @@ const LINE_CASES: [(usize, &str, u8, Section, u32, &str); 44] = [
     (0, "version = 1\nsplit = 0", 6, Section::Top, 0, "split"),
     (0, "version = 1\nsplit = 4097", 6, Section::Top, 0, "split"),
     (0, "version = 1\nreward = 3", 5, Section::Top, 0, "reward"),
+    (0, "version = 1\nreward = [1]", 5, Section::Reward, 1, ""),
     (2, "", 4, Section::Queue, 1, "name"),
     (2, "name = \"\"", 6, Section::Queue, 1, "name"),
     (2, "name = \"a b\"", 6, Section::Queue, 1, "name"),
@@ -167,7 +175,7 @@ const LINE_CASES: [(usize, &str, u8, Section, u32, &str); 44] = [
     ),
     (
         3,
-        "capacity = 2\n[[queue]]\nname = \"a\"",
+        "capacity = 2\n[[queue]]\nname = \"a\"\ncapacity = 2",
         8,
         Section::Queue,
         2,
@@ -241,11 +249,11 @@ fn whole_files_are_refused_at_the_first_cause(rt: HostRuntime) -> Result<(), Fai
     let alloc = rt.alloc();
     for (text, code, key) in [
         ("", 4, "version"),
-        ("version = ", 1, ""),
-        ("version = 3", 2, "version"),
-        ("version = 1", 4, "queue"),
-        ("version = 1\nqueue = []", 4, "queue"),
-        ("version = 1\nqueue = 3", 5, "queue"),
+        ("version = \n", 1, ""),
+        ("version = 3\n", 2, "version"),
+        ("version = 1\n", 4, "queue"),
+        ("version = 1\nqueue = []\n", 4, "queue"),
+        ("version = 1\nqueue = 3\n", 5, "queue"),
         (
             "version = 1\n[[queue]]\nname = \"a\"\ncapacity = 2\n",
             15,
@@ -261,21 +269,47 @@ fn whole_files_are_refused_at_the_first_cause(rt: HostRuntime) -> Result<(), Fai
             5,
             "event",
         ),
-        ("version = 1\na = [[[[[[[[[[[[[[[[[[[[[[[[[[[[[[[[", 1, ""),
-        ("version = 1\nversion = 1", 1, ""),
+        (
+            "version = 1\na = [[[[[[[[[[[[[[[[[[[[[[[[[[[[[[[[[[[[[[[[[[[[[[[[[[[[[[[[[[[[[[[[\n",
+            1,
+            "",
+        ),
+        ("version = 1\nversion = 1\n", 1, ""),
     ] {
         assert!(rt;
             is_refused(alloc, text.as_bytes(), code, Section::Top, 0, key),
             "{text}"
         );
     }
-    assert!(rt; is_refused(alloc, b"version = 1 # \xff", 1, Section::Top, 0, ""));
-    assert!(rt; is_refused(alloc, b"version = 1\nqueue = [1]", 5, Section::Queue, 1, ""));
+    assert!(rt; is_refused(alloc, b"version = 1 # \xff\n", 1, Section::Top, 0, ""));
+    Ok(())
+}
+
+#[test]
+fn elements_that_are_no_tables_are_refused_without_a_key(rt: HostRuntime) -> Result<(), Fail> {
+    let alloc = rt.alloc();
+    let queue = "{ name = \"a\", capacity = 2 }";
+    let event = "{ name = \"in\", kind = \"arrival\", rate = 1, to = [\"a\"] }";
+    for (first, second, third, fourth, section, number) in [
+        ("1", queue, event, event, Section::Queue, 1),
+        (queue, "1", event, event, Section::Queue, 2),
+        (queue, "", "1", event, Section::Event, 1),
+        (queue, "", event, "1", Section::Event, 2),
+    ] {
+        let file = format!(in alloc;
+            "version = 1\nqueue = [{first}, {second}]\nevent = [{third}, {fourth}]\n"
+        )?;
+        let bytes = file.as_str().as_bytes();
+        assert!(rt;
+            is_refused(alloc, bytes, 5, section, number, ""),
+            "{first}, {second}, {third}, {fourth}"
+        );
+    }
     Ok(())
 }
 
 // An event's keys, and the code and the key of the refusal.
-const EVENT_CASES: [(&str, u8, &str); 31] = [
+const EVENT_CASES: [(&str, u8, &str); 19] = [
     ("kind = \"fork\"\nto = [\"b\", \"b\", \"zz\"]", 12, "to"),
     (
         "kind = \"fork\"\nfrom = \"a\"\nto = [\"b\", \"a\"]",
@@ -330,42 +364,6 @@ const EVENT_CASES: [(&str, u8, &str); 31] = [
         11,
         "to",
     ),
-    ("kind = \"guarded\"", 4, "part"),
-    ("kind = \"guarded\"\npart = 1", 5, "part"),
-    ("kind = \"guarded\"\npart = []", 6, "part"),
-    ("kind = \"guarded\"\npart = [1]", 5, "part"),
-    (
-        "kind = \"guarded\"\npart = [{ queue = \"a\", size = 1 }]",
-        3,
-        "size",
-    ),
-    ("kind = \"guarded\"\npart = [{ least = 1 }]", 4, "queue"),
-    ("kind = \"guarded\"\npart = [{ queue = \"c\" }]", 9, "queue"),
-    (
-        "kind = \"guarded\"\npart = [{ queue = \"a\" }, { queue = \"a\" }]",
-        12,
-        "queue",
-    ),
-    (
-        "kind = \"guarded\"\npart = [{ queue = \"a\", ceiling = 3 }]",
-        6,
-        "ceiling",
-    ),
-    (
-        "kind = \"guarded\"\npart = [{ queue = \"a\", shift = 65536 }]",
-        6,
-        "shift",
-    ),
-    (
-        "kind = \"guarded\"\npart = [{ queue = \"a\", least = 2, most = 1 }]",
-        18,
-        "least",
-    ),
-    (
-        "kind = \"guarded\"\npart = [{ queue = \"a\", floor = 2, ceiling = 1 }]",
-        18,
-        "floor",
-    ),
     ("kind = \"service\"\nfrom = \"a\"\nsize = 1", 3, "size"),
 ];
 
@@ -373,8 +371,7 @@ const EVENT_CASES: [(&str, u8, &str); 31] = [
 fn events_are_refused_at_their_keys(rt: HostRuntime) -> Result<(), Fail> {
     let alloc = rt.alloc();
     for (text, code, key) in EVENT_CASES {
-        let head = joined(alloc, TWO, "[[event]]\nname = \"e\"\nrate = 1\n")?;
-        let file = joined(alloc, head.as_str(), text)?;
+        let file = with_event(alloc, 1, text)?;
         let bytes = file.as_str().as_bytes();
         assert!(rt;
             is_refused(alloc, bytes, code, Section::Event, 1, key),
@@ -454,64 +451,22 @@ fn rewards_are_refused_at_their_keys(rt: HostRuntime) -> Result<(), Fail> {
 }
 
 #[test]
-fn too_many_are_refused(rt: HostRuntime) -> Result<(), Fail> {
+fn rewards_have_different_names(rt: HostRuntime) -> Result<(), Fail> {
     let alloc = rt.alloc();
-    let mut queues = String::from_str(alloc, "version = 1\nqueue = [")?;
-    for _ in 0..33 {
-        queues.push_str("{}, ")?;
-    }
-    queues.push_str("]\n")?;
-    assert!(rt;
-        is_refused(
-            alloc,
-            queues.as_str().as_bytes(),
-            7,
-            Section::Top,
-            0,
-            "queue"
-        )
-    );
-    let mut events = String::from_str(
-        alloc,
-        "version = 1\n[[queue]]\nname = \"a\"\ncapacity = 2\nservers = 2\n",
-    )?;
-    for number in 0..513 {
-        let event = format!(in alloc;
-            "[[event]]\nname = \"e{number}\"\nkind = \"service\"\nrate = 1\nfrom = \"a\"\n"
+    for (name, is_taken) in [("in", false), ("w", true)] {
+        let rewards = format!(in alloc;
+            "[[reward]]\nname = \"w\"\nkind = \"least\"\nqueues = [\"a\"]\n[[reward]]\nname = \"{name}\"\nkind = \"greatest\"\nqueues = [\"a\"]\n"
         )?;
-        events.push_str(event.as_str())?;
+        let file = with_line(alloc, 14, "")?;
+        let whole = joined(alloc, file.as_str(), rewards.as_str())?;
+        let bytes = whole.as_str().as_bytes();
+        assert_eq!(rt; is_accepted(alloc, whole.as_str()), !is_taken, "{name}");
+        assert_eq!(rt;
+            is_refused(alloc, bytes, 8, Section::Reward, 2, "name"),
+            is_taken,
+            "{name}"
+        );
     }
-    assert!(rt;
-        is_refused(
-            alloc,
-            events.as_str().as_bytes(),
-            7,
-            Section::Event,
-            513,
-            "from"
-        )
-    );
-    let file = with_line(
-        alloc,
-        3,
-        "capacity = 16\nservers = 16\n[[queue]]\nname = \"b\"\ncapacity = 1",
-    )?;
-    assert!(rt; is_accepted(alloc, file.as_str()));
-    let heavy =
-        "version = 1\n[[queue]]\nname = \"a\"\ncapacity = 16\nservers = 16\n[[event]]\nname = \"out\"\nkind = \"service\"\nrate = 1048576\nfrom = \"a\"\n";
-    assert!(rt; is_accepted(alloc, heavy));
-    let more = "[[event]]\nname = \"in\"\nkind = \"arrival\"\nrate = 1\nto = [\"a\"]\n";
-    let heavier = joined(alloc, heavy, more)?;
-    assert!(rt;
-        is_refused(
-            alloc,
-            heavier.as_str().as_bytes(),
-            16,
-            Section::Event,
-            2,
-            "rate"
-        )
-    );
     Ok(())
 }
 
@@ -523,11 +478,17 @@ fn values_at_their_limits_are_read(rt: HostRuntime) -> Result<(), Fail> {
             0,
             "'version' = 0x1 # TOML writes keys and integers in several ways",
         ),
-        (0, "version = 1\nlimit = 20\nsplit = 4096"),
-        (0, "version = 2\nlimit = 22\nsplit = 1"),
+        (0, "version = 1\nlimit = 20"),
+        (0, "version = 2\nlimit = 22"),
+        (0, "version = 1\nlimit = 0\nsplit = 1"),
+        (0, "version = 1\nsplit = 4096"),
         (0, "version = 1\nreward = []"),
         (2, "name = \"a\"\nservers = 1"),
         (3, "capacity = 65_535\nservers = 64"),
+        (
+            3,
+            "capacity = 16\nservers = 16\n[[queue]]\nname = \"b\"\ncapacity = 1",
+        ),
         (5, "name = \"a\""),
         (5, "name = \"Az09_-78901234567890123456789012\""),
         (7, "rate = 1048576"),
@@ -609,56 +570,59 @@ fn events_are_expanded_over_servers(rt: HostRuntime) -> Result<(), Fail> {
     Ok(())
 }
 
+// An event's keys, a state of two queues, what the event makes of it, and how many expanded events there
+// are.
+const KIND_CASES: [(&str, (u16, u16), (u16, u16), u16); 8] = [
+    (
+        "kind = \"index\"\nto = [\"a\", \"b\"]\ntable = [[5, 0], [3, 3]]",
+        (0, 0),
+        (0, 1),
+        1,
+    ),
+    (
+        "kind = \"batch\"\nto = [\"a\"]\nsize = 2",
+        (0, 1),
+        (2, 1),
+        1,
+    ),
+    (
+        "kind = \"negative\"\nfrom = \"a\"\non = \"b\"\namount = 2",
+        (1, 1),
+        (0, 0),
+        2,
+    ),
+    (
+        "kind = \"fork\"\nfrom = \"b\"\nto = [\"a\"]",
+        (0, 1),
+        (1, 0),
+        1,
+    ),
+    ("kind = \"join\"\nfrom = [\"a\", \"b\"]", (2, 1), (1, 0), 1),
+    (
+        "kind = \"guarded\"\npart = [{ queue = \"a\", least = 1, shift = -1, floor = 1 }, { queue = \"b\", ceiling = 0 }]",
+        (2, 2),
+        (1, 0),
+        1,
+    ),
+    (
+        "kind = \"service\"\nfrom = \"a\"\nto = [\"b\"]",
+        (1, 2),
+        (0, 2),
+        2,
+    ),
+    (
+        "kind = \"service\"\nfrom = \"a\"\nto = [\"b\"]\nfull = \"stay\"",
+        (1, 2),
+        (1, 2),
+        2,
+    ),
+];
+
 #[test]
 fn each_kind_of_event_is_read(rt: HostRuntime) -> Result<(), Fail> {
     let alloc = rt.alloc();
-    for (text, from, to, events) in [
-        (
-            "kind = \"index\"\nto = [\"a\", \"b\"]\ntable = [[5, 0], [3, 3]]",
-            (0, 0),
-            (0, 1),
-            1,
-        ),
-        (
-            "kind = \"batch\"\nto = [\"a\"]\nsize = 2",
-            (0, 1),
-            (2, 1),
-            1,
-        ),
-        (
-            "kind = \"negative\"\nfrom = \"a\"\non = \"b\"\namount = 2",
-            (1, 1),
-            (0, 0),
-            2,
-        ),
-        (
-            "kind = \"fork\"\nfrom = \"b\"\nto = [\"a\"]",
-            (0, 1),
-            (1, 0),
-            1,
-        ),
-        ("kind = \"join\"\nfrom = [\"a\", \"b\"]", (2, 1), (1, 0), 1),
-        (
-            "kind = \"guarded\"\npart = [{ queue = \"a\", least = 1, shift = -1, floor = 1 }, { queue = \"b\", ceiling = 0 }]",
-            (2, 2),
-            (1, 0),
-            1,
-        ),
-        (
-            "kind = \"service\"\nfrom = \"a\"\nto = [\"b\"]",
-            (1, 2),
-            (0, 2),
-            2,
-        ),
-        (
-            "kind = \"service\"\nfrom = \"a\"\nto = [\"b\"]\nfull = \"stay\"",
-            (1, 2),
-            (1, 2),
-            2,
-        ),
-    ] {
-        let head = joined(alloc, TWO, "[[event]]\nname = \"e\"\nrate = 1\n")?;
-        let file = joined(alloc, head.as_str(), text)?;
+    for (text, from, to, events) in KIND_CASES {
+        let file = with_event(alloc, 2, text)?;
         let net = net_of(alloc, file.as_str().as_bytes())?;
         assert_eq!(rt; net.events(), events, "{text}");
         let system = net.system();
@@ -683,20 +647,35 @@ fn shows_reward(net: &Net, reward: u8, name: &str) -> bool {
     reward < net.rewards() && net.reward_name(reward).bytes() == name.as_bytes()
 }
 
+// An arrival's keys, and a reward of each kind.
+const REWARDED: &str =
+    "kind = \"arrival\"\nto = [\"a\"]\n[[reward]]\nname = \"w\"\nkind = \"linear\"\nqueues = [\"a\", \"b\"]\nweights = [2, -1]\n[[reward]]\nname = \"t\"\nkind = \"table\"\nqueues = [\"b\"]\ntable = [[0, 10, -5]]\n[[reward]]\nname = \"g\"\nkind = \"greatest\"\nqueues = [\"a\", \"b\"]\n[[reward]]\nname = \"o\"\nkind = \"above\"\nqueues = [\"a\", \"b\"]\nlevel = 0\n[[reward]]\nname = \"l\"\nkind = \"least\"\nqueues = [\"a\", \"b\"]\n";
+
 #[test]
 fn rewards_are_read(rt: HostRuntime) -> Result<(), Fail> {
     let alloc = rt.alloc();
-    let rewards =
-        "[[event]]\nname = \"e\"\nrate = 1\nkind = \"arrival\"\nto = [\"a\"]\n[[reward]]\nname = \"w\"\nkind = \"linear\"\nqueues = [\"a\", \"b\"]\nweights = [2, -1]\n[[reward]]\nname = \"t\"\nkind = \"table\"\nqueues = [\"b\"]\ntable = [[0, 10, -5]]\n";
-    let file = joined(alloc, TWO, rewards)?;
+    let file = with_event(alloc, 1, REWARDED)?;
     let net = net_of(alloc, file.as_str().as_bytes())?;
-    assert_eq!(rt; net.rewards(), 2);
-    assert!(rt; shows_reward(&net, 0, "w"));
-    assert!(rt; shows_reward(&net, 1, "t"));
-    assert_eq!(rt; worth(&rt, &net, 0, &pair(1, 0)), 2);
-    assert_eq!(rt; worth(&rt, &net, 0, &pair(0, 2)), -2);
-    assert_eq!(rt; worth(&rt, &net, 1, &pair(1, 1)), 10);
-    assert_eq!(rt; worth(&rt, &net, 1, &pair(1, 2)), -5);
+    assert_eq!(rt; net.rewards(), 5);
+    for (reward, name, state, value) in [
+        (0, "w", pair(1, 0), 2),
+        (0, "w", pair(0, 2), -2),
+        (1, "t", pair(1, 1), 10),
+        (1, "t", pair(1, 2), -5),
+        (2, "g", pair(1, 2), 2),
+        (2, "g", pair(1, 0), 1),
+        (3, "o", pair(1, 0), 1),
+        (3, "o", pair(1, 2), 2),
+        (4, "l", pair(1, 2), 1),
+        (4, "l", pair(1, 0), 0),
+    ] {
+        assert!(rt; shows_reward(&net, reward, name), "{name}");
+        assert_eq!(rt;
+            worth(&rt, &net, reward, &state),
+            value,
+            "{name} at {state:?}"
+        );
+    }
     Ok(())
 }
 
@@ -705,9 +684,10 @@ fn a_file_has_at_most_1048576_bytes(rt: HostRuntime) -> Result<(), Fail> {
     let alloc = rt.alloc();
     let file = with_line(alloc, 14, "")?;
     let mut bytes = file.as_str().as_bytes().to_vec(alloc)?;
-    let rest = 1048576usize.saturating_sub(bytes.len());
+    let rest = 1048575usize.saturating_sub(bytes.len());
     let comment = vec![in alloc; b'#'; rest]?;
     bytes.extend_from_slice(comment.as_slice())?;
+    bytes.push(b'\n')?;
     assert_eq!(rt; bytes.len(), 1048576);
     assert_eq!(rt; error_of(alloc, bytes.as_slice()), None);
     bytes.push(0xff)?;

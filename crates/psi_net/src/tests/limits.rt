@@ -1,6 +1,6 @@
-//! Files that list as many as there may be, or one more.
+//! Files that list as many as there may be or one more, and values deep in one another.
 
-use super::{error_of, is_refused, joined};
+use super::{error_of, is_accepted, is_refused, joined};
 use crate::Section;
 use std::alloc::{AllocError, Global};
 use std::test::Fail;
@@ -19,6 +19,123 @@ fn repeated(
     }
     file.push_str(last)?;
     Ok(file)
+}
+
+// Values in one another: so many times what opens one, what stands in the innermost, and as often what
+// closes one.
+fn nested(
+    alloc: Global,
+    first: &str,
+    open: &str,
+    inner: &str,
+    close: &str,
+    depth: u32,
+) -> Result<String, AllocError> {
+    let front = repeated(alloc, first, open, depth, inner)?;
+    repeated(alloc, front.as_str(), close, depth, "\n")
+}
+
+#[test]
+fn deep_nesting_is_refused(rt: HostRuntime) -> Result<(), Fail> {
+    let alloc = rt.alloc();
+    for (first, open, inner, close, depth, code, key) in [
+        ("a = ", "[", "", "]", 60, 3, "a"),
+        ("a = ", "[", "", "]", 100, 1, ""),
+        ("a = ", "{a = ", "1", "}", 60, 3, "a"),
+        ("a = ", "{a = ", "1", "}", 100, 1, ""),
+        // The key has one part more than stands behind the first.
+        ("a", ".a", " = 1", "", 59, 3, "a"),
+        ("a", ".a", " = 1", "", 99, 1, ""),
+    ] {
+        let value = nested(alloc, first, open, inner, close, depth)?;
+        let file = joined(alloc, "version = 1\n", value.as_str())?;
+        let bytes = file.as_str().as_bytes();
+        assert!(rt;
+            is_refused(alloc, bytes, code, Section::Top, 0, key),
+            "{depth} of {open}"
+        );
+    }
+    Ok(())
+}
+
+// So many queues of capacity 2.
+fn queues(alloc: Global, count: u32) -> Result<String, AllocError> {
+    let mut text = String::new(alloc);
+    for number in 0..count {
+        let queue = format!(in alloc; "[[queue]]\nname = \"q{number}\"\ncapacity = 2\n")?;
+        text.push_str(queue.as_str())?;
+    }
+    Ok(text)
+}
+
+#[test]
+fn there_are_at_most_32_queues(rt: HostRuntime) -> Result<(), Fail> {
+    let alloc = rt.alloc();
+    for (count, is_many) in [(32, false), (33, true)] {
+        let listed = queues(alloc, count)?;
+        let file = format!(in alloc;
+            "version = 1\n{listed}[[event]]\nname = \"in\"\nkind = \"arrival\"\nrate = 1\nto = [\"q0\"]\n"
+        )?;
+        let bytes = file.as_str().as_bytes();
+        assert_eq!(rt; is_accepted(alloc, file.as_str()), !is_many, "{count}");
+        assert_eq!(rt;
+            is_refused(alloc, bytes, 7, Section::Top, 0, "queue"),
+            is_many,
+            "{count}"
+        );
+    }
+    // They are counted before the first of them is read.
+    let file = repeated(alloc, "version = 1\nqueue = [", "1,", 33, "]\n")?;
+    let bytes = file.as_str().as_bytes();
+    assert!(rt; is_refused(alloc, bytes, 7, Section::Top, 0, "queue"));
+    Ok(())
+}
+
+// One queue with two servers, and so many services of it.
+fn services(alloc: Global, count: u32) -> Result<String, AllocError> {
+    let mut file = String::from_str(
+        alloc,
+        "version = 1\n[[queue]]\nname = \"a\"\ncapacity = 2\nservers = 2\n",
+    )?;
+    for number in 0..count {
+        let event = format!(in alloc;
+            "[[event]]\nname = \"e{number}\"\nkind = \"service\"\nrate = 1\nfrom = \"a\"\n"
+        )?;
+        file.push_str(event.as_str())?;
+    }
+    Ok(file)
+}
+
+#[test]
+fn there_are_at_most_1024_events_listed_or_expanded(rt: HostRuntime) -> Result<(), Fail> {
+    let alloc = rt.alloc();
+    let most = services(alloc, 512)?;
+    assert!(rt; is_accepted(alloc, most.as_str()));
+    for (count, section, number, key) in [
+        (1024, Section::Event, 513, "from"),
+        (1025, Section::Top, 0, "event"),
+    ] {
+        let file = services(alloc, count)?;
+        let bytes = file.as_str().as_bytes();
+        assert!(rt;
+            is_refused(alloc, bytes, 7, section, number, key),
+            "{count} services"
+        );
+    }
+    Ok(())
+}
+
+#[test]
+fn the_total_rate_is_at_most_16777216(rt: HostRuntime) -> Result<(), Fail> {
+    let alloc = rt.alloc();
+    let most =
+        "version = 1\n[[queue]]\nname = \"a\"\ncapacity = 16\nservers = 16\n[[event]]\nname = \"out\"\nkind = \"service\"\nrate = 1048576\nfrom = \"a\"\n";
+    assert!(rt; is_accepted(alloc, most));
+    let arrival = "[[event]]\nname = \"in\"\nkind = \"arrival\"\nrate = 1\nto = [\"a\"]\n";
+    let more = joined(alloc, most, arrival)?;
+    let bytes = more.as_str().as_bytes();
+    assert!(rt; is_refused(alloc, bytes, 16, Section::Event, 2, "rate"));
+    Ok(())
 }
 
 // Three queues, the second with 64 servers, and so many of its services.
@@ -150,12 +267,10 @@ fn there_are_at_most_64_rewards(rt: HostRuntime) -> Result<(), Fail> {
 // 32 queues, and a guarded event with a part for each of the first so many of them; the parts past the
 // last queue are empty tables.
 fn guarded(alloc: Global, parts: u32) -> Result<String, AllocError> {
-    let mut file = String::from_str(alloc, "version = 2\n")?;
-    for number in 0..32 {
-        let queue = format!(in alloc; "[[queue]]\nname = \"q{number}\"\ncapacity = 2\n")?;
-        file.push_str(queue.as_str())?;
-    }
-    file.push_str("[[event]]\nname = \"e\"\nkind = \"guarded\"\nrate = 1\npart = [")?;
+    let listed = queues(alloc, 32)?;
+    let mut file = format!(in alloc;
+        "version = 2\n{listed}[[event]]\nname = \"e\"\nkind = \"guarded\"\nrate = 1\npart = ["
+    )?;
     for number in 0..parts.min(32) {
         let part = format!(in alloc; "{{ queue = \"q{number}\" }}, ")?;
         file.push_str(part.as_str())?;
