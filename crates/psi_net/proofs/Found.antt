@@ -6,22 +6,9 @@ use Rattle.psi_guard.specs.declared.Part.{Part}
 use Rattle.std.proofs.lemmas.Bool.{and_parts, ltb-true}
 use Rattle.std.proofs.lemmas.List.{drop_more}
 use Rattle.std.proofs.Math.ListN.{drop_of_length-le}
-use Rattle.psi_net.specs.References.{is_in}
 use Rattle.psi_net.specs.Targets.{are_below}
 
--- another queue at this place takes the loop one step on
-pub is_in_turn : (queue : ℕ) (queues : List ℕ) (i : ℕ) → i < length queues → nat_eq queue (slice_index queues i) ≡ false → is_in queue (drop i queues) ≡ is_in queue (drop (i + 1) queues)
-is_in_turn queue queues i small other = rw (drop_more queues i 0 small, other) refl
-
--- the queue stands at this place
-pub is_in_found : (queue : ℕ) (queues : List ℕ) (i : ℕ) → i < length queues → nat_eq queue (slice_index queues i) ≡ true → is_in queue (drop i queues) ≡ true
-is_in_found queue queues i small same = rw (drop_more queues i 0 small, same) refl
-
--- behind the last place it doesn't stand
-pub is_in_ends : (queue : ℕ) (queues : List ℕ) (i : ℕ) → length queues ≤ i → is_in queue (drop i queues) ≡ false
-is_in_ends queue queues i past = rw (drop_of_length-le queues past) refl
-
--- the same of a test of numbers that all have to pass
+-- a test of numbers that all have to pass: one that does takes the loop one step on, another ends it, and behind the last place none fails
 pub all_turn : (p : ℕ → Bool) (xs : List ℕ) (i : ℕ) → i < length xs → p (slice_index xs i) ≡ true → list_all p (drop i xs) ≡ list_all p (drop (i + 1) xs)
 all_turn p xs i small passes = rw (drop_more xs i 0 small, passes) refl
 

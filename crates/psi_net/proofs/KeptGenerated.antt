@@ -2,7 +2,7 @@
 use Rattle.std.proofs.Common.{◌≡◌, ℕ, zero, suc, ◌+◌, ◌-◌, ◌*◌, ◌%◌, ◌<◌, ◌≤◌, ℤ, pos, List, [], ◌∷◌, ◌++◌, length, map, replicate, slice_index, get_or, All, IfSome, Bool, true, false, ◌==◌, nat_eq, nat_lt, Option, Some, None, refl, sym, ap, ◌∙◌, subst, arith, length-append}
 use Rattle.std.specs.List.{list_any, flat_map}
 use Rattle.std.proofs.lemmas.Nat.{mod_below}
-use Rattle.std.proofs.lemmas.Bool.{lt-ltb, le-ltb, ne_eqb, eq-eqb}
+use Rattle.std.proofs.lemmas.Bool.{and_from, or_from, lt-ltb, le-ltb, ne_eqb, eq-eqb}
 use Rattle.std.proofs.lemmas.List.{get_or-map, length-map, map-append, length-replicate}
 use Rattle.std.proofs.lemmas.List.Elements.{All-nil, All-cons, All-head, All-tail, All-append, All-map, All-replicate}
 use Rattle.psi_state.specs.State.{AreCapacities, numbers_from}
@@ -19,7 +19,6 @@ use Rattle.psi_net.specs.Kept.{AreListed, IsAccepted, IsReward, IsNetwork}
 use Rattle.psi_net.specs.Generated.{queue_count, nth_queue, generated_queues, server_of, arrival_event, full_behind, passing_event, leaving_event, bulk_event, negative_event, odd_events, listed_events, generated_events, generated_network}
 use Rattle.psi_net.specs.declared.entries.Queue.{Queue}
 use Rattle.psi_net.specs.declared.entries.NamedEvent.{NamedEvent}
-use Rattle.psi_net.proofs.Pigeons.{both, either_false}
 use Rattle.psi_net.proofs.Copies.{length_numbers, length_more, rates_more, total_append}
 use Rattle.psi_net.proofs.KeptTargets.{among}
 use Rattle.psi_net.proofs.KeptQueues.{capacities_kept, servers_most}
@@ -86,7 +85,7 @@ few_servers n (Some source) small =
     omega arith
 
 next_below : (n q : ℕ) (qs : List ℕ) → q < n → are_below n qs ≡ true → are_below n (q ∷ qs) ≡ true
-next_below n q qs small rest = both (nat_lt q n) (are_below n qs) (lt-ltb q n small) rest
+next_below n q qs small rest = and_from (nat_lt q n) (are_below n qs) (lt-ltb q n small) rest
 
 arrival_accepted : (caps : List ℕ) → AreRoomy caps → IsAccepted caps (Arrival (0 ∷ 1 ∷ []))
 arrival_accepted caps roomy =
@@ -99,7 +98,7 @@ arrival_accepted caps roomy =
 passing_accepted : (caps : List ℕ) (i : ℕ) → AreRoomy caps → 1 ≤ i → i < length caps → IsAccepted caps (Service (server_of i) (i ∷ []) (full_behind i))
 passing_accepted caps i roomy some small = record {
   named = (first_source caps roomy.capacities (i - 1) (omega arith), among (length caps) (i ∷ []) (next_below (length caps) i [] small refl));
-  accepted = accepted caps (Service (server_of i) (i ∷ []) (full_behind i)) refl refl (either_false (nat_eq i (i - 1)) false (ne_eqb i (i - 1) (λ e. omega arith)) refl) refl refl refl;
+  accepted = accepted caps (Service (server_of i) (i ∷ []) (full_behind i)) refl refl (or_from (nat_eq i (i - 1)) false (ne_eqb i (i - 1) (λ e. omega arith)) refl) refl refl refl;
 }
 
 leaving_accepted : (caps : List ℕ) (last : ℕ) → AreRoomy caps → 1 ≤ last → last ≤ length caps → IsAccepted caps (Service (server_of last) [] Lost)
@@ -119,7 +118,7 @@ bulk_accepted caps roomy =
 negative_accepted : (caps : List ℕ) (last : ℕ) → AreRoomy caps → 4 ≤ last → last ≤ length caps → IsAccepted caps (Negative (Some (server_of 2)) (last - 1) 1)
 negative_accepted caps last roomy some small = record {
   named = (first_source caps roomy.capacities 1 (omega arith), omega arith);
-  accepted = accepted caps (Negative (Some (server_of 2)) (last - 1) 1) refl refl (either_false (nat_eq (last - 1) 1) false (ne_eqb (last - 1) 1 (λ e. omega arith)) refl) refl refl refl;
+  accepted = accepted caps (Negative (Some (server_of 2)) (last - 1) 1) refl refl (or_from (nat_eq (last - 1) 1) false (ne_eqb (last - 1) 1 (λ e. omega arith)) refl) refl refl refl;
 }
 
 -- an event of the network before it is expanded
@@ -238,11 +237,11 @@ numbers_below first (suc n) most small = All-cons (λ q. q < most) first (number
 
 absent : (q first n : ℕ) → q < first → list_any (λ p. nat_eq p q) (numbers_from first n) ≡ false
 absent q first zero less = refl
-absent q first (suc n) less = either_false (nat_eq first q) (list_any (λ p. nat_eq p q) (numbers_from (suc first) n)) (ne_eqb first q (λ e. omega arith)) (absent q (suc first) n (omega arith))
+absent q first (suc n) less = or_from (nat_eq first q) (list_any (λ p. nat_eq p q) (numbers_from (suc first) n)) (ne_eqb first q (λ e. omega arith)) (absent q (suc first) n (omega arith))
 
 numbers_once : (first n : ℕ) → repeats (numbers_from first n) ≡ false
 numbers_once first zero = refl
-numbers_once first (suc n) = either_false (list_any (λ p. nat_eq p first) (numbers_from (suc first) n)) (repeats (numbers_from (suc first) n)) (absent first (suc first) n (omega arith)) (numbers_once (suc first) n)
+numbers_once first (suc n) = or_from (list_any (λ p. nat_eq p first) (numbers_from (suc first) n)) (repeats (numbers_from (suc first) n)) (absent first (suc first) n (omega arith)) (numbers_once (suc first) n)
 
 numbers_some : (n : ℕ) → 1 ≤ n → is_none_listed (numbers_from 0 n) ≡ false
 numbers_some zero some = absurd (omega arith)

@@ -3,7 +3,7 @@ use Rattle.std.specs.Prelude.{◌≡◌, ℕ, ◌+◌, ◌<◌, ◌≤◌, ℤ, 
 use Rattle.std.proofs.Common.{ap, sym, ◌∙◌, subst, arith, length-append, lit≤}
 use Rattle.std.specs.List.{list_all, list_any}
 use Rattle.std.specs.Int.RustNames.{unsigned_abs}
-use Rattle.std.proofs.lemmas.Bool.{and_parts, eqb-true, eq-eqb, ne_eqb, leb-true, lt-leb, le-ltb}
+use Rattle.std.proofs.lemmas.Bool.{and_parts, and_from, or_parts, or_from, not-true, eqb-true, eq-eqb, ne_eqb, leb-true, lt-leb, le-ltb}
 use Rattle.std.proofs.lemmas.List.{take_more, take_all, append-nil, append_assoc}
 use Rattle.toml.specs.Data.{Data, Members, get_member}
 use Rattle.psi_state.specs.State.{AreCapacities}
@@ -35,8 +35,8 @@ use Rattle.psi_net.specs.declared.refusals.Place.{Place}
 use Rattle.psi_net.specs.declared.words.KindWord.{KindWord}
 use Rattle.psi_net.specs.declared.words.KindWord.TheVariants as word
 use Rattle.psi_net.proofs.Readings.{bind_ok, ok_same, held, required_ok, optional_kept, number_range, integer_range, elements_count, each_kept, each_kept_below, queue_small}
-use Rattle.psi_net.proofs.Pigeons.{not_true, neither, either_false, both, other_way, no_targets}
-use Rattle.psi_net.proofs.KeptTargets.{AreSomeTargets, targets_kept, some_targets_kept, target_kept, once, away, among, is_other}
+use Rattle.psi_net.proofs.Pigeons.{other_way, no_targets}
+use Rattle.psi_net.proofs.KeptTargets.{AreSomeTargets, targets_kept, some_targets_kept, target_kept, away, among}
 
 -- where no cause is there, nothing is refused
 pub accepted : (caps : List ℕ) (kind : Kind) → lacks_queues kind ≡ false → repeats_queue kind ≡ false → targets_itself kind ≡ false → lacks_tables caps kind ≡ false
@@ -82,7 +82,7 @@ arrival_kept caps names same place ms k h =
     let kept = some_targets_at caps names [] same place (codes "to") (get_member (codes "to") ms) to.0 to.1 in
     subst (λ (x : Kind). IsAccepted caps x) (ok_same (kind.Arrival to.0) k to.2) (record {
       named = among (length caps) to.0 kept.targets.within;
-      accepted = accepted caps (kind.Arrival to.0) kept.some (once to.0 kept.targets.distinct) refl refl refl refl;
+      accepted = accepted caps (kind.Arrival to.0) kept.some kept.targets.distinct refl refl refl refl;
     })
 
 service_kept : (caps : List ℕ) (names : List (List ℕ)) → length names ≡ length caps → AreCapacities caps → (place : Place) (ms : Members) (k : Kind) → service_of place names ms ≡ Ok k → IsAccepted caps k
@@ -99,18 +99,18 @@ service_kept caps names same valid place ms k h =
     (λ d r. subst (λ (n : ℕ). AreTargets n (from.0 ∷ []) to.0) same (targets_kept place (codes "to") names (from.0 ∷ []) d to.0 r)) to.1 in
     subst (λ (x : Kind). IsAccepted caps x) (ok_same (kind.Service (first_server from.0) to.0 full.0) k full.2) (record {
       named = (first_source caps valid from.0 small, among (length caps) to.0 kept.within);
-      accepted = accepted caps (kind.Service (first_server from.0) to.0 full.0) refl (once to.0 kept.distinct) (away from.0 to.0 kept.apart) refl refl refl;
+      accepted = accepted caps (kind.Service (first_server from.0) to.0 full.0) refl kept.distinct (away from.0 to.0 kept.apart) refl refl refl;
     })
 
 -- one row more is one table more
 tables_more : (caps qs : List ℕ) (ts : List (List ℕ)) (q : ℕ) (t : List ℕ) → are_tables caps qs ts ≡ true → nat_eq (length t) (slice_index caps q) ≡ true
     → are_tables caps (qs ++ q ∷ []) (ts ++ t ∷ []) ≡ true
-tables_more caps [] [] q t all one = both (nat_eq (length t) (slice_index caps q)) true one refl
+tables_more caps [] [] q t all one = and_from (nat_eq (length t) (slice_index caps q)) true one refl
 tables_more caps [] (u ∷ ts) q t all one = absurd cc
 tables_more caps (p ∷ qs) [] q t all one = absurd cc
 tables_more caps (p ∷ qs) (u ∷ ts) q t all one =
     let parts = and_parts (nat_eq (length u) (slice_index caps p)) (are_tables caps qs ts) all in
-    both (nat_eq (length u) (slice_index caps p)) (are_tables caps (qs ++ q ∷ []) (ts ++ t ∷ [])) parts.0 (tables_more caps qs ts q t parts.1 one)
+    and_from (nat_eq (length u) (slice_index caps p)) (are_tables caps (qs ++ q ∷ []) (ts ++ t ∷ [])) parts.0 (tables_more caps qs ts q t parts.1 one)
 
 record AreRows (caps to : List ℕ) (n : ℕ) (rows : List (List ℕ)) : Type 0 where
   tables : are_tables caps (take (length rows) to) rows ≡ true
@@ -166,7 +166,7 @@ fit_all : (caps : List ℕ) (size : ℕ) (qs : List ℕ) → list_all (λ q. nat
 fit_all caps size [] h = refl
 fit_all caps size (q ∷ qs) h =
     let parts = and_parts (nat_le size (slice_index caps q)) (list_all (λ p. nat_le size (slice_index caps p)) qs) h in
-    either_false (nat_lt (slice_index caps q) size) (list_any (λ p. nat_lt (slice_index caps p) size) qs)
+    or_from (nat_lt (slice_index caps q) size) (list_any (λ p. nat_lt (slice_index caps p) size) qs)
     (le-ltb (slice_index caps q) size (leb-true size (slice_index caps q) parts.0)) (fit_all caps size qs parts.1)
 
 not_two : (sourced : Bool) (size count : ℕ) → (not sourced || size == 1) ≡ true → nat_eq count 0 ≡ false → (nat_le 2 size && (sourced || nat_eq count 0)) ≡ false
@@ -189,8 +189,8 @@ size_kept place caps source to size fitting least some h =
     let roomy = bind_ok (holds_or _ _) _ fitting single.2 in
     let same : size ≡ fitting = ok_same size fitting roomy.2 in
     subst (λ (n : ℕ). is_size_off caps source n to ≡ false) same
-    (either_false (nat_eq size 0 || list_any (λ q. nat_lt (slice_index caps q) size) to) (nat_le 2 size && (is_some source || nat_eq (length to) 0))
-    (either_false (nat_eq size 0) (list_any (λ q. nat_lt (slice_index caps q) size) to) (ne_eqb size 0 (λ e. omega arith)) (fit_all caps size to (held _ _ roomy.0 roomy.1)))
+    (or_from (nat_eq size 0 || list_any (λ q. nat_lt (slice_index caps q) size) to) (nat_le 2 size && (is_some source || nat_eq (length to) 0))
+    (or_from (nat_eq size 0) (list_any (λ q. nat_lt (slice_index caps q) size) to) (ne_eqb size 0 (λ e. omega arith)) (fit_all caps size to (held _ _ roomy.0 roomy.1)))
     (not_two (is_some source) size (length to) (held _ _ single.0 single.1) (counted to some)))
 
 index_kept : (caps : List ℕ) (names : List (List ℕ)) → length names ≡ length caps → AreCapacities caps → (place : Place) (ms : Members) (k : Kind) → index_of place names caps ms ≡ Ok k → IsAccepted caps k
@@ -208,7 +208,7 @@ index_kept caps names same valid place ms k h =
     (λ d r. (number_range place (codes "size") 1 65535 d size.0 r).0) size.1 in
     subst (λ (x : Kind). IsAccepted caps x) (ok_same (kind.Index from.0 to.0 table.0 full.0 fitting.0) k fitting.2) (record {
       named = (optional_source caps names same valid place (get_member (codes "from") ms) from.0 from.1, among (length caps) to.0 kept.targets.within);
-      accepted = accepted caps (kind.Index from.0 to.0 table.0 full.0 fitting.0) kept.some (once to.0 kept.targets.distinct) (self_away from.0 to.0 kept.targets.apart)
+      accepted = accepted caps (kind.Index from.0 to.0 table.0 full.0 fitting.0) kept.some kept.targets.distinct (self_away from.0 to.0 kept.targets.apart)
           (ap not (table_kept place caps to.0 rows.0 table.0 rows.1)) (size_kept place caps from.0 to.0 size.0 fitting.0 least kept.some fitting.1) refl;
     })
 
@@ -223,12 +223,12 @@ batch_kept caps names same place ms k h =
     let least : 1 ≤ size.0 = (number_range place (codes "size") 1 65535 read.0 size.0 read.1).0 in
     subst (λ (x : Kind). IsAccepted caps x) (ok_same (kind.Batch to.0 fitting.0) k fitting.2) (record {
       named = among (length caps) to.0 kept.targets.within;
-      accepted = accepted caps (kind.Batch to.0 fitting.0) kept.some (once to.0 kept.targets.distinct) refl refl (size_kept place caps None to.0 size.0 fitting.0 least kept.some fitting.1) refl;
+      accepted = accepted caps (kind.Batch to.0 fitting.0) kept.some kept.targets.distinct refl refl (size_kept place caps None to.0 size.0 fitting.0 least kept.some fitting.1) refl;
     })
 
 on_away : (s : Option Source) (q : ℕ) → is_in q (queue_of_source s) ≡ false → is_self_target s (q ∷ []) ≡ false
 on_away None q h = refl
-on_away (Some source) q h = (let apart = neither (nat_eq q source.queue) false h in either_false (nat_eq q source.queue) false apart.0 refl)
+on_away (Some source) q h = (let apart = or_parts (nat_eq source.queue q) false h in or_from (nat_eq q source.queue) false (other_way source.queue q apart.0) refl)
 
 negative_kept : (caps : List ℕ) (names : List (List ℕ)) → length names ≡ length caps → AreCapacities caps → (place : Place) (ms : Members) (k : Kind) → negative_of place names ms ≡ Ok k → IsAccepted caps k
 unfolding negative_of
@@ -253,7 +253,7 @@ fork_kept caps names same valid place ms k h =
     let kept = some_targets_at caps names (queue_of_source from.0) same place (codes "to") (get_member (codes "to") ms) to.0 to.1 in
     subst (λ (x : Kind). IsAccepted caps x) (ok_same (kind.Fork from.0 to.0) k to.2) (record {
       named = (optional_source caps names same valid place (get_member (codes "from") ms) from.0 from.1, among (length caps) to.0 kept.targets.within);
-      accepted = accepted caps (kind.Fork from.0 to.0) kept.some (once to.0 kept.targets.distinct) (self_away from.0 to.0 kept.targets.apart) refl refl refl;
+      accepted = accepted caps (kind.Fork from.0 to.0) kept.some kept.targets.distinct (self_away from.0 to.0 kept.targets.apart) refl refl refl;
     })
 
 -- the queue that a join leads to
@@ -267,7 +267,7 @@ joined_kept caps names same place from d to h =
     let queue = bind_ok (target_in place (codes "to") names from d) _ to h in
     let kept = target_kept place (codes "to") names from d queue.0 queue.1 in
     subst (λ (o : Option ℕ). IsJoined caps from o) (ok_same (Some queue.0) to queue.2)
-    (record { named = subst (λ (n : ℕ). queue.0 < n) same kept.0; away = is_other queue.0 from kept.1 })
+    (record { named = subst (λ (n : ℕ). queue.0 < n) same kept.0; away = kept.1 })
 
 join_kept : (caps : List ℕ) (names : List (List ℕ)) → length names ≡ length caps → (place : Place) (ms : Members) (k : Kind) → join_of place names ms ≡ Ok k → IsAccepted caps k
 unfolding join_of
@@ -279,15 +279,15 @@ join_kept caps names same place ms k h =
     (record { named = tt; away = refl }) (λ d r. joined_kept caps names same place from.0 d to.0 r) to.1 in
     subst (λ (x : Kind). IsAccepted caps x) (ok_same (kind.Join from.0 to.0) k to.2) (record {
       named = (among (length caps) from.0 kept.targets.within, leads.named);
-      accepted = accepted caps (kind.Join from.0 to.0) kept.some (once from.0 kept.targets.distinct) leads.away refl refl refl;
+      accepted = accepted caps (kind.Join from.0 to.0) kept.some kept.targets.distinct leads.away refl refl refl;
     })
 
 -- a part that is read can follow those before it
 no_name : (earlier : List Part) (q : ℕ) → list_any (λ p. nat_eq q p.queue) earlier ≡ false → names earlier q ≡ false
 no_name [] q h = refl
 no_name (p ∷ earlier) q h =
-    let parts = neither (nat_eq q p.queue) (list_any (λ r. nat_eq q r.queue) earlier) h in
-    either_false (nat_eq p.queue q) (names earlier q) (other_way q p.queue parts.0) (no_name earlier q parts.1)
+    let parts = or_parts (nat_eq q p.queue) (list_any (λ r. nat_eq q r.queue) earlier) h in
+    or_from (nat_eq p.queue q) (names earlier q) (other_way q p.queue parts.0) (no_name earlier q parts.1)
 
 part_queue_kept : (place : Place) (names : List (List ℕ)) (earlier : List Part) (d : Data) (q : ℕ) → part_queue place names earlier d ≡ Ok q
     → (q < length names) × (list_any (λ p. nat_eq q p.queue) earlier ≡ false)
@@ -297,7 +297,7 @@ part_queue_kept place names earlier d q h =
     let fresh = bind_ok (holds_or _ _) _ q queue.2 in
     let same : queue.0 ≡ q = ok_same queue.0 q fresh.2 in (
       subst (λ (k : ℕ). k < length names) same (queue_small place (codes "queue") names d queue.0 queue.1),
-      subst (λ (k : ℕ). list_any (λ p. nat_eq k p.queue) earlier ≡ false) same (not_true (list_any (λ p. nat_eq queue.0 p.queue) earlier) (held _ _ fresh.0 fresh.1)),
+      subst (λ (k : ℕ). list_any (λ p. nat_eq k p.queue) earlier ≡ false) same (not-true (list_any (λ p. nat_eq queue.0 p.queue) earlier) (held _ _ fresh.0 fresh.1)),
     )
 
 at_most : (place : Place) (key : List ℕ) (default cap : ℕ) (found : Option Data) (n : ℕ) → default ≤ cap → optional default (number_in place key 0 cap) found ≡ Ok n → n ≤ cap
@@ -314,14 +314,14 @@ follows : (caps : List ℕ) (earlier : List Part) (part : Part) → part.queue <
     → names earlier part.queue ≡ false → part.least ≤ part.most → part.floor ≤ part.ceiling → refusal_at caps earlier part ≡ None
 follows caps earlier part small top high moves named guard bounds =
     no_cause (is_out caps part) (names earlier part.queue) (is_empty_part part) cause.OutOfRange cause.Repeated cause.Empty
-    (either_false (nat_le (length caps) part.queue) (nat_lt (slice_index caps part.queue) part.most || (nat_lt (slice_index caps part.queue) part.ceiling || nat_lt 65535 (unsigned_abs part.shift)))
+    (or_from (nat_le (length caps) part.queue) (nat_lt (slice_index caps part.queue) part.most || (nat_lt (slice_index caps part.queue) part.ceiling || nat_lt 65535 (unsigned_abs part.shift)))
     (lt-leb (length caps) part.queue small)
-    (either_false (nat_lt (slice_index caps part.queue) part.most) (nat_lt (slice_index caps part.queue) part.ceiling || nat_lt 65535 (unsigned_abs part.shift))
+    (or_from (nat_lt (slice_index caps part.queue) part.most) (nat_lt (slice_index caps part.queue) part.ceiling || nat_lt 65535 (unsigned_abs part.shift))
     (le-ltb (slice_index caps part.queue) part.most top)
-    (either_false (nat_lt (slice_index caps part.queue) part.ceiling) (nat_lt 65535 (unsigned_abs part.shift))
+    (or_from (nat_lt (slice_index caps part.queue) part.ceiling) (nat_lt 65535 (unsigned_abs part.shift))
     (le-ltb (slice_index caps part.queue) part.ceiling high) (le-ltb 65535 (unsigned_abs part.shift) moves))))
     named
-    (either_false (nat_lt part.most part.least) (nat_lt part.ceiling part.floor) (le-ltb part.most part.least guard) (le-ltb part.ceiling part.floor bounds))
+    (or_from (nat_lt part.most part.least) (nat_lt part.ceiling part.floor) (le-ltb part.most part.least guard) (le-ltb part.ceiling part.floor bounds))
 
 part_kept : (place : Place) (keys : List (List ℕ)) (caps : List ℕ) → length keys ≡ length caps → (earlier : List Part) (ms : Members) (part : Part) → part_of place keys caps earlier ms ≡ Ok part
     → refusal_at caps earlier part ≡ None

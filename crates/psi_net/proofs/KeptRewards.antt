@@ -2,7 +2,7 @@
 use Rattle.std.specs.Prelude.{◌≡◌, ℕ, ◌+◌, ◌<◌, ℤ, List, [], ◌∷◌, ◌++◌, length, map, take, slice_index, codes, All, true, false, ◌==◌, Option, Some, None, Ok, refl}
 use Rattle.std.proofs.Common.{ap, sym, ◌∙◌, subst, arith, length-append}
 use Rattle.std.specs.List.{flat_map}
-use Rattle.std.proofs.lemmas.Bool.{and_parts, eqb-true, eq-eqb}
+use Rattle.std.proofs.lemmas.Bool.{and_parts, and_from, eqb-true, eq-eqb}
 use Rattle.std.proofs.lemmas.List.{map_push, take_more, take_all}
 use Rattle.std.proofs.lemmas.List.Elements.{All-nil, All-push, All-append, All-from_get_or}
 use Rattle.std.proofs.lemmas.List.Concat.{flat_map-append}
@@ -25,9 +25,8 @@ use Rattle.psi_net.specs.declared.refusals.Place.{Place}
 use Rattle.psi_net.specs.declared.words.RewardWord.{RewardWord}
 use Rattle.psi_net.specs.declared.words.RewardWord.TheVariants as word
 use Rattle.psi_net.proofs.Readings.{bind_ok, ok_same, held, required_ok, integer_range, each_kept, each_kept_below}
-use Rattle.psi_net.proofs.Pigeons.{both}
 use Rattle.psi_net.proofs.Found.{below_at}
-use Rattle.psi_net.proofs.KeptTargets.{AreSomeTargets, some_targets_kept, once}
+use Rattle.psi_net.proofs.KeptTargets.{AreSomeTargets, some_targets_kept}
 
 -- what is accepted isn't refused
 pub not_refused : (caps : List ℕ) (kind : RewardKind) (refusal : RewardRefusal) → IsReward caps kind → refusal_of caps kind ≡ Some refusal → ⊥
@@ -72,12 +71,12 @@ weights_kept place count d zs h =
     record { small = kept.small; sized = eq-eqb (length zs) count (omega arith) }
 
 rows_more : (caps : List ℕ) (rows : List (List ℤ)) (cap : ℕ) (row : List ℤ) → has_rows caps rows ≡ true → (length row == cap + 1) ≡ true → has_rows (caps ++ cap ∷ []) (rows ++ row ∷ []) ≡ true
-rows_more [] [] cap row all one = both (length row == cap + 1) true one refl
+rows_more [] [] cap row all one = and_from (length row == cap + 1) true one refl
 rows_more [] (r ∷ rows) cap row all one = absurd cc
 rows_more (c ∷ caps) [] cap row all one = absurd cc
 rows_more (c ∷ caps) (r ∷ rows) cap row all one =
     let parts = and_parts (length r == c + 1) (has_rows caps rows) all in
-    both (length r == c + 1) (has_rows (caps ++ cap ∷ []) (rows ++ row ∷ [])) parts.0 (rows_more caps rows cap row parts.1 one)
+    and_from (length r == c + 1) (has_rows (caps ++ cap ∷ []) (rows ++ row ∷ [])) parts.0 (rows_more caps rows cap row parts.1 one)
 
 record AreGridRows (caps queues : List ℕ) (n : ℕ) (rows : List (List ℤ)) : Type 0 where
   fits : has_rows (held_by (take (length rows) queues) caps) rows ≡ true
@@ -131,7 +130,7 @@ made : (caps : List ℕ) (k : RewardKind) → AreSomeTargets (length caps) [] (q
 made caps k targets small fits = record {
   queues = All-from_get_or (λ q. q < length caps) (queues_of k) 0 (λ i less. below_at (length caps) (queues_of k) i targets.targets.within less);
   numbers = small;
-  accepted = accepted caps k (listed_some (queues_of k) targets.some) (once (queues_of k) targets.targets.distinct) fits;
+  accepted = accepted caps k (listed_some (queues_of k) targets.some) targets.targets.distinct fits;
 }
 
 worth_kept : (place : Place) (w : RewardWord) (caps queues : List ℕ) (ms : Members) (k : RewardKind) → AreSomeTargets (length caps) [] queues → worth_in place w caps queues ms ≡ Ok k → IsReward caps k

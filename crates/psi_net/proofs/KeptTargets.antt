@@ -2,17 +2,16 @@
 use Rattle.std.specs.Prelude.{◌≡◌, ℕ, ◌+◌, ◌<◌, List, [], ◌∷◌, ◌++◌, length, slice_index, EachIndex, true, false, not, nat_eq, Ok, refl}
 use Rattle.std.proofs.Common.{subst, arith, length-append}
 use Rattle.std.specs.List.{list_all, list_any}
-use Rattle.std.proofs.lemmas.Bool.{and_parts, ltb-true}
+use Rattle.std.proofs.lemmas.Bool.{and_parts, or_parts, or_from, not-true, ltb-true}
 use Rattle.toml.specs.Data.{Data}
-use Rattle.psi_state.specs.Repeats.{repeats}
 use Rattle.psi_kinds.specs.Refusals.{is_empty}
 use Rattle.psi_net.specs.Refusal.{holds_or}
 use Rattle.psi_net.specs.Values.{array_in, each}
 use Rattle.psi_net.specs.References.{is_in, queue_in, target_in, target_step, targets_in, some_targets_in}
-use Rattle.psi_net.specs.Targets.{are_distinct, are_below, AreTargets}
+use Rattle.psi_net.specs.Targets.{are_below, AreTargets}
 use Rattle.psi_net.specs.declared.refusals.Place.{Place}
 use Rattle.psi_net.proofs.Readings.{bind_ok, ok_same, held, each_kept, queue_small}
-use Rattle.psi_net.proofs.Pigeons.{no_targets, targets_more, not_true, neither, either_false, other_way}
+use Rattle.psi_net.proofs.Pigeons.{no_targets, targets_more, other_way}
 use Rattle.psi_net.proofs.Found.{below_at}
 
 -- what the queues read so far keep
@@ -30,7 +29,7 @@ target_step_kept place key names sources n s t d kept h =
     let same : s ++ queue.0 ∷ [] ≡ t = ok_same (s ++ queue.0 ∷ []) t apart.2 in
     subst (λ (qs : List ℕ). AreSome (length names) sources (n + 1) qs) same (record {
       targets = targets_more (length names) sources s queue.0 kept.targets (queue_small place key names d queue.0 queue.1)
-          (not_true (is_in queue.0 s) (held _ _ fresh.0 fresh.1)) (not_true (is_in queue.0 sources) (held _ _ apart.0 apart.1));
+          (not-true (is_in queue.0 s) (held _ _ fresh.0 fresh.1)) (not-true (is_in queue.0 sources) (held _ _ apart.0 apart.1));
       length_is = omega (arith, kept.length_is, length-append s (queue.0 ∷ []));
     })
 
@@ -76,31 +75,17 @@ target_kept place key names sources d q h =
     let apart = bind_ok (holds_or _ _) _ q queue.2 in
     let same : queue.0 ≡ q = ok_same queue.0 q apart.2 in (
       subst (λ (k : ℕ). k < length names) same (queue_small place key names d queue.0 queue.1),
-      subst (λ (k : ℕ). is_in k sources ≡ false) same (not_true (is_in queue.0 sources) (held _ _ apart.0 apart.1)),
+      subst (λ (k : ℕ). is_in k sources ≡ false) same (not-true (is_in queue.0 sources) (held _ _ apart.0 apart.1)),
     )
-
--- different queues don't repeat
-any_of : (q : ℕ) (qs : List ℕ) → is_in q qs ≡ false → list_any (λ p. nat_eq p q) qs ≡ false
-any_of q [] h = refl
-any_of q (p ∷ qs) h = (let parts = neither (nat_eq q p) (is_in q qs) h in either_false (nat_eq p q) (list_any (λ r. nat_eq r q) qs) (other_way q p parts.0) (any_of q qs parts.1))
-
-pub once : (qs : List ℕ) → are_distinct qs ≡ true → repeats qs ≡ false
-once [] h = refl
-once (q ∷ qs) h =
-    let parts = and_parts (not (is_in q qs)) (are_distinct qs) h in
-    either_false (list_any (λ p. nat_eq p q) qs) (repeats qs) (any_of q qs (not_true (is_in q qs) parts.0)) (once qs parts.1)
 
 -- a source that isn't among the targets
 pub away : (source : ℕ) (qs : List ℕ) → list_all (λ q. not (is_in q (source ∷ []))) qs ≡ true → list_any (λ q. nat_eq q source) qs ≡ false
 away source [] h = refl
 away source (q ∷ qs) h =
     let parts = and_parts (not (is_in q (source ∷ []))) (list_all (λ p. not (is_in p (source ∷ []))) qs) h in
-    let apart = neither (nat_eq q source) (is_in q []) (not_true (is_in q (source ∷ [])) parts.0) in
-    either_false (nat_eq q source) (list_any (λ p. nat_eq p source) qs) apart.0 (away source qs parts.1)
+    let apart = or_parts (nat_eq source q) (is_in q []) (not-true (is_in q (source ∷ [])) parts.0) in
+    or_from (nat_eq q source) (list_any (λ p. nat_eq p source) qs) (other_way source q apart.0) (away source qs parts.1)
 
 -- the queues are among those of the capacities
 pub among : (n : ℕ) (qs : List ℕ) → are_below n qs ≡ true → EachIndex qs (λ i. slice_index qs i < n)
 among n qs below = λ i small. below_at n qs i below small
-
-pub is_other : (q : ℕ) (qs : List ℕ) → is_in q qs ≡ false → list_any (λ p. nat_eq p q) qs ≡ false
-is_other q qs h = any_of q qs h

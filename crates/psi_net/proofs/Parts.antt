@@ -40,12 +40,6 @@ set_more caps queues i queue small at set new is long = record {
       ]);
 }
 
--- all are set
-pub all_set : (caps : List ℕ) (queues : List Queue) (i : ℕ) → length queues ≤ i → AreSet caps queues i → caps ≡ map (λ q. q.capacity) queues
-all_set caps queues i past set =
-    let sized : length (map (λ (q : Queue). q.capacity) queues) ≡ length queues = length-map queues (λ (q : Queue). q.capacity) in
-    ext_get_or 0 caps (map (λ q. q.capacity) queues) (set.sized ∙ sym sized) (λ k small. set.each k (omega (arith, set.sized)))
-
 -- what is accepted isn't refused
 pub never_refused : (caps : List ℕ) (kind : Kind) (refusal : KindRefusal) → IsAccepted caps kind → refusal_of caps kind ≡ Some refusal → ⊥
 never_refused caps kind refusal kept h = (let e : ◌≡◌ {A = Option KindRefusal} None (Some refusal) = sym kept.accepted ∙ h in absurd cc)

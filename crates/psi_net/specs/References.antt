@@ -17,7 +17,7 @@ number_of names (Some name) = position (bytes_eq name) names
 
 -- the queue stands in the list
 abbrev pub is_in : ℕ → List ℕ → Bool
-is_in queue queues = list_any (nat_eq queue) queues
+is_in queue queues = list_any (λ other. nat_eq other queue) queues
 
 -- the name of a queue
 unfoldable pub queue_in : Place → List ℕ → List (List ℕ) → Data → Result ℕ NetRefusal

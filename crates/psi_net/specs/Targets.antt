@@ -1,12 +1,8 @@
 -- What a list of queues that is read keeps: its queues differ, and are queues of the network, none of them a source.
-use Rattle.std.specs.Prelude.{◌≡◌, ℕ, List, [], ◌∷◌, Bool, true, not, ◌&&◌, nat_lt}
+use Rattle.std.specs.Prelude.{◌≡◌, ℕ, List, Bool, true, false, not, nat_lt}
 use Rattle.std.specs.List.{list_all}
+use Rattle.psi_state.specs.Repeats.{repeats}
 use Rattle.psi_net.specs.References.{is_in}
-
--- each stands in the list once
-abbrev pub are_distinct : List ℕ → Bool
-are_distinct [] = true
-are_distinct (queue ∷ queues) = not (is_in queue queues) && are_distinct queues
 
 -- each is below n
 abbrev pub are_below : ℕ → List ℕ → Bool
@@ -14,6 +10,6 @@ are_below n queues = list_all (λ queue. nat_lt queue n) queues
 
 -- the queues differ, are among n, and none of them is a source
 pub record AreTargets (n : ℕ) (sources queues : List ℕ) : Type 0 where
-  pub distinct : are_distinct queues ≡ true
+  pub distinct : repeats queues ≡ false
   pub within : are_below n queues ≡ true
   pub apart : list_all (λ queue. not (is_in queue sources)) queues ≡ true

@@ -1,15 +1,14 @@
 //! References to queues: by one name, or by a list of names.
 
 ghost use Rattle.std.specs.Prelude.{◌≡◌, ◌≤◌, ◌<◌, ℕ, [], length, map, IfOk, OnOk};
-ghost use Rattle.std.specs.List.{list_any};
 ghost use Rattle.toml.specs.View.{view};
 ghost use Rattle.psi_net.specs.Name.{name_of};
 ghost use Rattle.psi_net.specs.Refusal.{Gives};
 ghost use Rattle.psi_net.specs.Values.{seen, each, required};
-ghost use Rattle.psi_net.specs.References.{number_of, is_in, queue_in, target_in, target_step, targets_in, some_targets_in};
+ghost use Rattle.psi_net.specs.References.{number_of, queue_in, target_in, target_step, targets_in, some_targets_in};
 ghost use Rattle.psi_net.specs.Targets.{AreTargets};
 
-use crate::keys::{array_in, holds_or, read, text_in};
+use crate::keys::{array_in, read, text_in};
 use crate::naming::{Name, name_of};
 use crate::refusals::{Cause, NetError, Place};
 use indexmap::IndexSet;
@@ -24,19 +23,6 @@ fn number_of(names: &IndexSet<Name>, text: &str) -> Option<usize>
         Some(name) => names.get_index_of(&name),
         None => None,
     }
-}
-
-// Whether the queue stands in the list.
-#[tactic(auto, using(crate::proofs::Found::is_in_turn, crate::proofs::Found::is_in_found, crate::proofs::Found::is_in_ends))]
-pub(crate) fn is_in(queue: u8, queues: &Queues) -> bool
-    ensures { result ≡ is_in queue queues.now }
-{
-    for place in 0..queues.len() {
-        if queue == queues.get(place) {
-            return true;
-        }
-    }
-    false
 }
 
 // The name of a queue.
@@ -72,7 +58,7 @@ pub(crate) fn target_in(
     ensures within { IfOk result (λ q. q < length names.now.keys) }
 {
     let queue = read!(queue_in(place, key, names, value));
-    if is_in(queue, sources) {
+    if sources.contains(queue) {
         return Err(NetError::at_key(Cause::SelfTarget, place, key));
     }
     Ok(queue)
@@ -95,10 +81,10 @@ fn push_target(
     ensures valid { OnOk result (AreTargets (length names.now.keys) sources.now earlier.new) }
 {
     let queue = read!(queue_in(place, key, names, value));
-    if is_in(queue, earlier) {
+    if earlier.contains(queue) {
         return Err(NetError::at_key(Cause::RepeatedTarget, place, key));
     }
-    if is_in(queue, sources) {
+    if sources.contains(queue) {
         return Err(NetError::at_key(Cause::SelfTarget, place, key));
     }
     earlier.push(queue);

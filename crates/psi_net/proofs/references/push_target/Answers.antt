@@ -5,9 +5,9 @@ use Rattle.psi_net.proofs.references.push_target.Goals as goal
 
 pub push-requires : goal.push-requires
 push-requires c = room_for_more (length c.args.names.now.keys) c.args.sources.now c.args.earlier.now c.in-Ok.value c.requires.few c.requires.valid c.in-Ok.ensures.within
-    (sym c.is_in.ensures ∙ c.if-is_in.false)
+    (sym c.contains.ensures ∙ c.if-contains.false)
 
 pub returns-clause-valid : goal.returns-clause-valid
 returns-clause-valid c = subst (λ (qs : List ℕ). AreTargets (length c.args.names.now.keys) c.args.sources.now qs) (sym c.push.ensures)
     (targets_more (length c.args.names.now.keys) c.args.sources.now c.args.earlier.now c.in-Ok.value c.requires.valid c.in-Ok.ensures.within
-    (sym c.is_in.ensures ∙ c.if-is_in.false) (sym c.is_in-2.ensures ∙ c.if-is_in-2.false))
+    (sym c.contains.ensures ∙ c.if-contains.false) (sym c.contains-2.ensures ∙ c.if-contains-2.false))
