@@ -16,7 +16,7 @@ ghost use Rattle.psi_net.specs.Kept.{AreListed};
 use crate::entries::{NamedEvent, Queue};
 use crate::expansion::{index_values, push_expanded, servers_at, source_of};
 use crate::keys::{
-    elements_in, find, no_unknown, read, required_name, required_number, table_in, text_in,
+    elements_in, find, no_unknown, present, read, required_name, required_number, table_in, text_in,
 };
 use crate::kind_tables::{arrival, batch, fork, index, join, negative, service};
 use crate::naming::Name;
@@ -60,15 +60,11 @@ fn kind_named(version: u32, text: &str) -> Option<KindWord>
 fn kind_word(place: Place, version: u32, value: Option<&Value>) -> Result<KindWord, NetError>
     ensures { Gives (λ word. word) result (required place (codes "kind") (kind_in place version) (seen value.entry)) }
 {
-    match value {
-        Some(value) => {
-            let text = read!(text_in(place, "kind", value));
-            match kind_named(version, text) {
-                Some(word) => Ok(word),
-                None => Err(NetError::at_key(Cause::UnknownKind, place, "kind")),
-            }
-        }
-        None => Err(NetError::at_key(Cause::MissingKey, place, "kind")),
+    let value = read!(present(place, "kind", value));
+    let text = read!(text_in(place, "kind", value));
+    match kind_named(version, text) {
+        Some(word) => Ok(word),
+        None => Err(NetError::at_key(Cause::UnknownKind, place, "kind")),
     }
 }
 

@@ -1,12 +1,14 @@
 //! The values of keys: integers, strings, names, arrays and tables.
 
-ghost use Rattle.std.specs.Prelude.{◌≡◌, ◌≤◌, ◌<◌, ◌^◌, pos, length, map, IfOk};
+ghost use Rattle.std.specs.Prelude.{◌≡◌, ◌≤◌, ◌<◌, ◌^◌, pos, length, map, Some, None, IfOk, IfErr};
 ghost use Rattle.std.specs.Int.RustNames.{unsigned_abs};
 ghost use Rattle.std.specs.List.{list_any};
 ghost use Rattle.std.specs.Str.{bytes_eq};
 ghost use Rattle.toml.specs.Data.{get_member};
 ghost use Rattle.toml.specs.View.{view, table_view};
-ghost use Rattle.psi_net.specs.Refusal.{Gives, holds_or, at_key};
+ghost use Rattle.psi_net.specs.Refusal.{Gives, at_key};
+ghost use Rattle.psi_net.specs.declared.refusals.Cause.TheVariants.{MissingKey};
+ghost use Rattle.psi_net.specs.declared.refusals.NetError.TheVariants.{Refused};
 ghost use Rattle.psi_net.specs.Values.{seen, no_unknown, required, optional, number_in, integer_in, text_in, name_in, array_in, elements_in, table_in};
 
 use crate::naming::{Name, name_of};
@@ -25,17 +27,6 @@ macro_rules! read {
 }
 
 pub(crate) use read;
-
-// A rule holds, or the value at the key is refused.
-pub(crate) fn holds_or(holds: bool, cause: Cause, place: Place, key: &str) -> Result<(), NetError>
-    ensures { Gives (λ _. tt) result (holds_or (at_key cause place key.now) holds) }
-{
-    if holds {
-        Ok(())
-    } else {
-        Err(NetError::at_key(cause, place, key))
-    }
-}
 
 // The value at a key of a table.
 pub(crate) fn find<'t>(table: &'t Table, key: &str) -> Option<&'t Value>
@@ -69,11 +60,12 @@ pub(crate) fn no_unknown(place: Place, known: &[&str], table: &Table) -> Result<
 pub(crate) fn present<'t>(
     place: Place,
     key: &str,
-    value: Option<&'t Value>,
+    found: Option<&'t Value>,
 ) -> Result<&'t Value, NetError>
-    ensures { Gives (λ value. view value.now) result (required place key.now Ok (seen value.entry)) }
+    ensures value { IfOk result (λ value. seen found.entry ≡ Some (view value.now)) }
+    ensures missing { IfErr result (λ error. (seen found.entry ≡ None) × (error ≡ Refused (at_key MissingKey place key.now))) }
 {
-    match value {
+    match found {
         Some(value) => Ok(value),
         None => Err(NetError::at_key(Cause::MissingKey, place, key)),
     }
@@ -114,10 +106,8 @@ pub(crate) fn required_number(
     ensures value { Gives (λ n. n) result (required place key.now (number_in place key.now lo hi) (seen value.entry)) }
     ensures range { IfOk result (λ n. (lo ≤ n) × (n ≤ hi)) }
 {
-    match value {
-        Some(value) => number_in(place, key, lo, hi, value),
-        None => Err(NetError::at_key(Cause::MissingKey, place, key)),
-    }
+    let value = read!(present(place, key, value));
+    number_in(place, key, lo, hi, value)
 }
 
 // An integer from `lo` to `hi`, or the default, which lies between them.
@@ -207,10 +197,8 @@ pub(crate) fn required_name(
 ) -> Result<Name, NetError>
     ensures { Gives (λ name. name) result (required place key.now (name_in place key.now) (seen value.entry)) }
 {
-    match value {
-        Some(value) => name_in(place, key, value),
-        None => Err(NetError::at_key(Cause::MissingKey, place, key)),
-    }
+    let value = read!(present(place, key, value));
+    name_in(place, key, value)
 }
 
 // An array.

@@ -10,7 +10,7 @@ ghost use Rattle.psi_net.specs.References.{queue_in, target_in, targets_in, some
 ghost use Rattle.psi_net.specs.Targets.{AreTargets, are_below};
 ghost use Rattle.psi_net.specs.KindTables.{source_in, queue_of_source, full_in, row_step, table_of, size_fits, arrival_of, service_of, index_of, batch_of, negative_of, fork_of, joined_in, join_of};
 
-use crate::keys::{array_in, find, number_in, number_or, read, required_number, text_in};
+use crate::keys::{array_in, find, number_in, number_or, present, read, required_number, text_in};
 use crate::naming::Name;
 use crate::references::{queue_in, some_targets_in, target_in, targets_in};
 use crate::refusals::{Cause, NetError, Place};
@@ -33,10 +33,8 @@ fn required_targets(
     ensures value { Gives (λ qs. qs) result (required place key.now (some_targets_in place key.now names.now.keys sources.now) (seen value.entry)) }
     ensures valid { IfOk result (AreTargets (length names.now.keys) sources.now) }
 {
-    match value {
-        Some(value) => some_targets_in(place, key, names, sources, value),
-        None => Err(NetError::at_key(Cause::MissingKey, place, key)),
-    }
+    let value = read!(present(place, key, value));
+    some_targets_in(place, key, names, sources, value)
 }
 
 // The name of a queue, which is required.
@@ -49,10 +47,8 @@ fn required_queue(
     requires { length names.now.keys ≤ 32 }
     ensures { Gives (λ q. q) result (required place key.now (queue_in place key.now names.now.keys) (seen value.entry)) }
 {
-    match value {
-        Some(value) => queue_in(place, key, names, value),
-        None => Err(NetError::at_key(Cause::MissingKey, place, key)),
-    }
+    let value = read!(present(place, key, value));
+    queue_in(place, key, names, value)
 }
 
 // `from`, where it is optional, with its first server.
@@ -209,16 +205,12 @@ fn table_of(
     requires { are_below (length caps.now) to.now ≡ true }
     ensures { Gives (λ rows. rows) result (required place (codes "table") (table_of place caps.now to.now) (seen value.entry)) }
 {
-    match value {
-        Some(value) => {
-            let values = read!(array_in(place, "table", value));
-            if values.len() != to.len() as usize {
-                return Err(NetError::at_key(Cause::TableLength, place, "table"));
-            }
-            all_rows(alloc, place, caps, to, values)
-        }
-        None => Err(NetError::at_key(Cause::MissingKey, place, "table")),
+    let value = read!(present(place, "table", value));
+    let values = read!(array_in(place, "table", value));
+    if values.len() != to.len() as usize {
+        return Err(NetError::at_key(Cause::TableLength, place, "table"));
     }
+    all_rows(alloc, place, caps, to, values)
 }
 
 // Whether each target has a capacity of at least `size`.
@@ -355,10 +347,8 @@ fn required_target(
     requires { length names.now.keys ≤ 32 }
     ensures { Gives (λ q. q) result (required place key.now (target_in place key.now names.now.keys sources.now) (seen value.entry)) }
 {
-    match value {
-        Some(value) => target_in(place, key, names, sources, value),
-        None => Err(NetError::at_key(Cause::MissingKey, place, key)),
-    }
+    let value = read!(present(place, key, value));
+    target_in(place, key, names, sources, value)
 }
 
 // A negative event's keys.

@@ -7,7 +7,7 @@ ghost use Rattle.psi_net.specs.Refusal.{Gives};
 ghost use Rattle.psi_net.specs.Values.{seen, required, each};
 ghost use Rattle.psi_net.specs.PartTables.{part_table, part_queue, part_of, part_step, parts_in, guarded_of};
 
-use crate::keys::{elements_in, find, integer_or_zero, no_unknown, number_or, read};
+use crate::keys::{elements_in, find, integer_or_zero, no_unknown, number_or, present, read};
 use crate::naming::Name;
 use crate::references::queue_in;
 use crate::refusals::{Cause, NetError, Place};
@@ -53,16 +53,12 @@ fn part_queue(
     ensures value { Gives (λ q. q) result (required place (codes "queue") (part_queue place names.now.keys earlier.now) (seen value.entry)) }
     ensures within { IfOk result (λ q. q < length names.now.keys) }
 {
-    match value {
-        Some(value) => {
-            let queue = read!(queue_in(place, "queue", names, value));
-            if names_queue(earlier, queue) {
-                return Err(NetError::at_key(Cause::RepeatedTarget, place, "queue"));
-            }
-            Ok(queue)
-        }
-        None => Err(NetError::at_key(Cause::MissingKey, place, "queue")),
+    let value = read!(present(place, "queue", value));
+    let queue = read!(queue_in(place, "queue", names, value));
+    if names_queue(earlier, queue) {
+        return Err(NetError::at_key(Cause::RepeatedTarget, place, "queue"));
     }
+    Ok(queue)
 }
 
 // A part's table, with the parts before it.
@@ -156,13 +152,9 @@ fn parts(
     requires same { length names.now.keys ≡ length caps.now }
     ensures { Gives (λ parts. parts) result (required place (codes "part") (parts_in place names.now.keys caps.now) (seen value.entry)) }
 {
-    match value {
-        Some(value) => {
-            let values = read!(elements_in(place, "part", Cause::OutOfRange, 32, value));
-            all_parts(place, names, caps, values)
-        }
-        None => Err(NetError::at_key(Cause::MissingKey, place, "part")),
-    }
+    let value = read!(present(place, "part", value));
+    let values = read!(elements_in(place, "part", Cause::OutOfRange, 32, value));
+    all_parts(place, names, caps, values)
 }
 
 // A guarded event's keys.

@@ -11,7 +11,8 @@ ghost use Rattle.psi_net.specs.QueueTables.{unless_taken, queue_of, queue_step, 
 
 use crate::entries::Queue;
 use crate::keys::{
-    elements_in, find, no_unknown, number_or, read, required_name, required_number, table_in,
+    elements_in, find, no_unknown, number_or, present, read, required_name, required_number,
+    table_in,
 };
 use crate::naming::Name;
 use crate::refusals::{Cause, NetError, Place, Section};
@@ -116,13 +117,9 @@ fn listed_queues(alloc: Global, value: Option<&Value>) -> Result<QueueList, NetE
     ensures value { Gives (λ list. list.queues.items) result (queues_of (seen value.entry)) }
     ensures names { IfOk result (λ list. list.names.keys ≡ map (λ q. q.name) list.queues.items) }
 {
-    match value {
-        Some(value) => {
-            let values = read!(elements_in(Place::top(), "queue", Cause::MissingKey, 32, value));
-            all_queues(alloc, values)
-        }
-        None => Err(NetError::at_key(Cause::MissingKey, Place::top(), "queue")),
-    }
+    let value = read!(present(Place::top(), "queue", value));
+    let values = read!(elements_in(Place::top(), "queue", Cause::MissingKey, 32, value));
+    all_queues(alloc, values)
 }
 
 // The same, with what the queues keep.

@@ -10,7 +10,7 @@ ghost use Rattle.psi_net.specs.Reading.{version_in, most_limit, network_at, file
 use crate::building::capacities;
 use crate::entries::Draft;
 use crate::event_tables::events;
-use crate::keys::{find, no_unknown, number_or, read};
+use crate::keys::{find, no_unknown, number_or, present, read};
 use crate::network::Net;
 use crate::queue_tables::queues;
 use crate::refusals::{Cause, NetError, Place};
@@ -41,10 +41,8 @@ fn version(value: Option<&Value>) -> Result<u32, NetError>
     ensures value { Gives (λ n. n) result (required top (codes "version") version_in (seen value.entry)) }
     ensures range { IfOk result (λ n. (1 ≤ n) × (n ≤ 2)) }
 {
-    match value {
-        Some(value) => version_in(value),
-        None => Err(NetError::at_key(Cause::MissingKey, Place::top(), "version")),
-    }
+    let value = read!(present(Place::top(), "version", value));
+    version_in(value)
 }
 
 // The greatest `limit` in a file of this version.

@@ -15,7 +15,8 @@ ghost use Rattle.psi_net.specs.RewardTables.{reward_named, reward_kind_in, rewar
 
 use crate::entries::NamedValue;
 use crate::keys::{
-    array_in, find, integer_in, no_unknown, read, required_name, required_number, table_in, text_in,
+    array_in, find, integer_in, no_unknown, present, read, required_name, required_number,
+    table_in, text_in,
 };
 use crate::naming::Name;
 use crate::queue_tables::unless_taken;
@@ -52,15 +53,11 @@ fn reward_named(text: &str) -> Option<RewardWord>
 fn reward_kind(place: Place, value: Option<&Value>) -> Result<RewardWord, NetError>
     ensures { Gives (λ word. word) result (required place (codes "kind") (reward_kind_in place) (seen value.entry)) }
 {
-    match value {
-        Some(value) => {
-            let text = read!(text_in(place, "kind", value));
-            match reward_named(text) {
-                Some(word) => Ok(word),
-                None => Err(NetError::at_key(Cause::UnknownKind, place, "kind")),
-            }
-        }
-        None => Err(NetError::at_key(Cause::MissingKey, place, "kind")),
+    let value = read!(present(place, "kind", value));
+    let text = read!(text_in(place, "kind", value));
+    match reward_named(text) {
+        Some(word) => Ok(word),
+        None => Err(NetError::at_key(Cause::UnknownKind, place, "kind")),
     }
 }
 
@@ -121,16 +118,12 @@ fn weights(
 ) -> Result<Numbers, NetError>
     ensures { Gives (λ numbers. numbers) result (required place (codes "weights") (weights_in place (length queues.now)) (seen value.entry)) }
 {
-    match value {
-        Some(value) => {
-            let values = read!(array_in(place, "weights", value));
-            if values.len() != queues.len() as usize {
-                return Err(NetError::at_key(Cause::TableLength, place, "weights"));
-            }
-            all_integers(alloc, place, "weights", values)
-        }
-        None => Err(NetError::at_key(Cause::MissingKey, place, "weights")),
+    let value = read!(present(place, "weights", value));
+    let values = read!(array_in(place, "weights", value));
+    if values.len() != queues.len() as usize {
+        return Err(NetError::at_key(Cause::TableLength, place, "weights"));
     }
+    all_integers(alloc, place, "weights", values)
 }
 
 // One row of `table`, with its number, counted from 0, and the rows before it.
@@ -195,16 +188,12 @@ fn grid(
     requires { are_below (length caps.now) queues.now ≡ true }
     ensures { Gives (λ rows. rows) result (required place (codes "table") (grid_in place caps.now queues.now) (seen value.entry)) }
 {
-    match value {
-        Some(value) => {
-            let values = read!(array_in(place, "table", value));
-            if values.len() != queues.len() as usize {
-                return Err(NetError::at_key(Cause::TableLength, place, "table"));
-            }
-            all_grid_rows(alloc, place, caps, queues, values)
-        }
-        None => Err(NetError::at_key(Cause::MissingKey, place, "table")),
+    let value = read!(present(place, "table", value));
+    let values = read!(array_in(place, "table", value));
+    if values.len() != queues.len() as usize {
+        return Err(NetError::at_key(Cause::TableLength, place, "table"));
     }
+    all_grid_rows(alloc, place, caps, queues, values)
 }
 
 // The key of its own that a kind has.
@@ -251,10 +240,8 @@ fn reward_queues(
     ensures value { Gives (λ qs. qs) result (required place (codes "queues") (some_targets_in place (codes "queues") names.now.keys []) (seen value.entry)) }
     ensures valid { IfOk result (AreTargets (length names.now.keys) []) }
 {
-    match value {
-        Some(value) => some_targets_in(place, "queues", names, &Queues::empty(), value),
-        None => Err(NetError::at_key(Cause::MissingKey, place, "queues")),
-    }
+    let value = read!(present(place, "queues", value));
+    some_targets_in(place, "queues", names, &Queues::empty(), value)
 }
 
 // The reward of a kind that isn't refused.
