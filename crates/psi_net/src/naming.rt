@@ -16,7 +16,7 @@ use std::marker::Model;
 
 /// The name of a queue, an event or a reward: 1 to 32 bytes among the ASCII letters and digits, `_` and `-`.
 ///
-/// It is seen as the list of its bytes. Only the reading of a file makes names.
+/// It is seen as the list of its bytes. This crate alone makes names.
 #[derive(Clone, Copy)]
 pub struct Name {
     cells: [u8; 32],

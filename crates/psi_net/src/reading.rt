@@ -141,10 +141,11 @@ fn text_draft(alloc: Global, text: &str) -> Result<Draft, NetError>
 /// | `negative` | `from`, optional name; `on`, name; `amount`, default 1 |
 /// | `fork` | `from`, optional name; `to`, list of at least one |
 /// | `join` | `from`, list of at least one; `to`, optional name |
-/// | `guarded` (version 2) | `part`, array of 1 to 32 tables with `queue`, `least` (default 0), `most` (default the capacity), `shift` (default 0), `floor` (default 0), `ceiling` (default the capacity) |
+/// | `guarded` (version 2) | `part`, array of 1 to 32 tables with `queue`, `least` (default 0), `most` (default the capacity), `shift` (default 0), `floor` (default 0), `ceiling` (default the capacity): customers from 0 to the capacity, but `shift` from -65,535 to 65,535 |
 ///
-/// `size` and `amount` are from 1 to 65,535 customers. A service, an index, a negative event or a fork
-/// with `from` on a queue of s servers becomes s events of the same rate, one for each server.
+/// `size` and `amount` are from 1 to 65,535 customers, `size` at most the capacity of each target. A
+/// service, an index, a negative event or a fork with `from` on a queue of s servers becomes s events of
+/// the same rate, one for each server.
 ///
 /// A reward has `kind`, `name`, `queues` (list of at least one name), and by its kind `weights`
 /// (`linear`: an integer for each queue), `table` (`table`: a row for each queue, with an integer for 0
@@ -158,7 +159,8 @@ fn text_draft(alloc: Global, text: &str) -> Result<Draft, NetError>
 /// `Refused` with the first refusal in the order of the file's judging (see [`NetRefusal`]):
 /// the length and the document; at the top `version`, unknown keys, `limit`, `split`, `queue`, `event`,
 /// `reward`; in an array its tables in order; in a table unknown keys (of an event or a reward after
-/// `kind`), then the keys as listed. `OutOfMemory` where there is no memory.
+/// `kind`), then the keys as listed, and behind those of an event the counts up to it: expanded events,
+/// index values, total rate. `OutOfMemory` where there is no memory.
 #[tactic(auto, unfolding(crate::specs::Reading::network_of))]
 pub fn net_of(alloc: Global, bytes: &[u8]) -> Result<Net, NetError>
     ensures network { IfOk result (λ net. network_of bytes.now ≡ Ok net) }
