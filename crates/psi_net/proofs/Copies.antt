@@ -7,7 +7,7 @@ use Rattle.psi_state.specs.State.{numbers_from}
 use Rattle.psi_rate.specs.Rates.{total}
 use Rattle.psi_kinds.specs.declared.Kind.{Kind}
 use Rattle.psi_kinds.specs.declared.Kind.TheVariants.{Arrival, Service, Index, Batch, Negative, Fork, Join, Guarded}
-use Rattle.psi_net.specs.Expansion.{at_server, served, served_by, values_in, values_of}
+use Rattle.psi_net.specs.Expansion.{at_server, served, served_by, values_in, values_of, most_index_values}
 use Rattle.psi_net.specs.declared.entries.NamedEvent.{NamedEvent}
 
 pub total_append : (xs ys : List ℕ) → total (xs ++ ys) ≡ total xs + total ys
@@ -87,5 +87,5 @@ at_least zero v some = absurd (omega arith)
 at_least (suc n) v some = omega (arith, suc-mul n v)
 
 -- one event's index values are too many
-pub too_many : (values n v : ℕ) → 1 ≤ n → 262144 < v → nat_le (values + n * v) 262144 ≡ false
-too_many values n v some many = (let least = at_least n v some in lt-leb (values + n * v) 262144 (omega arith))
+pub too_many : (values n v : ℕ) → 1 ≤ n → most_index_values < v → nat_le (values + n * v) most_index_values ≡ false
+too_many values n v some many = (let least = at_least n v some in lt-leb (values + n * v) most_index_values (omega arith))

@@ -7,7 +7,7 @@ use Rattle.std.specs.Option.{option_map}
 use Rattle.std.proofs.lemmas.List.Elements.{All-nil, All-cons, All-append, All-weaker, All-map}
 use Rattle.toml.specs.Data.{Data, Members, get_member}
 use Rattle.psi_state.specs.State.{AreCapacities, numbers_from}
-use Rattle.psi_rate.specs.Rates.{AreRates, total}
+use Rattle.psi_rate.specs.Rates.{AreRates, greatest_total, total}
 use Rattle.psi_route.specs.declared.Source.{Source}
 use Rattle.psi_kinds.specs.Kinds.{IsKindOf, IsSource}
 use Rattle.psi_kinds.specs.Refusals.{refusal_of}
@@ -16,7 +16,7 @@ use Rattle.psi_kinds.specs.declared.Kind.TheVariants as kind
 use Rattle.psi_net.specs.Refusal.{◌>>=◌, holds_or, at_key, top, event_place}
 use Rattle.psi_net.specs.Values.{no_unknown, required, number_in, name_in, elements_in, table_in, each}
 use Rattle.psi_net.specs.QueueTables.{unless_taken}
-use Rattle.psi_net.specs.Expansion.{source_of, with_server, at_server, servers_at, served, served_by, expanded, values_of, count_key}
+use Rattle.psi_net.specs.Expansion.{source_of, with_server, at_server, servers_at, served, served_by, expanded, values_of, most_index_values, count_key}
 use Rattle.psi_net.specs.EventTables.{kind_in, event_keys, kind_of, event_of, within_limits, are_within, Listed, event_step, events_in, events_of}
 use Rattle.psi_net.specs.Kept.{AreListed, IsAccepted}
 use Rattle.psi_net.specs.declared.refusals.Cause.TheVariants.{TooMany, NoEvents, TotalTooLarge}
@@ -108,7 +108,7 @@ same_refusal caps (kind.Guarded parts) n = refl
 pub record AreEvents (caps : List ℕ) (events : List NamedEvent) : Type 0 where
   pub each : All (IsEvent caps) events
   pub few : length events ≤ 1024
-  pub light : total (map (λ e. e.rate) events) ≤ 16777216
+  pub light : total (map (λ e. e.rate) events) ≤ greatest_total
 
 -- and with each table they become more
 record AreSoFar (queues : List Queue) (n : ℕ) (before : List NamedEvent) (read : Listed) : Type 0 where
@@ -142,14 +142,14 @@ expanded_kept queues event listed small kept =
     served_kept (map (λ q. q.capacity) queues) event 1 (servers_at queues (source_of event.kind)) (servers_at queues (source_of event.kind)) kept (omega arith) (omega arith)
     (most_fits queues (source_of event.kind) listed small)
 
-limits_kept : (place : Place) (key : List ℕ) (n v r : ℕ) (u : Unit {0}) → within_limits place key n v r ≡ Ok u → (n ≤ 1024) × (r ≤ 16777216)
+limits_kept : (place : Place) (key : List ℕ) (n v r : ℕ) (u : Unit {0}) → within_limits place key n v r ≡ Ok u → (n ≤ 1024) × (r ≤ greatest_total)
 unfolding within_limits
 limits_kept place key n v r u h =
     let few = bind_ok (holds_or (at_key TooMany place key) (nat_le n 1024))
-    (λ _. holds_or (at_key TooMany place (codes "table")) (nat_le v 262144) >>= (λ _. holds_or (at_key TotalTooLarge place (codes "rate")) (nat_le r 16777216))) u h in
-    let small = bind_ok (holds_or (at_key TooMany place (codes "table")) (nat_le v 262144)) (λ _. holds_or (at_key TotalTooLarge place (codes "rate")) (nat_le r 16777216)) u few.2 in (
+    (λ _. holds_or (at_key TooMany place (codes "table")) (nat_le v most_index_values) >>= (λ _. holds_or (at_key TotalTooLarge place (codes "rate")) (nat_le r greatest_total))) u h in
+    let small = bind_ok (holds_or (at_key TooMany place (codes "table")) (nat_le v most_index_values)) (λ _. holds_or (at_key TotalTooLarge place (codes "rate")) (nat_le r greatest_total)) u few.2 in (
       leb-true n 1024 (held (at_key TooMany place key) (nat_le n 1024) few.0 few.1),
-      leb-true r 16777216 (held (at_key TotalTooLarge place (codes "rate")) (nat_le r 16777216) u small.2),
+      leb-true r greatest_total (held (at_key TotalTooLarge place (codes "rate")) (nat_le r greatest_total) u small.2),
     )
 
 event_step_kept : (version : ℕ) (queues : List Queue) → AreListed queues → (n : ℕ) (s t : Listed) (d : Data) → AreEvents (map (λ q. q.capacity) queues) s.events

@@ -23,10 +23,10 @@ use Rattle.psi_kinds.specs.Refusals.{of_parts, is_empty, lacks_queues, repeats_q
 use Rattle.psi_kinds.specs.declared.Kind.{Kind}
 use Rattle.psi_kinds.specs.declared.Kind.TheVariants as kind
 use Rattle.psi_net.specs.Refusal.{holds_or}
-use Rattle.psi_net.specs.Values.{no_unknown, required, optional, number_in, integer_in, array_in, elements_in, each, number_step}
+use Rattle.psi_net.specs.Values.{no_unknown, required, optional, number_in, integer_in, array_in, elements_in, each}
 use Rattle.psi_net.specs.References.{is_in, queue_in, target_in, targets_in, some_targets_in}
 use Rattle.psi_net.specs.Targets.{AreTargets}
-use Rattle.psi_net.specs.KindTables.{first_server, source_in, queue_of_source, full_in, row_step, table_of, size_fits, arrival_of, service_of, index_of, batch_of, negative_of, fork_of, joined_in, join_of}
+use Rattle.psi_net.specs.KindTables.{first_server, source_in, queue_of_source, full_in, greatest_index_value, number_step, row_step, table_of, size_fits, arrival_of, service_of, index_of, batch_of, negative_of, fork_of, joined_in, join_of}
 use Rattle.psi_net.specs.PartTables.{part_keys, part_table, part_queue, part_of, part_step, parts_in, guarded_of}
 use Rattle.psi_net.specs.EventTables.{kind_of}
 use Rattle.psi_net.specs.Kept.{IsAccepted}
@@ -116,18 +116,18 @@ record AreRows (caps to : List ℕ) (n : ℕ) (rows : List (List ℕ)) : Type 0 
   tables : are_tables caps (take (length rows) to) rows ≡ true
   count : n ≡ length rows + 1
 
-number_step_kept : (place : Place) (key : List ℕ) (lo hi n : ℕ) (s t : List ℕ) (d : Data) → n ≡ length s + 1 → number_step place key lo hi n s d ≡ Ok t → n + 1 ≡ length t + 1
+number_step_kept : (place : Place) (n : ℕ) (s t : List ℕ) (d : Data) → n ≡ length s + 1 → number_step place n s d ≡ Ok t → n + 1 ≡ length t + 1
 unfolding number_step
-number_step_kept place key lo hi n s t d count h =
-    let number = bind_ok (number_in place key lo hi d) _ t h in
+number_step_kept place n s t d count h =
+    let number = bind_ok (number_in place (codes "table") 0 greatest_index_value d) _ t h in
     let same : s ++ number.0 ∷ [] ≡ t = ok_same _ t number.2 in
     let sized : length (s ++ number.0 ∷ []) ≡ length t = ap (λ (xs : List ℕ). length xs) same in
     let joined = length-append s (number.0 ∷ []) in
     omega arith
 
-numbers_count : (place : Place) (key : List ℕ) (lo hi : ℕ) (ds : List Data) (ns : List ℕ) → each (number_step place key lo hi) 1 [] ds ≡ Ok ns → length ns ≡ length ds
-numbers_count place key lo hi ds ns h =
-    let all : 1 + length ds ≡ length ns + 1 = each_kept (λ n (s : List ℕ). n ≡ length s + 1) (number_step place key lo hi) (λ n s t d k r. number_step_kept place key lo hi n s t d k r) ds 1 (1 + length ds) [] ns refl refl h in
+numbers_count : (place : Place) (ds : List Data) (ns : List ℕ) → each (number_step place) 1 [] ds ≡ Ok ns → length ns ≡ length ds
+numbers_count place ds ns h =
+    let all : 1 + length ds ≡ length ns + 1 = each_kept (λ n (s : List ℕ). n ≡ length s + 1) (number_step place) (λ n s t d k r. number_step_kept place n s t d k r) ds 1 (1 + length ds) [] ns refl refl h in
     omega arith
 
 row_step_kept : (place : Place) (caps to : List ℕ) (n : ℕ) (s t : List (List ℕ)) (d : Data) → n < 1 + length to → AreRows caps to n s → row_step place caps to n s d ≡ Ok t → AreRows caps to (n + 1) t
@@ -135,10 +135,10 @@ unfolding row_step
 row_step_kept place caps to n s t d small kept h =
     let elements = bind_ok (array_in place (codes "table") d) _ t h in
     let fits = bind_ok (holds_or _ _) _ t elements.2 in
-    let row = bind_ok (each (number_step place (codes "table") 0 1000000000) 1 [] elements.0) _ t fits.2 in
+    let row = bind_ok (each (number_step place) 1 [] elements.0) _ t fits.2 in
     let same : s ++ row.0 ∷ [] ≡ t = ok_same _ t row.2 in
     let width : length elements.0 ≡ slice_index caps (slice_index to (length s)) = eqb-true (length elements.0) (slice_index caps (slice_index to (length s))) (held _ _ fits.0 fits.1) in
-    let sized : length row.0 ≡ length elements.0 = numbers_count place (codes "table") 0 1000000000 elements.0 row.0 row.1 in
+    let sized : length row.0 ≡ length elements.0 = numbers_count place elements.0 row.0 row.1 in
     let one : nat_eq (length row.0) (slice_index caps (slice_index to (length s))) ≡ true = eq-eqb (length row.0) (slice_index caps (slice_index to (length s))) (sized ∙ width) in
     let count = kept.count in
     let joined : length (s ++ row.0 ∷ []) ≡ length s + 1 = length-append s (row.0 ∷ []) in

@@ -15,9 +15,9 @@ use Rattle.psi_reward.specs.declared.RewardKind.{RewardKind}
 use Rattle.psi_reward.specs.declared.RewardKind.TheVariants as kind
 use Rattle.psi_reward.specs.declared.RewardRefusal.{RewardRefusal}
 use Rattle.psi_net.specs.Refusal.{holds_or}
-use Rattle.psi_net.specs.Values.{required, number_in, integer_in, array_in, each, integer_step}
+use Rattle.psi_net.specs.Values.{required, number_in, integer_in, array_in, each}
 use Rattle.psi_net.specs.References.{some_targets_in}
-use Rattle.psi_net.specs.RewardTables.{weights_in, grid_step, grid_in, worth_in}
+use Rattle.psi_net.specs.RewardTables.{greatest_number, integer_step, weights_in, grid_step, grid_in, worth_in}
 use Rattle.psi_net.specs.Draft.{named}
 use Rattle.psi_net.specs.Kept.{IsReward}
 use Rattle.psi_net.specs.declared.entries.NamedValue.{NamedValue}
@@ -41,20 +41,20 @@ record AreSmall (n : ℕ) (zs : List ℤ) : Type 0 where
   small : All IsSmall zs
   count : n ≡ length zs + 1
 
-integer_step_kept : (place : Place) (key : List ℕ) (n : ℕ) (s t : List ℤ) (d : Data) → AreSmall n s → integer_step place key 1000000000 n s d ≡ Ok t → AreSmall (n + 1) t
+integer_step_kept : (place : Place) (key : List ℕ) (n : ℕ) (s t : List ℤ) (d : Data) → AreSmall n s → integer_step place key n s d ≡ Ok t → AreSmall (n + 1) t
 unfolding integer_step
 integer_step_kept place key n s t d kept h =
-    let number = bind_ok (integer_in place key 1000000000 d) _ t h in
+    let number = bind_ok (integer_in place key greatest_number d) _ t h in
     let count = kept.count in
     let joined : length (s ++ number.0 ∷ []) ≡ length s + 1 = length-append s (number.0 ∷ []) in
     subst (λ (zs : List ℤ). AreSmall (n + 1) zs) (ok_same _ t number.2) (record {
-      small = All-push IsSmall s number.0 kept.small (integer_range place key 1000000000 d number.0 number.1);
+      small = All-push IsSmall s number.0 kept.small (integer_range place key greatest_number d number.0 number.1);
       count = omega arith;
     })
 
-integers_kept : (place : Place) (key : List ℕ) (ds : List Data) (zs : List ℤ) → each (integer_step place key 1000000000) 1 [] ds ≡ Ok zs → AreSmall (1 + length ds) zs
+integers_kept : (place : Place) (key : List ℕ) (ds : List Data) (zs : List ℤ) → each (integer_step place key) 1 [] ds ≡ Ok zs → AreSmall (1 + length ds) zs
 integers_kept place key ds zs h =
-    each_kept AreSmall (integer_step place key 1000000000) (λ n s t d k r. integer_step_kept place key n s t d k r) ds 1 (1 + length ds) [] zs refl (record { small = All-nil IsSmall; count = refl }) h
+    each_kept AreSmall (integer_step place key) (λ n s t d k r. integer_step_kept place key n s t d k r) ds 1 (1 + length ds) [] zs refl (record { small = All-nil IsSmall; count = refl }) h
 
 record AreWeights (count : ℕ) (zs : List ℤ) : Type 0 where
   small : All IsSmall zs
@@ -88,7 +88,7 @@ unfolding grid_step
 grid_step_kept place caps queues n s t d less kept h =
     let elements = bind_ok (array_in place (codes "table") d) _ t h in
     let fits = bind_ok (holds_or _ _) _ t elements.2 in
-    let row = bind_ok (each (integer_step place (codes "table") 1000000000) 1 [] elements.0) _ t fits.2 in
+    let row = bind_ok (each (integer_step place (codes "table")) 1 [] elements.0) _ t fits.2 in
     let width : length elements.0 ≡ slice_index caps (slice_index queues (length s)) + 1 = eqb-true (length elements.0) (slice_index caps (slice_index queues (length s)) + 1) (held _ _ fits.0 fits.1) in
     let numbers = integers_kept place (codes "table") elements.0 row.0 row.1 in
     let many = numbers.count in

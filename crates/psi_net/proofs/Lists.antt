@@ -7,15 +7,15 @@ use Rattle.toml.specs.Data.{Data}
 use Rattle.toml.specs.View.{view, items_of, members_view}
 use Rattle.toml.proofs.Views.{view-Array}
 use Rattle.toml.specs.declared.value.Value.{Value, Array}
-use Rattle.psi_net.specs.Values.{listed, member_keys, unknown_among, array_in}
+use Rattle.psi_net.specs.Values.{elements_of, member_keys, unknown_among, array_in}
 use Rattle.psi_net.specs.Refusal.{at_key}
 use Rattle.psi_net.specs.declared.refusals.Cause.TheVariants.{UnknownKey}
 use Rattle.psi_net.specs.declared.refusals.Place.{Place}
 use Rattle.psi_net.specs.declared.refusals.NetRefusal.{NetRefusal}
 
-pub listed_items_of : (ds : List Data) → listed (items_of ds) ≡ ds
-listed_items_of [] = refl
-listed_items_of (d ∷ ds) = ap (λ (es : List Data). d ∷ es) (listed_items_of ds)
+pub elements_of-items_of : (ds : List Data) → elements_of (items_of ds) ≡ ds
+elements_of-items_of [] = refl
+elements_of-items_of (d ∷ ds) = ap (λ (es : List Data). d ∷ es) (elements_of-items_of ds)
 
 pub any_known : (key : List ℕ) (known : List (Bor (List ℕ))) → list_any (bytes_eq key) (map (λ k. k.now) known) ≡ list_any (λ k. bytes_eq key k.now) known
 any_known key [] = refl
@@ -28,7 +28,7 @@ keys_of_table (e ∷ entries) = ap (λ (ks : List (List ℕ)). string_bytes e.0 
 -- a value that is an array
 pub array_read : (place : Place) (key : List ℕ) (value : Value) (v : Vec Value Global) (vs : List Value) → value ≡ Array v → vs ≡ v.items → array_in place key (view value) ≡ Ok (map view vs)
 unfolding array_in
-array_read place key value v vs is all = rw (is, view-Array, all) (ap (λ (ds : List Data). Ok ds) (listed_items_of (map view v.items)))
+array_read place key value v vs is all = rw (is, view-Array, all) (ap (λ (ds : List Data). Ok ds) (elements_of-items_of (map view v.items)))
 
 -- a key that is known takes the loop one step on, and another ends it
 pub unknown_turn : (place : Place) (known : List (Bor (List ℕ))) (key : List ℕ) (keys : List (List ℕ)) → list_any (λ k. bytes_eq key k.now) known ≡ true

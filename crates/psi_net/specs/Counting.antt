@@ -1,7 +1,7 @@
 -- What is counted while events are read.
 use Rattle.std.specs.Prelude.{◌≡◌, ℕ, ◌≤◌, List, length, map}
-use Rattle.psi_rate.specs.Rates.{total}
-use Rattle.psi_net.specs.Expansion.{values_of}
+use Rattle.psi_rate.specs.Rates.{greatest_total, total}
+use Rattle.psi_net.specs.Expansion.{values_of, most_index_values}
 use Rattle.psi_net.specs.declared.entries.NamedEvent.{NamedEvent}
 
 -- the index values and the total rate of events within their limits
@@ -9,5 +9,5 @@ pub record IsCounted (events : List NamedEvent) (values rates : ℕ) : Type 0 wh
   pub index_values : values ≡ values_of events
   pub total_rate : rates ≡ total (map (λ e. e.rate) events)
   pub few : length events ≤ 1024
-  pub small : values ≤ 262144
-  pub light : rates ≤ 16777216
+  pub small : values ≤ most_index_values
+  pub light : rates ≤ greatest_total

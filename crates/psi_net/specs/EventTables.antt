@@ -2,11 +2,11 @@
 use Rattle.std.specs.Prelude.{ℕ, List, [], ◌∷◌, ◌++◌, map, length, codes, ◌==◌, nat_le, Option, Some, None, ok_or, Result, Ok, Err, if◌then◌else◌}
 use Rattle.std.specs.Str.{bytes_eq}
 use Rattle.toml.specs.Data.{Data, Members, get_member}
-use Rattle.psi_rate.specs.Rates.{total}
+use Rattle.psi_rate.specs.Rates.{greatest_total, total}
 use Rattle.psi_kinds.specs.declared.Kind.{Kind}
 use Rattle.psi_net.specs.Refusal.{◌>>=◌, holds_or, at_key, top, event_place}
 use Rattle.psi_net.specs.Values.{no_unknown, required, number_in, text_in, name_in, elements_in, table_in, each}
-use Rattle.psi_net.specs.Expansion.{source_of, expanded, values_of, count_key}
+use Rattle.psi_net.specs.Expansion.{source_of, expanded, values_of, most_index_values, count_key}
 use Rattle.psi_net.specs.QueueTables.{unless_taken}
 use Rattle.psi_net.specs.KindTables.{arrival_of, service_of, index_of, batch_of, negative_of, fork_of, join_of}
 use Rattle.psi_net.specs.PartTables.{guarded_of}
@@ -79,8 +79,8 @@ pub record Listed : Type 0 where
 unfoldable pub within_limits : Place → List ℕ → ℕ → ℕ → ℕ → Result (Unit {0}) NetRefusal
 within_limits place key events values rates = do
   few ← holds_or (at_key TooMany place key) (nat_le events 1024)
-  small ← holds_or (at_key TooMany place (codes "table")) (nat_le values 262144)
-  holds_or (at_key TotalTooLarge place (codes "rate")) (nat_le rates 16777216)
+  small ← holds_or (at_key TooMany place (codes "table")) (nat_le values most_index_values)
+  holds_or (at_key TotalTooLarge place (codes "rate")) (nat_le rates greatest_total)
 
 -- the events so far, the last ones those of this event, are within their limits
 unfoldable pub are_within : Place → NamedEvent → List NamedEvent → Result (Unit {0}) NetRefusal

@@ -65,6 +65,10 @@ values_in (Guarded parts) = 0
 abbrev pub values_of : List NamedEvent → ℕ
 values_of events = total (map (λ e. values_in e.kind) events)
 
+-- the most index values that the events of a network may have
+abbrev pub most_index_values : ℕ
+most_index_values = 262144
+
 -- the key at which too many expanded events are refused
 abbrev pub count_key : Option Source → List ℕ
 count_key None = codes "kind"

@@ -9,7 +9,7 @@ use Rattle.psi_route.specs.declared.Full.TheVariants.{Lost, Stay}
 use Rattle.psi_kinds.specs.declared.Kind.{Kind}
 use Rattle.psi_kinds.specs.declared.Kind.TheVariants as kind
 use Rattle.psi_net.specs.Refusal.{◌>>=◌, holds_or, at_key}
-use Rattle.psi_net.specs.Values.{required, optional, number_in, array_in, each, number_step}
+use Rattle.psi_net.specs.Values.{required, optional, number_in, array_in, each}
 use Rattle.psi_net.specs.References.{queue_in, target_in, targets_in, some_targets_in}
 use Rattle.psi_net.specs.declared.refusals.Cause.TheVariants.{WrongType, OutOfRange, TableLength, BatchTooLarge}
 use Rattle.psi_net.specs.declared.refusals.Place.{Place}
@@ -38,12 +38,22 @@ full_in place (string text) =
     else Err (at_key OutOfRange place (codes "full"))
 full_in place d = Err (at_key WrongType place (codes "full"))
 
+-- the greatest index value
+abbrev pub greatest_index_value : ℕ
+greatest_index_value = 1000000000
+
+-- one more integer of a row
+unfoldable pub number_step : Place → ℕ → List ℕ → Data → Result (List ℕ) NetRefusal
+number_step place n earlier d = do
+  number ← number_in place (codes "table") 0 greatest_index_value d
+  Ok (earlier ++ number ∷ [])
+
 -- one row of an index's table, with the rows before it: as many integers as the next target's capacity
 unfoldable pub row_step : Place → List ℕ → List ℕ → ℕ → List (List ℕ) → Data → Result (List (List ℕ)) NetRefusal
 row_step place caps to n rows d = do
   elements ← array_in place (codes "table") d
   fits ← holds_or (at_key TableLength place (codes "table")) (length elements == slice_index caps (slice_index to (length rows)))
-  row ← each (number_step place (codes "table") 0 1000000000) 1 [] elements
+  row ← each (number_step place) 1 [] elements
   Ok (rows ++ row ∷ [])
 
 -- `table` of an index: one row for each target

@@ -5,7 +5,7 @@ use Rattle.toml.specs.Data.{Data, Members, get_member}
 use Rattle.psi_reward.specs.declared.RewardKind.{RewardKind}
 use Rattle.psi_reward.specs.declared.RewardKind.TheVariants as kind
 use Rattle.psi_net.specs.Refusal.{◌>>=◌, holds_or, at_key, top, reward_place}
-use Rattle.psi_net.specs.Values.{no_unknown, required, optional, number_in, text_in, name_in, array_in, table_in, each, integer_step}
+use Rattle.psi_net.specs.Values.{no_unknown, required, optional, number_in, integer_in, text_in, name_in, array_in, table_in, each}
 use Rattle.psi_net.specs.References.{some_targets_in}
 use Rattle.psi_net.specs.QueueTables.{unless_taken}
 use Rattle.psi_net.specs.Network.{NamedReward}
@@ -39,19 +39,29 @@ reward_keys word.Greatest = codes "kind" ∷ codes "name" ∷ codes "queues" ∷
 reward_keys word.Least = codes "kind" ∷ codes "name" ∷ codes "queues" ∷ []
 reward_keys word.Above = codes "kind" ∷ codes "level" ∷ codes "name" ∷ codes "queues" ∷ []
 
+-- the greatest weight or number of a table; the least is its negative
+abbrev pub greatest_number : ℕ
+greatest_number = 1000000000
+
+-- one more integer of the weights or of a row
+unfoldable pub integer_step : Place → List ℕ → ℕ → List ℤ → Data → Result (List ℤ) NetRefusal
+integer_step place key n earlier d = do
+  number ← integer_in place key greatest_number d
+  Ok (earlier ++ number ∷ [])
+
 -- `weights`: as many integers as queues
 unfoldable pub weights_in : Place → ℕ → Data → Result (List ℤ) NetRefusal
 weights_in place count d = do
   elements ← array_in place (codes "weights") d
   fits ← holds_or (at_key TableLength place (codes "weights")) (length elements == count)
-  each (integer_step place (codes "weights") 1000000000) 1 [] elements
+  each (integer_step place (codes "weights")) 1 [] elements
 
 -- one row of `table`, with the rows before it: an integer for 0 customers up to the next queue's capacity
 unfoldable pub grid_step : Place → List ℕ → List ℕ → ℕ → List (List ℤ) → Data → Result (List (List ℤ)) NetRefusal
 grid_step place caps queues n rows d = do
   elements ← array_in place (codes "table") d
   fits ← holds_or (at_key TableLength place (codes "table")) (length elements == slice_index caps (slice_index queues (length rows)) + 1)
-  row ← each (integer_step place (codes "table") 1000000000) 1 [] elements
+  row ← each (integer_step place (codes "table")) 1 [] elements
   Ok (rows ++ row ∷ [])
 
 -- `table`: one row for each queue

@@ -19,9 +19,9 @@ abbrev pub seen : Option (Bor Value) → Option Data
 seen found = option_map (λ (v : Bor Value). view v.now) found
 
 -- the elements of an array, and the keys of a table, in their order
-abbrev pub listed : Items → List Data
-listed no_items = []
-listed (item d ds) = d ∷ listed ds
+abbrev pub elements_of : Items → List Data
+elements_of no_items = []
+elements_of (item d ds) = d ∷ elements_of ds
 
 abbrev pub member_keys : Members → List (List ℕ)
 member_keys no_members = []
@@ -74,7 +74,7 @@ name_in place key d = do
 
 -- an array
 unfoldable pub array_in : Place → List ℕ → Data → Result (List Data) NetRefusal
-array_in place key (array items) = Ok (listed items)
+array_in place key (array items) = Ok (elements_of items)
 array_in place key d = Err (at_key WrongType place key)
 
 -- an array of 1 to so many elements, with the cause for one that is empty
@@ -96,14 +96,3 @@ each step n s [] = Ok s
 each step n s (d ∷ ds) = do
   t ← step n s d
   each step (n + 1) t ds
-
--- one more integer from lo to hi, and one more from -most to most
-unfoldable pub number_step : Place → List ℕ → ℕ → ℕ → ℕ → List ℕ → Data → Result (List ℕ) NetRefusal
-number_step place key lo hi n earlier d = do
-  number ← number_in place key lo hi d
-  Ok (earlier ++ number ∷ [])
-
-unfoldable pub integer_step : Place → List ℕ → ℕ → ℕ → List ℤ → Data → Result (List ℤ) NetRefusal
-integer_step place key most n earlier d = do
-  number ← integer_in place key most d
-  Ok (earlier ++ number ∷ [])

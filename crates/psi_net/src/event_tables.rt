@@ -14,7 +14,7 @@ ghost use Rattle.psi_net.specs.Listing.{listed};
 ghost use Rattle.psi_net.specs.Kept.{AreListed};
 
 use crate::entries::{NamedEvent, Queue};
-use crate::expansion::{index_values, push_expanded, servers_at, source_of};
+use crate::expansion::{MOST_INDEX_VALUES, index_values, push_expanded, servers_at, source_of};
 use crate::keys::{
     elements_in, find, no_unknown, present, read, required_name, required_number, table_in, text_in,
 };
@@ -29,6 +29,9 @@ use psi_kinds::Kind;
 use psi_state::State;
 use std::alloc::Global;
 use toml::{Table, Value};
+
+// The greatest total of the rates of a network's events.
+const MOST_TOTAL: u32 = 16_777_216;
 
 // The kind that a text names in a file of this version.
 fn kind_named(version: u32, text: &str) -> Option<KindWord>
@@ -196,11 +199,11 @@ fn sums(
         return Err(NetError::at_key(Cause::TooMany, place, "table"));
     };
     let values = list.values + servers as u32 * own;
-    if values > 262_144 {
+    if values > MOST_INDEX_VALUES {
         return Err(NetError::at_key(Cause::TooMany, place, "table"));
     }
     let rates = list.rates + servers as u32 * event.rate;
-    if rates > 16_777_216 {
+    if rates > MOST_TOTAL {
         return Err(NetError::at_key(Cause::TotalTooLarge, place, "rate"));
     }
     Ok(Counts { values, rates })

@@ -2,7 +2,7 @@
 
 ghost use Rattle.std.specs.Prelude.{◌≡◌, ◌≤◌, ◌<◌, ◌++◌, length, map, MatchOption, IfSome, IfOk, IfErr, OnOk, option_map};
 ghost use Rattle.psi_rate.specs.Rates.{total};
-ghost use Rattle.psi_net.specs.Expansion.{source_of, with_server, at_server, servers_at, served, served_by, values_in};
+ghost use Rattle.psi_net.specs.Expansion.{source_of, with_server, at_server, servers_at, served, served_by, values_in, most_index_values};
 
 use crate::entries::{NamedEvent, Queue};
 use crate::keys::read;
@@ -10,6 +10,9 @@ use crate::refusals::NetError;
 use psi_kinds::{Kind, Tables};
 use psi_route::Source;
 use std::alloc::Global;
+
+/// The most index values that the events of a network may have.
+pub(crate) const MOST_INDEX_VALUES: u32 = 262_144;
 
 // The single source of a kind, if it has one.
 pub(crate) fn source_of(kind: &Kind) -> Option<Source>
@@ -74,51 +77,38 @@ fn at_server(alloc: Global, k: u16, kind: &Kind) -> Result<Kind, NetError>
     ensures value { IfOk result (λ copy. copy ≡ at_server k kind.now) }
     ensures memory { IfErr result (λ error. error ≡ NetError.OutOfMemory) }
 {
-    match kind {
-        Kind::Arrival { to } => Ok(Kind::Arrival { to: *to }),
-        Kind::Service { from, to, full } => Ok(Kind::Service {
-            from: Source {
-                queue: from.queue,
-                k,
-            },
-            to: *to,
-            full: *full,
-        }),
+    let kind = match *kind {
+        Kind::Arrival { to } => Kind::Arrival { to },
+        Kind::Service { from, to, full } => {
+            let from = Source { k, ..from };
+            Kind::Service { from, to, full }
+        }
         Kind::Index {
             from,
             to,
-            table,
+            ref table,
             full,
             size,
-        } => {
-            let table = read!(tables_again(alloc, table));
-            Ok(Kind::Index {
-                from: with_server(k, *from),
-                to: *to,
-                table,
-                full: *full,
-                size: *size,
-            })
+        } => Kind::Index {
+            from: with_server(k, from),
+            to,
+            table: read!(tables_again(alloc, table)),
+            full,
+            size,
+        },
+        Kind::Batch { to, size } => Kind::Batch { to, size },
+        Kind::Negative { from, on, amount } => {
+            let from = with_server(k, from);
+            Kind::Negative { from, on, amount }
         }
-        Kind::Batch { to, size } => Ok(Kind::Batch {
-            to: *to,
-            size: *size,
-        }),
-        Kind::Negative { from, on, amount } => Ok(Kind::Negative {
-            from: with_server(k, *from),
-            on: *on,
-            amount: *amount,
-        }),
-        Kind::Fork { from, to } => Ok(Kind::Fork {
-            from: with_server(k, *from),
-            to: *to,
-        }),
-        Kind::Join { from, to } => Ok(Kind::Join {
-            from: *from,
-            to: *to,
-        }),
-        Kind::Guarded { parts } => Ok(Kind::Guarded { parts: *parts }),
-    }
+        Kind::Fork { from, to } => {
+            let from = with_server(k, from);
+            Kind::Fork { from, to }
+        }
+        Kind::Join { from, to } => Kind::Join { from, to },
+        Kind::Guarded { parts } => Kind::Guarded { parts },
+    };
+    Ok(kind)
 }
 
 // Puts the events of so many servers behind the others.
@@ -144,24 +134,24 @@ pub(crate) fn push_expanded(
     Ok(())
 }
 
-// The number of index values of a kind, and None exactly where it is above 262,144.
+// The number of index values of tables, and None exactly where it is above the most that there may be.
 #[tactic(auto, using(crate::proofs::Servers::values_turn, crate::proofs::Servers::values_past, crate::proofs::Servers::values_whole))]
 fn table_values(tables: &Tables) -> Option<u32>
-    ensures { MatchOption result (262144 < total (map length tables.now)) (λ values. (values ≡ total (map length tables.now)) × (values ≤ 262144)) }
+    ensures { MatchOption result (most_index_values < total (map length tables.now)) (λ values. (values ≡ total (map length tables.now)) × (values ≤ most_index_values)) }
 {
     let mut values = 0;
     for place in 0..tables.len() {
         values += tables.row(place).len();
-        if values > 262_144 {
+        if values > MOST_INDEX_VALUES as usize {
             return None;
         }
     }
     Some(values as u32)
 }
 
-// The number of index values of a kind, and None exactly where it is above 262,144.
+// The same of a kind.
 pub(crate) fn index_values(kind: &Kind) -> Option<u32>
-    ensures { MatchOption result (262144 < values_in kind.now) (λ values. (values ≡ values_in kind.now) × (values ≤ 262144)) }
+    ensures { MatchOption result (most_index_values < values_in kind.now) (λ values. (values ≡ values_in kind.now) × (values ≤ most_index_values)) }
 {
     match kind {
         Kind::Index { table, .. } => table_values(table),

@@ -5,10 +5,10 @@ ghost use Rattle.std.specs.List.{list_all};
 ghost use Rattle.toml.specs.View.{view, table_view};
 ghost use Rattle.psi_route.specs.declared.Full.TheVariants.{Lost};
 ghost use Rattle.psi_net.specs.Refusal.{Gives};
-ghost use Rattle.psi_net.specs.Values.{seen, required, optional, each, number_step};
+ghost use Rattle.psi_net.specs.Values.{seen, required, optional, each};
 ghost use Rattle.psi_net.specs.References.{queue_in, target_in, targets_in, some_targets_in};
 ghost use Rattle.psi_net.specs.Targets.{AreTargets, are_below};
-ghost use Rattle.psi_net.specs.KindTables.{source_in, queue_of_source, full_in, row_step, table_of, size_fits, arrival_of, service_of, index_of, batch_of, negative_of, fork_of, joined_in, join_of};
+ghost use Rattle.psi_net.specs.KindTables.{source_in, queue_of_source, full_in, number_step, row_step, table_of, size_fits, arrival_of, service_of, index_of, batch_of, negative_of, fork_of, joined_in, join_of};
 
 use crate::keys::{array_in, find, number_in, number_or, present, read, required_number, text_in};
 use crate::naming::Name;
@@ -111,36 +111,27 @@ fn full(place: Place, value: Option<&Value>) -> Result<Full, NetError>
     }
 }
 
+// The greatest index value.
+const MOST_INDEX_VALUE: u32 = 1_000_000_000;
+
 // One integer more of a row.
-#[tactic(auto, unfolding(crate::specs::Values::number_step))]
-fn push_number(
-    place: Place,
-    key: &str,
-    hi: u32,
-    numbers: &mut Vec<u32>,
-    value: &Value,
-) -> Result<(), NetError>
-    ensures { (n : ℕ) → Gives (λ _. numbers.new.items) result (number_step place key.now 0 hi n numbers.old.items (view value.now)) }
+#[tactic(auto, unfolding(crate::specs::KindTables::number_step))]
+fn push_number(place: Place, numbers: &mut Vec<u32>, value: &Value) -> Result<(), NetError>
+    ensures { (n : ℕ) → Gives (λ _. numbers.new.items) result (number_step place n numbers.old.items (view value.now)) }
 {
-    let number = read!(number_in(place, key, 0, hi, value));
+    let number = read!(number_in(place, "table", 0, MOST_INDEX_VALUE, value));
     numbers.push(number)?;
     Ok(())
 }
 
-// The integers of a row, each from 0 to `hi`.
+// The integers of a row.
 #[tactic(auto, using(crate::proofs::Turns::turn, crate::proofs::Turns::turn_fails, crate::proofs::Turns::turn_ends))]
-fn all_numbers(
-    alloc: Global,
-    place: Place,
-    key: &str,
-    hi: u32,
-    values: &[Value],
-) -> Result<Vec<u32>, NetError>
-    ensures { Gives (λ numbers. numbers.items) result (each (number_step place key.now 0 hi) 1 [] (map view values.now)) }
+fn all_numbers(alloc: Global, place: Place, values: &[Value]) -> Result<Vec<u32>, NetError>
+    ensures { Gives (λ numbers. numbers.items) result (each (number_step place) 1 [] (map view values.now)) }
 {
     let mut numbers = Vec::new(alloc);
     for value in values {
-        read!(push_number(place, key, hi, &mut numbers, value));
+        read!(push_number(place, &mut numbers, value));
     }
     Ok(numbers)
 }
@@ -166,7 +157,7 @@ fn push_row(
     if values.len() != caps.get(queue) as usize {
         return Err(NetError::at_key(Cause::TableLength, place, "table"));
     }
-    let row = read!(all_numbers(alloc, place, "table", 1_000_000_000, values));
+    let row = read!(all_numbers(alloc, place, values));
     match rows.push(row) {
         Ok(()) => Ok(()),
         Err(_) => Err(NetError::OutOfMemory),

@@ -4,6 +4,7 @@ ghost use Rattle.std.specs.Prelude.{◌≡◌, ◌<◌, length, map, Some, slice
 
 use crate::building::{all_lowered, rates, wheel};
 use crate::entries::{Draft, NamedEvent, NamedValue, Queue};
+use crate::keys::read;
 use crate::naming::Name;
 use crate::refusals::NetError;
 use psi_event::EventLaw;
@@ -59,15 +60,9 @@ impl Net {
         ensures network { IfOk result (λ net. net ≡ drafted draft) }
         ensures memory { IfErr result (λ error. error ≡ NetError.OutOfMemory) }
     {
-        let lowered = match all_lowered(alloc, draft.caps, draft.events.as_slice()) {
-            Ok(lowered) => lowered,
-            Err(error) => return Err(error),
-        };
+        let lowered = read!(all_lowered(alloc, draft.caps, draft.events.as_slice()));
         let rates = rates(alloc, draft.events.as_slice())?;
-        let wheel = match wheel(alloc, rates.as_slice()) {
-            Ok(wheel) => wheel,
-            Err(error) => return Err(error),
-        };
+        let wheel = read!(wheel(alloc, rates.as_slice()));
         Ok(Net {
             queues: draft.queues,
             events: draft.events,

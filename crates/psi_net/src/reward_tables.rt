@@ -6,12 +6,12 @@ ghost use Rattle.std.specs.Str.{bytes_eq};
 ghost use Rattle.toml.specs.View.{view, table_view};
 ghost use Rattle.psi_state.specs.State.{AreCapacities};
 ghost use Rattle.psi_net.specs.Refusal.{Gives, reward_place};
-ghost use Rattle.psi_net.specs.Values.{seen, no_unknown, required, optional, each, integer_step};
+ghost use Rattle.psi_net.specs.Values.{seen, no_unknown, required, optional, each};
 ghost use Rattle.psi_net.specs.Targets.{AreTargets, are_below};
 ghost use Rattle.psi_net.specs.Draft.{named};
 ghost use Rattle.psi_net.specs.Kept.{IsReward};
 ghost use Rattle.psi_net.specs.References.{some_targets_in};
-ghost use Rattle.psi_net.specs.RewardTables.{reward_named, reward_kind_in, reward_keys, weights_in, grid_step, grid_in, worth_in, reward_of, reward_step, rewards_in, rewards_of};
+ghost use Rattle.psi_net.specs.RewardTables.{reward_named, reward_kind_in, reward_keys, integer_step, weights_in, grid_step, grid_in, worth_in, reward_of, reward_step, rewards_in, rewards_of};
 
 use crate::entries::NamedValue;
 use crate::keys::{
@@ -74,24 +74,27 @@ fn no_unknown_reward_key(place: Place, word: RewardWord, table: &Table) -> Resul
     }
 }
 
+// The greatest weight or number of a table; the least is its negative.
+const MOST_NUMBER: u32 = 1_000_000_000;
+
 // One integer more of the weights or of a row.
-#[tactic(auto, unfolding(crate::specs::Values::integer_step))]
+#[tactic(auto, unfolding(crate::specs::RewardTables::integer_step))]
 fn push_integer(
     place: Place,
     key: &str,
     numbers: &mut Numbers,
     value: &Value,
 ) -> Result<(), NetError>
-    ensures { (n : ℕ) → Gives (λ _. numbers.new) result (integer_step place key.now 1000000000 n numbers.old (view value.now)) }
+    ensures { (n : ℕ) → Gives (λ _. numbers.new) result (integer_step place key.now n numbers.old (view value.now)) }
 {
-    let number = read!(integer_in(place, key, 1_000_000_000, value));
+    let number = read!(integer_in(place, key, MOST_NUMBER, value));
     match numbers.push(number) {
         Ok(()) => Ok(()),
         Err(_) => Err(NetError::OutOfMemory),
     }
 }
 
-// The integers of an array, each from -1,000,000,000 to 1,000,000,000.
+// The integers of an array.
 #[tactic(auto, using(crate::proofs::Turns::turn, crate::proofs::Turns::turn_fails, crate::proofs::Turns::turn_ends))]
 fn all_integers(
     alloc: Global,
@@ -99,7 +102,7 @@ fn all_integers(
     key: &str,
     values: &[Value],
 ) -> Result<Numbers, NetError>
-    ensures { Gives (λ numbers. numbers) result (each (integer_step place key.now 1000000000) 1 [] (map view values.now)) }
+    ensures { Gives (λ numbers. numbers) result (each (integer_step place key.now) 1 [] (map view values.now)) }
 {
     let mut numbers = Numbers::new(alloc);
     for value in values {

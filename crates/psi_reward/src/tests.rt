@@ -163,49 +163,44 @@ fn refusal(kind: RewardKind) -> Option<RewardRefusal>
 }
 
 #[test]
-fn rewards_are_refused_for_the_first_cause(rt: HostRuntime) -> Result<(), Fail> {
+fn rewards_of_no_queue_or_of_one_twice_are_refused_first(rt: HostRuntime) -> Result<(), Fail> {
     let alloc = rt.alloc();
     let none = Queues::empty();
-    let twice = queues(1, 1);
-    let both = queues(0, 1);
     let weights = three(alloc, 1, 1, 1)?;
     let unweighted = RewardKind::Linear {
         queues: none,
         weights,
-    };
-    let weights = three(alloc, 1, 1, 1)?;
-    let repeated = RewardKind::Linear {
-        queues: twice,
-        weights,
-    };
-    let weights = three(alloc, 1, 1, 1)?;
-    let long = RewardKind::Linear {
-        queues: both,
-        weights,
-    };
-    let table = rows(alloc, three(alloc, 1, 2, 3)?, two(alloc, 1, 2)?)?;
-    let short = RewardKind::Table {
-        queues: both,
-        table,
     };
     assert_eq!(rt;
         refusal(RewardKind::Least { queues: none }),
         Some(RewardRefusal::Empty)
     );
     assert_eq!(rt; refusal(unweighted), Some(RewardRefusal::Empty));
+    let twice = queues(1, 1);
+    let weights = three(alloc, 1, 1, 1)?;
+    let repeated = RewardKind::Linear {
+        queues: twice,
+        weights,
+    };
     assert_eq!(rt;
         refusal(RewardKind::Greatest { queues: twice }),
         Some(RewardRefusal::Repeated)
     );
     assert_eq!(rt; refusal(repeated), Some(RewardRefusal::Repeated));
+    Ok(())
+}
+
+#[test]
+fn rewards_of_other_lengths_are_refused(rt: HostRuntime) -> Result<(), Fail> {
+    let alloc = rt.alloc();
+    let queues = queues(0, 1);
+    let weights = three(alloc, 1, 1, 1)?;
+    let long = RewardKind::Linear { queues, weights };
     assert_eq!(rt; refusal(long), Some(RewardRefusal::Length));
+    let table = rows(alloc, three(alloc, 1, 2, 3)?, two(alloc, 1, 2)?)?;
+    let short = RewardKind::Table { queues, table };
     assert_eq!(rt; refusal(short), Some(RewardRefusal::Length));
-    assert_eq!(rt;
-        refusal(RewardKind::Above {
-            queues: both,
-            level: 3
-        }),
-        None
-    );
+    let above = RewardKind::Above { queues, level: 3 };
+    assert_eq!(rt; refusal(above), None);
     Ok(())
 }

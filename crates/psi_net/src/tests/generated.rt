@@ -20,21 +20,53 @@ fn state(numbers: &[u16]) -> State {
     state
 }
 
+// The network has these queues: their numbers, names, capacities and numbers of servers.
+fn assert_queues(rt: &impl Abort, net: &Net, queues: &[(u8, &str, u16, u16)]) {
+    assert_eq!(rt; net.queues() as usize, queues.len());
+    for (queue, name, capacity, servers) in queues {
+        assert!(rt;
+            shows_queue(net, *queue, name, *capacity, *servers),
+            "{name}"
+        );
+    }
+}
+
+// The network has these expanded events: their numbers, names, servers and rates.
+fn assert_events(rt: &impl Abort, net: &Net, events: &[(u16, &str, u16, u32)]) {
+    assert_eq!(rt; net.events() as usize, events.len());
+    for (event, name, server, rate) in events {
+        assert!(rt;
+            shows_event(net, *event, name, *server, *rate),
+            "event {event}"
+        );
+    }
+}
+
+// The network has these capacities and this number of idle numbers beside what all made networks of 4 or 5
+// queues have, and its one reward makes this of the state.
+fn assert_system(rt: &impl Abort, net: &Net, caps: &[u16], idle: u32, held: &[u16], total: i64) {
+    let system = net.system();
+    assert_eq!(rt; system.caps(), state(caps));
+    assert_eq!(rt; system.limit(), 18);
+    assert_eq!(rt; system.split(), 64);
+    assert_eq!(rt; system.wheel().modulus(), 128);
+    assert_eq!(rt; system.wheel().idle(), idle);
+    assert_eq!(rt; net.rewards(), 1);
+    assert!(rt; shows_reward(net, 0, "total"));
+    assert_eq!(rt; worth(rt, net, 0, &state(held)), total);
+}
+
 #[test]
 fn the_network_of_0_is_as_worked_out(rt: HostRuntime) -> Result<(), Fail> {
-    let alloc = rt.alloc();
-    let net = generated(alloc, 0)?;
-    assert_eq!(rt; net.queues(), 4);
-    for (queue, name, capacity, servers) in [
+    let net = generated(rt.alloc(), 0)?;
+    let queues = [
         (0, "q1", 13, 2),
         (1, "q2", 18, 3),
         (2, "q3", 23, 1),
         (3, "q4", 28, 2),
-    ] {
-        assert!(rt; shows_queue(&net, queue, name, capacity, servers), "{name}");
-    }
-    assert_eq!(rt; net.events(), 9);
-    for (event, name, server, rate) in [
+    ];
+    assert_queues(&rt, &net, &queues);
+    let events = [
         (0, "in", 1, 8),
         (1, "s1", 1, 10),
         (2, "s1", 2, 10),
@@ -44,40 +76,24 @@ fn the_network_of_0_is_as_worked_out(rt: HostRuntime) -> Result<(), Fail> {
         (6, "s3", 1, 10),
         (7, "s4", 1, 12),
         (8, "s4", 2, 12),
-    ] {
-        assert!(rt;
-            shows_event(&net, event, name, server, rate),
-            "event {event}"
-        );
-    }
-    assert_eq!(rt; net.rewards(), 1);
-    assert!(rt; shows_reward(&net, 0, "total"));
-    assert_eq!(rt; worth(&rt, &net, 0, &state(&[1, 2, 3, 4])), 10);
-    let system = net.system();
-    assert_eq!(rt; system.caps(), state(&[13, 18, 23, 28]));
-    assert_eq!(rt; system.limit(), 18);
-    assert_eq!(rt; system.split(), 64);
-    assert_eq!(rt; system.wheel().modulus(), 128);
-    assert_eq!(rt; system.wheel().idle(), 36);
+    ];
+    assert_events(&rt, &net, &events);
+    assert_system(&rt, &net, &[13, 18, 23, 28], 36, &[1, 2, 3, 4], 10);
     Ok(())
 }
 
 #[test]
 fn the_network_of_1_is_as_worked_out(rt: HostRuntime) -> Result<(), Fail> {
-    let alloc = rt.alloc();
-    let net = generated(alloc, 1)?;
-    assert_eq!(rt; net.queues(), 5);
-    for (queue, name, capacity, servers) in [
+    let net = generated(rt.alloc(), 1)?;
+    let queues = [
         (0, "q1", 14, 3),
         (1, "q2", 19, 1),
         (2, "q3", 24, 2),
         (3, "q4", 29, 3),
         (4, "q5", 9, 1),
-    ] {
-        assert!(rt; shows_queue(&net, queue, name, capacity, servers), "{name}");
-    }
-    assert_eq!(rt; net.events(), 13);
-    for (event, name, server, rate) in [
+    ];
+    assert_queues(&rt, &net, &queues);
+    let events = [
         (0, "in", 1, 8),
         (1, "s1", 1, 10),
         (2, "s1", 2, 10),
@@ -91,21 +107,10 @@ fn the_network_of_1_is_as_worked_out(rt: HostRuntime) -> Result<(), Fail> {
         (10, "s5", 1, 12),
         (11, "bulk", 1, 1),
         (12, "neg", 1, 1),
-    ] {
-        assert!(rt;
-            shows_event(&net, event, name, server, rate),
-            "event {event}"
-        );
-    }
-    assert_eq!(rt; net.rewards(), 1);
-    assert!(rt; shows_reward(&net, 0, "total"));
-    assert_eq!(rt; worth(&rt, &net, 0, &state(&[14, 19, 24, 29, 9])), 95);
-    let system = net.system();
-    assert_eq!(rt; system.caps(), state(&[14, 19, 24, 29, 9]));
-    assert_eq!(rt; system.limit(), 18);
-    assert_eq!(rt; system.split(), 64);
-    assert_eq!(rt; system.wheel().modulus(), 128);
-    assert_eq!(rt; system.wheel().idle(), 16);
+    ];
+    assert_events(&rt, &net, &events);
+    let caps = [14, 19, 24, 29, 9];
+    assert_system(&rt, &net, &caps, 16, &caps, 95);
     Ok(())
 }
 
