@@ -7,7 +7,8 @@ use Rattle.std.proofs.lemmas.Bool.{and_parts, and_from, or_parts, or_from, not-t
 use Rattle.std.proofs.lemmas.List.{take_more, take_all, append-nil, append_assoc}
 use Rattle.toml.specs.Data.{Data, Members, get_member}
 use Rattle.psi_state.specs.State.{AreCapacities}
-use Rattle.psi_guard.specs.Refusals.{is_out, names, refusal_at, refusal_after}
+use Rattle.psi_guard.specs.Refusals.{is_out, refusal_at, refusal_after}
+use Rattle.psi_guard.specs.Refusals.{names as is_named}
 use Rattle.psi_guard.specs.Refusals.{is_empty as is_empty_part}
 use Rattle.psi_guard.specs.Refusals.{refusal_of as parts_refusal}
 use Rattle.psi_guard.specs.declared.Part.{Part}
@@ -283,21 +284,15 @@ join_kept caps names same place ms k h =
     })
 
 -- a part that is read can follow those before it
-no_name : (earlier : List Part) (q : ℕ) → list_any (λ p. nat_eq q p.queue) earlier ≡ false → names earlier q ≡ false
-no_name [] q h = refl
-no_name (p ∷ earlier) q h =
-    let parts = or_parts (nat_eq q p.queue) (list_any (λ r. nat_eq q r.queue) earlier) h in
-    or_from (nat_eq p.queue q) (names earlier q) (other_way q p.queue parts.0) (no_name earlier q parts.1)
-
 part_queue_kept : (place : Place) (names : List (List ℕ)) (earlier : List Part) (d : Data) (q : ℕ) → part_queue place names earlier d ≡ Ok q
-    → (q < length names) × (list_any (λ p. nat_eq q p.queue) earlier ≡ false)
+    → (q < length names) × (is_named earlier q ≡ false)
 unfolding part_queue
 part_queue_kept place names earlier d q h =
     let queue = bind_ok (queue_in place (codes "queue") names d) _ q h in
     let fresh = bind_ok (holds_or _ _) _ q queue.2 in
     let same : queue.0 ≡ q = ok_same queue.0 q fresh.2 in (
       subst (λ (k : ℕ). k < length names) same (queue_small place (codes "queue") names d queue.0 queue.1),
-      subst (λ (k : ℕ). list_any (λ p. nat_eq k p.queue) earlier ≡ false) same (not-true (list_any (λ p. nat_eq queue.0 p.queue) earlier) (held _ _ fresh.0 fresh.1)),
+      subst (λ (k : ℕ). is_named earlier k ≡ false) same (not-true (is_named earlier queue.0) (held _ _ fresh.0 fresh.1)),
     )
 
 at_most : (place : Place) (key : List ℕ) (default cap : ℕ) (found : Option Data) (n : ℕ) → default ≤ cap → optional default (number_in place key 0 cap) found ≡ Ok n → n ≤ cap
@@ -311,9 +306,9 @@ no_cause false true c x y z p q r = absurd cc
 no_cause true b c x y z p q r = absurd cc
 
 follows : (caps : List ℕ) (earlier : List Part) (part : Part) → part.queue < length caps → part.most ≤ slice_index caps part.queue → part.ceiling ≤ slice_index caps part.queue → unsigned_abs part.shift ≤ 65535
-    → names earlier part.queue ≡ false → part.least ≤ part.most → part.floor ≤ part.ceiling → refusal_at caps earlier part ≡ None
+    → is_named earlier part.queue ≡ false → part.least ≤ part.most → part.floor ≤ part.ceiling → refusal_at caps earlier part ≡ None
 follows caps earlier part small top high moves named guard bounds =
-    no_cause (is_out caps part) (names earlier part.queue) (is_empty_part part) cause.OutOfRange cause.Repeated cause.Empty
+    no_cause (is_out caps part) (is_named earlier part.queue) (is_empty_part part) cause.OutOfRange cause.Repeated cause.Empty
     (or_from (nat_le (length caps) part.queue) (nat_lt (slice_index caps part.queue) part.most || (nat_lt (slice_index caps part.queue) part.ceiling || nat_lt 65535 (unsigned_abs part.shift)))
     (lt-leb (length caps) part.queue small)
     (or_from (nat_lt (slice_index caps part.queue) part.most) (nat_lt (slice_index caps part.queue) part.ceiling || nat_lt 65535 (unsigned_abs part.shift))
@@ -347,7 +342,7 @@ part_kept place keys caps same earlier ms part h =
     let guard : least.0 ≤ most.0 = leb-true least.0 most.0 (held _ _ guarded.0 guarded.1) in
     let bounds : floor.0 ≤ ceiling.0 = leb-true floor.0 ceiling.0 (held _ _ bounded.0 bounded.1) in
     subst (λ (p : Part). refusal_at caps earlier p ≡ None) (ok_same _ part bounded.2)
-    (follows caps earlier (record { queue = queue.0; least = least.0; most = most.0; shift = shift.0; floor = floor.0; ceiling = ceiling.0 }) small top high moves (no_name earlier queue.0 named.1) guard bounds)
+    (follows caps earlier (record { queue = queue.0; least = least.0; most = most.0; shift = shift.0; floor = floor.0; ceiling = ceiling.0 }) small top high moves named.1 guard bounds)
 
 first_none : {A : Type 0} (a b : Option A) → first_or a b ≡ None → (a ≡ None) × (b ≡ None)
 first_none None b h = (refl, h)

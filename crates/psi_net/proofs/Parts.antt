@@ -3,7 +3,7 @@ use Rattle.std.proofs.Common.{◌≡◌, ℕ, zero, suc, ◌+◌, ◌<◌, ◌�
 use Rattle.std.specs.List.{slice_get}
 use Rattle.std.proofs.lemmas.List.Elements.{All-push, All-nil}
 use Rattle.std.proofs.lemmas.Bool.{cases_eq}
-use Rattle.std.proofs.lemmas.List.{ext_get_or, get_or-map, length-map, map_push, take_more, take_all}
+use Rattle.std.proofs.lemmas.List.{get_or-map, length-map, map_push, take_more, take_all}
 use Rattle.psi_rate.specs.Rates.{AreRates, PassesAt, total, greatest_total}
 use Rattle.psi_rate.specs.Totals.{total-take_order}
 use Rattle.psi_kinds.specs.Kinds.{Does}

@@ -1,7 +1,7 @@
 -- The array `part` of a guarded event.
-use Rattle.std.specs.Prelude.{ℕ, pos, List, [], ◌∷◌, ◌++◌, slice_index, codes, not, nat_le, nat_eq, Result, Ok, Err}
-use Rattle.std.specs.List.{list_any}
+use Rattle.std.specs.Prelude.{ℕ, pos, List, [], ◌∷◌, ◌++◌, slice_index, codes, not, nat_le, Result, Ok, Err}
 use Rattle.toml.specs.Data.{Data, table, Members, get_member}
+use Rattle.psi_guard.specs.Refusals.{names as is_named}
 use Rattle.psi_guard.specs.declared.Part.{Part}
 use Rattle.psi_kinds.specs.declared.Kind.{Kind}
 use Rattle.psi_kinds.specs.declared.Kind.TheVariants as kind
@@ -25,7 +25,7 @@ part_keys = codes "ceiling" ∷ codes "floor" ∷ codes "least" ∷ codes "most"
 unfoldable pub part_queue : Place → List (List ℕ) → List Part → Data → Result ℕ NetRefusal
 part_queue place names earlier d = do
   queue ← queue_in place (codes "queue") names d
-  fresh ← holds_or (at_key RepeatedTarget place (codes "queue")) (not (list_any (λ p. nat_eq queue p.queue) earlier))
+  fresh ← holds_or (at_key RepeatedTarget place (codes "queue")) (not (is_named earlier queue))
   Ok queue
 
 -- a part's table, with the parts before it

@@ -1,8 +1,8 @@
 //! The array `part` of a guarded event.
 
-ghost use Rattle.std.specs.Prelude.{◌≡◌, ℕ, ◌≤◌, ◌<◌, ◌+◌, [], length, map, codes, nat_eq, IfOk, OnOk};
-ghost use Rattle.std.specs.List.{list_any};
+ghost use Rattle.std.specs.Prelude.{◌≡◌, ℕ, ◌≤◌, ◌<◌, ◌+◌, [], length, map, codes, IfOk, OnOk};
 ghost use Rattle.toml.specs.View.{view, table_view};
+ghost use Rattle.psi_guard.specs.Refusals.{names as is_named};
 ghost use Rattle.psi_net.specs.Refusal.{Gives};
 ghost use Rattle.psi_net.specs.Values.{seen, required, each};
 ghost use Rattle.psi_net.specs.PartTables.{part_table, part_queue, part_of, part_step, parts_in, guarded_of};
@@ -31,10 +31,10 @@ fn part_table(place: Place, value: &Value) -> Result<&Table, NetError>
 // Whether one of the parts names the queue.
 #[tactic(auto, using(crate::proofs::Found::part_turn, crate::proofs::Found::part_found, crate::proofs::Found::part_ends))]
 fn names_queue(parts: &Parts, queue: u8) -> bool
-    ensures { result ≡ list_any (λ p. nat_eq queue p.queue) parts.now }
+    ensures { result ≡ is_named parts.now queue }
 {
     for place in 0..parts.len() {
-        if queue == parts.get(place).queue {
+        if parts.get(place).queue == queue {
             return true;
         }
     }

@@ -3,8 +3,10 @@
 use super::{applied, is_refused, with_event};
 use crate::{Section, net_of};
 use psi_event::EventLaw;
-use psi_state::State;
+use psi_kinds::Event;
+use psi_state::{Bounds, State};
 use std::alloc::{AllocError, Global};
+use std::process::Abort;
 use std::test::Fail;
 
 // A guarded event's keys, and the code and the key of the refusal.
@@ -69,6 +71,17 @@ fn guarding(alloc: Global, version: u32, keys: &str) -> Result<String, AllocErro
     )
 }
 
+// The ends of the envelope of the box from 1 to 4.
+fn envelope(rt: &impl Abort, event: &Event) -> (State, State) {
+    let caps = event.caps();
+    let (lo, hi) = (one(1), one(4));
+    assert!(rt; lo.len() == hi.len() && hi.len() == caps.len());
+    assert!(rt; lo.leq(&hi) && hi.leq(&caps));
+    let mut around = Bounds::new(lo, hi);
+    event.envelope(&mut around);
+    (around.lo(), around.hi())
+}
+
 // The state of one queue.
 fn one(number: u16) -> State {
     let mut state = State::zero(1);
@@ -99,12 +112,12 @@ fn ranges_of_parts_end_at_the_capacity_and_hold_something(rt: HostRuntime) -> Re
 fn guarded_events_break_the_order_where_they_jump(rt: HostRuntime) -> Result<(), Fail> {
     let alloc = rt.alloc();
     let broken = Some((one(2), one(3)));
-    for (keys, pair, from, to) in [
-        ("ceiling = 0", None, 5, 0),
-        ("most = 2, floor = 5", broken, 2, 5),
-        ("most = 2, floor = 5", broken, 3, 3),
-        ("least = 3, ceiling = 1", broken, 2, 2),
-        ("least = 3, ceiling = 1", broken, 3, 1),
+    for (keys, pair, from, to, ends) in [
+        ("ceiling = 0", None, 5, 0, (one(0), one(0))),
+        ("most = 2, floor = 5", broken, 2, 5, (one(3), one(5))),
+        ("most = 2, floor = 5", broken, 3, 3, (one(3), one(5))),
+        ("least = 3, ceiling = 1", broken, 2, 2, (one(1), one(2))),
+        ("least = 3, ceiling = 1", broken, 3, 1, (one(1), one(2))),
     ] {
         let file = guarding(alloc, 2, keys)?;
         let net = net_of(alloc, file.as_str().as_bytes())?;
@@ -114,6 +127,7 @@ fn guarded_events_break_the_order_where_they_jump(rt: HostRuntime) -> Result<(),
         assert!(rt; system.event(0).monotone());
         let event = system.event(1);
         assert_eq!(rt; event.upset(), pair, "{keys}");
+        assert_eq!(rt; envelope(&rt, event), ends, "{keys}");
         assert_eq!(rt; applied(&rt, event, one(from)), one(to), "{keys} at {from}");
     }
     Ok(())
