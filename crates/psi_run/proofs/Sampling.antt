@@ -10,7 +10,7 @@ use Rattle.psi_rate.specs.Powers.{pow-double}
 use Rattle.psi_rate.specs.Composition.{Parts, function_at, functions_of, AreClosed, AreMonotone}
 use Rattle.psi_rate.specs.Doubling.{answer_or, first_from, first_answer, HasNone, IsFirst, has_none-next}
 use Rattle.psi_rate.specs.Outcomes.{outcome_of, outcome_within, IsOutcome, function_at-closed, function_at-monotone}
-use Rattle.psi_horizon.specs.Runs.{ending_at, outcome-reached, outcome-monotone, outcome-exact}
+use Rattle.psi_horizon.specs.Runs.{ending_at, outcome-reached, outcome-decides, outcome-monotone, outcome-exact}
 use Rattle.psi_horizon.specs.Agreeing.{Agree, AreAlike, agree-closed, function_at-agree, outcome_within-agree}
 use Rattle.psi_kinds.specs.Kinds.{Does, do_kind}
 use Rattle.psi_kinds.proofs.Closing.{kind-closed}
@@ -164,6 +164,7 @@ sampled_printed before after result n seed stream kept same grew =
       outcome = outcome;
       least = least;
       reached = outcome-reached n.split caps f n.limit outcome closed least;
+      later = outcome-decides n.split caps f n.limit outcome closed least;
       monotone = λ monotone. outcome-monotone n.split caps f n.limit outcome closed (run_of-monotone n seed stream monotone) least;
       small = λ few. outcome-exact n.split caps f n.limit outcome few least;
       status = same;

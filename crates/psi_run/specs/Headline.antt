@@ -5,7 +5,7 @@ use Rattle.psi_state.specs.declared.Outcome.{Outcome}
 use Rattle.psi_state.specs.State.{all_states}
 use Rattle.psi_event.specs.Law.{IsMonotone}
 use Rattle.psi_rate.specs.Outcomes.{meeting_at, IsOutcome, ReachesOutcome}
-use Rattle.psi_horizon.specs.Runs.{ending_at}
+use Rattle.psi_horizon.specs.Runs.{ending_at, DecidesRuns}
 use Rattle.psi_net.specs.Network.{Network, caps_of, functions_of}
 use Rattle.psi_run.specs.declared.status.Status.{Status}
 use Rattle.psi_run.specs.Texts.{outcome_text}
@@ -19,6 +19,8 @@ pub record IsSampled (before after : Option (List ℕ)) (result : Status) (net :
   pub least : IsOutcome (ending_at net.split (run_of net seed stream) (caps_of net)) net.limit outcome
   -- and where it is met, every state that starts there or earlier is in its state at time zero
   pub reached : ReachesOutcome (run_of net seed stream) (caps_of net) outcome
+  -- each longer run ends with that state alone; where it isn't met, no run of a horizon up to 2^limit, a power of two or not, ends with one state
+  pub later : DecidesRuns net.split (run_of net seed stream) (caps_of net) net.limit outcome
   -- in a monotone network the horizon is the least at which all states have met
   pub monotone : All (λ f. IsMonotone (caps_of net) f) (functions_of net) → IsOutcome (meeting_at (run_of net seed stream) (caps_of net)) net.limit outcome
   -- and so it is in every network of at most the split number of states

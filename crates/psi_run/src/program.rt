@@ -47,9 +47,10 @@ use std::alloc::Global;
 /// Each line ends with a line feed. S is the state's numbers in the queues' order, joined by commas. The
 /// sample is that of coupling from the past (Propp and Wilson 1996) by regions of states (Bušić, Gaujal and
 /// Vincent 2008): T is the least of 1, 2, 4, .., N such that the region that starts with all states T steps
-/// before time zero ends with one state, and S is that state. In a monotone network T is the least such
-/// that all states that start T steps before time zero meet, and so it is where the network has at most
-/// `split` states.
+/// before time zero ends with one state, and S is that state. Every longer run ends with S too; where none
+/// is met, no run of up to N steps ends with one state. In a monotone network T is the least such that all
+/// states that start T steps before time zero meet, and so it is where the network has at most `split`
+/// states.
 ///
 /// All memory is taken before the first byte is written. Words that aren't a command take none.
 pub fn run<F: Shelf, O: Sink, E: Sink>(
