@@ -1,8 +1,8 @@
 //! The whole program as one call: from its words, over a shelf of files and two sinks, to its status.
 //!
-//! `run` reads the network file that the words name, draws a sample of the network by coupling from the
-//! past (Propp and Wilson 1996) and prints it. What it answers is defined in `specs/Reply.antt`, the texts
-//! in `specs/Texts.antt`, and what a call is seen to do in `specs/Call.antt`.
+//! `run` reads the network file that the words name, and prints its description or a sample of it, drawn by
+//! coupling from the past (Propp and Wilson 1996). What it answers is defined in `specs/Reply.antt`, the
+//! texts in `specs/Texts.antt`, and what a call is seen to do in `specs/Call.antt`.
 #![tactic(auto)]
 
 mod answer;

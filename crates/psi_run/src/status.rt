@@ -6,7 +6,7 @@ ghost use Rattle.psi_run.specs.Status.{status_code};
 /// How a call of the program ends.
 #[derive(Clone, Copy, PartialEq, Eq, Debug)]
 pub enum Status {
-    /// A sample is met, and printed.
+    /// A sample is met, or a network is described; the text is printed.
     Done,
     /// A sample isn't met within the network's greatest horizon, and that is printed.
     NotCoupled,
