@@ -1,7 +1,10 @@
 -- A text that is made entry by entry, and what is read of an entry.
 use Rattle.std.specs.Prelude.{◌≡◌, ℕ, zero, suc, ◌+◌, ◌<◌, List, [], ◌∷◌, ◌++◌, length, take, map, Bool, true, false, not, ◌&&◌, is_some, is_none, Option, Some, None, option_map, slice_get, refl}
 use Rattle.std.specs.List.{flat_map, list_all}
-use Rattle.std.proofs.Common.{ap, sym, ◌∙◌, append_assoc, append-nil, arith}
+use Rattle.std.proofs.Common.{ap, sym, ◌∙◌, arith}
+use Rattle.std.proofs.lemmas.List.{take_more, flat_map_more}
+use Rattle.std.proofs.lemmas.List.Folds.{list_all_more}
+use Rattle.std.proofs.lemmas.Option.{slice_get-map, slice_get_within, get_or_from_slice_get}
 
 -- a place of a list has an entry
 pub entry_at : {A : Type 0} (xs : List A) (i : ℕ) → i < length xs → (x : A) × (slice_get xs i ≡ Some x)
@@ -16,11 +19,6 @@ field_of field xs i x read at is =
     cc
 
 -- lists that are the same of each entry are so at a place
-pub slice_get-map : {A B : Type 0} (f : A → B) (xs : List A) (i : ℕ) → slice_get (map f xs) i ≡ option_map f (slice_get xs i)
-slice_get-map f [] i = refl
-slice_get-map f (x ∷ xs) zero = refl
-slice_get-map f (x ∷ xs) (suc i) = slice_get-map f xs i
-
 pub same_at : {A B C : Type 0} (f : A → C) (g : B → C) (xs : List A) (ys : List B) (i : ℕ) (x : A) (y : B) → map f xs ≡ map g ys → slice_get xs i ≡ Some x → slice_get ys i ≡ Some y → f x ≡ g y
 same_at f g xs ys i x y same first second =
     let left : slice_get (map f xs) i ≡ Some (f x) = slice_get-map f xs i ∙ ap (option_map f) first in
@@ -28,42 +26,21 @@ same_at f g xs ys i x y same first second =
     let whole : slice_get (map f xs) i ≡ slice_get (map g ys) i = ap (λ zs. slice_get zs i) same in
     cc
 
-flat_map-more : {A : Type 0} (line : A → List ℕ) (xs : List A) (i : ℕ) (x : A) → slice_get xs i ≡ Some x
-    → flat_map line (take (suc i) xs) ≡ flat_map line (take i xs) ++ line x
-flat_map-more line [] i x at = absurd cc
-flat_map-more line (y ∷ xs) zero x at = append-nil (line y) ∙ ap line cc
-flat_map-more line (y ∷ xs) (suc i) x at =
-    ap (λ (rest : List ℕ). line y ++ rest) (flat_map-more line xs i x at) ∙ sym (append_assoc (line y) (flat_map line (take i xs)) (line x))
-
 -- one more line comes after those before it
 pub lines-more : {A : Type 0} (line : A → List ℕ) (xs : List A) (i : ℕ) (x : A) (before middle after own : List ℕ) → slice_get xs i ≡ Some x
     → middle ≡ before ++ flat_map line (take i xs) → after ≡ middle ++ own → own ≡ line x → after ≡ before ++ flat_map line (take (i + 1) xs)
-lines-more line xs i x before middle after own at held added is =
-    let next : i + 1 ≡ suc i = omega arith in
-    added ∙ (ap (λ (text : List ℕ). text ++ own) held
-    ∙ (ap (λ (text : List ℕ). (before ++ flat_map line (take i xs)) ++ text) is
-    ∙ (append_assoc before (flat_map line (take i xs)) (line x)
-    ∙ (ap (λ (text : List ℕ). before ++ text) (sym (flat_map-more line xs i x at))
-    ∙ ap (λ n. before ++ flat_map line (take n xs)) (sym next)))))
-
-and_true : (a : Bool) → (a && true) ≡ a
-and_true true = refl
-and_true false = refl
-
-and_assoc : (a b c : Bool) → (a && (b && c)) ≡ ((a && b) && c)
-and_assoc true b c = refl
-and_assoc false b c = refl
-
-further : {A : Type 0} (p : A → Bool) (xs : List A) (i : ℕ) (x : A) → slice_get xs i ≡ Some x → list_all p (take (suc i) xs) ≡ (list_all p (take i xs) && p x)
-further p [] i x at = absurd cc
-further p (y ∷ xs) zero x at = and_true (p y) ∙ ap p cc
-further p (y ∷ xs) (suc i) x at = ap (λ b. p y && b) (further p xs i x at) ∙ and_assoc (p y) (list_all p (take i xs)) (p x)
+lines-more {A} line xs i x before middle after own at held added is =
+    let next : take (i + 1) xs ≡ take i xs ++ x ∷ [] =
+    take_more xs i x (slice_get_within xs i x at) ∙ ap (λ (y : A). take i xs ++ y ∷ []) (get_or_from_slice_get xs i x x at) in
+    added ∙ ap (λ (text : List ℕ). text ++ own) held
+    ∙ ap (λ (text : List ℕ). (before ++ flat_map line (take i xs)) ++ text) is
+    ∙ flat_map_more line before (take i xs) x
+    ∙ ap (λ (ys : List A). before ++ flat_map line ys) (sym next)
 
 -- a test of each entry goes on by one more
 pub all-more : {A : Type 0} (p : A → Bool) (xs : List A) (i : ℕ) (x : A) → slice_get xs i ≡ Some x → list_all p (take (i + 1) xs) ≡ (list_all p (take i xs) && p x)
 all-more p xs i x at =
-    let next : i + 1 ≡ suc i = omega arith in
-    ap (λ n. list_all p (take n xs)) next ∙ further p xs i x at
+    list_all_more p xs i x (slice_get_within xs i x at) ∙ ap (λ y. list_all p (take i xs) && p y) (get_or_from_slice_get xs i x x at)
 
 -- a test of two parts that goes on where the first holds, and one that ends where it doesn't
 pub and_then : (front here new : Bool) → front ≡ true → new ≡ here → new ≡ (front && here)

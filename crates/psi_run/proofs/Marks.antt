@@ -1,7 +1,7 @@
 -- The mark of an event that does what a kind does is right for the kind.
 use Rattle.std.specs.Prelude.{◌≡◌, ℕ, zero, suc, ◌<◌, List, [], ◌∷◌, length, map, Option, Some, None, slice_get, slice_index_or}
 use Rattle.std.proofs.Common.{ap, sym, ◌∙◌, subst}
-use Rattle.std.proofs.lemmas.Option.{slice_get_within}
+use Rattle.std.proofs.lemmas.Option.{slice_get_within, get_or_from_slice_get}
 use Rattle.psi_state.specs.State.{IsBelow}
 use Rattle.psi_state.specs.Boxes.{below-through}
 use Rattle.psi_event.specs.Law.{ShowsUpset}
@@ -12,12 +12,6 @@ use Rattle.psi_kinds.specs.Forms.{upset_of}
 use Rattle.psi_net.specs.Made.{EachDoes}
 use Rattle.psi_net.specs.declared.entries.NamedEvent.{NamedEvent}
 use Rattle.psi_kinds.specs.declared.Kind.{Kind}
-
--- an entry of a list is what is read at its place, whatever stands for what is past the end
-pub slice_index_or-at : {A : Type 0} (xs : List A) (i : ℕ) (x d : A) → slice_get xs i ≡ Some x → slice_index_or xs i d ≡ x
-slice_index_or-at [] i x d at = absurd cc
-slice_index_or-at (y ∷ xs) zero x d at = cc
-slice_index_or-at (y ∷ xs) (suc i) x d at = slice_index_or-at xs i x d at
 
 -- one after the other, each does what its kind does: so at a place
 pub does-at : {E : Type 0} (function : E → List ℕ → List ℕ) (caps : List ℕ) (made : List E) (events : List NamedEvent) (i : ℕ) (m : E) (e : NamedEvent)
@@ -51,9 +45,9 @@ pub mark-right : {E : Type 0} (capacities : E → List ℕ) (function : E → Li
     → ShowsUpset caps (do_kind caps (slice_index_or events i d).kind) (upset_of caps (slice_index_or events i d).kind)
 mark-right capacities function caps system events i m e d mark fit caps_is each first second shown is =
     let within : i < length system.events = slice_get_within system.events i m first in
-    let read : slice_index_or system.events i m ≡ m = slice_index_or-at system.events i m m first in
+    let read : slice_index_or system.events i m ≡ m = get_or_from_slice_get system.events i m m first in
     let fits : capacities m ≡ caps = ap capacities (sym read) ∙ fit.same_caps i m within ∙ caps_is in
     let here : ShowsUpset caps (function m) (upset_of caps e.kind) =
     subst (λ o. ShowsUpset caps (function m) o) is (subst (λ (x : List ℕ). ShowsUpset x (function m) mark) fits shown) in
-    subst (λ (v : NamedEvent). ShowsUpset caps (do_kind caps v.kind) (upset_of caps v.kind)) (sym (slice_index_or-at events i e d second))
+    subst (λ (v : NamedEvent). ShowsUpset caps (do_kind caps v.kind) (upset_of caps v.kind)) (sym (get_or_from_slice_get events i e d second))
     (shows-does caps (function m) e.kind (upset_of caps e.kind) (does-at function caps system.events events i m e each first second) here)

@@ -4,22 +4,18 @@ use Rattle.std.specs.List.{list_all}
 use Rattle.std.specs.Result.{result_ok, OkIff}
 use Rattle.std.specs.Str.Parse.{ParsesUnsigned, digits_value}
 use Rattle.std.proofs.Common.{rules, arith, ap, ◌∙◌, inl, inr}
-use Rattle.std.proofs.lemmas.Bool.{cases_lt, le-leb, lt-leb, lt-ltb, ltb-true, ne_eqb}
+use Rattle.std.proofs.lemmas.Bool.{and_parts, cases_lt, le-leb, lt-leb, lt-ltb, ltb-true, ne_eqb}
 use Rattle.std.proofs.lemmas.Str.Parse.{IsNumeralModel, numerals_by_value, parse_digits}
 use Rattle.psi_run.specs.Command.{is_digit, is_numeral, greatest_number, number_up_to}
 
 own : IsNumeralModel (λ word. list_all is_digit word ≡ true) (digits_value 10)
 own = numerals_by_value _ (search rules)
 
-and-parts : (a b : Bool) → (a && b) ≡ true → (a ≡ true) × (b ≡ true)
-and-parts true b is = (refl, is)
-and-parts false b is = absurd cc
-
 -- a numeral has a digit, and nothing but digits
 numeral-digits : (word : List ℕ) → is_numeral word ≡ true → (0 < length word) × (list_all is_digit word ≡ true)
 numeral-digits word is =
-    let digits = and-parts (nat_lt 0 (length word) && (nat_le (length word) 1 || not (slice_index word 0 == 48))) (list_all is_digit word) is in
-    let parts = and-parts (nat_lt 0 (length word)) (nat_le (length word) 1 || not (slice_index word 0 == 48)) digits.0 in
+    let digits = and_parts (nat_lt 0 (length word) && (nat_le (length word) 1 || not (slice_index word 0 == 48))) (list_all is_digit word) is in
+    let parts = and_parts (nat_lt 0 (length word)) (nat_le (length word) 1 || not (slice_index word 0 == 48)) digits.0 in
     (ltb-true 0 (length word) parts.0, digits.1)
 
 -- no digit is no numeral

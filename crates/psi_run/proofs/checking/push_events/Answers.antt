@@ -2,6 +2,7 @@ use Rattle.std.specs.Prelude.{◌≡◌, ℕ, ◌+◌, List, take, ◌&&◌, is_
 use Rattle.std.specs.List.{list_all}
 use Rattle.std.proofs.Common.{ap, sym, ◌∙◌, arith}
 use Rattle.std.proofs.lemmas.List.Elements.{All-more}
+use Rattle.std.proofs.lemmas.Option.{slice_get-map}
 use Rattle.psi_event.specs.Law.{ShowsUpset}
 use Rattle.psi_kinds.specs.Kinds.{do_kind}
 use Rattle.psi_kinds.specs.Forms.{upset_of}
@@ -9,7 +10,7 @@ use Rattle.psi_net.specs.Network.{caps_of, marks_of}
 use Rattle.psi_net.specs.declared.entries.NamedEvent.{NamedEvent}
 use Rattle.psi_run.specs.Describing.{event_line}
 use Rattle.psi_run.proofs.Marks.{mark-right}
-use Rattle.psi_run.proofs.Entries.{entry_at, field_of, slice_get-map, same_at, lines-more, all-more, and_then, and_else, is_none-from}
+use Rattle.psi_run.proofs.Entries.{entry_at, field_of, same_at, lines-more, all-more, and_then, and_else, is_none-from}
 use Rattle.psi_run.proofs.checking.push_events.Goals as goal
 use Rattle.psi_run.proofs.checking.push_events.Goals.{then-monotone, else-monotone}
 
