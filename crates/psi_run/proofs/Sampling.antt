@@ -3,7 +3,6 @@ use Rattle.std.specs.Prelude.{◌≡◌, ℕ, zero, suc, ◌+◌, ◌*◌, ◌^�
 use Rattle.std.proofs.Common.{ap, sym, subst, arith}
 use Rattle.std.proofs.lemmas.List.Elements.{All-map}
 use Rattle.psi_state.specs.declared.Outcome.{Outcome}
-use Rattle.psi_state.specs.declared.Outcome.TheVariants.{Met, NotMet}
 use Rattle.psi_past.specs.SeedWord.{seed_word}
 use Rattle.psi_event.specs.Law.{IsClosed, IsMonotone}
 use Rattle.psi_rate.specs.Powers.{pow-double}
@@ -25,8 +24,8 @@ use Rattle.psi_net.proofs.KeptQueues.{capacities_kept}
 use Rattle.psi_net.proofs.KeptNetwork.{network_kept}
 use Rattle.psi_io.specs.Sink.{appended}
 use Rattle.psi_run.specs.declared.status.Status.{Status}
-use Rattle.psi_run.specs.Texts.{outcome_text, IsWithinLimit}
-use Rattle.psi_run.specs.Reply.{run_of, sampled, outcome_status}
+use Rattle.psi_run.specs.Texts.{outcome_text}
+use Rattle.psi_run.specs.Reply.{functions_by_time, sampled, outcome_status}
 use Rattle.psi_run.specs.Headline.{IsSampled}
 
 -- a network that is accepted can be sampled
@@ -62,19 +61,19 @@ done-closed n kept =
     (λ k d small. (let is : IsAccepted (caps_of n) (slice_index_or n.events k d).kind = kept.kinds k d small in
     kind-closed (caps_of n) (slice_index_or n.events k d).kind (capacities_kept n.queues kept.queues) is.named is.accepted))
 
-run_of-closed : (n : Network) (seed stream : ℕ) → IsNetwork n → AreClosed (caps_of n) (run_of n seed stream)
-unfolding run_of
-run_of-closed n seed stream kept = function_at-closed (caps_of n) (net.functions_of n) (rates_of n) (seed_word seed stream) (done-closed n kept)
+functions_by_time-closed : (n : Network) (seed stream : ℕ) → IsNetwork n → AreClosed (caps_of n) (functions_by_time n seed stream)
+unfolding functions_by_time
+functions_by_time-closed n seed stream kept = function_at-closed (caps_of n) (net.functions_of n) (rates_of n) (seed_word seed stream) (done-closed n kept)
 
 -- functions that do what the kinds do make states of states too
 alike-closed : (n : Network) (seed stream : ℕ) (fs : List (List ℕ → List ℕ)) → IsNetwork n → EachDoes (caps_of n) fs n.events
     → AreClosed (caps_of n) (function_at fs (rates_of n) (seed_word seed stream))
-unfolding run_of
+unfolding functions_by_time
 alike-closed n seed stream fs kept does = record {
   each = λ t.
-      agree-closed (caps_of n) (run_of n seed stream t) (function_at fs (rates_of n) (seed_word seed stream) t)
+      agree-closed (caps_of n) (functions_by_time n seed stream t) (function_at fs (rates_of n) (seed_word seed stream) t)
       (function_at-agree (caps_of n) (net.functions_of n) fs (rates_of n) (seed_word seed stream) (each-alike (caps_of n) fs n.events does) t)
-      ((run_of-closed n seed stream kept).each t);
+      ((functions_by_time-closed n seed stream kept).each t);
 }
 
 same-agree : (caps : List ℕ) (f g : List ℕ → List ℕ) → Agree caps f g → Agree caps g f
@@ -82,11 +81,11 @@ same-agree caps f g agree = record { each = λ x within. sym (agree.each x withi
 
 sampled-by : (n : Network) (seed stream : ℕ) (fs : List (List ℕ → List ℕ)) (o : Outcome) → IsNetwork n → EachDoes (caps_of n) fs n.events
     → IsOutcome (ending_at n.split (function_at fs (rates_of n) (seed_word seed stream)) (caps_of n)) n.limit o → o ≡ sampled n seed stream
-unfolding run_of sampled
+unfolding functions_by_time sampled
 sampled-by n seed stream fs o kept does is =
-    outcome_within-agree n.split (caps_of n) (function_at fs (rates_of n) (seed_word seed stream)) (run_of n seed stream) n.limit o
+    outcome_within-agree n.split (caps_of n) (function_at fs (rates_of n) (seed_word seed stream)) (functions_by_time n seed stream) n.limit o
     (alike-closed n seed stream fs kept does)
-    (λ t. same-agree (caps_of n) (run_of n seed stream t) (function_at fs (rates_of n) (seed_word seed stream) t)
+    (λ t. same-agree (caps_of n) (functions_by_time n seed stream t) (function_at fs (rates_of n) (seed_word seed stream) t)
     (function_at-agree (caps_of n) (net.functions_of n) fs (rates_of n) (seed_word seed stream) (each-alike (caps_of n) fs n.events does) t))
     is
 
@@ -104,11 +103,6 @@ sampled_by function system n seed stream o kept does rates caps limit split is =
     (subst (λ l. At (rates_of n) (caps_of n) l system.split) limit
     (subst (λ cs. At (rates_of n) cs system.limit system.split) caps
     (subst (λ rs. At rs system.caps system.limit system.split) rates is))))
-
--- an outcome that isn't met tells the limit
-pub within_limit : (run : ℕ → Option (List ℕ)) (limit : ℕ) (outcome : Outcome) → limit ≤ 22 → IsOutcome run limit outcome → IsWithinLimit outcome
-within_limit run limit (Met t s) few is = tt
-within_limit run limit (NotMet l) few is = (let e = is.0 in omega arith)
 
 -- an answer found is the first one, and where none is found there is none
 abbrev Tells : {A : Type 0} → (ℕ → Option A) → ℕ → Option (ℕ × A) → Type 0
@@ -142,13 +136,13 @@ outcome_within-is run limit =
     outcome_of-is run limit (first_from run limit 1)
     (first_from-tells run limit 0 1 limit (omega arith) refl (record { each = λ k small. absurd (omega arith) }))
 
-sampled-least : (n : Network) (seed stream : ℕ) → IsOutcome (ending_at n.split (run_of n seed stream) (caps_of n)) n.limit (sampled n seed stream)
+sampled-least : (n : Network) (seed stream : ℕ) → IsOutcome (ending_at n.split (functions_by_time n seed stream) (caps_of n)) n.limit (sampled n seed stream)
 unfolding sampled
-sampled-least n seed stream = outcome_within-is (ending_at n.split (run_of n seed stream) (caps_of n)) n.limit
+sampled-least n seed stream = outcome_within-is (ending_at n.split (functions_by_time n seed stream) (caps_of n)) n.limit
 
-run_of-monotone : (n : Network) (seed stream : ℕ) → All (λ f. IsMonotone (caps_of n) f) (net.functions_of n) → AreMonotone (caps_of n) (run_of n seed stream)
-unfolding run_of
-run_of-monotone n seed stream monotone = function_at-monotone (caps_of n) (net.functions_of n) (rates_of n) (seed_word seed stream) monotone
+functions_by_time-monotone : (n : Network) (seed stream : ℕ) → All (λ f. IsMonotone (caps_of n) f) (net.functions_of n) → AreMonotone (caps_of n) (functions_by_time n seed stream)
+unfolding functions_by_time
+functions_by_time-monotone n seed stream monotone = function_at-monotone (caps_of n) (net.functions_of n) (rates_of n) (seed_word seed stream) monotone
 
 -- what is printed of the sample is a sample's text
 pub sampled_printed : (before after : Option (List ℕ)) (result : Status) (n : Network) (seed stream : ℕ) → IsNetwork n
@@ -156,16 +150,16 @@ pub sampled_printed : (before after : Option (List ℕ)) (result : Status) (n : 
     → IsSampled before after result n seed stream
 sampled_printed before after result n seed stream kept same grew =
     let outcome = sampled n seed stream in
-    let f = run_of n seed stream in
+    let f = functions_by_time n seed stream in
     let caps = caps_of n in
-    let closed = run_of-closed n seed stream kept in
+    let closed = functions_by_time-closed n seed stream kept in
     let least = sampled-least n seed stream in
     record {
       outcome = outcome;
       least = least;
       reached = outcome-reached n.split caps f n.limit outcome closed least;
       later = outcome-decides n.split caps f n.limit outcome closed least;
-      monotone = λ monotone. outcome-monotone n.split caps f n.limit outcome closed (run_of-monotone n seed stream monotone) least;
+      monotone = λ monotone. outcome-monotone n.split caps f n.limit outcome closed (functions_by_time-monotone n seed stream monotone) least;
       small = λ few. outcome-exact n.split caps f n.limit outcome few least;
       status = same;
       text = grew;

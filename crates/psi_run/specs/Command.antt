@@ -70,4 +70,7 @@ check_of_words (net ∷ words) = check_of_net net words
 -- isn't the command or the number that must stand there, or is one too many
 unfoldable pub command_of : List (List ℕ) → Result Command ℕ
 command_of [] = Err 1
-command_of (word ∷ words) = if bytes_eq word (codes "sample") then sample_of_words words else if bytes_eq word (codes "check") then check_of_words words else Err 1
+command_of (word ∷ words) =
+    if bytes_eq word (codes "sample") then sample_of_words words
+    else if bytes_eq word (codes "check") then check_of_words words
+    else Err 1

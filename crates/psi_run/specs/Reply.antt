@@ -22,12 +22,12 @@ pub record Reply : Type 0 where
   pub err : List ℕ
 
 -- the functions of a network's events by the time before zero, under the words of a seed and a stream
-unfoldable pub run_of : Network → ℕ → ℕ → ℕ → List ℕ → List ℕ
-run_of net seed stream = function_at (functions_of net) (rates_of net) (seed_word seed stream)
+unfoldable pub functions_by_time : Network → ℕ → ℕ → ℕ → List ℕ → List ℕ
+functions_by_time net seed stream = function_at (functions_of net) (rates_of net) (seed_word seed stream)
 
 -- the sample that a seed and a stream draw of a network (Propp and Wilson 1996), by regions
 unfoldable pub sampled : Network → ℕ → ℕ → Outcome
-sampled net seed stream = outcome_within (ending_at net.split (run_of net seed stream) (caps_of net)) net.limit
+sampled net seed stream = outcome_within (ending_at net.split (functions_by_time net seed stream) (caps_of net)) net.limit
 
 -- the status of a sample
 abbrev pub outcome_status : Outcome → Status
