@@ -7,11 +7,12 @@ use Rattle.psi_net.specs.Reading.{network_of}
 use Rattle.psi_run.specs.declared.status.Status.{Status}
 use Rattle.psi_run.specs.declared.status.Status.TheVariants as ending
 use Rattle.psi_run.specs.declared.answer.Answer.{Answer}
-use Rattle.psi_run.specs.declared.answer.Answer.TheVariants.{Met, NotMet, Described, Usage, NetRefused, NetUnread, OutOfMemory}
+use Rattle.psi_run.specs.declared.answer.Answer.TheVariants.{Printed, Usage, NetRefused, NetUnread, OutOfMemory}
+use Rattle.psi_run.specs.Status.{IsPrinted}
 use Rattle.psi_run.specs.Command.{Command, command_of, sample, check}
 use Rattle.psi_run.specs.Reply.{Reply, reply_to, outcome_reply, sampled, check_reply}
 use Rattle.psi_run.specs.Answer.{ShelfSeen, answer_reply, IsNetUnread, IsText, IsAnswer}
-use Rattle.psi_run.specs.Call.{Call, SinkSeen, Grew, GrewByPart, IsUnchanged, HasFailed, reply_of, IsReplied, IsPrinted, IsReported, OutFaulted, EndsWithin, ErrFaulted, IsRun}
+use Rattle.psi_run.specs.Call.{Call, SinkSeen, Grew, GrewByPart, IsUnchanged, HasFailed, reply_of, IsReplied, IsReported, OutFaulted, EndsWithin, ErrFaulted, IsRun}
 use Rattle.psi_run.specs.Writing.{IsWhole, IsCut}
 use Rattle.psi_run.specs.Headline.{IsSampled}
 use Rattle.psi_run.specs.Checked.{AreMarked, IsChecked}
@@ -39,6 +40,17 @@ of-same P (Some r) given same holds = subst P same holds
 of-each : (P : Reply → Type 0) (reply : Option Reply) → ((r : Reply) → P r) → IfSome reply P
 of-each P None each = tt
 of-each P (Some r) each = each r
+
+-- with a text in out the status is a reply's, and nothing is told in err
+printed-replied : (result : Status) → IsPrinted result → IsReplied result
+printed-replied ending.Done k = tt
+printed-replied ending.NotCoupled k = tt
+printed-replied s k = absurd k
+
+printed-not_reported : (status : Status) → IsPrinted status → IsReported status → ⊥
+printed-not_reported ending.Done printed reported = reported
+printed-not_reported ending.NotCoupled printed reported = reported
+printed-not_reported s printed reported = printed
 
 still : (sink : SinkSeen) (text : List ℕ) → text ≡ [] → Grew sink text → IsUnchanged sink
 still sink text none grew = grew ∙ ap (appended sink.before) none ∙ appended-nothing sink.before
@@ -68,12 +80,10 @@ replied-run call given kind same whole usage no_command no_refused no_long no_ou
 -- the answer was written whole
 whole-run : (call : Call) (answer : Answer) → IsAnswer call.shelf (command_of call.words) answer
     → IsWhole (answer_reply answer) call.out call.err → IsRun call (answer_reply answer).status
-whole-run call (Met text) is whole = replied-run call (answer_reply (Met text)) tt is.reply whole
-    (λ e. absurd cc) (λ wrong. absurd (ok-not_err (command_of call.words) is.cause wrong)) (λ e. absurd cc) (λ e. absurd cc) (λ k. absurd k) (λ k. refl)
-whole-run call (NotMet text) is whole = replied-run call (answer_reply (NotMet text)) tt is.reply whole
-    (λ e. absurd cc) (λ wrong. absurd (ok-not_err (command_of call.words) is.cause wrong)) (λ e. absurd cc) (λ e. absurd cc) (λ k. absurd k) (λ k. refl)
-whole-run call (Described text) is whole = replied-run call (answer_reply (Described text)) tt is.reply whole
-    (λ e. absurd cc) (λ wrong. absurd (ok-not_err (command_of call.words) is.cause wrong)) (λ e. absurd cc) (λ e. absurd cc) (λ k. absurd k) (λ k. refl)
+whole-run call (Printed status text) is whole = replied-run call (answer_reply (Printed status text)) (printed-replied status is.cause.1) is.reply whole
+    (λ e. absurd (subst IsPrinted e is.cause.1)) (λ wrong. absurd (ok-not_err (command_of call.words) is.cause.0 wrong))
+    (λ e. absurd (subst IsPrinted e is.cause.1)) (λ e. absurd (subst IsPrinted e is.cause.1))
+    (λ k. absurd (printed-not_reported status is.cause.1 k)) (λ k. refl)
 whole-run call (Usage place) is whole = replied-run call (answer_reply (Usage place)) tt is.reply whole
     (λ e. err-is (command_of call.words) place is.cause) (λ wrong. refl) (λ e. absurd cc) (λ e. absurd cc) (λ k. refl) (λ k. absurd k)
 whole-run call (NetRefused refusal) is whole = replied-run call (answer_reply (NetRefused refusal)) tt is.reply whole
@@ -121,9 +131,7 @@ part-of_nothing sink text part = grew-longer sink.before sink.after [] text part
 -- out holds a prefix of the reply's text
 out-part : (call : Call) (answer : Answer) → IsAnswer call.shelf (command_of call.words) answer
     → GrewByPart call.out (answer_reply answer).out → IfSome (reply_of call) (λ r. GrewByPart call.out r.out)
-out-part call (Met text) is part = of-same (λ r. GrewByPart call.out r.out) (reply_of call) (answer_reply (Met text)) is.reply part
-out-part call (NotMet text) is part = of-same (λ r. GrewByPart call.out r.out) (reply_of call) (answer_reply (NotMet text)) is.reply part
-out-part call (Described text) is part = of-same (λ r. GrewByPart call.out r.out) (reply_of call) (answer_reply (Described text)) is.reply part
+out-part call (Printed status text) is part = of-same (λ r. GrewByPart call.out r.out) (reply_of call) (answer_reply (Printed status text)) is.reply part
 out-part call (Usage place) is part = of-each (λ r. GrewByPart call.out r.out) (reply_of call) (λ r. part-of_nothing call.out r.out part)
 out-part call (NetRefused refusal) is part = of-each (λ r. GrewByPart call.out r.out) (reply_of call) (λ r. part-of_nothing call.out r.out part)
 out-part call NetUnread is part = of-each (λ r. GrewByPart call.out r.out) (reply_of call) (λ r. part-of_nothing call.out r.out part)
@@ -132,9 +140,7 @@ out-part call OutOfMemory is part = of-each (λ r. GrewByPart call.out r.out) (r
 -- err holds a prefix of the reply's text, or of the line of the answer's cause
 err-part : (call : Call) (answer : Answer) → IsAnswer call.shelf (command_of call.words) answer
     → GrewByPart call.err (answer_reply answer).err → IfSome (reply_of call) (EndsWithin call)
-err-part call (Met text) is part = of-same (EndsWithin call) (reply_of call) (answer_reply (Met text)) is.reply (inl part)
-err-part call (NotMet text) is part = of-same (EndsWithin call) (reply_of call) (answer_reply (NotMet text)) is.reply (inl part)
-err-part call (Described text) is part = of-same (EndsWithin call) (reply_of call) (answer_reply (Described text)) is.reply (inl part)
+err-part call (Printed status text) is part = of-same (EndsWithin call) (reply_of call) (answer_reply (Printed status text)) is.reply (inl part)
 err-part call (Usage place) is part = of-same (EndsWithin call) (reply_of call) (answer_reply (Usage place)) is.reply (inl part)
 err-part call (NetRefused refusal) is part = of-same (EndsWithin call) (reply_of call) (answer_reply (NetRefused refusal)) is.reply (inl part)
 err-part call NetUnread is part = of-each (EndsWithin call) (reply_of call) (λ r. inr (inl (is.cause, part)))
@@ -177,11 +183,6 @@ reply-sample : (command : Result Command ℕ) (told : List ℕ → Option (List 
 unfolding reply_to
 reply-sample command told name seed stream bytes net is there accepted = rw (is, there, accepted) refl
 
-printed-replied : (result : Status) → IsPrinted result → IsReplied result
-printed-replied ending.Done k = tt
-printed-replied ending.NotCoupled k = tt
-printed-replied s k = absurd k
-
 -- what is printed of a network that is told and accepted is its sample
 pub run_sampled : (call : Call) (result : Status) → IsRun call result
     → (name : List ℕ) (seed stream : ℕ) (bytes : List ℕ) (net : Network)
@@ -198,9 +199,7 @@ run_sampled call result run name seed stream bytes net is there accepted printed
 
 -- an answer that is printed is a text
 text-printed : (answer : Answer) → IsPrinted (answer_reply answer).status → IsText answer
-text-printed (Met text) printed = tt
-text-printed (NotMet text) printed = tt
-text-printed (Described text) printed = tt
+text-printed (Printed status text) printed = tt
 text-printed (Usage place) printed = absurd printed
 text-printed (NetRefused refusal) printed = absurd printed
 text-printed NetUnread printed = absurd printed

@@ -4,6 +4,7 @@ use Rattle.psi_io.specs.Counts.{Rose}
 use Rattle.psi_io.specs.Sink.{appended, GrewByPrefix}
 use Rattle.psi_run.specs.declared.status.Status.{Status}
 use Rattle.psi_run.specs.declared.status.Status.TheVariants.{Done, NotCoupled, Usage, NetRefused, LogRefused, LogTooLong, ReadFault, WriteFault, OutOfMemory}
+use Rattle.psi_run.specs.Status.{IsPrinted}
 use Rattle.psi_run.specs.Command.{command_of}
 use Rattle.psi_run.specs.Texts.{unread_line, memory_line}
 use Rattle.psi_run.specs.Reply.{Reply, reply_to}
@@ -62,12 +63,6 @@ IsReplied LogTooLong = Unit {0}
 IsReplied ReadFault = ⊥
 IsReplied WriteFault = ⊥
 IsReplied OutOfMemory = ⊥
-
--- the statuses that come with a text in out
-abbrev pub IsPrinted : Status → Type 0
-IsPrinted Done = Unit {0}
-IsPrinted NotCoupled = Unit {0}
-IsPrinted status = ⊥
 
 -- the statuses that come with a line in err
 abbrev pub IsReported : Status → Type 0

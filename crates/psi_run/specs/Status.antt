@@ -1,4 +1,4 @@
--- The exit status of each ending.
+-- The exit status of each ending, and the statuses with which a text is printed.
 use Rattle.std.specs.Prelude.{ℕ}
 use Rattle.psi_run.specs.declared.status.Status.{Status}
 use Rattle.psi_run.specs.declared.status.Status.TheVariants.{Done, NotCoupled, Usage, NetRefused, LogRefused, LogTooLong, ReadFault, WriteFault, OutOfMemory}
@@ -14,3 +14,9 @@ status_code LogTooLong = 5
 status_code ReadFault = 6
 status_code WriteFault = 7
 status_code OutOfMemory = 8
+
+-- the statuses that come with a text in out
+abbrev pub IsPrinted : Status → Type 0
+IsPrinted Done = Unit {0}
+IsPrinted NotCoupled = Unit {0}
+IsPrinted status = ⊥

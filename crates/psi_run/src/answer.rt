@@ -8,12 +8,13 @@ use psi_net::NetRefusal;
 /// What a call has to write once its work is done and its memory is taken.
 #[derive(Drop, Debug)]
 pub(crate) enum Answer {
-    /// The text of a sample that is met, for out.
-    Met(String),
-    /// The text of a sample that isn't met, for out.
-    NotMet(String),
-    /// The description of a network, for out.
-    Described(Vec<u8>),
+    /// What the command asks for.
+    Printed {
+        /// The status once the text is written.
+        status: Status,
+        /// The text for out.
+        text: Vec<u8>,
+    },
     /// The place of the word that offends, counted from 1.
     Usage(u8),
     /// The network file is refused.
@@ -32,9 +33,7 @@ impl Answer {
         ensures { result ≡ (answer_reply self.now).status }
     {
         match self {
-            Answer::Met(_) => Status::Done,
-            Answer::NotMet(_) => Status::NotCoupled,
-            Answer::Described(_) => Status::Done,
+            Answer::Printed { status, .. } => *status,
             Answer::Usage(_) => Status::Usage,
             Answer::NetRefused(_) => Status::NetRefused,
             Answer::NetUnread => Status::ReadFault,

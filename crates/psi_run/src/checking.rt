@@ -2,20 +2,21 @@
 
 ghost use Rattle.std.specs.Prelude.{◌≡◌, ◌++◌, OnOk, IfOk, Ok, is_none};
 ghost use Rattle.std.specs.List.{list_all};
-ghost use Rattle.psi_net.specs.Network.{Network, marks_of};
-ghost use Rattle.psi_net.specs.Reading.{network_of};
+ghost use Rattle.psi_net.specs.Network.{marks_of};
 ghost use Rattle.psi_run.specs.Command.{check};
 ghost use Rattle.psi_run.specs.Check.{queue_lines, event_lines, check_text};
 ghost use Rattle.psi_run.specs.Reply.{check_reply};
 ghost use Rattle.psi_run.specs.Checked.{AreMarked};
-ghost use Rattle.psi_run.specs.Answer.{MayReply, IsOfFile, IsText, IsAnswer};
+ghost use Rattle.psi_run.specs.Answer.{MayReply, IsOfNet, IsText, IsAnswer};
 
 use crate::answer::Answer;
-use crate::answering::MOST_NET_BYTES;
-use crate::describing::{push_event, push_monotone, push_number_line, push_queue};
+use crate::describing::{push_event, push_monotone, push_queue};
+use crate::reading::network_at;
+use crate::status::Status;
+use crate::texts::push_number_line;
 use psi_event::EventLaw;
-use psi_io::{Shelf, ShelfFault};
-use psi_net::{Net, NetError, net_of};
+use psi_io::Shelf;
+use psi_net::Net;
 use std::alloc::{AllocError, Global};
 
 // Appends the lines of the queues.
@@ -30,12 +31,13 @@ fn push_queues(text: &mut Vec<u8>, net: &Net) -> Result<(), AllocError>
 }
 
 // Appends the lines of the events, and tells whether all events are monotone.
-fn push_events(alloc: Global, text: &mut Vec<u8>, net: &Net) -> Result<bool, AllocError>
+fn push_events(text: &mut Vec<u8>, net: &Net) -> Result<bool, AllocError>
     ensures lines { OnOk result (text.new.items ≡ text.old.items ++ event_lines net.now) }
     ensures monotone { IfOk result (λ monotone. monotone ≡ list_all is_none (marks_of net.now)) }
     ensures marks { OnOk result (AreMarked net.now) }
 {
     let system = net.system();
+    // Called for its clause: the events fit the capacities.
     let _caps = system.caps();
     let mut monotone = true;
     for e in 0..net.events() {
@@ -43,7 +45,6 @@ fn push_events(alloc: Global, text: &mut Vec<u8>, net: &Net) -> Result<bool, All
         let mark = system.event(e).upset();
         monotone = monotone && mark.is_none();
         push_event(
-            alloc,
             text,
             name.bytes(),
             net.event_server(e),
@@ -66,7 +67,7 @@ pub(crate) fn check_text(alloc: Global, net: &Net) -> Result<Vec<u8>, AllocError
     push_number_line(&mut text, b"queues ", net.queues() as u32)?;
     push_queues(&mut text, net)?;
     push_number_line(&mut text, b"events ", net.events() as u32)?;
-    let monotone = push_events(alloc, &mut text, net)?;
+    let monotone = push_events(&mut text, net)?;
     push_number_line(&mut text, b"modulus ", wheel.modulus())?;
     push_number_line(&mut text, b"idle ", wheel.idle())?;
     push_number_line(&mut text, b"limit ", system.limit() as u32)?;
@@ -75,19 +76,18 @@ pub(crate) fn check_text(alloc: Global, net: &Net) -> Result<Vec<u8>, AllocError
     Ok(text)
 }
 
-// The answer for the bytes of a network file: the description of the network.
-fn file_answer(alloc: Global, bytes: &[u8]) -> Answer
-    ensures reply { MayReply result (check_reply (network_of bytes.now)) }
-    ensures kind { IsOfFile result }
-    ensures marks { (net : Network) → network_of bytes.now ≡ Ok net → IsText result → AreMarked net }
+// The answer for a network: its description.
+fn net_answer(alloc: Global, net: &Net) -> Answer
+    ensures reply { MayReply result (check_reply (Ok net.now)) }
+    ensures kind { IsOfNet result }
+    ensures marks { IsText result → AreMarked net.now }
 {
-    match net_of(alloc, bytes) {
-        Ok(net) => match check_text(alloc, &net) {
-            Ok(text) => Answer::Described(text),
-            Err(_) => Answer::OutOfMemory,
+    match check_text(alloc, net) {
+        Ok(text) => Answer::Printed {
+            status: Status::Done,
+            text,
         },
-        Err(NetError::Refused(refusal)) => Answer::NetRefused(refusal),
-        Err(NetError::OutOfMemory) => Answer::OutOfMemory,
+        Err(_) => Answer::OutOfMemory,
     }
 }
 
@@ -96,9 +96,8 @@ pub(crate) fn check_answer<F: Shelf>(alloc: Global, shelf: &mut F, net: &str) ->
     ensures { IsAnswer (record { told = F.told shelf.old; faults_before = F.faults shelf.old; faults_after = F.faults shelf.new })
         (Ok (check net.now)) result }
 {
-    match shelf.read(alloc, net, MOST_NET_BYTES) {
-        Ok(bytes) => file_answer(alloc, bytes.as_slice()),
-        Err(ShelfFault::Failed) => Answer::NetUnread,
-        Err(ShelfFault::OutOfMemory) => Answer::OutOfMemory,
+    match network_at(alloc, shelf, net) {
+        Ok(net) => net_answer(alloc, &net),
+        Err(answer) => answer,
     }
 }

@@ -1,32 +1,12 @@
 //! The lines of a network's description.
 
-ghost use Rattle.std.specs.Prelude.{◌≡◌, ◌++◌, string_bytes, OnOk, IfOk};
-ghost use Rattle.std.specs.List.{flat_map};
-ghost use Rattle.psi_run.specs.Describing.{number_line, queue_line, mark_text, event_line, monotone_line};
+ghost use Rattle.std.specs.Prelude.{◌≡◌, ◌++◌, OnOk};
+ghost use Rattle.psi_run.specs.Describing.{queue_line, mark_text, event_line, monotone_line};
 
-use crate::texts::push_state;
+use crate::texts::{push_pieces, push_state};
 use itoa::Buffer;
 use psi_state::State;
-use std::alloc::{AllocError, Global};
-
-// Appends the pieces one after another.
-fn push_pieces(text: &mut Vec<u8>, pieces: &[&[u8]]) -> Result<(), AllocError>
-    ensures { OnOk result (text.new.items ≡ text.old.items ++ flat_map (λ piece. piece.now) pieces.now) }
-{
-    for piece in pieces {
-        text.extend_from_slice(piece)?;
-    }
-    Ok(())
-}
-
-/// Appends a word and a number.
-#[tactic(auto, unfolding(crate::specs::Describing::number_line))]
-pub(crate) fn push_number_line(text: &mut Vec<u8>, word: &[u8], n: u32) -> Result<(), AllocError>
-    ensures { OnOk result (text.new.items ≡ text.old.items ++ number_line word.now n) }
-{
-    let mut digits = Buffer::new();
-    push_pieces(text, &[word, digits.format(n).as_bytes(), b"\n"])
-}
+use std::alloc::AllocError;
 
 /// Appends the line of a queue.
 #[tactic(auto, unfolding(crate::specs::Describing::queue_line))]
@@ -48,18 +28,17 @@ pub(crate) fn push_queue(
     )
 }
 
-// What is said of an event that keeps the order of states, or of two states whose order it breaks.
-fn mark_text(alloc: Global, mark: &Option<(State, State)>) -> Result<String, AllocError>
-    ensures { IfOk result (λ text. string_bytes text ≡ mark_text mark.now) }
+// Appends what is said of an event that keeps the order of states, or of two states whose order it breaks.
+fn push_mark(text: &mut Vec<u8>, mark: &Option<(State, State)>) -> Result<(), AllocError>
+    ensures { OnOk result (text.new.items ≡ text.old.items ++ mark_text mark.now) }
 {
     match mark {
-        None => String::from_str(alloc, "monotone"),
+        None => text.extend_from_slice(b"monotone"),
         Some((x, y)) => {
-            let mut text = String::from_str(alloc, "upset ")?;
-            push_state(&mut text, x)?;
-            text.push(' ')?;
-            push_state(&mut text, y)?;
-            Ok(text)
+            text.extend_from_slice(b"upset ")?;
+            push_state(text, x)?;
+            text.extend_from_slice(b" ")?;
+            push_state(text, y)
         }
     }
 }
@@ -67,7 +46,6 @@ fn mark_text(alloc: Global, mark: &Option<(State, State)>) -> Result<String, All
 /// Appends the line of an event.
 #[tactic(auto, unfolding(crate::specs::Describing::event_line))]
 pub(crate) fn push_event(
-    alloc: Global,
     text: &mut Vec<u8>,
     name: &[u8],
     server: u16,
@@ -80,12 +58,10 @@ pub(crate) fn push_event(
     let server = server_digits.format(server).as_bytes();
     let mut rate_digits = Buffer::new();
     let rate = rate_digits.format(rate).as_bytes();
-    let mark = mark_text(alloc, mark)?;
-    let mark = mark.as_bytes();
-    push_pieces(
-        text,
-        &[b"event ", name, b" ", server, b" ", rate, b" ", mark, b"\n"],
-    )
+    push_pieces(text, &[b"event ", name, b" ", server, b" ", rate, b" "])?;
+    push_mark(text, mark)?;
+    text.push(b'\n')?;
+    Ok(())
 }
 
 /// Appends whether all events are monotone.

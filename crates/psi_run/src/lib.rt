@@ -16,6 +16,7 @@ mod made;
 #[cfg(test)]
 mod plain;
 mod program;
+mod reading;
 #[cfg(test)]
 mod samples;
 #[cfg(test)]

@@ -4,7 +4,8 @@ ghost use Rattle.std.specs.Prelude.{◌≡◌, ℕ, List, Some, Ok, map, string_
 ghost use Rattle.psi_net.specs.Network.{Network};
 ghost use Rattle.psi_net.specs.Reading.{network_of};
 ghost use Rattle.psi_run.specs.Command.{command_of, sample, check};
-ghost use Rattle.psi_run.specs.Call.{IsRun, IsPrinted};
+ghost use Rattle.psi_run.specs.Status.{IsPrinted};
+ghost use Rattle.psi_run.specs.Call.{IsRun};
 ghost use Rattle.psi_run.specs.Headline.{IsSampled};
 ghost use Rattle.psi_run.specs.Checked.{IsChecked};
 

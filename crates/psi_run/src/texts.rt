@@ -1,44 +1,74 @@
-//! The texts of a sample.
+//! The text of a sample, and how texts are written: piece by piece, a number by its decimal digits.
 
-ghost use Rattle.std.specs.Prelude.{◌≡◌, ◌++◌, string_bytes, IfOk, OnOk};
+ghost use Rattle.std.specs.Prelude.{◌≡◌, ◌++◌, decimal, IfOk, OnOk};
+ghost use Rattle.std.specs.List.{flat_map};
 ghost use Rattle.psi_run.specs.Texts.{state_text, outcome_text, IsWithinLimit};
+ghost use Rattle.psi_run.specs.Describing.{number_line};
 
+use itoa::Buffer;
 use psi_state::{Outcome, State};
 use std::alloc::{AllocError, Global};
-use std::fmt::Write;
+
+/// Appends the pieces one after another.
+pub(crate) fn push_pieces(text: &mut Vec<u8>, pieces: &[&[u8]]) -> Result<(), AllocError>
+    ensures { OnOk result (text.new.items ≡ text.old.items ++ flat_map (λ piece. piece.now) pieces.now) }
+{
+    for piece in pieces {
+        text.extend_from_slice(piece)?;
+    }
+    Ok(())
+}
+
+/// Appends a word, a number and a line feed.
+#[tactic(auto, unfolding(crate::specs::Describing::number_line))]
+pub(crate) fn push_number_line(text: &mut Vec<u8>, word: &[u8], n: u32) -> Result<(), AllocError>
+    ensures { OnOk result (text.new.items ≡ text.old.items ++ number_line word.now n) }
+{
+    let mut digits = Buffer::new();
+    push_pieces(text, &[word, digits.format(n).as_bytes(), b"\n"])
+}
+
+// Appends a number of customers.
+fn push_customers(text: &mut Vec<u8>, customers: u16) -> Result<(), AllocError>
+    ensures { OnOk result (text.new.items ≡ text.old.items ++ decimal customers) }
+{
+    let mut digits = Buffer::new();
+    text.extend_from_slice(digits.format(customers).as_bytes())
+}
 
 /// Appends a state's numbers in the queues' order, joined by commas.
 #[tactic(auto, using(crate::proofs::Listing::state_text_first))]
-pub(crate) fn push_state(text: &mut String, state: &State) -> Result<(), AllocError>
-    ensures { OnOk result (string_bytes text.new ≡ string_bytes text.old ++ state_text state.now) }
+pub(crate) fn push_state(text: &mut Vec<u8>, state: &State) -> Result<(), AllocError>
+    ensures { OnOk result (text.new.items ≡ text.old.items ++ state_text state.now) }
 {
     let queues = state.len();
-    let first = state.get(0);
-    write!(text, "{first}")?;
+    push_customers(text, state.get(0))?;
     for queue in 1..queues {
-        let customers = state.get(queue);
-        write!(text, ",{customers}")?;
+        text.push(b',')?;
+        push_customers(text, state.get(queue))?;
     }
     Ok(())
 }
 
 /// What is printed of a sample: where it is met, a line with the horizon and a line with the state; where
 /// it isn't, a line with the greatest horizon.
-#[tactic(auto, unfolding(crate::specs::Texts::outcome_text))]
-pub(crate) fn outcome_text(alloc: Global, outcome: &Outcome) -> Result<String, AllocError>
+#[tactic(auto, unfolding(crate::specs::Texts::outcome_text, crate::specs::Describing::number_line))]
+pub(crate) fn outcome_text(alloc: Global, outcome: &Outcome) -> Result<Vec<u8>, AllocError>
     requires { IsWithinLimit outcome.now }
-    ensures { IfOk result (λ text. string_bytes text ≡ outcome_text outcome.now) }
+    ensures { IfOk result (λ text. text.items ≡ outcome_text outcome.now) }
 {
+    let mut text = Vec::new(alloc);
     match *outcome {
         Outcome::Met { horizon, state } => {
-            let mut text = format!(in alloc; "met {horizon}\nstate ")?;
+            push_number_line(&mut text, b"met ", horizon)?;
+            text.extend_from_slice(b"state ")?;
             push_state(&mut text, &state)?;
-            text.push('\n')?;
-            Ok(text)
+            text.push(b'\n')?;
         }
         Outcome::NotMet { limit } => {
-            let horizon = 1u64 << limit;
-            format!(in alloc; "not coupled within {horizon}\n")
+            let horizon = 1u32 << limit;
+            push_number_line(&mut text, b"not coupled within ", horizon)?;
         }
     }
+    Ok(text)
 }

@@ -158,9 +158,7 @@ pub(crate) fn write_answer<O: Sink, E: Sink>(
         result }
 {
     match answer {
-        Answer::Met(text) => write_all(out, text.as_bytes()),
-        Answer::NotMet(text) => write_all(out, text.as_bytes()),
-        Answer::Described(text) => write_all(out, text.as_slice()),
+        Answer::Printed { text, .. } => write_all(out, text.as_slice()),
         Answer::Usage(place) => write_usage(err, *place),
         Answer::NetRefused(refusal) => write_refusal(err, refusal),
         Answer::NetUnread => write_all(err, b"psi: cannot read network\n"),

@@ -1,8 +1,9 @@
-use Rattle.std.proofs.Common.{refl}
-use Rattle.psi_run.specs.declared.answering.TheConstants.{MOST_NET_BYTES}
-use Rattle.psi_run.proofs.Replies.{file_answered}
+use Rattle.psi_run.proofs.Replies.{no_sample, sample_answered}
 use Rattle.psi_run.proofs.answering.sample_answer.Goals as goal
 
 pub returns-in-Ok : goal.returns-in-Ok
-returns-in-Ok g c = let may = rw c.as_slice.ensures.value at c.file_answer.ensures.reply in
-    file_answered MOST_NET_BYTES refl _ c.args.net.now c.args.seed c.args.stream c.file_answer.result c.in-Ok.bytes.items c.in-Ok.ensures.bytes may c.file_answer.ensures.kind
+returns-in-Ok g c = let made = c.net_answer.ensures in
+    sample_answered _ c.args.net.now c.args.seed c.args.stream c.in-Ok.net c.net_answer.result c.in-Ok.ensures.network made.reply made.kind
+
+pub returns-in-Err : goal.returns-in-Err
+returns-in-Err g c = no_sample _ c.args.net.now c.args.seed c.args.stream c.in-Err.answer c.in-Err.ensures.none

@@ -1,9 +1,8 @@
-use Rattle.std.proofs.Common.{refl}
-use Rattle.psi_run.specs.declared.answering.TheConstants.{MOST_NET_BYTES}
-use Rattle.psi_run.proofs.Replies.{check_answered}
+use Rattle.psi_run.proofs.Replies.{no_check, check_answered}
 use Rattle.psi_run.proofs.checking.check_answer.Goals as goal
 
 pub returns-in-Ok : goal.returns-in-Ok
-returns-in-Ok g c = let may = rw c.as_slice.ensures.value at c.file_answer.ensures.reply in
-    let marks = rw c.as_slice.ensures.value at c.file_answer.ensures.marks in
-    check_answered MOST_NET_BYTES refl _ c.args.net.now c.file_answer.result c.in-Ok.bytes.items c.in-Ok.ensures.bytes may c.file_answer.ensures.kind marks
+returns-in-Ok g c = let made = c.net_answer.ensures in check_answered _ c.args.net.now c.in-Ok.net c.net_answer.result c.in-Ok.ensures.network made.reply made.kind made.marks
+
+pub returns-in-Err : goal.returns-in-Err
+returns-in-Err g c = no_check _ c.args.net.now c.in-Err.answer c.in-Err.ensures.none

@@ -1,8 +1,11 @@
-use Rattle.std.proofs.Common.{arith}
+use Rattle.std.specs.Prelude.{ℕ, List, [], ◌∷◌, ◌++◌, ◌≡◌, slice_index}
+use Rattle.std.specs.Fmt.{decimal}
+use Rattle.std.proofs.Common.{◌∙◌, append_assoc, arith}
 use Rattle.psi_run.proofs.Listing.{state_text_pushed}
 use Rattle.psi_run.proofs.texts.push_state.Goals as goal
 
 pub loop-queue-preserved : goal.loop-queue-preserved
 loop-queue-preserved c =
-    let pushed = rw c.get-customers.ensures at c.in_ok-write-2.ensures.bytes in
-    state_text_pushed _ _ _ c.args.state.now c.loop-queue.queue (omega arith) (omega arith) c.loop-queue.invariant pushed
+    let pushed = rw (c.get-in-loop-queue.ensures, c.in_ok-push.ensures.items) at c.in_ok-push_customers-2.ensures in
+    state_text_pushed _ _ _ c.args.state.now c.loop-queue.queue (omega arith) (omega arith) c.loop-queue.invariant
+    (pushed ∙ append_assoc c.loop-queue.text.items (44 ∷ []) (decimal (slice_index c.args.state.now c.loop-queue.queue)))

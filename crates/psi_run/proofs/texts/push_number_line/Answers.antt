@@ -1,6 +1,6 @@
 use Rattle.std.proofs.Common.{append_assoc}
 use Rattle.psi_run.specs.Describing.{number_line}
-use Rattle.psi_run.proofs.describing.push_number_line.Goals as goal
+use Rattle.psi_run.proofs.texts.push_number_line.Goals as goal
 
 pub returns : goal.returns
 unfolding number_line
