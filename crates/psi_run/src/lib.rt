@@ -7,6 +7,8 @@
 
 mod answer;
 mod answering;
+#[cfg(test)]
+mod calls;
 mod checking;
 #[cfg(test)]
 mod covers;
@@ -17,6 +19,8 @@ mod made;
 mod plain;
 mod program;
 mod reading;
+#[cfg(test)]
+mod refusals;
 #[cfg(test)]
 mod samples;
 #[cfg(test)]

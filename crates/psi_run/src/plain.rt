@@ -6,12 +6,13 @@ use psi_past::{Past, SeedPast};
 use std::alloc::{AllocError, Global};
 use std::fmt::Write;
 
-// How many customers each queue holds; a network of one or two queues leaves the last places at 0.
-pub(crate) type Spot = [u16; 3];
+// A number for each queue, as that of its customers; a network of one or two queues leaves the last places
+// at 0.
+pub(crate) type Numbers = [u16; 3];
 
-// A queue whose least and greatest number and whose shift, floor and ceiling a guarded event gives.
+// A part of a guarded event: a queue, its least and greatest number, and the shift, floor and ceiling.
 #[derive(Clone, Copy)]
-pub(crate) struct Stretch {
+pub(crate) struct Part {
     pub(crate) queue: usize,
     pub(crate) least: u16,
     pub(crate) most: u16,
@@ -22,7 +23,7 @@ pub(crate) struct Stretch {
 
 // What an event of a file does. Queues are numbered from 0; a table is given by the number of its rule.
 #[derive(Drop)]
-pub(crate) enum Deed {
+pub(crate) enum Kind {
     Arrival {
         to: Vec<usize>,
     },
@@ -56,7 +57,7 @@ pub(crate) enum Deed {
         to: Option<usize>,
     },
     Guarded {
-        parts: Vec<Stretch>,
+        parts: Vec<Part>,
     },
 }
 
@@ -64,7 +65,7 @@ pub(crate) enum Deed {
 #[derive(Drop)]
 pub(crate) struct Entry {
     pub(crate) rate: u32,
-    pub(crate) deed: Deed,
+    pub(crate) kind: Kind,
 }
 
 // A network: the queues' capacities and servers, the events, the greatest horizon's exponent and the
@@ -72,8 +73,8 @@ pub(crate) struct Entry {
 #[derive(Drop)]
 pub(crate) struct Plain {
     pub(crate) queues: usize,
-    pub(crate) caps: Spot,
-    pub(crate) servers: Spot,
+    pub(crate) caps: Numbers,
+    pub(crate) servers: Numbers,
     pub(crate) entries: Vec<Entry>,
     pub(crate) limit: u32,
     pub(crate) split: usize,
@@ -81,7 +82,7 @@ pub(crate) struct Plain {
 
 // One server's event: the place of its entry, and from how many customers on the source serves.
 #[derive(Clone, Copy)]
-struct Turn {
+struct ServerEvent {
     place: usize,
     k: u16,
     rate: u32,
@@ -91,14 +92,14 @@ struct Turn {
 #[derive(Drop)]
 pub(crate) struct Region {
     pub(crate) is_split: bool,
-    pub(crate) states: Vec<Spot>,
+    pub(crate) states: Vec<Numbers>,
 }
 
 // The horizon that was met, and its state.
 #[derive(Clone, Copy)]
 pub(crate) struct Met {
     pub(crate) horizon: u32,
-    pub(crate) state: Spot,
+    pub(crate) state: Numbers,
 }
 
 // How a sample ended: what was met, if anything was, whether the last region is a list, and whether the box
@@ -111,7 +112,7 @@ pub(crate) struct Ending {
 }
 
 // How many customers a queue holds.
-pub(crate) fn held(x: &Spot, queue: usize) -> u16 {
+pub(crate) fn held(x: &Numbers, queue: usize) -> u16 {
     match x.get(queue) {
         Some(number) => *number,
         None => 0,
@@ -119,7 +120,7 @@ pub(crate) fn held(x: &Spot, queue: usize) -> u16 {
 }
 
 // The state with another number of customers in a queue.
-pub(crate) fn with(x: &Spot, queue: usize, number: u16) -> Spot {
+pub(crate) fn with(x: &Numbers, queue: usize, number: u16) -> Numbers {
     let mut y = *x;
     if queue < 3 {
         y[queue] = number;
@@ -127,16 +128,16 @@ pub(crate) fn with(x: &Spot, queue: usize, number: u16) -> Spot {
     y
 }
 
-fn more(x: &Spot, queue: usize, count: u16) -> Spot {
+fn more(x: &Numbers, queue: usize, count: u16) -> Numbers {
     with(x, queue, held(x, queue).saturating_add(count))
 }
 
-fn fewer(x: &Spot, queue: usize, count: u16) -> Spot {
+fn fewer(x: &Numbers, queue: usize, count: u16) -> Numbers {
     with(x, queue, held(x, queue).saturating_sub(count))
 }
 
 // Whether a queue has room for so many customers.
-fn has_room(caps: &Spot, x: &Spot, queue: usize, count: u16) -> bool {
+fn has_room(caps: &Numbers, x: &Numbers, queue: usize, count: u16) -> bool {
     held(x, queue).saturating_add(count) <= held(caps, queue)
 }
 
@@ -156,7 +157,7 @@ pub(crate) fn value(rule: u32, place: u32, number: u16) -> u32 {
 }
 
 // The first queue of the list with room for so many customers.
-fn first(caps: &Spot, x: &Spot, to: &[usize], count: u16) -> Option<usize> {
+fn first(caps: &Numbers, x: &Numbers, to: &[usize], count: u16) -> Option<usize> {
     for queue in to {
         if has_room(caps, x, *queue, count) {
             return Some(*queue);
@@ -166,7 +167,7 @@ fn first(caps: &Spot, x: &Spot, to: &[usize], count: u16) -> Option<usize> {
 }
 
 // The queue of the list with room for so many customers whose value is the least, the first of these.
-fn best(caps: &Spot, x: &Spot, to: &[usize], rule: u32, count: u16) -> Option<usize> {
+fn best(caps: &Numbers, x: &Numbers, to: &[usize], rule: u32, count: u16) -> Option<usize> {
     let mut found = None;
     let mut least = u32::MAX;
     let mut place = 0u32;
@@ -182,7 +183,7 @@ fn best(caps: &Spot, x: &Spot, to: &[usize], rule: u32, count: u16) -> Option<us
 }
 
 // Whether there is no source, or it holds at least k customers.
-fn serves(x: &Spot, from: Option<usize>, k: u16) -> bool {
+fn serves(x: &Numbers, from: Option<usize>, k: u16) -> bool {
     match from {
         None => true,
         Some(queue) => held(x, queue) >= k,
@@ -190,7 +191,7 @@ fn serves(x: &Spot, from: Option<usize>, k: u16) -> bool {
 }
 
 // The state without one customer of the source, where there is one.
-fn left(x: &Spot, from: Option<usize>) -> Spot {
+fn left(x: &Numbers, from: Option<usize>) -> Numbers {
     match from {
         None => *x,
         Some(queue) => fewer(x, queue, 1),
@@ -198,7 +199,13 @@ fn left(x: &Spot, from: Option<usize>) -> Spot {
 }
 
 // One customer of the source goes to the queue that was chosen; where none was, it is lost or stays.
-fn moved(x: &Spot, from: Option<usize>, goal: Option<usize>, is_lost: bool, size: u16) -> Spot {
+fn moved(
+    x: &Numbers,
+    from: Option<usize>,
+    goal: Option<usize>,
+    is_lost: bool,
+    size: u16,
+) -> Numbers {
     match goal {
         Some(queue) => more(&left(x, from), queue, size),
         None if is_lost => left(x, from),
@@ -206,7 +213,7 @@ fn moved(x: &Spot, from: Option<usize>, goal: Option<usize>, is_lost: bool, size
     }
 }
 
-fn forked(caps: &Spot, x: &Spot, from: Option<usize>, to: &[usize]) -> Spot {
+fn forked(caps: &Numbers, x: &Numbers, from: Option<usize>, to: &[usize]) -> Numbers {
     let mut y = left(x, from);
     for queue in to {
         if !has_room(caps, x, *queue, 1) {
@@ -217,7 +224,7 @@ fn forked(caps: &Spot, x: &Spot, from: Option<usize>, to: &[usize]) -> Spot {
     y
 }
 
-fn joined(caps: &Spot, x: &Spot, from: &[usize], to: Option<usize>) -> Spot {
+fn joined(caps: &Numbers, x: &Numbers, from: &[usize], to: Option<usize>) -> Numbers {
     let mut y = *x;
     for queue in from {
         if held(x, *queue) == 0 {
@@ -233,7 +240,7 @@ fn joined(caps: &Spot, x: &Spot, from: &[usize], to: Option<usize>) -> Spot {
 }
 
 // A number of customers after the shift of a part, within its floor and ceiling.
-fn shifted(part: &Stretch, number: u16) -> u16 {
+fn shifted(part: &Part, number: u16) -> u16 {
     let by = part.shift.unsigned_abs().min(65535) as u16;
     let moved = if part.shift < 0 {
         number.saturating_sub(by)
@@ -243,7 +250,7 @@ fn shifted(part: &Stretch, number: u16) -> u16 {
     moved.max(part.floor).min(part.ceiling)
 }
 
-fn guarded(x: &Spot, parts: &[Stretch]) -> Spot {
+fn guarded(x: &Numbers, parts: &[Part]) -> Numbers {
     let mut y = *x;
     for part in parts {
         let number = held(x, part.queue);
@@ -256,17 +263,17 @@ fn guarded(x: &Spot, parts: &[Stretch]) -> Spot {
 }
 
 // What the event of the server with the number k makes of a state.
-fn after(caps: &Spot, deed: &Deed, k: u16, x: &Spot) -> Spot {
-    match deed {
-        Deed::Arrival { to } => moved(x, None, first(caps, x, to, 1), false, 1),
-        Deed::Batch { to, size } => moved(x, None, first(caps, x, to, *size), false, *size),
-        Deed::Service { from, .. } if !serves(x, Some(*from), k) => *x,
-        Deed::Service { from, to, is_lost } => {
+fn after(caps: &Numbers, kind: &Kind, k: u16, x: &Numbers) -> Numbers {
+    match kind {
+        Kind::Arrival { to } => moved(x, None, first(caps, x, to, 1), false, 1),
+        Kind::Batch { to, size } => moved(x, None, first(caps, x, to, *size), false, *size),
+        Kind::Service { from, .. } if !serves(x, Some(*from), k) => *x,
+        Kind::Service { from, to, is_lost } => {
             let is_out = to.is_empty() || *is_lost;
             moved(x, Some(*from), first(caps, x, to, 1), is_out, 1)
         }
-        Deed::Index { from, .. } if !serves(x, *from, k) => *x,
-        Deed::Index {
+        Kind::Index { from, .. } if !serves(x, *from, k) => *x,
+        Kind::Index {
             from,
             to,
             rule,
@@ -276,41 +283,41 @@ fn after(caps: &Spot, deed: &Deed, k: u16, x: &Spot) -> Spot {
             let goal = best(caps, x, to, *rule, *size);
             moved(x, *from, goal, *is_lost, *size)
         }
-        Deed::Negative { from, .. } if !serves(x, *from, k) => *x,
-        Deed::Negative { from, on, amount } => fewer(&left(x, *from), *on, *amount),
-        Deed::Fork { from, .. } if !serves(x, *from, k) => *x,
-        Deed::Fork { from, to } => forked(caps, x, *from, to),
-        Deed::Join { from, to } => joined(caps, x, from, *to),
-        Deed::Guarded { parts } => guarded(x, parts),
+        Kind::Negative { from, .. } if !serves(x, *from, k) => *x,
+        Kind::Negative { from, on, amount } => fewer(&left(x, *from), *on, *amount),
+        Kind::Fork { from, .. } if !serves(x, *from, k) => *x,
+        Kind::Fork { from, to } => forked(caps, x, *from, to),
+        Kind::Join { from, to } => joined(caps, x, from, *to),
+        Kind::Guarded { parts } => guarded(x, parts),
     }
 }
 
 // The queue whose servers share an event.
-fn single_source(deed: &Deed) -> Option<usize> {
-    match deed {
-        Deed::Service { from, .. } => Some(*from),
-        Deed::Index { from, .. } | Deed::Negative { from, .. } | Deed::Fork { from, .. } => *from,
+fn single_source(kind: &Kind) -> Option<usize> {
+    match kind {
+        Kind::Service { from, .. } => Some(*from),
+        Kind::Index { from, .. } | Kind::Negative { from, .. } | Kind::Fork { from, .. } => *from,
         _ => None,
     }
 }
 
 // The events in their order, one for each server.
-fn turns(alloc: Global, net: &Plain) -> Result<Vec<Turn>, AllocError> {
-    let mut turns = Vec::new(alloc);
+fn events(alloc: Global, net: &Plain) -> Result<Vec<ServerEvent>, AllocError> {
+    let mut events = Vec::new(alloc);
     for (place, entry) in net.entries.iter().enumerate() {
-        let servers = match single_source(&entry.deed) {
+        let servers = match single_source(&entry.kind) {
             None => 1,
             Some(queue) => held(&net.servers, queue),
         };
         for earlier in 0..servers {
-            turns.push(Turn {
+            events.push(ServerEvent {
                 place,
                 k: earlier.saturating_add(1),
                 rate: entry.rate,
             })?;
         }
     }
-    Ok(turns)
+    Ok(events)
 }
 
 // The least power of two that isn't below the total.
@@ -325,24 +332,24 @@ fn modulus(total: u32) -> u32 {
 }
 
 // The event of a word; none is idle.
-fn picked(turns: &[Turn], word: u32) -> Option<Turn> {
+fn picked(events: &[ServerEvent], word: u32) -> Option<ServerEvent> {
     let mut total = 0u32;
-    for turn in turns {
-        total = total.saturating_add(turn.rate);
+    for event in events {
+        total = total.saturating_add(event.rate);
     }
     let number = word % modulus(total).max(1);
     let mut below = 0u32;
-    for turn in turns {
-        below = below.saturating_add(turn.rate);
+    for event in events {
+        below = below.saturating_add(event.rate);
         if number < below {
-            return Some(*turn);
+            return Some(*event);
         }
     }
     None
 }
 
 // The states of a box in their order.
-fn listed(alloc: Global, least: &Spot, most: &Spot) -> Result<Vec<Spot>, AllocError> {
+fn listed(alloc: Global, least: &Numbers, most: &Numbers) -> Result<Vec<Numbers>, AllocError> {
     let mut states = Vec::new(alloc);
     for a in least[0]..most[0].saturating_add(1) {
         for b in least[1]..most[1].saturating_add(1) {
@@ -355,7 +362,7 @@ fn listed(alloc: Global, least: &Spot, most: &Spot) -> Result<Vec<Spot>, AllocEr
 }
 
 // The least or the greatest numbers of two states.
-fn corner(x: &Spot, y: &Spot, is_least: bool) -> Spot {
+fn corner(x: &Numbers, y: &Numbers, is_least: bool) -> Numbers {
     let mut z = *x;
     for queue in 0..3 {
         z[queue] = if is_least {
@@ -368,7 +375,7 @@ fn corner(x: &Spot, y: &Spot, is_least: bool) -> Spot {
 }
 
 // The states of the least box around the states.
-fn hull(alloc: Global, states: &[Spot]) -> Result<Vec<Spot>, AllocError> {
+fn hull(alloc: Global, states: &[Numbers]) -> Result<Vec<Numbers>, AllocError> {
     let mut least = [u16::MAX; 3];
     let mut most = [0; 3];
     for x in states {
@@ -379,11 +386,16 @@ fn hull(alloc: Global, states: &[Spot]) -> Result<Vec<Spot>, AllocError> {
 }
 
 // What an event makes of the states, in their order and each once.
-fn image(alloc: Global, net: &Plain, turn: Turn, states: &[Spot]) -> Result<Vec<Spot>, AllocError> {
+fn image(
+    alloc: Global,
+    net: &Plain,
+    event: ServerEvent,
+    states: &[Numbers],
+) -> Result<Vec<Numbers>, AllocError> {
     let mut images = Vec::new(alloc);
     for x in states {
-        images.push(match net.entries.get(turn.place) {
-            Some(entry) => after(&net.caps, &entry.deed, turn.k, x),
+        images.push(match net.entries.get(event.place) {
+            Some(entry) => after(&net.caps, &entry.kind, event.k, x),
             None => *x,
         })?;
     }
@@ -397,13 +409,13 @@ fn image(alloc: Global, net: &Plain, turn: Turn, states: &[Spot]) -> Result<Vec<
 fn stepped(
     alloc: Global,
     net: &Plain,
-    turn: Option<Turn>,
+    event: Option<ServerEvent>,
     region: Region,
 ) -> Result<Region, AllocError> {
     let is_split = region.is_split || region.states.len() <= net.split;
-    let images = match turn {
+    let images = match event {
         None => region.states,
-        Some(turn) => image(alloc, net, turn, &region.states)?,
+        Some(event) => image(alloc, net, event, &region.states)?,
     };
     let states = if is_split {
         images
@@ -417,7 +429,7 @@ fn stepped(
 fn followed(
     alloc: Global,
     net: &Plain,
-    turns: &[Turn],
+    events: &[ServerEvent],
     past: &mut SeedPast,
     horizon: u32,
 ) -> Result<Region, AllocError> {
@@ -427,7 +439,7 @@ fn followed(
     };
     for done in 0..horizon {
         let word = past.word(horizon.saturating_sub(done).saturating_sub(1));
-        region = stepped(alloc, net, picked(turns, word), region)?;
+        region = stepped(alloc, net, picked(events, word), region)?;
     }
     Ok(region)
 }
@@ -439,7 +451,7 @@ pub(crate) fn sampled(
     seed: u64,
     stream: u64,
 ) -> Result<Ending, AllocError> {
-    let turns = turns(alloc, net)?;
+    let events = events(alloc, net)?;
     let mut past = SeedPast::new(seed, stream);
     let mut horizon = 1u32;
     let mut seen = Ending {
@@ -448,7 +460,7 @@ pub(crate) fn sampled(
         began_split: listed(alloc, &[0; 3], &net.caps)?.len() <= net.split,
     };
     for _ in 0..net.limit.saturating_add(1) {
-        let region = followed(alloc, net, &turns, &mut past, horizon)?;
+        let region = followed(alloc, net, &events, &mut past, horizon)?;
         seen.is_split = region.is_split;
         if let [state] = region.states.as_slice() {
             let state = *state;
@@ -465,7 +477,7 @@ fn push_met(
     text: &mut String,
     queues: usize,
     horizon: u32,
-    state: &Spot,
+    state: &Numbers,
 ) -> Result<(), AllocError> {
     write!(text, "met {horizon}\nstate ")?;
     for queue in 0..queues {

@@ -1,42 +1,15 @@
 //! Samples of whole network files: many small networks against a plain program that lists states, and
 //! networks worked out by hand.
 
+use crate::Status;
+use crate::calls::{CHECK, SAMPLE, Seen, called};
 use crate::plain::{Ending, Plain, printed, sampled};
 use crate::small::{file_of, network};
-use crate::{Status, run};
-use psi_io::{MemoryShelf, MemorySink};
 use psi_past::{Past, SeedPast};
 use std::alloc::{AllocError, Global};
 use std::fmt::Write;
 use std::process::Abort;
 use std::test::Fail;
-
-// What a call answered, and what it wrote to out and err.
-#[derive(Drop)]
-struct Seen {
-    status: Status,
-    out: MemorySink,
-    err: MemorySink,
-}
-
-// A call with the words, parted by spaces, over a shelf with this file under `net.toml`.
-fn called(alloc: Global, words: &str, net: &str) -> Result<Seen, Fail> {
-    let mut strings = Vec::new(alloc);
-    for word in words.split(' ') {
-        strings.push(String::from_str(alloc, word)?)?;
-    }
-    let mut shelf = MemoryShelf::new(alloc, Vec::new(alloc));
-    shelf
-        .put("net.toml", net.as_bytes())
-        .ok()
-        .ok_or("room for a file")?;
-    let out = MemorySink::new(alloc, 2000, 2000, Vec::new(alloc));
-    let err = MemorySink::new(alloc, 2000, 2000, Vec::new(alloc));
-    let mut out = out.ok().ok_or("room for a sink")?;
-    let mut err = err.ok().ok_or("room for a sink")?;
-    let status = run(alloc, strings.as_slice(), &mut shelf, &mut out, &mut err);
-    Ok(Seen { status, out, err })
-}
 
 // The call ended so and wrote this to out.
 fn assert_answer(rt: &impl Abort, seen: &Seen, net: &str, status: Status, out: &str) {
@@ -75,13 +48,15 @@ fn compare(rt: &impl Abort, alloc: Global, net: &Plain, seed: u64) -> Result<End
     let stream = seed.wrapping_mul(seed);
     let seen = sampled(alloc, net, seed, stream)?;
     let text = printed(alloc, net, &seen)?;
-    let words = format!(in alloc; "sample net.toml {seed} {stream}")?;
+    let numbers = (format!(in alloc; "{seed}")?, format!(in alloc; "{stream}")?);
+    let words = ["sample", "net.toml", numbers.0.as_str(), numbers.1.as_str()];
     let status = if seen.met.is_some() {
         Status::Done
     } else {
         Status::NotCoupled
     };
-    assert_answer(rt, &called(alloc, &words, &file)?, &file, status, &text);
+    let called = called(alloc, &words, file.as_bytes())?;
+    assert_answer(rt, &called, &file, status, &text);
     Ok(seen)
 }
 
@@ -182,7 +157,7 @@ const SERVED: &str = "},
 ]
 ";
 
-// The file of these pieces.
+// The file of these pieces, in version 2.
 fn file(alloc: Global, pieces: &[&str]) -> Result<String, AllocError> {
     let mut text = String::from_str(alloc, "version = 2\n")?;
     for piece in pieces {
@@ -236,7 +211,7 @@ fn samples_worked_out_by_hand(rt: HostRuntime) -> Result<(), Fail> {
     ];
     for (pieces, status, text) in cases {
         let net = file(alloc, pieces)?;
-        let seen = called(alloc, "sample net.toml 0 0", &net)?;
+        let seen = called(alloc, &SAMPLE, net.as_bytes())?;
         assert_answer(&rt, &seen, &net, status, text);
     }
     Ok(())
@@ -248,7 +223,7 @@ fn a_long_queue_fills_up(rt: HostRuntime) -> Result<(), Fail> {
     let alloc = rt.alloc();
     for split in ["split = 1\n", "split = 4096\n"] {
         let net = file(alloc, &[split, FILLING])?;
-        let seen = called(alloc, "sample net.toml 0 0", &net)?;
+        let seen = called(alloc, &SAMPLE, net.as_bytes())?;
         assert_answer(&rt, &seen, &net, Status::Done, "met 4096\nstate 4095\n");
     }
     Ok(())
@@ -319,11 +294,38 @@ split 256
 monotone no
 ";
 
+const EMPTIED_DESCRIBED: &str = "queues 1
+queue a 5 1
+events 2
+event in 1 1 monotone
+event reset 1 1 monotone
+modulus 2
+idle 0
+limit 18
+split 256
+monotone yes
+";
+
+const LIMITED_DESCRIBED: &str = "queues 1
+queue a 3 2
+events 3
+event in 1 1 monotone
+event out 1 1 monotone
+event out 2 1 monotone
+modulus 4
+idle 1
+limit 22
+split 256
+monotone yes
+";
+
 #[test]
 fn descriptions_worked_out_by_hand(rt: HostRuntime) -> Result<(), Fail> {
     let alloc = rt.alloc();
-    let cases: [(&[&str], &str); 6] = [
+    let cases: [(&[&str], &str); 8] = [
         (&[BULK], BULK_DESCRIBED),
+        (&["limit = 22\n", SERVERS], LIMITED_DESCRIBED),
+        (&[AT_ONCE, "ceiling = 0", BOUNDED], EMPTIED_DESCRIBED),
         (&[ONES, TAKING], TAKING_DESCRIBED),
         (&["split = 4\n", ONES, SPLITTING], SPLITTING_DESCRIBED),
         (
@@ -338,43 +340,8 @@ fn descriptions_worked_out_by_hand(rt: HostRuntime) -> Result<(), Fail> {
     ];
     for (pieces, text) in cases {
         let net = file(alloc, pieces)?;
-        let seen = called(alloc, "check net.toml", &net)?;
+        let seen = called(alloc, &CHECK, net.as_bytes())?;
         assert_answer(&rt, &seen, &net, Status::Done, text);
-    }
-    Ok(())
-}
-
-// Whichever command names it, a file that gives no network is refused in the same line.
-#[test]
-fn refusals_are_those_of_each_command(rt: HostRuntime) -> Result<(), Fail> {
-    let alloc = rt.alloc();
-    let cases: [(&[&str], &str); 4] = [
-        (
-            &[TWOS, BY_INDEX, "[[5, 0], [3]]", SERVED],
-            "13 TableLength event 1 table",
-        ),
-        (
-            &[AT_ONCE, "ceiling = 6", BOUNDED],
-            "6 OutOfRange event 2 ceiling",
-        ),
-        (
-            &[AT_ONCE, "least = 3, most = 2", BOUNDED],
-            "18 EmptyGuard event 2 least",
-        ),
-        (
-            &[AT_ONCE, "floor = 2, ceiling = 1", BOUNDED],
-            "18 EmptyGuard event 2 floor",
-        ),
-    ];
-    for (pieces, refusal) in cases {
-        let net = file(alloc, pieces)?;
-        let line = format!(in alloc; "psi: network refused {refusal}\n")?;
-        for words in ["check net.toml", "sample net.toml 0 0"] {
-            let seen = called(alloc, words, &net)?;
-            assert_eq!(rt; seen.status, Status::NetRefused, "{net}");
-            assert_eq!(rt; seen.out.bytes(), b"".as_slice(), "{net}");
-            assert_eq!(rt; seen.err.bytes(), line.as_bytes(), "{net}");
-        }
     }
     Ok(())
 }
@@ -484,34 +451,68 @@ fn twenty_queues_are_met_where_their_corners_meet(rt: HostRuntime) -> Result<(),
     let alloc = rt.alloc();
     let net = file_of_tandem(alloc, &LONG)?;
     let text = by_corners(alloc)?;
-    let seen = called(alloc, "sample net.toml 0 0", &net)?;
+    let seen = called(alloc, &SAMPLE, net.as_bytes())?;
     assert_answer(&rt, &seen, &net, Status::Done, &text);
     let known = "met 65536\nstate 10,5,0,8,6,9,8,0,10,2,1,10,1,8,7,1,7,1,1,8\n";
     assert_eq!(rt; text.as_str(), known);
     Ok(())
 }
 
-// What two programs written apart from this one found.
+// Five queues of capacity 100 with two servers each.
+const WIDE: Tandem = Tandem {
+    queues: 5,
+    capacity: 100,
+    servers: 2,
+    coming: "kind = \"arrival\"\nrate = 8\n",
+    rate: 5,
+};
+
+const WIDE_DESCRIBED: &str = "queues 5
+queue q0 100 2
+queue q1 100 2
+queue q2 100 2
+queue q3 100 2
+queue q4 100 2
+events 11
+event in 1 8 monotone
+event s0 1 5 monotone
+event s0 2 5 monotone
+event s1 1 5 monotone
+event s1 2 5 monotone
+event s2 1 5 monotone
+event s2 2 5 monotone
+event s3 1 5 monotone
+event s3 2 5 monotone
+event s4 1 5 monotone
+event s4 2 5 monotone
+modulus 64
+idle 6
+limit 18
+split 256
+monotone yes
+";
+
+// The description is worked out by hand; the samples are what two programs written apart from this one found.
 #[test]
-fn long_tandems_are_sampled(rt: HostRuntime) -> Result<(), Fail> {
+fn long_tandems(rt: HostRuntime) -> Result<(), Fail> {
     let alloc = rt.alloc();
     let pairs = Tandem {
         coming: "kind = \"batch\"\nrate = 1\nsize = 2\n",
         ..LONG
     };
-    let wide = Tandem {
-        queues: 5,
-        capacity: 100,
-        servers: 2,
-        coming: "kind = \"arrival\"\nrate = 8\n",
-        rate: 5,
-    };
-    for (row, status, text) in [
-        (pairs, Status::NotCoupled, "not coupled within 262144\n"),
-        (wide, Status::Done, "met 16384\nstate 5,4,6,7,12\n"),
-    ] {
+    let cases: [(Tandem, &[&str], Status, &str); 3] = [
+        (
+            pairs,
+            &SAMPLE,
+            Status::NotCoupled,
+            "not coupled within 262144\n",
+        ),
+        (WIDE, &SAMPLE, Status::Done, "met 16384\nstate 5,4,6,7,12\n"),
+        (WIDE, &CHECK, Status::Done, WIDE_DESCRIBED),
+    ];
+    for (row, words, status, text) in cases {
         let net = file_of_tandem(alloc, &row)?;
-        let seen = called(alloc, "sample net.toml 0 0", &net)?;
+        let seen = called(alloc, words, net.as_bytes())?;
         assert_answer(&rt, &seen, &net, status, text);
     }
     Ok(())

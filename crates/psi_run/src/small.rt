@@ -1,6 +1,6 @@
 //! Small networks drawn by their numbers, and their files.
 
-use crate::plain::{Deed, Entry, Plain, Spot, Stretch, held, value, with};
+use crate::plain::{Entry, Kind, Numbers, Part, Plain, held, value, with};
 use std::alloc::{AllocError, Global};
 use std::fmt::Write;
 
@@ -109,7 +109,7 @@ fn other(dice: &mut Dice, queues: usize, list: &[usize]) -> Option<usize> {
 }
 
 // The least capacity of the queues of the list.
-fn least_capacity(caps: &Spot, to: &[usize]) -> u16 {
+fn least_capacity(caps: &Numbers, to: &[usize]) -> u16 {
     let mut least = 4;
     for queue in to {
         least = held(caps, *queue).min(least);
@@ -117,7 +117,12 @@ fn least_capacity(caps: &Spot, to: &[usize]) -> u16 {
     least
 }
 
-fn index(alloc: Global, dice: &mut Dice, queues: usize, caps: &Spot) -> Result<Deed, AllocError> {
+fn index(
+    alloc: Global,
+    dice: &mut Dice,
+    queues: usize,
+    caps: &Numbers,
+) -> Result<Kind, AllocError> {
     let from = source(dice, queues);
     let to = some(alloc, dice, queues, from)?;
     let size = if from.is_some() || dice.coin() {
@@ -125,7 +130,7 @@ fn index(alloc: Global, dice: &mut Dice, queues: usize, caps: &Spot) -> Result<D
     } else {
         dice.upto(least_capacity(caps, &to))
     };
-    Ok(Deed::Index {
+    Ok(Kind::Index {
         from,
         to,
         rule: dice.below(8),
@@ -135,14 +140,14 @@ fn index(alloc: Global, dice: &mut Dice, queues: usize, caps: &Spot) -> Result<D
 }
 
 // A part of a queue with room for so many customers.
-fn part_of(dice: &mut Dice, queue: usize, cap: u16) -> Stretch {
+fn part_of(dice: &mut Dice, queue: usize, cap: u16) -> Part {
     let least = dice.upto(cap.saturating_add(1)).saturating_sub(1);
     let most = least.saturating_add(dice.upto(cap).saturating_sub(1));
     let floor = dice.upto(cap.saturating_add(1)).saturating_sub(1);
     let ceiling = floor.saturating_add(dice.upto(cap).saturating_sub(1));
     let is_wide = dice.coin();
     let is_free = dice.below(3) > 0;
-    Stretch {
+    Part {
         queue,
         least: if is_wide { 0 } else { least },
         most: if is_wide { cap } else { most.min(cap) },
@@ -152,25 +157,35 @@ fn part_of(dice: &mut Dice, queue: usize, cap: u16) -> Stretch {
     }
 }
 
-fn parts(alloc: Global, dice: &mut Dice, queues: usize, caps: &Spot) -> Result<Deed, AllocError> {
+fn parts(
+    alloc: Global,
+    dice: &mut Dice,
+    queues: usize,
+    caps: &Numbers,
+) -> Result<Kind, AllocError> {
     let mut parts = Vec::new(alloc);
     for queue in some(alloc, dice, queues, None)? {
         parts.push(part_of(dice, queue, held(caps, queue)))?;
     }
-    Ok(Deed::Guarded { parts })
+    Ok(Kind::Guarded { parts })
 }
 
 // An event of one of the eight kinds.
-fn drawn(alloc: Global, dice: &mut Dice, queues: usize, caps: &Spot) -> Result<Deed, AllocError> {
+fn drawn(
+    alloc: Global,
+    dice: &mut Dice,
+    queues: usize,
+    caps: &Numbers,
+) -> Result<Kind, AllocError> {
     let kind = dice.below(9);
     let from = source(dice, queues);
     Ok(match kind {
-        0 => Deed::Arrival {
+        0 => Kind::Arrival {
             to: some(alloc, dice, queues, None)?,
         },
         1 | 2 => {
             let from = dice.queue(queues);
-            Deed::Service {
+            Kind::Service {
                 from,
                 to: list(alloc, dice, queues, Some(from))?,
                 is_lost: dice.coin(),
@@ -180,24 +195,24 @@ fn drawn(alloc: Global, dice: &mut Dice, queues: usize, caps: &Spot) -> Result<D
         4 => {
             let to = some(alloc, dice, queues, None)?;
             let size = dice.upto(least_capacity(caps, &to));
-            Deed::Batch { to, size }
+            Kind::Batch { to, size }
         }
         5 => {
             let on = dice.queue(queues);
-            Deed::Negative {
+            Kind::Negative {
                 from: from.filter(|queue| *queue != on),
                 on,
                 amount: dice.upto(3),
             }
         }
-        6 => Deed::Fork {
+        6 => Kind::Fork {
             from,
             to: some(alloc, dice, queues, from)?,
         },
         7 => {
             let from = some(alloc, dice, queues, None)?;
             let to = other(dice, queues, &from);
-            Deed::Join { from, to }
+            Kind::Join { from, to }
         }
         _ => parts(alloc, dice, queues, caps)?,
     })
@@ -218,7 +233,7 @@ pub(crate) fn network(alloc: Global, number: u32) -> Result<Plain, AllocError> {
     for _ in 0..dice.upto(4) {
         entries.push(Entry {
             rate: dice.upto(8) as u32,
-            deed: drawn(alloc, &mut dice, queues, &caps)?,
+            kind: drawn(alloc, &mut dice, queues, &caps)?,
         })?;
     }
     let splits = [1, 1, 1, 2, 3, 5, 8, 64, 4096];
@@ -278,7 +293,12 @@ fn push_row(text: &mut String, rule: u32, place: u32, cap: u16) -> Result<(), Al
     text.push_str("], ")
 }
 
-fn push_table(text: &mut String, caps: &Spot, to: &[usize], rule: u32) -> Result<(), AllocError> {
+fn push_table(
+    text: &mut String,
+    caps: &Numbers,
+    to: &[usize],
+    rule: u32,
+) -> Result<(), AllocError> {
     text.push_str("table = [")?;
     let mut place = 0u32;
     for queue in to {
@@ -288,10 +308,10 @@ fn push_table(text: &mut String, caps: &Spot, to: &[usize], rule: u32) -> Result
     text.push_str("]\n")
 }
 
-fn push_part(text: &mut String, part: &Stretch) -> Result<(), AllocError> {
+fn push_part(text: &mut String, part: &Part) -> Result<(), AllocError> {
     text.push_str("[[event.part]]\n")?;
     push_name(text, "queue", Some(part.queue))?;
-    let Stretch {
+    let Part {
         least,
         most,
         shift,
@@ -304,29 +324,29 @@ fn push_part(text: &mut String, part: &Stretch) -> Result<(), AllocError> {
 }
 
 // The kind of an event.
-fn kind(deed: &Deed) -> &'static str {
-    match deed {
-        Deed::Arrival { .. } => "arrival",
-        Deed::Service { .. } => "service",
-        Deed::Index { .. } => "index",
-        Deed::Batch { .. } => "batch",
-        Deed::Negative { .. } => "negative",
-        Deed::Fork { .. } => "fork",
-        Deed::Join { .. } => "join",
-        Deed::Guarded { .. } => "guarded",
+fn name_of_kind(kind: &Kind) -> &'static str {
+    match kind {
+        Kind::Arrival { .. } => "arrival",
+        Kind::Service { .. } => "service",
+        Kind::Index { .. } => "index",
+        Kind::Batch { .. } => "batch",
+        Kind::Negative { .. } => "negative",
+        Kind::Fork { .. } => "fork",
+        Kind::Join { .. } => "join",
+        Kind::Guarded { .. } => "guarded",
     }
 }
 
 // The keys of an event's kind.
-fn push_deed(text: &mut String, caps: &Spot, deed: &Deed) -> Result<(), AllocError> {
-    match deed {
-        Deed::Arrival { to } => push_names(text, "to", to),
-        Deed::Service { from, to, is_lost } => {
+fn push_kind(text: &mut String, caps: &Numbers, kind: &Kind) -> Result<(), AllocError> {
+    match kind {
+        Kind::Arrival { to } => push_names(text, "to", to),
+        Kind::Service { from, to, is_lost } => {
             push_name(text, "from", Some(*from))?;
             push_names(text, "to", to)?;
             push_full(text, *is_lost)
         }
-        Deed::Index {
+        Kind::Index {
             from,
             to,
             rule,
@@ -339,28 +359,28 @@ fn push_deed(text: &mut String, caps: &Spot, deed: &Deed) -> Result<(), AllocErr
             push_full(text, *is_lost)?;
             write!(text, "size = {size}\n")
         }
-        Deed::Batch { to, size } => {
+        Kind::Batch { to, size } => {
             push_names(text, "to", to)?;
             write!(text, "size = {size}\n")
         }
-        Deed::Negative { from, on, amount } => {
+        Kind::Negative { from, on, amount } => {
             push_name(text, "from", *from)?;
             push_name(text, "on", Some(*on))?;
             write!(text, "amount = {amount}\n")
         }
-        Deed::Fork { from, to } => {
+        Kind::Fork { from, to } => {
             push_name(text, "from", *from)?;
             push_names(text, "to", to)
         }
-        Deed::Join { from, to } => {
+        Kind::Join { from, to } => {
             push_names(text, "from", from)?;
             push_name(text, "to", *to)
         }
-        Deed::Guarded { parts } => push_parts(text, parts),
+        Kind::Guarded { parts } => push_parts(text, parts),
     }
 }
 
-fn push_parts(text: &mut String, parts: &[Stretch]) -> Result<(), AllocError> {
+fn push_parts(text: &mut String, parts: &[Part]) -> Result<(), AllocError> {
     for part in parts {
         push_part(text, part)?;
     }
@@ -379,12 +399,12 @@ pub(crate) fn file_of(alloc: Global, net: &Plain) -> Result<String, AllocError> 
         write!(text, "capacity = {cap}\nservers = {servers}\n")?;
     }
     for (place, entry) in net.entries.iter().enumerate() {
-        let (kind, rate) = (kind(&entry.deed), entry.rate);
+        let (kind, rate) = (name_of_kind(&entry.kind), entry.rate);
         write!(
             text,
             "[[event]]\nname = \"e{place}\"\nkind = \"{kind}\"\nrate = {rate}\n"
         )?;
-        push_deed(&mut text, &net.caps, &entry.deed)?;
+        push_kind(&mut text, &net.caps, &entry.kind)?;
     }
     Ok(text)
 }

@@ -1,41 +1,13 @@
 //! Calls over a shelf and sinks in memory, worked out by hand.
 
-use crate::{Status, run};
-use psi_io::{MemoryShelf, MemorySink};
+use crate::Status;
+use crate::calls::{CHECK, FIRST, SAMPLE, assert_seen, called, called_over, shelf_with, wide};
+use psi_io::MemorySink;
 use std::alloc::{AllocError, Global};
-use std::process::Abort;
 use std::test::Fail;
-
-// One queue with room for two customers, an arrival of rate 1 and a service of rate 2.
-const FIRST: &str = "version = 1
-[[queue]]
-name = \"a\"
-capacity = 2
-[[event]]
-name = \"in\"
-kind = \"arrival\"
-rate = 1
-to = [\"a\"]
-[[event]]
-name = \"out\"
-kind = \"service\"
-rate = 2
-from = \"a\"
-";
-
-// The words of a sample of the network that is there.
-const SAMPLE: [&str; 4] = ["sample", "net.toml", "0", "0"];
 
 // What is printed of the first network, 14 bytes.
 const MET: &str = "met 4\nstate 1\n";
-
-// The status of a call, and its sinks afterwards.
-#[derive(Drop)]
-struct Seen {
-    status: Status,
-    out: MemorySink,
-    err: MemorySink,
-}
 
 // One queue of this capacity with an arrival of rate 1 and, where it serves, a service of rate 1.
 fn network(alloc: Global, capacity: u32, serves: bool) -> Result<String, AllocError> {
@@ -52,47 +24,11 @@ fn network(alloc: Global, capacity: u32, serves: bool) -> Result<String, AllocEr
     Ok(net)
 }
 
-// A shelf with these bytes under `net.toml`; the read of this number fails, and no read has the number 0.
-fn shelf_with(alloc: Global, net: &[u8], fails: u64) -> Result<MemoryShelf, Fail> {
-    let mut shelf = MemoryShelf::new(alloc, vec![in alloc; fails]?);
-    shelf.put("net.toml", net).ok().ok_or("room for a file")?;
-    Ok(shelf)
-}
-
-// A sink with room for each text, which takes it in one write.
-fn wide(alloc: Global) -> Result<MemorySink, Fail> {
-    let sink = MemorySink::new(alloc, 1000, 1000, Vec::new(alloc));
-    Ok(sink.ok().ok_or("room for a sink")?)
-}
-
 // A sink with room for so many bytes, which takes one in a write; the write of this number fails, and no
 // write has the number 0.
 fn narrow(alloc: Global, room: usize, fails: u64) -> Result<MemorySink, Fail> {
     let sink = MemorySink::new(alloc, room, 1, vec![in alloc; fails]?);
     Ok(sink.ok().ok_or("room for a sink")?)
-}
-
-// A call of the program.
-fn called(
-    alloc: Global,
-    words: &[&str],
-    mut shelf: MemoryShelf,
-    mut out: MemorySink,
-    mut err: MemorySink,
-) -> Result<Seen, AllocError> {
-    let mut strings = Vec::new(alloc);
-    for word in words {
-        strings.push(String::from_str(alloc, word)?)?;
-    }
-    let status = run(alloc, strings.as_slice(), &mut shelf, &mut out, &mut err);
-    Ok(Seen { status, out, err })
-}
-
-// The call ended so, and its sinks hold these texts.
-fn assert_seen(rt: &impl Abort, seen: &Seen, status: Status, out: &str, err: &str) {
-    assert_eq!(rt; seen.status, status);
-    assert_eq!(rt; seen.out.bytes(), out.as_bytes());
-    assert_eq!(rt; seen.err.bytes(), err.as_bytes());
 }
 
 // With ample memory the call answers something else than want of memory.
@@ -126,6 +62,12 @@ fn networks_are_sampled(rt: HostRuntime) -> Result<(), Fail> {
             "met 1\nstate 1\n",
         ),
         (
+            format!(in alloc; "limit = 1\n{FIRST}")?,
+            "0",
+            Status::NotCoupled,
+            "not coupled within 2\n",
+        ),
+        (
             network(alloc, 65535, true)?,
             "0",
             Status::NotCoupled,
@@ -133,72 +75,9 @@ fn networks_are_sampled(rt: HostRuntime) -> Result<(), Fail> {
         ),
     ];
     for (net, number, status, text) in cases {
-        let shelf = shelf_with(alloc, net.as_bytes(), 0)?;
         let words = ["sample", "net.toml", number, number];
-        let seen = called(alloc, &words, shelf, wide(alloc)?, wide(alloc)?)?;
+        let seen = called(alloc, &words, net.as_bytes())?;
         assert_seen(&rt, &seen, status, text, "");
-    }
-    Ok(())
-}
-
-// One queue, and a guarded event whose guard no number of customers meets.
-const EMPTY_GUARD: &str = "version = 2
-[[queue]]
-name = \"a\"
-capacity = 2
-[[event]]
-name = \"never\"
-kind = \"guarded\"
-rate = 1
-[[event.part]]
-queue = \"a\"
-least = 2
-most = 1
-";
-
-#[test]
-fn network_files_are_refused(rt: HostRuntime) -> Result<(), Fail> {
-    let alloc = rt.alloc();
-    let long = vec![in alloc; b'#'; 1_048_577]?;
-    let cases = [
-        (
-            b"".as_slice(),
-            "psi: network refused 4 MissingKey top 0 version\n",
-        ),
-        (
-            b"version = 3\n".as_slice(),
-            "psi: network refused 2 Version top 0 version\n",
-        ),
-        (
-            b"version = 1\n\"a b\" = 1\n".as_slice(),
-            "psi: network refused 3 UnknownKey top 0 -\n",
-        ),
-        (
-            b"version = 1\n[[queue]]\nname = \"a\"\ncapacity = 0\n".as_slice(),
-            "psi: network refused 6 OutOfRange queue 1 capacity\n",
-        ),
-        (
-            b"version = 1\n[[queue]]\nname = \"a\"\ncapacity = 1\n".as_slice(),
-            "psi: network refused 15 NoEvents top 0 event\n",
-        ),
-        (
-            EMPTY_GUARD.as_bytes(),
-            "psi: network refused 18 EmptyGuard event 1 least\n",
-        ),
-        (
-            b"version = ".as_slice(),
-            "psi: network refused 1 NotToml top 0 -\n",
-        ),
-        (
-            b"\xff".as_slice(),
-            "psi: network refused 1 NotToml top 0 -\n",
-        ),
-        (long.as_slice(), "psi: network refused 0 TooLong top 0 -\n"),
-    ];
-    for (net, line) in cases {
-        let shelf = shelf_with(alloc, net, 0)?;
-        let seen = called(alloc, &SAMPLE, shelf, wide(alloc)?, wide(alloc)?)?;
-        assert_seen(&rt, &seen, Status::NetRefused, "", line);
     }
     Ok(())
 }
@@ -232,8 +111,7 @@ fn words_that_are_no_command(rt: HostRuntime) -> Result<(), Fail> {
         ),
     ];
     for (words, line) in cases {
-        let shelf = shelf_with(alloc, FIRST.as_bytes(), 0)?;
-        let seen = called(alloc, words, shelf, wide(alloc)?, wide(alloc)?)?;
+        let seen = called(alloc, words, FIRST.as_bytes())?;
         assert_seen(&rt, &seen, Status::Usage, "", line);
     }
     Ok(())
@@ -246,14 +124,14 @@ fn out_fails_at_each_write(rt: HostRuntime) -> Result<(), Fail> {
     for written in 0..MET.len() {
         let shelf = shelf_with(alloc, FIRST.as_bytes(), 0)?;
         let out = narrow(alloc, 1000, written as u64 + 1)?;
-        let seen = called(alloc, &SAMPLE, shelf, out, wide(alloc)?)?;
+        let seen = called_over(alloc, &SAMPLE, shelf, out, wide(alloc)?)?;
         assert_eq!(rt; seen.status, Status::WriteFault, "after {written} bytes");
         assert_eq!(rt; seen.out.bytes(), &MET.as_bytes()[..written]);
         assert_eq!(rt; seen.out.count(), 1);
         assert_eq!(rt; seen.err.bytes(), b"".as_slice());
     }
     let shelf = shelf_with(alloc, FIRST.as_bytes(), 0)?;
-    let whole = called(alloc, &SAMPLE, shelf, narrow(alloc, 1000, 0)?, wide(alloc)?)?;
+    let whole = called_over(alloc, &SAMPLE, shelf, narrow(alloc, 1000, 0)?, wide(alloc)?)?;
     assert_seen(&rt, &whole, Status::Done, MET, "");
     assert_eq!(rt; whole.out.count(), 0);
     Ok(())
@@ -263,7 +141,7 @@ fn out_fails_at_each_write(rt: HostRuntime) -> Result<(), Fail> {
 fn out_has_room_for_five_bytes(rt: HostRuntime) -> Result<(), Fail> {
     let alloc = rt.alloc();
     let shelf = shelf_with(alloc, FIRST.as_bytes(), 0)?;
-    let seen = called(alloc, &SAMPLE, shelf, narrow(alloc, 5, 0)?, wide(alloc)?)?;
+    let seen = called_over(alloc, &SAMPLE, shelf, narrow(alloc, 5, 0)?, wide(alloc)?)?;
     assert_seen(&rt, &seen, Status::WriteFault, "met 4", "");
     assert_eq!(rt; seen.out.count(), 1);
     Ok(())
@@ -276,7 +154,7 @@ fn network_files_that_cannot_be_read(rt: HostRuntime) -> Result<(), Fail> {
     for (net, fails) in [("net.toml", 1), ("nets.toml", 0)] {
         let shelf = shelf_with(alloc, FIRST.as_bytes(), fails)?;
         let words = ["sample", net, "0", "0"];
-        let seen = called(alloc, &words, shelf, wide(alloc)?, wide(alloc)?)?;
+        let seen = called_over(alloc, &words, shelf, wide(alloc)?, wide(alloc)?)?;
         assert_seen(
             &rt,
             &seen,
@@ -301,7 +179,7 @@ fn err_fails_within_its_line(rt: HostRuntime) -> Result<(), Fail> {
     for (words, fails, held) in cases {
         let shelf = shelf_with(alloc, FIRST.as_bytes(), 0)?;
         let err = narrow(alloc, 1000, fails)?;
-        let seen = called(alloc, words, shelf, wide(alloc)?, err)?;
+        let seen = called_over(alloc, words, shelf, wide(alloc)?, err)?;
         assert_seen(&rt, &seen, Status::WriteFault, "", held);
         assert_eq!(rt; seen.err.count(), 1);
     }
@@ -379,6 +257,45 @@ split 256
 monotone no
 ";
 
+// One queue with sixteen servers, whose rates together are the greatest total.
+const SIXTEEN_SERVERS: &str = "version = 1
+[[queue]]
+name = \"a\"
+capacity = 16
+servers = 16
+[[event]]
+name = \"out\"
+kind = \"service\"
+rate = 1048576
+from = \"a\"
+";
+
+const SIXTEEN_SERVERS_DESCRIBED: &str = "queues 1
+queue a 16 16
+events 16
+event out 1 1048576 monotone
+event out 2 1048576 monotone
+event out 3 1048576 monotone
+event out 4 1048576 monotone
+event out 5 1048576 monotone
+event out 6 1048576 monotone
+event out 7 1048576 monotone
+event out 8 1048576 monotone
+event out 9 1048576 monotone
+event out 10 1048576 monotone
+event out 11 1048576 monotone
+event out 12 1048576 monotone
+event out 13 1048576 monotone
+event out 14 1048576 monotone
+event out 15 1048576 monotone
+event out 16 1048576 monotone
+modulus 16777216
+idle 0
+limit 18
+split 256
+monotone yes
+";
+
 // With ample memory a description is printed.
 #[test]
 fn networks_are_described(rt: HostRuntime) -> Result<(), Fail> {
@@ -386,25 +303,12 @@ fn networks_are_described(rt: HostRuntime) -> Result<(), Fail> {
     for (net, text) in [
         (TWO_SERVERS, TWO_SERVERS_DESCRIBED),
         (FALLING_INDEX, FALLING_INDEX_DESCRIBED),
+        (SIXTEEN_SERVERS, SIXTEEN_SERVERS_DESCRIBED),
     ] {
-        let shelf = shelf_with(alloc, net.as_bytes(), 0)?;
-        let seen = called(
-            alloc,
-            &["check", "net.toml"],
-            shelf,
-            wide(alloc)?,
-            wide(alloc)?,
-        )?;
+        let seen = called(alloc, &CHECK, net.as_bytes())?;
         assert_seen(&rt, &seen, Status::Done, text, "");
     }
-    let shelf = shelf_with(alloc, FIRST.as_bytes(), 0)?;
-    let seen = called(
-        alloc,
-        &["check", "a", "b"],
-        shelf,
-        wide(alloc)?,
-        wide(alloc)?,
-    )?;
+    let seen = called(alloc, &["check", "a", "b"], FIRST.as_bytes())?;
     assert_seen(&rt, &seen, Status::Usage, "", "psi: usage word 3\n");
     Ok(())
 }

@@ -1,5 +1,4 @@
 use Rattle.std.proofs.Common.{refl, Ok, Err}
-use Rattle.psi_net.specs.Refusal.{IsNetError}
 use Rattle.psi_run.specs.declared.reading.TheConstants.{MOST_NET_BYTES}
 use Rattle.psi_run.proofs.Replies.{judged_whole}
 use Rattle.psi_run.proofs.reading.network_at.Goals as goal

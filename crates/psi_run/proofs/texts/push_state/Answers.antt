@@ -1,4 +1,4 @@
-use Rattle.std.specs.Prelude.{ℕ, List, [], ◌∷◌, ◌++◌, ◌≡◌, slice_index}
+use Rattle.std.specs.Prelude.{[], ◌∷◌, slice_index}
 use Rattle.std.specs.Fmt.{decimal}
 use Rattle.std.proofs.Common.{◌∙◌, append_assoc, arith}
 use Rattle.psi_run.proofs.Listing.{state_text_pushed}
