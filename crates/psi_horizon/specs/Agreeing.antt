@@ -1,12 +1,12 @@
 -- Events whose functions agree on the states of the capacities have the same runs and the same outcomes.
-use Rattle.std.specs.Prelude.{◌≡◌, ℕ, zero, suc, ◌-◌, ◌<◌, List, [], ◌∷◌, length, map, slice_index_or, Bool, true, false, refl}
+use Rattle.std.specs.Prelude.{◌≡◌, ℕ, zero, suc, ◌-◌, ◌<◌, List, length, slice_index_or, Bool, true, false, refl}
 use Rattle.std.proofs.Common.{inl, inr, ap, sym, ◌∙◌, subst, arith}
 use Rattle.std.proofs.lemmas.Bool.{cases_lt}
 use Rattle.std.proofs.lemmas.List.{get_or_past}
 use Rattle.psi_state.specs.declared.Outcome.{Outcome}
 use Rattle.psi_state.specs.State.{IsBelow}
-use Rattle.psi_state.specs.Members.{In}
-use Rattle.psi_state.specs.Sets.{image, ascending, single}
+use Rattle.psi_state.specs.Sets.{image, single}
+use Rattle.psi_state.specs.Ascending.{image-agree}
 use Rattle.psi_state.specs.Hull.{hull}
 use Rattle.psi_event.specs.Law.{IsClosed}
 use Rattle.psi_rate.specs.Rates.{event_of}
@@ -45,14 +45,6 @@ picked-agree caps fs gs rates word alike =
 pub function_at-agree : (caps : List ℕ) (fs gs : List (List ℕ → List ℕ)) (rates : List ℕ) (words : ℕ → ℕ) → AreAlike caps fs gs
     → (t : ℕ) → Agree caps (function_at fs rates words t) (function_at gs rates words t)
 function_at-agree caps fs gs rates words alike t = picked-agree caps fs gs rates (words (t - 1)) alike
-
-map-agree : (f g : List ℕ → List ℕ) (xs : List (List ℕ)) → ((x : List ℕ) → In x xs → f x ≡ g x) → map f xs ≡ map g xs
-map-agree f g [] each = refl
-map-agree f g (x ∷ xs) each =
-    ap (λ (y : List ℕ). y ∷ map f xs) (each x (inl refl)) ∙ ap (λ (ys : List (List ℕ)). g x ∷ ys) (map-agree f g xs (λ y member. each y (inr member)))
-
-pub image-agree : (f g : List ℕ → List ℕ) (xs : List (List ℕ)) → ((x : List ℕ) → In x xs → f x ≡ g x) → image f xs ≡ image g xs
-image-agree f g xs each = ap (λ (ys : List (List ℕ)). ascending ys) (map-agree f g xs each)
 
 abbrev area_by : Bool → List (List ℕ) → Area
 area_by true ys = record { is_split = true; states = ys }

@@ -1,5 +1,5 @@
 -- What the two ways in which a region is held say of its states.
-use Rattle.std.proofs.Common.{◌≡◌, ◌≢◌, ℕ, ◌≤◌, ◌<◌, List, [], ◌∷◌, ◌++◌, length, Some, None, Bool, true, false, refl, inl, inr, ap, sym, ◌∙◌, subst, arith, nat_eq, nat_le}
+use Rattle.std.proofs.Common.{◌≡◌, ◌≢◌, ℕ, ◌≤◌, List, [], ◌∷◌, ◌++◌, length, Some, None, Bool, true, false, refl, inl, inr, ap, sym, ◌∙◌, subst, arith, append_assoc, nat_eq, nat_le}
 use Rattle.std.specs.Cmp.Lexicographic.{pointwise}
 use Rattle.std.specs.Ordering.{match_ordering, ordering_reverse}
 use Rattle.std.specs.declared.cmp.Ordering.TheVariants.{Less, Greater}
@@ -8,10 +8,10 @@ use Rattle.std.proofs.lemmas.Cmp.{nat_list_cmp_total}
 use Rattle.psi_state.specs.State.{Corners, IsBelow, box}
 use Rattle.psi_state.specs.Members.{In, In-append_right}
 use Rattle.psi_state.specs.Sets.{state_cmp, insert_state, single, image, In-image}
-use Rattle.psi_state.specs.Boxes.{In-low, In-high, In-of_box}
-use Rattle.psi_state.specs.States.{single-box, single-box_apart, same-from_eq, apart-from_eq}
+use Rattle.psi_state.specs.Boxes.{In-low, In-high}
+use Rattle.psi_state.specs.States.{single-box, single-box_apart, hull-box, same-from_eq, apart-from_eq}
 use Rattle.psi_state.specs.Ascending.{IsRising, box-rising, image-identity}
-use Rattle.psi_state.specs.Hull.{corners, hull, IsTight, corners-from_tight}
+use Rattle.psi_state.specs.Hull.{corners, hull}
 use Rattle.psi_pool.specs.Pooled.{Pooled}
 use Rattle.psi_region.specs.Region.{Area, Regional, splits, settled, step, step-split, step-box}
 use Rattle.psi_region.specs.Held.{area_of, IsHeld}
@@ -57,12 +57,6 @@ two-unsplit b lo hi xs same ordered is low high test apart =
     length-apart (box b.lo b.hi) b.lo b.hi (In-low b.lo b.hi ordered) (In-high b.lo b.hi ordered) (corners-apart b lo hi same low high test apart) in
     subst (λ (ys : List (List ℕ)). 2 ≤ length ys) (sym is) two
 
--- a list that has a member and no single one has at least two
-pub two-members : {A : Type 0} (xs : List A) (x : A) → In x xs → single xs ≡ None → 2 ≤ length xs
-two-members [] x member none = absurd member
-two-members (y ∷ []) x member none = absurd cc
-two-members (y ∷ z ∷ ys) x member none = omega arith
-
 cmp-turned : (x y : List ℕ) → state_cmp y x ≡ Less → state_cmp x y ≡ Greater
 cmp-turned x y less = nat_list_cmp_total.antisymm x y ∙ ap ordering_reverse less
 
@@ -74,27 +68,12 @@ insert_state-next (y ∷ ys) x rest rising =
     ap (λ o. match_ordering o (x ∷ y ∷ ys) (y ∷ ys) (y ∷ insert_state x ys)) greater
     ∙ ap (λ (zs : List (List ℕ)). y ∷ zs) (insert_state-next ys x rest rising.1)
 
-append-next : (xs : List (List ℕ)) (x : List ℕ) (rest : List (List ℕ)) → (xs ++ x ∷ []) ++ rest ≡ xs ++ x ∷ rest
-append-next [] x rest = refl
-append-next (y ∷ xs) x rest = ap (λ (zs : List (List ℕ)). y ∷ zs) (append-next xs x rest)
-
 pub filled-next : (l h : List ℕ) (xs : List (List ℕ)) (x : List ℕ) (whole rest more : List (List ℕ)) → xs ++ whole ≡ box l h → whole ≡ x ∷ rest
     → more ≡ insert_state x xs → more ++ rest ≡ box l h
 filled-next l h xs x whole rest more is step made =
     let from : xs ++ x ∷ rest ≡ box l h = ap (λ (ys : List (List ℕ)). xs ++ ys) (sym step) ∙ is in
     let rising : IsRising (xs ++ x ∷ rest) = subst (λ (ys : List (List ℕ)). IsRising ys) (sym from) (box-rising l h) in
-    ap (λ (ys : List (List ℕ)). ys ++ rest) (made ∙ insert_state-next xs x rest rising) ∙ (append-next xs x rest ∙ from)
-
-length-middle : (xs : List (List ℕ)) (x : List ℕ) (rest : List (List ℕ)) → length xs < length (xs ++ x ∷ rest)
-length-middle [] x rest = omega arith
-length-middle (y ∷ xs) x rest = (let e = length-middle xs x rest in omega arith)
-
-pub filled-room : (l h : List ℕ) (xs : List (List ℕ)) (x : List ℕ) (rest : List (List ℕ)) (most : ℕ) → xs ++ x ∷ rest ≡ box l h → length (box l h) ≤ most
-    → length xs < most
-filled-room l h xs x rest most is room =
-    let whole : length (xs ++ x ∷ rest) ≡ length (box l h) = ap (λ (ys : List (List ℕ)). length ys) is in
-    let less = length-middle xs x rest in
-    omega arith
+    ap (λ (ys : List (List ℕ)). ys ++ rest) (made ∙ insert_state-next xs x rest rising) ∙ (append_assoc xs (x ∷ []) rest ∙ from)
 
 -- what the two ways of being held say when they go on
 pub held-split : (most : ℕ) (b : Corners) (pool : Pooled) (m : ℕ) → pool.most ≡ m → m ≡ most → IsBelow b.lo b.hi → pool.states ≡ box b.lo b.hi → IsHeld most true b pool
@@ -154,17 +133,6 @@ high-within caps old now most split b xs within settles held is ordered =
     let states : old.area.states ≡ box b.lo b.hi =
     ap (λ (a : Area). a.states) (sym settles) ∙ states-unsplit most split b xs now held is in
     within b.hi (subst (λ (zs : List (List ℕ)). In b.hi zs) (sym states) (In-high b.lo b.hi ordered))
-
--- a box is its own hull
-hull-box : (l h : List ℕ) → IsBelow l h → hull (box l h) ≡ box l h
-unfolding hull
-hull-box l h ordered =
-    let tight : IsTight (box l h) l h = record {
-      inside = λ x member. In-of_box l h x member;
-      low = λ i small. (l, In-low l h ordered, refl);
-      high = λ i small. (h, In-high l h ordered, refl);
-    } in
-    ap (λ (c : Corners). box c.lo c.hi) (corners-from_tight l (box l h) l h (In-low l h ordered) tight)
 
 -- a step that changes no state only splits a region of few states
 rested : (most : ℕ) (a : Area) (l h : List ℕ) (few : Bool) → splits most a ≡ few → IsRising a.states → (a.is_split ≡ false → (a.states ≡ box l h) × IsBelow l h)
