@@ -75,7 +75,7 @@ impl<'n, E: EventLaw, P: Past + Drop> Plan<'n, E, P> {
     /// words of the greatest horizon, of 4 bytes each, and for a region of `split` states; no other call
     /// takes memory.
     ///
-    /// The error comes only where memory runs out.
+    /// `OutOfMemory` is the answer where there is no memory for it; no clause says when that is.
     pub fn new(alloc: Global, system: System<'n, E>, past: P) -> Result<Plan<'n, E, P>, OutOfMemory>
         ensures { IfOk result (λ plan. plan ≡ record { system = system.entry; past = past; run = None }) }
     {
@@ -96,8 +96,8 @@ impl<'n, E: EventLaw, P: Past + Drop> Plan<'n, E, P> {
     ///
     /// The run of a horizon begins with the box of all states that many steps before time zero. Before each
     /// step a region of at most `split` states becomes split; then a split region becomes its image under
-    /// the event, and another one the hull of its image. The same words are used for the same time at each
-    /// horizon (Propp and Wilson 1996), so a longer run's region is within a shorter run's.
+    /// the event, and an unsplit one the hull of its image. The same words are used for the same time at
+    /// each horizon (Propp and Wilson 1996), so a longer run's region is within a shorter run's.
     ///
     /// Where every event is monotone, and also where there are at most `split` states, it is met exactly
     /// where all states have met at one of these horizons, and at the least of them. Afterwards no run is

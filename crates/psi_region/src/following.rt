@@ -55,7 +55,7 @@ impl Region {
     /// Takes the room for a region that is split as soon as it has at most `split` states, 1 to 4,096. It is
     /// the box of one queue with capacity 1, unsplit.
     ///
-    /// The error comes only where memory runs out.
+    /// `OutOfMemory` is the answer where there is no memory for it; no clause says when that is.
     pub fn reserve(alloc: Global, split: u16) -> Result<Region, OutOfMemory>
         requires some { 1 ≤ split }
         requires few { split ≤ 4096 }
@@ -77,9 +77,11 @@ impl Region {
         ensures area { self.new.area ≡ start caps.now }
         ensures most { self.new.most ≡ self.old.most }
     {
-        self.pool.clear();
+        if self.is_split {
+            self.pool.clear();
+            self.is_split = false;
+        }
         self.bounds = Bounds::whole(caps);
-        self.is_split = false;
     }
 
     /// Follows the region through one event, within whose capacities all its states are.
