@@ -6,8 +6,8 @@ ghost use Rattle.psi_rate.specs.Rates.{AreRates, HasNumber, IsLeastPower, event_
 use std::alloc::{AllocError, Global};
 use std::marker::Model;
 
-/// The greatest total of the rates of a network's events.
-pub const MOST_TOTAL: u32 = 16_777_216;
+// The greatest total of the rates of a network's events.
+const MOST_TOTAL: u32 = 16_777_216;
 
 /// Why rates make no wheel.
 #[derive(Clone, Copy, PartialEq, Eq, Debug)]
@@ -103,7 +103,7 @@ impl Wheel {
         self.totals.partition_point(|total| *total <= number) as u16
     }
 
-    /// The count of the numbers that are dealt out: the least power of two that isn't below the total rate.
+    /// How many numbers there are, the idle ones included: the least power of two that isn't below the total rate.
     pub fn modulus(&self) -> u32
         ensures value { result ≡ least_power (total self.now) }
         ensures least { IsLeastPower (total self.now) result }

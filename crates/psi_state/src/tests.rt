@@ -50,6 +50,18 @@ fn lengths(alloc: Global, bounds: &Bounds) -> Result<Vec<u8>, AllocError>
     bounds.states().map(|x| x.len()).collect(alloc)
 }
 
+// A state of these numbers.
+fn state_of(numbers: &[u16]) -> State
+    requires some { 1 ≤ length numbers.now }
+    requires few { length numbers.now ≤ 32 }
+{
+    let mut x = State::zero(numbers.len() as u8);
+    for i in 0..numbers.len() {
+        x.set(i as u8, numbers[i]);
+    }
+    x
+}
+
 // The box of two queues from `lo` to `hi`.
 fn between(lo: (u16, u16), hi: (u16, u16)) -> Bounds
     requires first { lo.0 ≤ hi.0 }
@@ -66,6 +78,18 @@ fn a_state_holds_what_is_set(rt: HostRuntime) {
     x.set(1, 65535);
     assert_eq!(rt; (x.len(), x.get(0), x.get(1), x.get(2)), (3, 0, 65535, 0));
     assert_eq!(rt; State::zero(32).len(), 32);
+}
+
+#[test]
+fn states_have_hashes(rt: HostRuntime) {
+    // Computed by an independent program. Up to eight queues are two quads, and nine are eight.
+    assert_eq!(rt; state_of(&[1]).hash(), 3_745_787_170);
+    assert_eq!(rt; state_of(&[0, 1]).hash(), 757_255_752);
+    assert_eq!(rt; state_of(&[65_535; 8]).hash(), 2_189_711_651);
+    assert_eq!(rt;
+        state_of(&[1, 2, 3, 4, 5, 6, 7, 8, 9]).hash(),
+        1_006_586_220
+    );
 }
 
 #[test]
@@ -116,6 +140,17 @@ fn a_box_holds_what_is_between_its_corners(rt: HostRuntime) {
     assert!(rt; !between((1, 0), (1, 3)).within(&bounds));
     let whole = Bounds::whole(&pair(2, 3));
     assert_eq!(rt; (whole.lo(), whole.hi()), (pair(0, 0), pair(2, 3)));
+}
+
+#[test]
+fn the_range_of_a_queue_is_told_and_changed(rt: HostRuntime) {
+    let mut bounds = between((1, 0), (2, 9));
+    assert_eq!(rt; (bounds.least(0), bounds.greatest(0)), (1, 2));
+    assert_eq!(rt; (bounds.least(1), bounds.greatest(1)), (0, 9));
+    bounds.set(1, 4, 65535);
+    assert_eq!(rt; (bounds.least(0), bounds.greatest(0)), (1, 2));
+    assert_eq!(rt; (bounds.least(1), bounds.greatest(1)), (4, 65535));
+    assert_eq!(rt; (bounds.lo(), bounds.hi()), (pair(1, 4), pair(2, 65535)));
 }
 
 #[test]
@@ -194,6 +229,29 @@ fn queues_are_kept_in_order(rt: HostRuntime) {
     assert!(rt; others != queues);
     others.push(7);
     assert!(rt; others == queues);
+}
+
+#[test]
+fn queues_are_found_in_their_list(rt: HostRuntime) {
+    let mut queues = Queues::empty();
+    assert!(rt; !queues.contains(0));
+    assert!(rt; !queues.repeats());
+    queues.push(7);
+    queues.push(255);
+    queues.push(0);
+    for (queue, inside) in [(7, true), (255, true), (0, true), (1, false), (254, false)] {
+        assert_eq!(rt; queues.contains(queue), inside, "for {queue}");
+    }
+    assert!(rt; !queues.repeats());
+    // The first queue again, as the last.
+    queues.push(7);
+    assert!(rt; queues.repeats());
+    // The first queue again, as the next.
+    let mut neighbours = Queues::empty();
+    neighbours.push(4);
+    assert!(rt; !neighbours.repeats());
+    neighbours.push(4);
+    assert!(rt; neighbours.repeats());
 }
 
 #[test]
