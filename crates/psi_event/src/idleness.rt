@@ -46,7 +46,7 @@ impl EventLaw for Idle {
     }
 
     fn envelope(&self, b: &mut Bounds) {
-        let _ordered = b.lo();
+        let _queues = b.len();
     }
 
     fn monotone(&self) -> bool {
