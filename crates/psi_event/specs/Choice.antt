@@ -2,6 +2,7 @@
 use Rattle.std.specs.Prelude.{◌≡◌, ℕ, zero, suc, ◌+◌, ◌<◌, ◌≤◌, List, [], ◌∷◌, length, slice_index, Option, Some, None, ◌⊎◌, refl}
 use Rattle.std.proofs.Common.{inl, inr, ap, sym, ◌∙◌, subst, arith}
 use Rattle.std.proofs.lemmas.Bool.{cases_lt, cases_eq}
+use Rattle.std.proofs.lemmas.Option.{none-some}
 
 -- numbers that are chosen for each place by itself make up a list
 pub choose_each : (P : ℕ → ℕ → Type 0) (n : ℕ) → ((p : ℕ) → p < n → (v : ℕ) × P p v)
@@ -43,13 +44,6 @@ abbrev answer_of : {A : Type 0} → (o : Option A) → ((a : A) × (o ≡ Some a
 answer_of (Some a) = inl (a, refl)
 answer_of None = inr refl
 
-abbrev is_there : {A : Type 0} → Option A → Type 0
-is_there (Some a) = Unit {0}
-is_there None = ⊥
-
-elim_some : {A : Type 0} (a : A) → Some a ≡ None → ⊥
-elim_some {A} a e = subst (λ (o : Option A). is_there o) e tt
-
 -- the first answer of a function on n numbers one after another, from the first on
 unfoldable pub first_some : {A : Type 0} → (ℕ → Option A) → ℕ → ℕ → Option A
 first_some f first zero = None
@@ -89,7 +83,7 @@ pub first_some-of_none : {A : Type 0} (f : ℕ → Option A) (first n : ℕ) →
 first_some-of_none f first zero is i low high = absurd (omega arith)
 first_some-of_none f first (suc n) is i low high =
     elim (answer_of (f first)) [
-      | inl found ↦ absurd (elim_some found.0 (sym (first_some-here f first n found.0 found.1) ∙ is))
+      | inl found ↦ absurd (none-some found.0 (sym is ∙ first_some-here f first n found.0 found.1))
       | inr empty ↦ elim (cases_eq i first) [
         | inl e ↦ subst (λ j. f j ≡ None) (sym e) empty
         | inr ne ↦ first_some-of_none f (suc first) n (sym (first_some-later f first n empty) ∙ is) i (omega arith) (omega arith)
@@ -100,7 +94,7 @@ first_some-of_none f first (suc n) is i low high =
 pub first_some-of_found : {A : Type 0} (f : ℕ → Option A) (first n : ℕ) (a : A) → first_some f first n ≡ Some a
     → (i : ℕ) × (first ≤ i) × (i < first + n) × (f i ≡ Some a)
 unfolding first_some
-first_some-of_found f first zero a is = absurd (elim_some a (sym is))
+first_some-of_found f first zero a is = absurd (none-some a is)
 first_some-of_found f first (suc n) a is =
     elim (answer_of (f first)) [
       | inl found ↦ (first, omega arith, omega arith, found.1 ∙ (sym (first_some-here f first n found.0 found.1) ∙ is))

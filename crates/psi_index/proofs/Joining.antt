@@ -69,13 +69,6 @@ greatest-two values entries width first past i are within fits covers last =
     (greatest-join values first (first + width) i (i + width) (slice_index entries first) (slice_index entries i)
     (are.each first (omega arith)) (are.each i (omega arith)) (omega arith) (omega arith) (omega arith))
 
--- the values themselves are the stretches of one place
-pub are-least_one : (values : List ℕ) → AreLeast values 1 values
-are-least_one values = record { count = refl; each = λ i within. least-one values i }
-
-pub are-greatest_one : (values : List ℕ) → AreGreatest values 1 values
-are-greatest_one values = record { count = refl; each = λ i within. greatest-one values i }
-
 pub are-least_joined : (values halves joined : List ℕ) (half : ℕ) → AreLeast values half halves → JoinBy min halves half joined → AreLeast values (2 * half) joined
 are-least_joined values halves joined half are join = record {
   count = (let c = are.count in let d = join.count in omega arith);

@@ -27,12 +27,12 @@ pub record IsValueList (values : List ℕ) : Type 0 where
   pub few : length values ≤ 65535
   pub each : (i : ℕ) → slice_index values i < 2 ^ 32
 
--- m is the least value at the places from the first to before the last
+-- m is the least value at the places from first on and before past
 pub record IsLeast (values : List ℕ) (first past m : ℕ) : Type 0 where
   pub below : (k : ℕ) → first ≤ k → k < past → m ≤ slice_index values k
   pub reached : (k : ℕ) × (first ≤ k) × (k < past) × (slice_index values k ≡ m)
 
--- m is the greatest value at the places from the first to before the last
+-- m is the greatest value at the places from first on and before past
 pub record IsGreatest (values : List ℕ) (first past m : ℕ) : Type 0 where
   pub above : (k : ℕ) → first ≤ k → k < past → slice_index values k ≤ m
   pub reached : (k : ℕ) × (first ≤ k) × (k < past) × (slice_index values k ≡ m)

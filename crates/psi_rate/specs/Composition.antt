@@ -3,7 +3,7 @@
 use Rattle.std.specs.Prelude.{◌≡◌, ℕ, zero, suc, ◌+◌, ◌-◌, ◌≤◌, List, map, slice_index_or, Some, None}
 use Rattle.std.proofs.Common.{ap, sym, ◌∙◌, subst, arith}
 use Rattle.psi_state.specs.State.{IsBelow, zeros, all_states}
-use Rattle.psi_state.specs.Boxes.{In-all_states, In-of_all_states, below-itself, zeros-below, same-from_below}
+use Rattle.psi_state.specs.Boxes.{In-of_all_states, below-itself, zeros-below, same-from_below}
 use Rattle.psi_state.specs.Sets.{image, single, single-image, single-apart, In-image}
 use Rattle.psi_state.specs.States.{In-caps, In-zeros}
 use Rattle.psi_event.specs.Law.{IsClosed, IsMonotone}
@@ -49,10 +49,6 @@ pub record AreMonotone (caps : List ℕ) (f : ℕ → List ℕ → List ℕ) : T
 -- every state, started t steps before time zero or earlier, is s at time zero
 pub record IsReached (f : ℕ → List ℕ → List ℕ) (caps : List ℕ) (t : ℕ) (s : List ℕ) : Type 0 where
   pub each : (x : List ℕ) (earlier : ℕ) → IsBelow x caps → t ≤ earlier → compose f earlier x ≡ s
-
-pub compose-closed : (caps : List ℕ) (f : ℕ → List ℕ → List ℕ) → AreClosed caps f → (t : ℕ) (x : List ℕ) → IsBelow x caps → IsBelow (compose f t x) caps
-compose-closed caps f closed zero x within = within
-compose-closed caps f closed (suc t) x within = compose-closed caps f closed t (f (suc t) x) ((closed.each (suc t)).each x within)
 
 pub compose-monotone : (caps : List ℕ) (f : ℕ → List ℕ → List ℕ) → AreClosed caps f → AreMonotone caps f
     → (t : ℕ) (x y : List ℕ) → IsBelow y caps → IsBelow x y → IsBelow (compose f t x) (compose f t y)

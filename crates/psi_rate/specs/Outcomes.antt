@@ -1,4 +1,4 @@
--- What a sample is: the first horizon among 1, 2, 4, .. at which all states have met, with the state.
+-- Outcomes: the first horizon among 1, 2, 4, .. at which a run of any kind has an answer; and the answer of all states' having met.
 use Rattle.std.specs.Prelude.{◌≡◌, ℕ, suc, ◌-◌, ◌≤◌, List, length, map, slice_index_or, Option, Some, None, All}
 use Rattle.std.proofs.Common.{inl, inr, ap, sym, ◌∙◌, subst}
 use Rattle.std.proofs.lemmas.Bool.{cases_lt}
@@ -60,18 +60,6 @@ picked-each P functions rates word each idle = elim (cases_lt (event_of rates wo
   | inr past ↦ subst P (sym (get_or_past functions (event_of rates word) (λ x. x) past)) idle
 ]
 
--- each time's function makes states of states, since each event's does
-pub functions-closed : {E : Type 0} (capacities : E → List ℕ) (function : E → List ℕ → List ℕ) (system : Parts E) (words : ℕ → ℕ)
-    → ((event : E) → IsClosed (capacities event) (function event)) → All (λ event. capacities event ≡ system.caps) system.events
-    → AreClosed system.caps (functions_of function system words)
-functions-closed {E} capacities function system words closed same = record {
-  each = λ t.
-      picked-each (IsClosed system.caps) (map function system.events) system.rates (words (t - 1))
-      (All-map (IsClosed system.caps) function system.events
-      (λ k d small. subst (λ (caps : List ℕ). IsClosed caps (function (slice_index_or system.events k d))) (same k d small) (closed (slice_index_or system.events k d))))
-      (record { each = λ x within. within });
-}
-
 -- each time's function makes states of states, if each event's does
 pub function_at-closed : (caps : List ℕ) (functions : List (List ℕ → List ℕ)) (rates : List ℕ) (words : ℕ → ℕ) → All (λ f. IsClosed caps f) functions
     → AreClosed caps (function_at functions rates words)
@@ -79,6 +67,15 @@ function_at-closed caps functions rates words closed = record {
   each = λ t.
       picked-each (IsClosed caps) functions rates (words (t - 1)) closed (record { each = λ x within. within });
 }
+
+-- so it does for the events of a network
+pub functions-closed : {E : Type 0} (capacities : E → List ℕ) (function : E → List ℕ → List ℕ) (system : Parts E) (words : ℕ → ℕ)
+    → ((event : E) → IsClosed (capacities event) (function event)) → All (λ event. capacities event ≡ system.caps) system.events
+    → AreClosed system.caps (functions_of function system words)
+functions-closed {E} capacities function system words closed same =
+    function_at-closed system.caps (map function system.events) system.rates words
+    (All-map (IsClosed system.caps) function system.events
+    (λ k d small. subst (λ (caps : List ℕ). IsClosed caps (function (slice_index_or system.events k d))) (same k d small) (closed (slice_index_or system.events k d))))
 
 -- each time's function is monotone, if each event's is
 pub function_at-monotone : (caps : List ℕ) (functions : List (List ℕ → List ℕ)) (rates : List ℕ) (words : ℕ → ℕ) → All (λ f. IsMonotone caps f) functions

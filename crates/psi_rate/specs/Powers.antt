@@ -2,19 +2,15 @@
 use Rattle.std.specs.Prelude.{◌≡◌, ℕ, zero, suc, ◌+◌, ◌*◌, ◌/◌, ◌^◌, ◌<◌, ◌≤◌, refl}
 use Rattle.std.specs.Int.{IsPowerOfTwo}
 use Rattle.std.proofs.Common.{inl, inr, ap, subst, arith}
-use Rattle.std.proofs.Math.Nat.{pow-suc}
-use Rattle.std.proofs.Math.Pow.{pow-lt}
-use Rattle.std.proofs.lemmas.Bool.{cases_lt, cases_eq, le-leb, lt-leb}
+use Rattle.std.proofs.Math.Nat.{pow-succ', pow-le-pow_right}
+use Rattle.std.proofs.lemmas.Bool.{cases_lt, le-leb, lt-leb}
 use Rattle.psi_rate.specs.Rates.{IsLeastPower, power_from, least_power}
 
 pub pow-double : (k : ℕ) → 2 ^ suc k ≡ 2 * 2 ^ k
-pow-double k = (let e = pow-suc 2 k in omega arith)
+pow-double k = pow-succ' 2 k
 
 pub pow-order : (j k : ℕ) → j ≤ k → 2 ^ j ≤ 2 ^ k
-pow-order j k small = elim (cases_eq j k) [
-  | inl e ↦ (let same : 2 ^ j ≡ 2 ^ k = ap (λ i. 2 ^ i) e in omega arith)
-  | inr ne ↦ (let less : 2 ^ j < 2 ^ k = pow-lt {i = j} {j = k} (omega arith) in omega arith)
-]
+pow-order j k order = pow-le-pow_right {n = 2} (omega arith) order
 
 pub below-pow : (n : ℕ) → n < 2 ^ n
 below-pow zero = omega arith

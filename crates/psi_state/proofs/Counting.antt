@@ -1,20 +1,17 @@
 -- The steps of the loops that count the states of a box, and that turn states into places and back.
-use Rattle.std.specs.Prelude.{◌≡◌, ℕ, suc, ◌+◌, ◌-◌, ◌*◌, ◌/◌, ◌%◌, ◌<◌, ◌≤◌, List, length, Some, slice_get, slice_index, slice_set, drop, refl}
+use Rattle.std.specs.Prelude.{◌≡◌, ℕ, suc, ◌+◌, ◌-◌, ◌*◌, ◌/◌, ◌%◌, ◌<◌, ◌≤◌, List, length, Some, slice_get, slice_index, slice_set, drop}
 use Rattle.std.proofs.Common.{inl, inr, ap, sym, ◌∙◌, subst, arith}
 use Rattle.std.proofs.Math.Nat.{mul_assoc, zero-mul, le-mul_of_pos_right}
 use Rattle.std.proofs.lemmas.Bool.{cases_eq}
 use Rattle.std.proofs.lemmas.List.{drop-set-lt, get_or-set_same, get_or-set_other, length-set}
 use Rattle.psi_state.specs.State.{IsBelow, box}
 use Rattle.psi_state.specs.Members.{In}
-use Rattle.psi_state.specs.Boxes.{IsBetween, In-of_box, below-itself}
+use Rattle.psi_state.specs.Boxes.{IsBetween, In-of_box}
 use Rattle.psi_state.specs.Volume.{volume, volume-drop, volume-drop-some, volume-drop-all, place_in, place_in-drop, place_in-drop-all, place_in-small, length-box, slice_get-box}
 
 -- so many states in what was passed, times those in what is left, are all
 pub record IsCounting (l h : List ℕ) (i count : ℕ) : Type 0 where
   pub all : count * volume (drop i l) (drop i h) ≡ volume l h
-
-pub counting-first : (l h : List ℕ) → IsCounting l h 0 1
-counting-first l h = record { all = omega arith }
 
 pub counting-next : (l h : List ℕ) (i count width : ℕ) → IsBelow l h → i < length l → width ≡ suc (slice_index h i) - slice_index l i
     → IsCounting l h i count → IsCounting l h (i + 1) (count * width)
@@ -42,9 +39,6 @@ counting-last l h i count ordered end so_far =
 -- the place of what was passed, in steps of what is left, and the place of what is left, are the whole place
 pub record IsRanking (l h x : List ℕ) (i rank : ℕ) : Type 0 where
   pub all : rank * volume (drop i l) (drop i h) + place_in (drop i l) (drop i h) (drop i x) ≡ place_in l h x
-
-pub ranking-first : (l h x : List ℕ) → IsRanking l h x 0 0
-ranking-first l h x = record { all = omega (arith, zero-mul (volume l h)) }
 
 -- one digit more in a place value system
 horner : (rank width value rest place : ℕ) → rank * (width * rest) + (value * rest + place) ≡ (rank * width + value) * rest + place
@@ -112,15 +106,6 @@ ranking-last l h x i rank ordered member end so_far =
 pub record IsUnranking (l h x : List ℕ) (i left r : ℕ) : Type 0 where
   pub between : IsBetween l h x
   pub all : left * volume (drop i l) (drop i h) + place_in (drop i l) (drop i h) (drop i x) ≡ r
-
-pub unranking-first : (l h : List ℕ) (i r : ℕ) → IsBelow l h → i ≡ length l → IsUnranking l h l i r r
-unranking-first l h i r ordered end =
-    let one : volume (drop i l) (drop i h) ≡ 1 = ap (λ k. volume (drop k l) (drop k h)) end ∙ volume-drop-all l h ordered.same_length in
-    let none : place_in (drop i l) (drop i h) (drop i l) ≡ 0 = ap (λ k. place_in (drop k l) (drop k h) (drop k l)) end ∙ place_in-drop-all l h l ordered.same_length refl in
-    record {
-      between = record { low = below-itself l; high = ordered };
-      all = ap (λ n. r * n + place_in (drop i l) (drop i h) (drop i l)) one ∙ (ap (λ n. r * 1 + n) none ∙ omega arith);
-    }
 
 set-between : (l h x : List ℕ) (i v : ℕ) → IsBetween l h x → i < length l → slice_index l i ≤ v → v ≤ slice_index h i → IsBetween l h (slice_set x i v)
 set-between l h x i v between small low high =

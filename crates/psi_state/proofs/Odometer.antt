@@ -1,8 +1,7 @@
 -- The step of an odometer gives the state that follows in a box's list: the last place that isn't at its greatest
 -- number is raised by one, and all places behind it, which are, go back to their least.
-use Rattle.std.specs.Prelude.{◌≡◌, ℕ, zero, suc, ◌-◌, ◌<◌, ◌≤◌, List, [], ◌∷◌, ◌++◌, length, map, slice_index, slice_set, refl}
-use Rattle.std.proofs.Common.{inl, inr, ap, sym, ◌∙◌, subst, arith}
-use Rattle.std.proofs.lemmas.Bool.{cases_eq, cases_lt}
+use Rattle.std.specs.Prelude.{◌≡◌, ℕ, zero, suc, ◌-◌, ◌<◌, ◌≤◌, List, [], ◌∷◌, ◌++◌, length, map, slice_index, slice_set}
+use Rattle.std.proofs.Common.{ap, sym, ◌∙◌, subst, arith}
 use Rattle.std.proofs.lemmas.List.{ext_get_or, get_or-set_same, get_or-set_other, length-set}
 use Rattle.psi_state.specs.State.{IsBelow, box}
 use Rattle.psi_state.specs.Boxes.{IsBetween, below-tail}
@@ -15,34 +14,6 @@ pub record IsTurned (l h x y : List ℕ) (n : ℕ) : Type 0 where
   pub front : (i : ℕ) → i < n → slice_index y i ≡ slice_index x i
   pub full : (i : ℕ) → n ≤ i → i < length x → slice_index x i ≡ slice_index h i
   pub back : (i : ℕ) → n ≤ i → i < length x → slice_index y i ≡ slice_index l i
-
-pub turned-first : (l h x : List ℕ) (n : ℕ) → n ≡ length x → IsTurned l h x x n
-turned-first l h x n all = record {
-  same_length = refl;
-  front = λ i small. refl;
-  full = λ i past small. absurd (omega arith);
-  back = λ i past small. absurd (omega arith);
-}
-
-pub turned-next : (l h x y : List ℕ) (n v : ℕ) → IsBetween l h x → 0 < n → n ≤ length x → slice_index h (n - 1) ≤ slice_index x (n - 1)
-    → v ≡ slice_index l (n - 1) → IsTurned l h x y n → IsTurned l h x (slice_set y (n - 1) v) (n - 1)
-turned-next l h x y n v between some few top is turned =
-    let count : length x ≡ length y = sym turned.same_length in
-    record {
-      same_length = length-set y (n - 1) v ∙ turned.same_length;
-      front = λ i small. (let ne : i ≡ n - 1 → ⊥ = λ e. omega arith in
-          let other : slice_index (slice_set y (n - 1) v) i ≡ slice_index y i = get_or-set_other y (n - 1) i v 0 ne in
-          other ∙ turned.front i (omega arith));
-      full = λ i past small. elim (cases_eq i (n - 1)) [
-        | inl e ↦ (let most : slice_index x i ≤ slice_index h i = between.high.each i small in
-            let least : slice_index h i ≤ slice_index x i = subst (λ k. slice_index h k ≤ slice_index x k) (sym e) top in omega arith)
-        | inr ne ↦ turned.full i (omega arith) small
-      ];
-      back = λ i past small. elim (cases_eq i (n - 1)) [
-        | inl e ↦ subst (λ k. slice_index (slice_set y (n - 1) v) k ≡ slice_index l k) (sym e) (get_or-set_same y (n - 1) v 0 (omega arith) ∙ is)
-        | inr ne ↦ (get_or-set_other y (n - 1) i v 0 ne ∙ turned.back i (omega arith) small)
-      ];
-    }
 
 -- y is x with the place i raised by one and the places behind it back at their least numbers; in x these are at their greatest
 pub record IsRaised (l h x y : List ℕ) (i : ℕ) : Type 0 where
@@ -115,44 +86,6 @@ pub turned-raised : (l h x y : List ℕ) (n v : ℕ) → IsBetween l h x → 0 <
     → v ≡ suc (slice_index x (n - 1)) → IsTurned l h x y n → onward l h x ≡ x ∷ onward l h (slice_set y (n - 1) v)
 turned-raised l h x y n v between some few room is turned =
     onward-raised l h x (slice_set y (n - 1) v) (n - 1) between (omega arith) room (raised-from_turned l h x y n v some few is turned)
-
--- and it is in the box
-pub raised-between : (l h x y : List ℕ) (i : ℕ) → IsBetween l h x → IsBelow l h → slice_index x i < slice_index h i → IsRaised l h x y i → IsBetween l h y
-raised-between l h x y i between ordered room raised =
-    let low : length l ≡ length x = between.low.same_length in
-    let high : length x ≡ length h = between.high.same_length in
-    let count : length y ≡ length x = raised.same_length in
-    record {
-      low = record {
-        same_length = low ∙ sym count;
-        each = λ k small. elim (cases_lt k i) [
-          | inl less ↦ (let is : slice_index y k ≡ slice_index x k = raised.front k less in omega (arith, between.low.each k small))
-          | inr more ↦ elim (cases_eq k i) [
-            | inl e ↦ subst (λ n. slice_index l n ≤ slice_index y n) (sym e)
-                (let own : slice_index l k ≤ slice_index x k = between.low.each k small in
-                let there : slice_index l i ≤ slice_index x i = subst (λ n. slice_index l n ≤ slice_index x n) e own in
-                let is : slice_index y i ≡ suc (slice_index x i) = raised.here in omega arith)
-            | inr ne ↦ (let is : slice_index y k ≡ slice_index l k = raised.back k (omega arith) (omega arith) in omega arith)
-          ]
-        ];
-      };
-      high = record {
-        same_length = count ∙ high;
-        each = λ k small. elim (cases_lt k i) [
-          | inl less ↦ (let is : slice_index y k ≡ slice_index x k = raised.front k less in omega (arith, between.high.each k (omega arith)))
-          | inr more ↦ elim (cases_eq k i) [
-            | inl e ↦ subst (λ n. slice_index y n ≤ slice_index h n) (sym e)
-                (let is : slice_index y i ≡ suc (slice_index x i) = raised.here in omega arith)
-            | inr ne ↦ (let is : slice_index y k ≡ slice_index l k = raised.back k (omega arith) (omega arith) in omega (arith, ordered.each k (omega arith)))
-          ]
-        ];
-      };
-    }
-
-pub turned-between : (l h x y : List ℕ) (n v : ℕ) → IsBetween l h x → IsBelow l h → 0 < n → n ≤ length x → slice_index x (n - 1) < slice_index h (n - 1)
-    → v ≡ suc (slice_index x (n - 1)) → IsTurned l h x y n → IsBetween l h (slice_set y (n - 1) v)
-turned-between l h x y n v between ordered some few room is turned =
-    raised-between l h x (slice_set y (n - 1) v) (n - 1) between ordered room (raised-from_turned l h x y n v some few is turned)
 
 -- where no place has room, the state was the last
 pub turned-last : (l h x y : List ℕ) → IsBetween l h x → IsTurned l h x y 0 → onward l h x ≡ x ∷ []

@@ -1,9 +1,9 @@
 -- Ascending lists of states: a set has one such list, and a box is one.
-use Rattle.std.specs.Prelude.{◌≡◌, ℕ, zero, suc, ◌-◌, ◌<◌, ◌≤◌, List, [], ◌∷◌, ◌++◌, length, map, ◌⊎◌, Some, slice_get, nat_lt, ◌==◌, cond, true, refl}
+use Rattle.std.specs.Prelude.{◌≡◌, ℕ, zero, suc, ◌-◌, ◌<◌, ◌≤◌, List, [], ◌∷◌, ◌++◌, length, map, ◌⊎◌, nat_lt, ◌==◌, cond, true, refl}
 use Rattle.std.specs.Ordering.{match_ordering, ordering_then, ordering_reverse}
 use Rattle.std.specs.declared.cmp.Ordering.{Ordering}
 use Rattle.std.specs.declared.cmp.Ordering.TheVariants.{Less, Equal, Greater}
-use Rattle.std.proofs.Common.{inl, inr, ap, sym, ◌∙◌, subst, arith}
+use Rattle.std.proofs.Common.{inl, inr, ap, sym, ◌∙◌, subst, arith, map-id}
 use Rattle.std.proofs.lemmas.Bool.{lt-ltb}
 use Rattle.std.proofs.lemmas.Cmp.{tied_itself, nat_list_cmp_total, nat_cmp_total}
 use Rattle.psi_state.specs.State.{numbers_from, box}
@@ -137,13 +137,9 @@ image-agree f g (x ∷ xs) each =
     ap (λ (y : List ℕ). insert_state y (image f xs)) (each x (inl refl))
     ∙ ap (λ (ys : List (List ℕ)). insert_state (g x) ys) (image-agree f g xs (λ z member. each z (inr member)))
 
-map-identity : (xs : List (List ℕ)) → map (λ (x : List ℕ). x) xs ≡ xs
-map-identity [] = refl
-map-identity (x ∷ xs) = ap (λ (ys : List (List ℕ)). x ∷ ys) (map-identity xs)
-
 -- a set is its own image where nothing is changed
 pub image-identity : (xs : List (List ℕ)) → IsRising xs → image (λ (x : List ℕ). x) xs ≡ xs
-image-identity xs rising = ap (λ (ys : List (List ℕ)). ascending ys) (map-identity xs) ∙ ascending-own xs rising
+image-identity xs rising = ap (λ (ys : List (List ℕ)). ascending ys) (map-id xs) ∙ ascending-own xs rising
 
 pub image-rising : (f : List ℕ → List ℕ) (xs : List (List ℕ)) → IsRising (image f xs)
 image-rising f xs = ascending-rising (map f xs)
@@ -236,17 +232,3 @@ box-rising [] [] = (λ z member. absurd member, tt)
 box-rising [] (k ∷ h) = tt
 box-rising (j ∷ l) [] = tt
 box-rising (j ∷ l) (k ∷ h) = layers-rising (box l h) j (suc k - j) (box-rising l h)
-
--- so it is the list of its own set
-pub ascending-box : (l h : List ℕ) → ascending (box l h) ≡ box l h
-ascending-box l h = ascending-own (box l h) (box-rising l h)
-
--- and has no repeats
-pub box-distinct : (l h : List ℕ) → IsDistinct (box l h)
-box-distinct l h = rising-distinct (box l h) (box-rising l h)
-
--- what stands at a place of a list is a member of it
-pub In-slice_get : {A : Type 0} (xs : List A) (i : ℕ) (x : A) → slice_get xs i ≡ Some x → In x xs
-In-slice_get [] i x is = absurd cc
-In-slice_get (y ∷ xs) zero x is = inl cc
-In-slice_get (y ∷ xs) (suc i) x is = inr (In-slice_get xs i x is)

@@ -131,7 +131,3 @@ below-low l h m k ordered among = (In-of_box m k l (among.each l (In-low l h ord
 
 pub below-high : (l h m k : List ℕ) → IsBelow l h → AreAmong (box l h) (box m k) → IsBelow h k
 below-high l h m k ordered among = (In-of_box m k h (among.each h (In-high l h ordered))).high
-
--- each state of a box has the length of its corners
-pub length-In_box : (l h x : List ℕ) → In x (box l h) → length x ≡ length l
-length-In_box l h x member = sym ((In-of_box l h x member).low.same_length)

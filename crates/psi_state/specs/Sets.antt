@@ -102,9 +102,6 @@ single-image f s x (y ∷ ys) member each =
     ap (λ (ws : List (List ℕ)). single ws) (ascending-same s (f y) (map f ys) (λ z found.
     (let from = In-of_map f z (y ∷ ys) found in from.2 ∙ each from.0 from.1)))
 
-pub image-single : (f : List ℕ → List ℕ) (s x : List ℕ) (xs : List (List ℕ)) → single (image f xs) ≡ Some s → In x xs → f x ≡ s
-image-single f s x xs one member = single-each (image f xs) s (f x) one (In-image f x xs member)
-
 -- a list with two different members doesn't have one
 pub single-apart : {A : Type 0} (xs : List A) (x y : A) → In x xs → In y xs → (x ≡ y → ⊥) → single xs ≡ None
 single-apart [] x y first second apart = absurd first

@@ -1,56 +1,13 @@
 -- What is known of the states of given capacities and of a box, and when a box has one state.
-use Rattle.std.specs.Prelude.{◌≡◌, ℕ, suc, ◌-◌, ◌≤◌, List, [], ◌∷◌, ◌++◌, length, map, Some, None, true, false, nat_eq, slice_index, refl}
+use Rattle.std.specs.Prelude.{◌≡◌, ℕ, suc, ◌-◌, List, [], ◌∷◌, ◌++◌, map, Some, None, true, false, nat_eq, refl}
 use Rattle.std.specs.Cmp.Lexicographic.{pointwise, bytes_decides}
-use Rattle.std.proofs.Common.{inl, inr, ap, ◌∙◌, arith}
-use Rattle.std.proofs.lemmas.Bool.{cases_lt}
-use Rattle.std.proofs.lemmas.List.{get_or_past, length-replicate}
-use Rattle.psi_state.specs.State.{IsVector, AreCapacities, IsBelow, box, zeros, all_states}
+use Rattle.std.proofs.Common.{ap, ◌∙◌, arith}
+use Rattle.psi_state.specs.State.{IsBelow, box, zeros, all_states}
 use Rattle.psi_state.specs.Members.{In}
-use Rattle.psi_state.specs.Boxes.{below-itself, In-of_box, In-low, In-high, In-of_all_states, In-all_states, zeros-below}
+use Rattle.psi_state.specs.Boxes.{below-itself, In-of_box, In-low, In-high, In-all_states, zeros-below}
 use Rattle.psi_state.specs.Sets.{single, single-apart}
 use Rattle.psi_state.specs.Volume.{layers}
 use Rattle.psi_state.specs.Hull.{IsTight, corners, hull, corners-from_tight}
-
--- past its end a list of numbers reads as 0
-pub slice_index-past : (x : List ℕ) (i : ℕ) → length x ≤ i → slice_index x i ≡ 0
-slice_index-past x i past = get_or_past x i 0 past
-
-pub length-zeros : (caps : List ℕ) → length (zeros caps) ≡ length caps
-length-zeros caps = length-replicate (length caps) 0
-
--- a state below one that a `State` can hold is one that a `State` can hold
-pub vector-from_below : (x y : List ℕ) → IsBelow x y → IsVector y → IsVector x
-vector-from_below x y below vector =
-    let count : length x ≡ length y = below.same_length in
-    record {
-      some = omega (arith, vector.some);
-      few = omega (arith, vector.few);
-      each = λ i. elim (cases_lt i (length x)) [
-        | inl small ↦ omega (arith, below.each i small, vector.each i)
-        | inr past ↦ (let none : slice_index x i ≡ 0 = slice_index-past x i past in omega arith)
-      ];
-    }
-
-pub vector-from_capacities : (caps : List ℕ) → AreCapacities caps → IsVector caps
-vector-from_capacities caps valid = record {
-  some = valid.some;
-  few = valid.few;
-  each = λ i. elim (cases_lt i (length caps)) [
-    | inl small ↦ omega (arith, valid.most i small)
-    | inr past ↦ (let none : slice_index caps i ≡ 0 = slice_index-past caps i past in omega arith)
-  ];
-}
-
--- so each state of given capacities is one that a `State` can hold
-pub vector-from_state : (caps x : List ℕ) → AreCapacities caps → In x (all_states caps) → IsVector x
-vector-from_state caps x valid member = vector-from_below x caps (In-of_all_states caps x member) (vector-from_capacities caps valid)
-
--- and each state of a box whose upper corner is one
-pub vector-from_box : (l h x : List ℕ) → IsVector h → In x (box l h) → IsVector x
-vector-from_box l h x vector member = vector-from_below x h (In-of_box l h x member).high vector
-
-pub length-state : (caps x : List ℕ) → In x (all_states caps) → length x ≡ length caps
-length-state caps x member = (In-of_all_states caps x member).same_length
 
 pub zeros-caps : (caps : List ℕ) → IsBelow (zeros caps) caps
 zeros-caps caps = zeros-below caps caps refl

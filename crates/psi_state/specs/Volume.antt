@@ -3,6 +3,7 @@ use Rattle.std.specs.Prelude.{◌≡◌, ℕ, zero, suc, ◌+◌, ◌-◌, ◌*�
 use Rattle.std.specs.List.{flat_map}
 use Rattle.std.proofs.Common.{ap, sym, ◌∙◌, arith, length-append, zero-add}
 use Rattle.std.proofs.Math.Nat.{suc-mul, zero-mul, mul-pos}
+use Rattle.std.proofs.lemmas.List.{length-map}
 use Rattle.std.proofs.lemmas.Option.{slice_get_within}
 use Rattle.psi_state.specs.State.{IsBelow, numbers_from, box}
 use Rattle.psi_state.specs.Boxes.{IsBetween, below-head, below-tail}
@@ -25,14 +26,10 @@ place_in (l ∷ ls) (h ∷ hs) (v ∷ x) = (v - l) * volume ls hs + place_in ls 
 abbrev pub layers : List (List ℕ) → ℕ → ℕ → List (List ℕ)
 layers inner first n = flat_map (λ v. map (λ (x : List ℕ). v ∷ x) inner) (numbers_from first n)
 
-length-map_cons : (v : ℕ) (inner : List (List ℕ)) → length (map (λ (x : List ℕ). v ∷ x) inner) ≡ length inner
-length-map_cons v [] = refl
-length-map_cons v (x ∷ inner) = ap suc (length-map_cons v inner)
-
 pub length-layers : (inner : List (List ℕ)) (first n : ℕ) → length (layers inner first n) ≡ n * length inner
 length-layers inner first zero = sym (zero-mul (length inner))
 length-layers inner first (suc n) =
-    let front = length-map_cons first inner in
+    let front = length-map inner (λ (x : List ℕ). first ∷ x) in
     let rest = length-layers inner (suc first) n in
     let joined = length-append (map (λ (x : List ℕ). first ∷ x) inner) (layers inner (suc first) n) in
     omega (arith, joined, front, rest, suc-mul n (length inner))
@@ -82,7 +79,7 @@ slice_get-layers inner first (suc n) zero i x small is =
     ∙ (slice_get-left (map (λ (y : List ℕ). first ∷ y) inner) (layers inner (suc first) n) i (first ∷ x) (slice_get-cons first inner i x is)
     ∙ ap (λ v. Some (v ∷ x)) number)
 slice_get-layers inner first (suc n) (suc k) i x small is =
-    let count = length-map_cons first inner in
+    let count = length-map inner (λ (x : List ℕ). first ∷ x) in
     let front = map (λ (y : List ℕ). first ∷ y) inner in
     let at : suc k * length inner + i ≡ length (map (λ (y : List ℕ). first ∷ y) inner) + (k * length inner + i) = omega (arith, count, suc-mul k (length inner)) in
     let number : suc first + k ≡ first + suc k = omega arith in
