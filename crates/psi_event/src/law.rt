@@ -13,10 +13,13 @@ use psi_state::{Bounds, State};
 ///
 /// No call takes memory.
 pub trait EventLaw {
+    // How many customers each queue has room for.
     ghost capacities: { Self → List ℕ };
 
+    // What the event makes of each state.
     ghost function: { Self → List ℕ → List ℕ };
 
+    // Two states whose order the function doesn't keep, if there are such: those that `upset` answers.
     ghost upset_pair: { Self → Option (List ℕ × List ℕ) };
 
     /// The capacities, in customers: 1 to 32 queues with room for 1 to 65,535 each.

@@ -36,8 +36,8 @@ impl Model for IndexTable {
 impl IndexTable {
     /// The table of these values: 1 to 65,535 of them.
     ///
-    /// No other call takes memory. The error comes only where memory runs out, and the values are dropped
-    /// then.
+    /// `OutOfMemory` is the answer where there is no memory for it, and the values are dropped then; no clause
+    /// says when that is. No other call takes memory.
     pub fn new(alloc: Global, values: Vec<u32>) -> Result<IndexTable, OutOfMemory>
         requires some { 1 ≤ length values.items }
         requires few { length values.items ≤ 65535 }

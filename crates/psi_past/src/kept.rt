@@ -1,3 +1,5 @@
+//! The words that were drawn from a past, kept for the next run.
+
 ghost use Rattle.std.specs.Prelude.{◌≡◌, ◌<◌, ◌≤◌, max, length, vec_capacity, IfOk, IsOk};
 ghost use Rattle.psi_past.specs.Keeping.{AreWords};
 
@@ -46,7 +48,8 @@ impl<P: Past + Drop> Model for Kept<P> {
 impl<P: Past + Drop> Kept<P> {
     /// Takes the room for `most` words of a past, and draws none yet. No other call takes memory.
     ///
-    /// The error comes only where memory runs out, and the past is dropped then.
+    /// `OutOfMemory` is the answer where there is no memory for it, and the past is dropped then. No clause says
+    /// when that is, but that room for no word at all is always given.
     pub fn reserve(alloc: Global, past: P, most: u32) -> Result<Kept<P>, OutOfMemory>
         ensures kept { IfOk result (λ kept. kept ≡ record { past = past; count = 0; most = most }) }
         ensures no_room_needed { most ≡ 0 → IsOk result }

@@ -1,3 +1,5 @@
+//! The past of a list of words.
+
 ghost use Rattle.std.specs.Prelude.{◌≡◌};
 
 use crate::past::Past;

@@ -1,10 +1,12 @@
+//! The contract of a past.
+
 ghost use Rattle.std.specs.Prelude.{◌≡◌, ℕ};
 
 /// One random word for each place, fixed once and for all.
 ///
 /// A run may read a place as often as it likes and in any order, and always meets the same word.
 pub trait Past {
-    // the word of each place
+    // The word of each place.
     ghost words: { Self → ℕ → ℕ };
 
     /// The word at a place. Reading changes no word.

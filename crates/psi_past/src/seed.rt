@@ -1,3 +1,5 @@
+//! The past of a seed and a stream.
+
 ghost use Rattle.std.specs.Prelude.{◌≡◌};
 
 use crate::past::Past;

@@ -39,7 +39,7 @@ impl Model for Queues {
 }
 
 impl Queues {
-    /// The list of no queue.
+    /// The empty list.
     pub fn empty() -> Queues
         ensures { result ≡ [] }
     {

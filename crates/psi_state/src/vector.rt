@@ -95,8 +95,8 @@ impl State {
             .all(|(own, most)| own <= most)
     }
 
-    /// A number of 32 bits that is the same for the same state, and is spread well over states: for tables of
-    /// states.
+    /// A hash of 32 bits for tables of states: equal states have equal hashes. It is made by multiplication
+    /// (Knuth, The Art of Computer Programming, volume 3, section 6.4).
     #[tactic(auto, unfolding(crate::specs::Hashing::hash))]
     pub fn hash(&self) -> u32
         ensures { result ≡ hash self.now }
@@ -107,7 +107,7 @@ impl State {
         (self.mixed(8) >> 32) as u32
     }
 
-    // The product of the first so many quads. Their number is given as a constant, so that it is no loop.
+    // The product of the first `quads` quads. Callers pass a constant, so that the compiler unrolls the loop.
     #[inline]
     fn mixed(&self, quads: u8) -> u64
         requires { quads ≤ 8 }

@@ -1,3 +1,5 @@
+//! What is kept, and how often a word is drawn.
+
 use super::*;
 use crate::ListPast;
 use std::test::Fail;

@@ -1,3 +1,5 @@
+//! Words of seeds against RFC 8439 and an independent program.
+
 use super::*;
 
 // RFC 8439, A.1, test vector 1: the block of the zero key and the zero nonce at block counter 0.
