@@ -35,7 +35,7 @@ fn room(caps: &State, x: &State, queue: u8) -> u16 {
 }
 
 // The value of a table at a number of customers.
-fn value(tables: &Tables, place: usize, number: u16) -> u32 {
+pub(crate) fn value(tables: &Tables, place: usize, number: u16) -> u32 {
     if place >= tables.len() {
         return 0;
     }
@@ -150,7 +150,7 @@ fn merged(caps: &State, x: &State, from: &Queues, to: Option<u8>) -> State {
 }
 
 // A number of customers after the shift of a part, within its floor and ceiling.
-fn shifted(part: Part, number: u16) -> u16 {
+pub(crate) fn shifted(part: Part, number: u16) -> u16 {
     let by = part.shift.unsigned_abs().min(65535);
     let moved = if part.shift < 0 {
         (number as u32).saturating_sub(by)

@@ -1,6 +1,7 @@
 //! Every kind on small networks: its function, its mark, its pair and its envelopes.
 
 use super::checks::{envelope, image, is_below, list, lowered, parts, state};
+use super::pairs::fixed_pair;
 use super::plain::{held, outcome, with};
 use crate::{Event, Kind, Tables};
 use psi_event::EventLaw;
@@ -108,9 +109,10 @@ fn is_upset(pairs: &[(State, State)]) -> bool {
     false
 }
 
-// The mark is right, and the pair shows what it should.
+// The mark is right, and the pair is the fixed one, which shows that the order isn't kept.
 fn compare_marks(rt: &impl Abort, event: &Event, caps: &State, kind: &Kind, is_upset: bool) {
     assert_eq!(rt; event.monotone(), !is_upset, "{kind:?}");
+    assert_eq!(rt; event.upset(), fixed_pair(caps, kind), "{kind:?}");
     match event.upset() {
         None => assert!(rt; !is_upset, "{kind:?}"),
         Some((x, y)) => {
