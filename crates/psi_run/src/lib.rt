@@ -25,6 +25,8 @@ mod refusals;
 mod samples;
 #[cfg(test)]
 mod small;
+#[cfg(test)]
+mod split_sets;
 mod status;
 #[cfg(test)]
 mod tests;
