@@ -115,7 +115,8 @@ fn home_if_new(nodes: &[Node], heads: &[u16], place: usize) -> Option<usize>
 }
 
 /// Moves the states of the first `len` nodes on by the event, and links these nodes anew into the first
-/// `used` buckets. Answers how many nodes are in use from then on.
+/// `used` buckets. Answers how many nodes are in use from then on. It stays out of the way of a box's step.
+#[inline(never)]
 pub(crate) fn relink<E: EventLaw>(
     nodes: &mut [Node],
     heads: &mut [u16],
