@@ -111,13 +111,22 @@ fn ranges_of_parts_end_at_the_capacity_and_hold_something(rt: HostRuntime) -> Re
 #[test]
 fn guarded_events_break_the_order_where_they_jump(rt: HostRuntime) -> Result<(), Fail> {
     let alloc = rt.alloc();
-    let broken = Some((one(2), one(3)));
-    for (keys, pair, from, to, ends) in [
-        ("ceiling = 0", None, 5, 0, (one(0), one(0))),
-        ("most = 2, floor = 5", broken, 2, 5, (one(3), one(5))),
-        ("most = 2, floor = 5", broken, 3, 3, (one(3), one(5))),
-        ("least = 3, ceiling = 1", broken, 2, 2, (one(1), one(2))),
-        ("least = 3, ceiling = 1", broken, 3, 1, (one(1), one(2))),
+    for (keys, pair, second, third, ends) in [
+        ("ceiling = 0", None, 0, 0, (one(0), one(0))),
+        (
+            "most = 2, floor = 5",
+            Some((one(2), one(3))),
+            5,
+            3,
+            (one(3), one(5)),
+        ),
+        (
+            "least = 3, ceiling = 1",
+            Some((one(2), one(3))),
+            2,
+            1,
+            (one(1), one(2)),
+        ),
     ] {
         let file = guarding(alloc, 2, keys)?;
         let net = net_of(alloc, file.as_str().as_bytes())?;
@@ -128,7 +137,8 @@ fn guarded_events_break_the_order_where_they_jump(rt: HostRuntime) -> Result<(),
         let event = system.event(1);
         assert_eq!(rt; event.upset(), pair, "{keys}");
         assert_eq!(rt; envelope(&rt, event), ends, "{keys}");
-        assert_eq!(rt; applied(&rt, event, one(from)), one(to), "{keys} at {from}");
+        assert_eq!(rt; applied(&rt, event, one(2)), one(second), "{keys}");
+        assert_eq!(rt; applied(&rt, event, one(3)), one(third), "{keys}");
     }
     Ok(())
 }
