@@ -71,7 +71,7 @@ fn buckets_for(states: u16) -> u16
 impl Pool {
     /// The empty set, with room for `most` states: 1 to 4,096.
     ///
-    /// The error comes only where memory runs out.
+    /// `OutOfMemory` is the answer where there is no memory for it; no clause says when that is.
     pub fn reserve(alloc: Global, most: u16) -> Result<Pool, OutOfMemory>
         requires least { 1 ≤ most }
         requires most { most ≤ 4096 }
