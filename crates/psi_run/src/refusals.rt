@@ -93,93 +93,95 @@ event = [
 ]
 ";
 
+// A file, a text in it, what stands in its place, and the refusal of what comes of it.
+const CHANGED_CASES: [(&str, &str, &str, &str); 21] = [
+    (
+        FIRST,
+        "= 1",
+        "= \"1\"\ncolour = 1",
+        "5 WrongType top 0 version",
+    ),
+    (FIRST, "= 1", "= 1\ncolour = 1", "3 UnknownKey top 0 colour"),
+    (FIRST, "= 1", "= 1\n\"a b\" = 1", "3 UnknownKey top 0 -"),
+    (
+        FIRST,
+        "= 1",
+        "= 1\ncolour = 1\nlimit = 21",
+        "3 UnknownKey top 0 colour",
+    ),
+    (FIRST, "= 1", "= 1\nlimit = 21", "6 OutOfRange top 0 limit"),
+    (FIRST, "= 1", "= 2\nlimit = 23", "6 OutOfRange top 0 limit"),
+    (FIRST, "\"a\"", "\"\"", "6 OutOfRange queue 1 name"),
+    (FIRST, "= 2", "= 0", "6 OutOfRange queue 1 capacity"),
+    (
+        FIRST,
+        "= 2",
+        "= 2\nservers = 3",
+        "6 OutOfRange queue 1 servers",
+    ),
+    (
+        FIRST,
+        "= 2",
+        "= 2\n[[queue]]\nname = \"a\"\ncapacity = 2",
+        "8 DuplicateName queue 2 name",
+    ),
+    (
+        FIRST,
+        "rate = 1",
+        "rate = \"x\"",
+        "5 WrongType event 1 rate",
+    ),
+    (FIRST, "arrival", "arival", "10 UnknownKind event 1 kind"),
+    (
+        FIRST,
+        "arrival\"",
+        "batch\"\nsize = 3",
+        "14 BatchTooLarge event 1 size",
+    ),
+    (FIRST, "[\"a\"]", "[\"b\"]", "9 UnknownQueue event 1 to"),
+    (
+        FIRST,
+        "[\"a\"]",
+        "[\"a\", \"a\"]",
+        "12 RepeatedTarget event 1 to",
+    ),
+    (
+        FIRST,
+        "rate = 2",
+        "rate = 2\nto = [\"a\"]",
+        "11 SelfTarget event 2 to",
+    ),
+    (
+        FIRST,
+        "rate = 2",
+        "rate = 2\nfull = \"keep\"",
+        "6 OutOfRange event 2 full",
+    ),
+    (
+        RESET,
+        "ceiling = 0",
+        "ceiling = 6",
+        "6 OutOfRange event 2 ceiling",
+    ),
+    (
+        RESET,
+        "ceiling = 0",
+        "least = 3, most = 2, ceiling = 0",
+        "18 EmptyGuard event 2 least",
+    ),
+    (
+        RESET,
+        "ceiling = 0",
+        "floor = 2, ceiling = 1",
+        "18 EmptyGuard event 2 floor",
+    ),
+    (RESET, "= 2", "= 1", "10 UnknownKind event 2 kind"),
+];
+
 #[test]
 fn changed_network_files_are_refused(rt: HostRuntime) -> Result<(), Fail> {
     let alloc = rt.alloc();
-    let cases = [
-        (
-            FIRST,
-            "= 1",
-            "= \"1\"\ncolour = 1",
-            "5 WrongType top 0 version",
-        ),
-        (FIRST, "= 1", "= 1\ncolour = 1", "3 UnknownKey top 0 colour"),
-        (FIRST, "= 1", "= 1\n\"a b\" = 1", "3 UnknownKey top 0 -"),
-        (
-            FIRST,
-            "= 1",
-            "= 1\ncolour = 1\nlimit = 21",
-            "3 UnknownKey top 0 colour",
-        ),
-        (FIRST, "= 1", "= 1\nlimit = 21", "6 OutOfRange top 0 limit"),
-        (FIRST, "= 1", "= 2\nlimit = 23", "6 OutOfRange top 0 limit"),
-        (FIRST, "\"a\"", "\"\"", "6 OutOfRange queue 1 name"),
-        (FIRST, "= 2", "= 0", "6 OutOfRange queue 1 capacity"),
-        (
-            FIRST,
-            "= 2",
-            "= 2\nservers = 3",
-            "6 OutOfRange queue 1 servers",
-        ),
-        (
-            FIRST,
-            "= 2",
-            "= 2\n[[queue]]\nname = \"a\"\ncapacity = 2",
-            "8 DuplicateName queue 2 name",
-        ),
-        (
-            FIRST,
-            "rate = 1",
-            "rate = \"x\"",
-            "5 WrongType event 1 rate",
-        ),
-        (FIRST, "arrival", "arival", "10 UnknownKind event 1 kind"),
-        (
-            FIRST,
-            "arrival\"",
-            "batch\"\nsize = 3",
-            "14 BatchTooLarge event 1 size",
-        ),
-        (FIRST, "[\"a\"]", "[\"b\"]", "9 UnknownQueue event 1 to"),
-        (
-            FIRST,
-            "[\"a\"]",
-            "[\"a\", \"a\"]",
-            "12 RepeatedTarget event 1 to",
-        ),
-        (
-            FIRST,
-            "rate = 2",
-            "rate = 2\nto = [\"a\"]",
-            "11 SelfTarget event 2 to",
-        ),
-        (
-            FIRST,
-            "rate = 2",
-            "rate = 2\nfull = \"keep\"",
-            "6 OutOfRange event 2 full",
-        ),
-        (
-            RESET,
-            "ceiling = 0",
-            "ceiling = 6",
-            "6 OutOfRange event 2 ceiling",
-        ),
-        (
-            RESET,
-            "ceiling = 0",
-            "least = 3, most = 2, ceiling = 0",
-            "18 EmptyGuard event 2 least",
-        ),
-        (
-            RESET,
-            "ceiling = 0",
-            "floor = 2, ceiling = 1",
-            "18 EmptyGuard event 2 floor",
-        ),
-        (RESET, "= 2", "= 1", "10 UnknownKind event 2 kind"),
-    ];
-    for (base, old, new, refusal) in cases {
+    for (base, old, new, refusal) in CHANGED_CASES {
         let net = changed(alloc, base, old, new)?;
         assert_refused(&rt, alloc, net.as_bytes(), refusal)?;
     }
