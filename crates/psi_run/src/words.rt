@@ -62,17 +62,16 @@ fn number(word: &str) -> Option<u64>
 fn sample_of(words: &[String]) -> Result<Request<'_>, u8>
     ensures { GivesCommand result (sample_of_words (map string_bytes words.now)) }
 {
-    let (net, seed, stream, rest) = match words {
-        [] => return Err(2),
-        [_] => return Err(3),
-        [_, seed] => return Err(if number(seed.as_str()).is_some() {
-            4
-        } else {
-            3
-        }),
-        [net, seed, stream, rest @ ..] => (net, seed, stream, rest),
+    let [net, rest @ ..] = words else {
+        return Err(2);
+    };
+    let [seed, rest @ ..] = rest else {
+        return Err(3);
     };
     let seed = number(seed.as_str()).ok_or(3)?;
+    let [stream, rest @ ..] = rest else {
+        return Err(4);
+    };
     let stream = number(stream.as_str()).ok_or(4)?;
     if !rest.is_empty() {
         return Err(5);
