@@ -1,8 +1,12 @@
 -- Two stretches that overlap make a longer one.
-use Rattle.std.proofs.Common.{◌≡◌, ℕ, zero, suc, ◌+◌, ◌-◌, ◌*◌, ◌<◌, ◌≤◌, List, [], ◌∷◌, length, min, max, drop, slice_index, slice_range, inl, inr, ap, sym, ◌∙◌, subst, arith, refl, length-drop}
+use Rattle.std.proofs.Common.{Result, IfOk, ◌≡◌, ℕ, zero, suc, ◌+◌, ◌-◌, ◌*◌, ◌<◌, ◌≤◌, List, [], ◌∷◌, ◌^◌, length, map, min, take, drop, slice_index, slice_range, inl, inr, ap, sym, ◌∙◌, subst, arith, refl, length-drop}
 use Rattle.std.proofs.lemmas.Bool.{cases_lt}
-use Rattle.std.proofs.lemmas.List.{get_or-take, get_or-drop, length-take-le}
-use Rattle.psi_index.specs.Extremes.{least_of, greatest_of, IsLeast, IsGreatest, AreLeast, AreGreatest, JoinBy}
+use Rattle.std.proofs.lemmas.Nat.{pow-add}
+use Rattle.std.proofs.lemmas.Result.{IfOk-weaker}
+use Rattle.std.proofs.lemmas.List.{get_or-take, get_or-drop, drop-map, take-map, length-take-le}
+use Rattle.psi_index.specs.Extremes.{complement, greatest_of, least_of, AreLeast, IsLeast, IsValueList}
+use Rattle.psi_index.specs.Levels.{IsJoined, IsLevel}
+use Rattle.psi_index.specs.declared.level.Level.{Level}
 
 pub least-one : (values : List ℕ) (first : ℕ) → IsLeast values first (first + 1) (slice_index values first)
 least-one values first = record {
@@ -10,48 +14,18 @@ least-one values first = record {
   reached = (first, omega arith, omega arith, refl);
 }
 
-pub greatest-one : (values : List ℕ) (first : ℕ) → IsGreatest values first (first + 1) (slice_index values first)
-greatest-one values first = record {
-  above = λ k low high. (let e : k ≡ first = omega arith in let same : slice_index values k ≡ slice_index values first = ap (λ j. slice_index values j) e in omega arith);
-  reached = (first, omega arith, omega arith, refl);
-}
-
 pub least-join : (values : List ℕ) (a b c d m n : ℕ) → IsLeast values a b m → IsLeast values c d n → a ≤ c → c ≤ b → b ≤ d → IsLeast values a d (min m n)
 least-join values a b c d m n left right low meet high = record {
   below = λ k over under.
       elim (cases_lt k b) [
-        | inl less ↦ (let near : m ≤ slice_index values k = left.below k over less in omega arith)
-        | inr more ↦ (let near : n ≤ slice_index values k = right.below k (omega arith) under in omega arith)
+        | inl less ↦ (let near = left.below k over less in omega arith)
+        | inr more ↦ (let near = right.below k (omega arith) under in omega arith)
       ];
   reached =
-      (let p = left.reached in let q = right.reached in
-      let is_p : slice_index values p.0 ≡ m = p.3 in
-      let is_q : slice_index values q.0 ≡ n = q.3 in
-      let low_p : a ≤ p.0 = p.1 in let high_p : p.0 < b = p.2 in
-      let low_q : c ≤ q.0 = q.1 in let high_q : q.0 < d = q.2 in
       elim (cases_lt n m) [
-        | inl less ↦ (q.0, omega arith, omega arith, omega arith)
-        | inr more ↦ (p.0, omega arith, omega arith, omega arith)
-      ]);
-}
-
-pub greatest-join : (values : List ℕ) (a b c d m n : ℕ) → IsGreatest values a b m → IsGreatest values c d n → a ≤ c → c ≤ b → b ≤ d → IsGreatest values a d (max m n)
-greatest-join values a b c d m n left right low meet high = record {
-  above = λ k over under.
-      elim (cases_lt k b) [
-        | inl less ↦ (let near : slice_index values k ≤ m = left.above k over less in omega arith)
-        | inr more ↦ (let near : slice_index values k ≤ n = right.above k (omega arith) under in omega arith)
+        | inl less ↦ (let q = right.reached in (q.0, omega arith, q.2, omega arith))
+        | inr more ↦ (let p = left.reached in (p.0, p.1, omega arith, omega arith))
       ];
-  reached =
-      (let p = left.reached in let q = right.reached in
-      let is_p : slice_index values p.0 ≡ m = p.3 in
-      let is_q : slice_index values q.0 ≡ n = q.3 in
-      let low_p : a ≤ p.0 = p.1 in let high_p : p.0 < b = p.2 in
-      let low_q : c ≤ q.0 = q.1 in let high_q : q.0 < d = q.2 in
-      elim (cases_lt m n) [
-        | inl less ↦ (q.0, omega arith, omega arith, omega arith)
-        | inr more ↦ (p.0, omega arith, omega arith, omega arith)
-      ]);
 }
 
 -- two entries of one level make the least value of a stretch of at most twice its width
@@ -62,87 +36,35 @@ least-two values entries width first past i are within fits covers last =
     (least-join values first (first + width) i (i + width) (slice_index entries first) (slice_index entries i)
     (are.each first (omega arith)) (are.each i (omega arith)) (omega arith) (omega arith) (omega arith))
 
-pub greatest-two : (values entries : List ℕ) (width first past i : ℕ) → AreGreatest values width entries → past ≤ length values → first + width ≤ past
-    → past ≤ first + 2 * width → i + width ≡ past → IsGreatest values first past (max (slice_index entries first) (slice_index entries i))
-greatest-two values entries width first past i are within fits covers last =
-    subst (λ q. IsGreatest values first q (max (slice_index entries first) (slice_index entries i))) last
-    (greatest-join values first (first + width) i (i + width) (slice_index entries first) (slice_index entries i)
-    (are.each first (omega arith)) (are.each i (omega arith)) (omega arith) (omega arith) (omega arith))
+-- and two such entries each make a level of twice its width
+pub level-joined : {E : Type 0} (values halves : List ℕ) (half e : ℕ) (r : Result Level E) → AreLeast values half halves → half ≡ 2 ^ e
+    → 2 ^ (e + 1) ≤ length values → IfOk r (λ level. IsJoined halves half level) → IfOk r (λ level. IsLevel values (2 ^ (e + 1)) level)
+level-joined values halves half e r are power room =
+    let twice : 2 ^ (e + 1) ≡ 2 * half = omega (arith, pow-add 2 e 1) in
+    IfOk-weaker r (λ level. IsJoined halves half level) (λ level. IsLevel values (2 ^ (e + 1)) level) (λ level join. record {
+      wide = omega arith;
+      least = record {
+        count = omega arith;
+        each = λ i within.
+            subst (λ m. IsLeast values i (i + level.width) m) (sym (join.each i (omega arith)))
+            (least-two values halves half i (i + level.width) (i + half) are within (omega arith) (omega arith) (omega arith));
+      };
+    })
 
-pub are-least_joined : (values halves joined : List ℕ) (half : ℕ) → AreLeast values half halves → JoinBy min halves half joined → AreLeast values (2 * half) joined
-are-least_joined values halves joined half are join = record {
-  count = (let c = are.count in let d = join.count in omega arith);
-  each = λ i within.
-      (let c : length halves + half ≡ length values + 1 = are.count in
-      let d : length joined + half ≡ length halves = join.count in
-      let is : slice_index joined i ≡ min (slice_index halves i) (slice_index halves (i + half)) = join.each i (omega arith) in
-      subst (λ m. IsLeast values i (i + 2 * half) m) (sym is)
-      (least-two values halves half i (i + 2 * half) (i + half) are within (omega arith) (omega arith) (omega arith)));
-}
+-- what is at most each number is at most the least of them
+least_of-above : (xs : List ℕ) (m : ℕ) → 0 < length xs → ((k : ℕ) → k < length xs → m ≤ slice_index xs k) → m ≤ least_of xs
+least_of-above [] m some below = absurd (omega arith)
+least_of-above (x ∷ []) m some below = below 0 (omega arith)
+least_of-above (x ∷ y ∷ ys) m some below =
+    let first = below 0 (omega arith) in let rest = least_of-above (y ∷ ys) m (omega arith) (λ k small. below (suc k) (omega arith)) in omega arith
 
-pub are-greatest_joined : (values halves joined : List ℕ) (half : ℕ) → AreGreatest values half halves → JoinBy max halves half joined → AreGreatest values (2 * half) joined
-are-greatest_joined values halves joined half are join = record {
-  count = (let c = are.count in let d = join.count in omega arith);
-  each = λ i within.
-      (let c : length halves + half ≡ length values + 1 = are.count in
-      let d : length joined + half ≡ length halves = join.count in
-      let is : slice_index joined i ≡ max (slice_index halves i) (slice_index halves (i + half)) = join.each i (omega arith) in
-      subst (λ m. IsGreatest values i (i + 2 * half) m) (sym is)
-      (greatest-two values halves half i (i + 2 * half) (i + half) are within (omega arith) (omega arith) (omega arith)));
-}
-
-least-same : (values : List ℕ) (a b m n : ℕ) → IsLeast values a b m → IsLeast values a b n → m ≡ n
-least-same values a b m n one two =
-    let p = one.reached in let q = two.reached in
-    let is_p : slice_index values p.0 ≡ m = p.3 in
-    let is_q : slice_index values q.0 ≡ n = q.3 in
-    let first : m ≤ slice_index values q.0 = one.below q.0 q.1 q.2 in
-    let second : n ≤ slice_index values p.0 = two.below p.0 p.1 p.2 in omega arith
-
-greatest-same : (values : List ℕ) (a b m n : ℕ) → IsGreatest values a b m → IsGreatest values a b n → m ≡ n
-greatest-same values a b m n one two =
-    let p = one.reached in let q = two.reached in
-    let is_p : slice_index values p.0 ≡ m = p.3 in
-    let is_q : slice_index values q.0 ≡ n = q.3 in
-    let first : slice_index values q.0 ≤ m = one.above q.0 q.1 q.2 in
-    let second : slice_index values p.0 ≤ n = two.above p.0 p.1 p.2 in omega arith
-
--- the number that is computed is the least of the list
-least_of-is : (x : ℕ) (xs : List ℕ) → IsLeast (x ∷ xs) 0 (length (x ∷ xs)) (least_of (x ∷ xs))
-least_of-is x [] = least-one (x ∷ []) 0
-least_of-is x (y ∷ ys) =
-    let rest : IsLeast (y ∷ ys) 0 (length (y ∷ ys)) (least_of (y ∷ ys)) = least_of-is y ys in
-    least-join (x ∷ y ∷ ys) 0 1 1 (length (x ∷ y ∷ ys)) x (least_of (y ∷ ys)) (least-one (x ∷ y ∷ ys) 0)
-    (least-later x (y ∷ ys) (length (y ∷ ys)) (least_of (y ∷ ys)) rest) (omega arith) (omega arith) (omega arith)
-  where
-    least-later : (x : ℕ) (xs : List ℕ) (past m : ℕ) → IsLeast xs 0 past m → IsLeast (x ∷ xs) 1 (suc past) m
-    least-later x xs past m is = record { below = below; reached = (let q = is.reached in let high : q.0 < past = q.2 in (suc q.0, omega arith, omega arith, q.3)) }
-      where
-        below : (k : ℕ) → 1 ≤ k → k < suc past → m ≤ slice_index (x ∷ xs) k
-        below zero low high = absurd (omega arith)
-        below (suc k) low high = is.below k (omega arith) (omega arith)
-
-greatest_of-is : (x : ℕ) (xs : List ℕ) → IsGreatest (x ∷ xs) 0 (length (x ∷ xs)) (greatest_of (x ∷ xs))
-greatest_of-is x [] = greatest-one (x ∷ []) 0
-greatest_of-is x (y ∷ ys) =
-    let rest : IsGreatest (y ∷ ys) 0 (length (y ∷ ys)) (greatest_of (y ∷ ys)) = greatest_of-is y ys in
-    greatest-join (x ∷ y ∷ ys) 0 1 1 (length (x ∷ y ∷ ys)) x (greatest_of (y ∷ ys)) (greatest-one (x ∷ y ∷ ys) 0)
-    (greatest-later x (y ∷ ys) (length (y ∷ ys)) (greatest_of (y ∷ ys)) rest) (omega arith) (omega arith) (omega arith)
-  where
-    greatest-later : (x : ℕ) (xs : List ℕ) (past m : ℕ) → IsGreatest xs 0 past m → IsGreatest (x ∷ xs) 1 (suc past) m
-    greatest-later x xs past m is = record { above = above; reached = (let q = is.reached in let high : q.0 < past = q.2 in (suc q.0, omega arith, omega arith, q.3)) }
-      where
-        above : (k : ℕ) → 1 ≤ k → k < suc past → slice_index (x ∷ xs) k ≤ m
-        above zero low high = absurd (omega arith)
-        above (suc k) low high = is.above k (omega arith) (omega arith)
-
-least-list : (xs : List ℕ) (m : ℕ) → IsLeast xs 0 (length xs) m → m ≡ least_of xs
-least-list [] m is = absurd (let q = is.reached in let high : q.0 < 0 = q.2 in omega arith)
-least-list (x ∷ xs) m is = least-same (x ∷ xs) 0 (length (x ∷ xs)) m (least_of (x ∷ xs)) is (least_of-is x xs)
-
-greatest-list : (xs : List ℕ) (m : ℕ) → IsGreatest xs 0 (length xs) m → m ≡ greatest_of xs
-greatest-list [] m is = absurd (let q = is.reached in let high : q.0 < 0 = q.2 in omega arith)
-greatest-list (x ∷ xs) m is = greatest-same (x ∷ xs) 0 (length (x ∷ xs)) m (greatest_of (x ∷ xs)) is (greatest_of-is x xs)
+-- which is at most each of them
+least_of-below : (xs : List ℕ) (k : ℕ) → k < length xs → least_of xs ≤ slice_index xs k
+least_of-below [] k small = absurd (omega arith)
+least_of-below (x ∷ []) zero small = omega arith
+least_of-below (x ∷ []) (suc k) small = absurd (omega arith)
+least_of-below (x ∷ y ∷ ys) zero small = omega arith
+least_of-below (x ∷ y ∷ ys) (suc k) small = let rest = least_of-below (y ∷ ys) k (omega arith) in omega arith
 
 length-slice_range : (values : List ℕ) (first past : ℕ) → first ≤ past → past ≤ length values → length (slice_range values first past) ≡ past - first
 length-slice_range values first past ordered within =
@@ -156,40 +78,32 @@ slice_index-slice_range values first past k small =
 -- a stretch's least value is the least number of the list of its values
 pub least-slice_range : (values : List ℕ) (first past m : ℕ) → IsLeast values first past m → past ≤ length values → m ≡ least_of (slice_range values first past)
 least-slice_range values first past m is within =
+    let xs : List ℕ = slice_range values first past in
     let found = is.reached in
-    let low : first ≤ found.0 = found.1 in
-    let high : found.0 < past = found.2 in
-    let at : slice_index values found.0 ≡ m = found.3 in
-    let count : length (slice_range values first past) ≡ past - first = length-slice_range values first past (omega arith) within in
-    least-list (slice_range values first past) m (record {
-      below = λ k over under.
-          (let same : slice_index (slice_range values first past) k ≡ slice_index values (first + k) = slice_index-slice_range values first past k (omega arith) in
-          let least : m ≤ slice_index values (first + k) = is.below (first + k) (omega arith) (omega arith) in omega arith);
-      reached = (
-        found.0 - first,
-        omega arith,
-        omega arith,
-        (let e : first + (found.0 - first) ≡ found.0 = omega arith in
-            slice_index-slice_range values first past (found.0 - first) (omega arith) ∙ (ap (λ j. slice_index values j) e ∙ at)),
-      );
-    })
+    let count : length xs ≡ past - first = length-slice_range values first past (omega arith) within in
+    let here = slice_index-slice_range values first past (found.0 - first) (omega arith) in
+    let same = ap (λ j. slice_index values j) (let e : first + (found.0 - first) ≡ found.0 = omega arith in e) in
+    let below = least_of-below xs (found.0 - first) (omega arith) in
+    let above = least_of-above xs m (omega arith) (λ k small.
+    (let at = slice_index-slice_range values first past k (omega arith) in let least = is.below (first + k) (omega arith) (omega arith) in omega arith)) in
+    omega arith
 
-pub greatest-slice_range : (values : List ℕ) (first past m : ℕ) → IsGreatest values first past m → past ≤ length values → m ≡ greatest_of (slice_range values first past)
-greatest-slice_range values first past m is within =
-    let found = is.reached in
-    let low : first ≤ found.0 = found.1 in
-    let high : found.0 < past = found.2 in
-    let at : slice_index values found.0 ≡ m = found.3 in
-    let count : length (slice_range values first past) ≡ past - first = length-slice_range values first past (omega arith) within in
-    greatest-list (slice_range values first past) m (record {
-      above = λ k over under.
-          (let same : slice_index (slice_range values first past) k ≡ slice_index values (first + k) = slice_index-slice_range values first past k (omega arith) in
-          let most : slice_index values (first + k) ≤ m = is.above (first + k) (omega arith) (omega arith) in omega arith);
-      reached = (
-        found.0 - first,
-        omega arith,
-        omega arith,
-        (let e : first + (found.0 - first) ≡ found.0 = omega arith in
-            slice_index-slice_range values first past (found.0 - first) (omega arith) ∙ (ap (λ j. slice_index values j) e ∙ at)),
-      );
-    })
+-- the greatest number and the least complement make the greatest number of 32 bits
+greatest_of-complements : (xs : List ℕ) → 0 < length xs → ((k : ℕ) → k < length xs → slice_index xs k < 2 ^ 32)
+    → greatest_of xs + least_of (map complement xs) ≡ 2 ^ 32 - 1
+greatest_of-complements [] some small = absurd (omega arith)
+greatest_of-complements (x ∷ []) some small = (let first = small 0 (omega arith) in omega arith)
+greatest_of-complements (x ∷ y ∷ ys) some small =
+    let first = small 0 (omega arith) in
+    let rest = greatest_of-complements (y ∷ ys) (omega arith) (λ k within. small (suc k) (omega arith)) in omega arith
+
+-- so a stretch's greatest value is the complement of the least complement
+pub greatest-complements : (values : List ℕ) (first past : ℕ) → IsValueList values → first < past → past ≤ length values
+    → greatest_of (slice_range values first past) + least_of (slice_range (map complement values) first past) ≡ 2 ^ 32 - 1
+greatest-complements values first past valid ordered within =
+    let xs : List ℕ = slice_range values first past in
+    let count : length xs ≡ past - first = length-slice_range values first past (omega arith) within in
+    let turn : map complement xs ≡ slice_range (map complement values) first past =
+    sym (ap (λ (ys : List ℕ). take (past - first) ys) (drop-map complement first values) ∙ take-map complement (past - first) (drop first values)) in
+    subst (λ (ys : List ℕ). greatest_of xs + least_of ys ≡ 2 ^ 32 - 1) turn (greatest_of-complements xs (omega arith) (λ k small.
+    (let at = slice_index-slice_range values first past k (omega arith) in let fits = valid.each (first + k) in omega arith)))

@@ -1,5 +1,5 @@
 -- The least and the greatest value of a stretch of a list, and lists that rise.
-use Rattle.std.specs.Prelude.{◌≡◌, ℕ, ◌+◌, ◌^◌, ◌<◌, ◌≤◌, List, [], ◌∷◌, length, min, max, slice_index, slice_range}
+use Rattle.std.specs.Prelude.{◌≡◌, ℕ, ◌+◌, ◌-◌, ◌^◌, ◌<◌, ◌≤◌, ◌↔◌, Bool, IsTrue, List, [], ◌∷◌, length, map, min, max, slice_index, slice_range}
 
 -- the least number of a list
 abbrev pub least_of : List ℕ → ℕ
@@ -32,22 +32,17 @@ pub record IsLeast (values : List ℕ) (first past m : ℕ) : Type 0 where
   pub below : (k : ℕ) → first ≤ k → k < past → m ≤ slice_index values k
   pub reached : (k : ℕ) × (first ≤ k) × (k < past) × (slice_index values k ≡ m)
 
--- m is the greatest value at the places from first on and before past
-pub record IsGreatest (values : List ℕ) (first past m : ℕ) : Type 0 where
-  pub above : (k : ℕ) → first ≤ k → k < past → slice_index values k ≤ m
-  pub reached : (k : ℕ) × (first ≤ k) × (k < past) × (slice_index values k ≡ m)
-
 -- for each stretch of this width, by its first place, its least value
 pub record AreLeast (values : List ℕ) (width : ℕ) (entries : List ℕ) : Type 0 where
   pub count : length entries + width ≡ length values + 1
   pub each : (i : ℕ) → i + width ≤ length values → IsLeast values i (i + width) (slice_index entries i)
 
--- for each stretch of this width, by its first place, its greatest value
-pub record AreGreatest (values : List ℕ) (width : ℕ) (entries : List ℕ) : Type 0 where
-  pub count : length entries + width ≡ length values + 1
-  pub each : (i : ℕ) → i + width ≤ length values → IsGreatest values i (i + width) (slice_index entries i)
+-- what is left of the greatest number of 32 bits
+abbrev pub complement : ℕ → ℕ
+complement value = 2 ^ 32 - 1 - value
 
--- each number of a list is joined with the one so many places on
-pub record JoinBy (f : ℕ → ℕ → ℕ) (halves : List ℕ) (half : ℕ) (joined : List ℕ) : Type 0 where
-  pub count : length joined + half ≡ length halves
-  pub each : (i : ℕ) → i < length joined → slice_index joined i ≡ f (slice_index halves i) (slice_index halves (i + half))
+-- values, the complements of the values, and whether the values rise
+pub record IsTable (low high : List ℕ) (rises : Bool) : Type 0 where
+  pub valid : IsValueList low
+  pub complements : high ≡ map complement low
+  pub risen : IsTrue rises ↔ IsRising low

@@ -1,11 +1,13 @@
 //! Tables of values with the least and the greatest value of each stretch of places.
 //!
-//! [`IndexTable`] keeps sparse tables (Bender and Farach-Colton 2000): the least and the greatest value of
-//! each stretch whose length is a power of two. Two such stretches that overlap make any stretch, so an
-//! answer takes two look-ups, whatever the stretch's length is.
+//! [`IndexTable`] keeps two sparse tables (Bender and Farach-Colton 2000): the least of each stretch whose
+//! length is a power of two, of the values and of what each value leaves of the greatest number of 32 bits.
+//! Two such stretches that overlap make any stretch, so an answer takes two look-ups, whatever the stretch's
+//! length is.
 #![tactic(auto)]
 
 mod level;
+mod minima;
 mod table;
 #[cfg(test)]
 mod tests;

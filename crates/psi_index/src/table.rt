@@ -1,23 +1,22 @@
 //! The table of values.
 
-ghost use Rattle.std.specs.Prelude.{◌≡◌, ℕ, ◌+◌, ◌*◌, ◌<◌, ◌≤◌, ◌↔◌, IsTrue, IfOk, length, slice_index};
-ghost use Rattle.psi_index.specs.Extremes.{IsRising, IsValueList, greatest_of, least_of, stretch};
-ghost use Rattle.psi_index.specs.Levels.{IsLevel};
+ghost use Rattle.std.specs.Prelude.{◌≡◌, ℕ, ◌<◌, ◌≤◌, ◌↔◌, IsTrue, IfOk, length, map, slice_index};
+ghost use Rattle.psi_index.specs.Extremes.{IsRising, IsValueList, complement, greatest_of, least_of, stretch};
 
 use crate::OutOfMemory;
-use crate::level::{Level, levels_of};
-use std::alloc::Global;
+use crate::minima::Minima;
+use std::alloc::{AllocError, Global};
 use std::marker::Model;
 
 /// A list of 1 to 65,535 values of 32 bits, by their places from 0 on.
 ///
-/// It is seen as the list of the values. Beside them it keeps the least and the greatest value of each
-/// stretch whose length is a power of two of at least 2: for 65,535 values fewer than 2 million numbers of
-/// 4 bytes in all.
+/// It is seen as the list of the values. Beside them it keeps their complements, what is left of the greatest
+/// number of 32 bits, and the least value and complement of each stretch whose length is a power of two of at
+/// least 2: for 65,535 values fewer than 2 million numbers of 4 bytes in all.
 #[derive(Drop, Debug)]
 pub struct IndexTable {
-    values: Vec<u32>,
-    levels: Vec<Level>,
+    low: Minima,
+    high: Minima,
     rises: bool,
 }
 
@@ -26,11 +25,11 @@ impl Model for IndexTable {
 
     ghost Value = { List ℕ };
 
-    ghost use Rattle.psi_index.specs.Levels.{IsSparse};
+    ghost use Rattle.psi_index.specs.Extremes.{IsTable};
 
-    ghost view = { λ table. table.values.items };
+    ghost view = { λ table. table.low };
 
-    ghost invariant = { λ table. IsSparse table.values.items table.levels.items table.rises };
+    ghost invariant = { λ table. IsTable table.low table.high table.rises };
 }
 
 impl IndexTable {
@@ -43,13 +42,10 @@ impl IndexTable {
         requires few { length values.items ≤ 65535 }
         ensures { IfOk result (λ table. table ≡ values.items) }
     {
-        let levels = levels_of(alloc, &values)?;
+        let high = Minima::new(alloc, complements(alloc, &values)?)?;
         let rises = is_rising(&values);
-        Ok(IndexTable {
-            values,
-            levels,
-            rises,
-        })
+        let low = Minima::new(alloc, values)?;
+        Ok(IndexTable { low, high, rises })
     }
 
     /// The number of values, 1 to 65,535.
@@ -60,7 +56,7 @@ impl IndexTable {
         ensures value { result ≡ length self.now }
         ensures valid { IsValueList self.now }
     {
-        self.values.len() as u16
+        self.low.values.len() as u16
     }
 
     /// The value at place `i`; places are counted from 0.
@@ -69,7 +65,7 @@ impl IndexTable {
         requires { i < length self.now }
         ensures { result ≡ slice_index self.now i }
     {
-        self.values[i as usize]
+        self.low.values[i as usize]
     }
 
     /// The least of the values at the places from `from` to `to`, both included.
@@ -80,12 +76,7 @@ impl IndexTable {
         ensures below { (k : ℕ) → from ≤ k → k ≤ to → result ≤ slice_index self.now k }
         ensures reached { (k : ℕ) × (from ≤ k) × (k ≤ to) × (slice_index self.now k ≡ result) }
     {
-        if from == to {
-            return self.at(from);
-        }
-        let level = self.level(from, to);
-        let last = to as usize + 1 - level.width;
-        level.least[from as usize].min(level.least[last])
+        self.low.least(from, to)
     }
 
     /// The greatest of the values at the places from `from` to `to`, both included.
@@ -96,12 +87,7 @@ impl IndexTable {
         ensures above { (k : ℕ) → from ≤ k → k ≤ to → slice_index self.now k ≤ result }
         ensures reached { (k : ℕ) × (from ≤ k) × (k ≤ to) × (slice_index self.now k ≡ result) }
     {
-        if from == to {
-            return self.at(from);
-        }
-        let level = self.level(from, to);
-        let last = to as usize + 1 - level.width;
-        level.greatest[from as usize].max(level.greatest[last])
+        u32::MAX - self.high.least(from, to)
     }
 
     /// Whether no value is below the one before it.
@@ -110,19 +96,13 @@ impl IndexTable {
     {
         self.rises
     }
+}
 
-    // The level of the longest stretches that aren't longer than the stretch from `from` to `to`.
-    fn level(&self, from: u16, to: u16) -> &Level
-        requires ordered { from < to }
-        requires within { to < length self.now }
-        ensures level { IsLevel self.now result.now }
-        ensures fits { from + result.now.width ≤ to + 1 }
-        ensures covers { to + 1 ≤ from + 2 * result.now.width }
-    {
-        let _values = self.values.len();
-        let exponent = (to - from + 1).ilog2();
-        &self.levels[exponent as usize - 1]
-    }
+// The complement of each value.
+fn complements(alloc: Global, values: &[u32]) -> Result<Vec<u32>, AllocError>
+    ensures { IfOk result (λ made. made.items ≡ map complement values.now) }
+{
+    values.iter().map(|value| u32::MAX - *value).collect(alloc)
 }
 
 // Whether no value is below the one before it.

@@ -1,24 +1,28 @@
-use Rattle.std.proofs.Common.{◌≡◌, ◌*◌, ◌^◌, length, List, ap, sym, ◌∙◌, subst, arith}
-use Rattle.psi_index.specs.Levels.{AreLevels}
+use Rattle.std.proofs.Common.{◌+◌, ◌^◌, ◌≤◌, length, List, sym, ◌∙◌, subst, arith, zero, ◌<◌}
+use Rattle.std.proofs.Math.Nat.{pow-le-pow_right}
+use Rattle.psi_index.specs.Levels.{AreLevels, IsLevel}
 use Rattle.psi_index.specs.declared.level.Level.{Level}
-use Rattle.psi_index.proofs.Widths.{power-below, levels-more}
+use Rattle.psi_index.proofs.Widths.{exponent-greatest, levels-more}
 use Rattle.psi_index.proofs.level.levels_of.Goals as goal
 
 pub next_level-requires-clause-room : goal.next_level-requires-clause-room
 next_level-requires-clause-room c =
-    let made : length c.deref.result.now ≡ c.loop-made.made = c.deref.ensures.len ∙ c.loop-made.invariant.len in
-    power-below (length c.deref.result.now) c.ilog2-count.result (length c.args.values.now)
-    (let less = c.loop-made-test.true in omega arith) c.ilog2-count.ensures.power_le
+    let made = c.deref.ensures.len ∙ c.loop-made.invariant.len in
+    let two : zero < 2 = omega arith in
+    let order : length c.deref.result.now + 1 ≤ c.ilog2-count.result = omega arith in omega (arith, pow-le-pow_right two order)
 
 pub loop-made-preserved : goal.loop-made-preserved
 loop-made-preserved c =
     let kept = c.loop-made.invariant in
-    let next = c.in_ok-level.ensures in
-    let same = c.deref.ensures.value in
+    let pushed = c.in_ok-push.ensures in
     record {
-      len = (let l = c.push_reserved.ensures.len in let k = kept.len in omega arith);
-      room = (let l = c.push_reserved.ensures.capacity in let k = kept.room in omega arith);
-      levels = subst (λ (xs : List Level). AreLevels c.args.values.now xs) (sym c.push_reserved.ensures.items)
-          (levels-more c.args.values.now c.loop-made.levels.items c.in_ok-level.level kept.levels next.level
-          (next.width ∙ ap (λ (xs : List Level). 2 * 2 ^ length xs) same));
+      len = omega arith;
+      levels = subst (λ (xs : List Level). AreLevels c.args.values.now xs) (sym pushed.items)
+          (levels-more c.args.values.now c.loop-made.levels.items c.in_ok-level.level kept.levels
+          (subst (λ (xs : List Level). IsLevel c.args.values.now (2 ^ (length xs + 1)) c.in_ok-level.level) c.deref.ensures.value c.in_ok-level.ensures));
     }
+
+pub returns-clause-enough : goal.returns-clause-enough
+returns-clause-enough c = λ e least.
+    let most = exponent-greatest (length c.args.values.now) c.ilog2-count.result e c.ilog2-count.ensures.next_power_gt least in
+    omega arith

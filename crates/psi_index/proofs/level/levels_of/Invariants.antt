@@ -1,10 +1,9 @@
-use Rattle.std.proofs.Common.{◌≡◌, ◌≤◌, vec_len, vec_capacity}
+use Rattle.std.proofs.Common.{◌≡◌, vec_len}
 use Rattle.psi_index.specs.Levels.{AreLevels}
 use Rattle.psi_index.proofs.level.levels_of.Given as goal
 
 abbrev pub invariant-loop-made : goal.invariant-loop-made
 invariant-loop-made l = record {
   len : vec_len l.levels ≡ l.made;
-  room : l.count ≤ vec_capacity l.levels;
   levels : AreLevels l.values l.levels.items;
 }

@@ -1,30 +1,22 @@
-use Rattle.std.proofs.Common.{◌≡◌, ◌+◌, ◌-◌, max, slice_index, sym, ◌∙◌, subst, arith}
-use Rattle.std.proofs.lemmas.Grind.{get_or_default_zero}
-use Rattle.psi_index.specs.Extremes.{IsGreatest}
-use Rattle.psi_index.proofs.Joining.{greatest-two, greatest-slice_range}
+use Rattle.std.proofs.Common.{ℕ, ◌+◌, List, length, ap, slice_index, ◌∙◌, arith}
+use Rattle.std.proofs.lemmas.List.{get_or-map}
+use Rattle.psi_index.specs.Extremes.{complement, greatest_of, least_of, stretch}
+use Rattle.psi_index.proofs.Joining.{greatest-complements}
 use Rattle.psi_index.proofs.table.IndexTable.greatest.Goals as goal
-use Rattle.psi_index.proofs.table.IndexTable.greatest.Goals.{After-max}
-
-found : (c : After-max) → IsGreatest c.args.self.now c.args.from (c.args.to + 1) c.max.result
-found c =
-    let level = c.level-level.result.now in
-    let are = c.level-level.ensures.level.greatest in
-    let fits = c.level-level.ensures.fits in
-    let within = c.requires.within in
-    let count = are.count in
-    let last = c.args.to + 1 - level.width in
-    let first_is = c.index.ensures ∙ get_or_default_zero level.greatest.items c.args.from c.index.result.now (omega arith) in
-    let last_is = c.index-2.ensures ∙ get_or_default_zero level.greatest.items last c.index-2.result.now (omega arith) in
-    let both : c.max.result ≡ max (slice_index level.greatest.items c.args.from) (slice_index level.greatest.items last) = (let e = c.max.ensures in omega arith) in
-    subst (λ m. IsGreatest c.args.self.now c.args.from (c.args.to + 1) m) (sym both)
-    (greatest-two c.args.self.now level.greatest.items level.width c.args.from (c.args.to + 1) last are (omega arith) fits c.level-level.ensures.covers (omega arith))
 
 pub returns-clause-value : goal.returns-clause-value
 returns-clause-value c =
-    greatest-slice_range c.args.self.now c.args.from (c.args.to + 1) c.max.result (found c) (let within = c.requires.within in omega arith)
+    let count = ap (λ (xs : List ℕ). length xs) c.self.view_is in
+    let least = c.least.ensures.value ∙ ap (λ (xs : List ℕ). least_of (stretch xs c.args.from c.args.to)) c.self.invariant.complements in
+    let whole = greatest-complements c.self.inside.low c.args.from (c.args.to + 1) c.self.invariant.valid (omega arith) (omega arith) in
+    let same = ap (λ (xs : List ℕ). greatest_of (stretch xs c.args.from c.args.to)) c.self.view_is in
+    omega arith
 
 pub returns-clause-above : goal.returns-clause-above
-returns-clause-above c = λ k low high. (found c).above k low (omega arith)
-
-pub returns-clause-reached : goal.returns-clause-reached
-returns-clause-reached c = (let r = (found c).reached in let high = r.2 in (r.0, r.1, omega arith, r.3))
+returns-clause-above c = λ k low high.
+    let count = ap (λ (xs : List ℕ). length xs) c.self.view_is in
+    let below = c.least.ensures.least.below k low (omega arith) in
+    let turned = ap (λ (xs : List ℕ). slice_index xs k) c.self.invariant.complements ∙ get_or-map complement c.self.inside.low k 0 0 (omega arith) in
+    let same = ap (λ (xs : List ℕ). slice_index xs k) c.self.view_is in
+    let fits = c.self.invariant.valid.each k in
+    omega arith

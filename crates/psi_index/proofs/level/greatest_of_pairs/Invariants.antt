@@ -1,9 +1,0 @@
-use Rattle.std.proofs.Common.{◌≡◌, ℕ, ◌+◌, ◌<◌, ◌≤◌, max, slice_index, vec_len, vec_capacity}
-use Rattle.psi_index.proofs.level.greatest_of_pairs.Given as goal
-
-abbrev pub invariant-loop-i : goal.invariant-loop-i
-invariant-loop-i l = record {
-  len : vec_len l.joined ≡ l.i;
-  room : l.count ≤ vec_capacity l.joined;
-  each : (k : ℕ) → k < l.i → slice_index l.joined.items k ≡ max (slice_index l.halves k) (slice_index l.halves (k + l.half));
-}
