@@ -5,7 +5,7 @@ use Rattle.std.proofs.lemmas.Nat.{pow-add}
 use Rattle.std.proofs.lemmas.Result.{IfOk-weaker}
 use Rattle.std.proofs.lemmas.List.{get_or-take, get_or-drop, drop-map, take-map, length-take-le}
 use Rattle.psi_index.specs.Extremes.{complement, greatest_of, least_of, AreLeast, IsLeast, IsValueList}
-use Rattle.psi_index.specs.Levels.{IsJoined, IsLevel}
+use Rattle.psi_index.specs.Levels.{IsJoined}
 use Rattle.psi_index.specs.declared.level.Level.{Level}
 
 pub least-one : (values : List ℕ) (first : ℕ) → IsLeast values first (first + 1) (slice_index values first)
@@ -36,19 +36,16 @@ least-two values entries width first past i are within fits covers last =
     (least-join values first (first + width) i (i + width) (slice_index entries first) (slice_index entries i)
     (are.each first (omega arith)) (are.each i (omega arith)) (omega arith) (omega arith) (omega arith))
 
--- and two such entries each make a level of twice its width
-pub level-joined : {E : Type 0} (values halves : List ℕ) (half e : ℕ) (r : Result Level E) → AreLeast values half halves → half ≡ 2 ^ e
-    → 2 ^ (e + 1) ≤ length values → IfOk r (λ level. IsJoined halves half level) → IfOk r (λ level. IsLevel values (2 ^ (e + 1)) level)
+-- and two such entries each make the entries of twice its width
+pub level-joined : {E : Type 0} (values halves : List ℕ) (half e : ℕ) (r : Result Level E) → AreLeast values (2 ^ e) halves → half ≡ 2 ^ e
+    → 2 ^ (e + 1) ≤ length values → IfOk r (λ level. IsJoined halves half level.least.items) → IfOk r (λ level. AreLeast values (2 ^ (e + 1)) level.least.items)
 level-joined values halves half e r are power room =
-    let twice : 2 ^ (e + 1) ≡ 2 * half = omega (arith, pow-add 2 e 1) in
-    IfOk-weaker r (λ level. IsJoined halves half level) (λ level. IsLevel values (2 ^ (e + 1)) level) (λ level join. record {
-      wide = omega arith;
-      least = record {
-        count = omega arith;
-        each = λ i within.
-            subst (λ m. IsLeast values i (i + level.width) m) (sym (join.each i (omega arith)))
-            (least-two values halves half i (i + level.width) (i + half) are within (omega arith) (omega arith) (omega arith));
-      };
+    let twice = pow-add 2 e 1 in
+    IfOk-weaker r (λ level. IsJoined halves half level.least.items) (λ level. AreLeast values (2 ^ (e + 1)) level.least.items) (λ level join. record {
+      count = omega arith;
+      each = λ i within.
+          subst (λ m. IsLeast values i (i + 2 ^ (e + 1)) m) (sym (join.each i (omega arith)))
+          (least-two values halves (2 ^ e) i (i + 2 ^ (e + 1)) (i + half) are within (omega arith) (omega arith) (omega arith));
     })
 
 -- what is at most each number is at most the least of them

@@ -3,7 +3,8 @@ use Rattle.std.proofs.Common.{◌≡◌, ℕ, zero, suc, ◌+◌, ◌-◌, ◌*�
 use Rattle.std.proofs.Math.Nat.{pow-succ', pow-le-pow_right}
 use Rattle.std.proofs.lemmas.Bool.{cases_lt}
 use Rattle.std.proofs.lemmas.List.{get_or_append_left, get_or_push}
-use Rattle.psi_index.specs.Levels.{AreLevels, IsLevel}
+use Rattle.psi_index.specs.Extremes.{AreLeast}
+use Rattle.psi_index.specs.Levels.{AreLevels}
 use Rattle.psi_index.specs.declared.level.Level.{Level}
 
 -- no greater power of two is at most a number
@@ -15,23 +16,23 @@ exponent-greatest n most e past least =
     ]
 
 -- a level more
-pub levels-more : (values : List ℕ) (levels : List Level) (level : Level) → AreLevels values levels → IsLevel values (2 ^ (length levels + 1)) level
+pub levels-more : (values : List ℕ) (levels : List Level) (level : Level) → AreLevels values levels → AreLeast values (2 ^ (length levels + 1)) level.least.items
     → AreLevels values (levels ++ level ∷ [])
 levels-more values levels level are is = record {
   each = λ j d small.
       (let count : length (levels ++ level ∷ []) ≡ length levels + 1 = length-append {A = Level} levels (level ∷ []) in
       elim (cases_lt j (length levels)) [
-        | inl old ↦ subst (λ (w : Level). IsLevel values (2 ^ (j + 1)) w) (sym (get_or_append_left {A = Level} levels (level ∷ []) d j old)) (are.each j d old)
+        | inl old ↦ subst (λ (w : Level). AreLeast values (2 ^ (j + 1)) w.least.items) (sym (get_or_append_left {A = Level} levels (level ∷ []) d j old)) (are.each j d old)
         | inr new ↦ (let e : length levels ≡ j = omega arith in
-            subst (λ (w : Level). IsLevel values (2 ^ (j + 1)) w) (sym (get_or_push {X = Level} levels level d j e))
-            (subst (λ n. IsLevel values (2 ^ (n + 1)) level) e is))
+            subst (λ (w : Level). AreLeast values (2 ^ (j + 1)) w.least.items) (sym (get_or_push {X = Level} levels level d j e))
+            (subst (λ n. AreLeast values (2 ^ (n + 1)) level.least.items) e is))
       ]);
 }
 
 -- the level that is looked up has the stretches of its exponent
 pub level-is : (values : List ℕ) (levels : List Level) (found : Level) (e : ℕ) → AreLevels values levels → found ≡ slice_index_or levels (e - 1) found
-    → 1 ≤ e → e ≤ length levels → IsLevel values (2 ^ e) found
+    → 1 ≤ e → e ≤ length levels → AreLeast values (2 ^ e) found.least.items
 level-is values levels found e are is some within =
     let next : e - 1 + 1 ≡ e = omega arith in
-    subst (λ n. IsLevel values (2 ^ n) found) next
-    (subst (λ (w : Level). IsLevel values (2 ^ (e - 1 + 1)) w) (sym is) (are.each (e - 1) found (omega arith)))
+    subst (λ n. AreLeast values (2 ^ n) found.least.items) next
+    (subst (λ (w : Level). AreLeast values (2 ^ (e - 1 + 1)) w.least.items) (sym is) (are.each (e - 1) found (omega arith)))

@@ -1,7 +1,8 @@
 //! One level of a sparse table: the least value of each stretch of one length.
 
-ghost use Rattle.std.specs.Prelude.{◌≡◌, ℕ, ◌+◌, ◌*◌, ◌^◌, ◌<◌, ◌≤◌, length, IfOk};
-ghost use Rattle.psi_index.specs.Levels.{AreLevels, IsJoined, IsLevel};
+ghost use Rattle.std.specs.Prelude.{◌≡◌, ℕ, ◌+◌, ◌^◌, ◌≤◌, length, IfOk};
+ghost use Rattle.psi_index.specs.Extremes.{AreLeast};
+ghost use Rattle.psi_index.specs.Levels.{AreLevels, IsJoined};
 
 use std::alloc::{AllocError, Global};
 
@@ -15,10 +16,9 @@ impl From<AllocError> for OutOfMemory {
     }
 }
 
-// The least value of each stretch of `width` places, by the stretch's first place.
+// The least value of each stretch of one length, by the stretch's first place.
 #[derive(Drop, Debug)]
 pub(crate) struct Level {
-    pub width: usize,
     pub least: Vec<u32>,
 }
 
@@ -43,27 +43,24 @@ fn next_level(alloc: Global, values: &[u32], levels: &[Level]) -> Result<Level, 
     requires few { length values.now ≤ 65535 }
     requires levels { AreLevels values.now levels.now }
     requires room { 2 ^ (length levels.now + 1) ≤ length values.now }
-    ensures { IfOk result (λ level. IsLevel values.now (2 ^ (length levels.now + 1)) level) }
+    ensures { IfOk result (λ level. AreLeast values.now (2 ^ (length levels.now + 1)) level.least.items) }
 {
+    let half = 1 << levels.len();
     match levels.last() {
-        None => joined(alloc, values, 1),
-        Some(half) => joined(alloc, &half.least, half.width),
+        None => joined(alloc, values, half),
+        Some(halves) => joined(alloc, &halves.least, half),
     }
 }
 
 // The level of stretches of twice `half` places, each made of two of those of `half` places.
 fn joined(alloc: Global, halves: &[u32], half: usize) -> Result<Level, AllocError>
-    requires few { length halves.now ≤ 65535 }
-    requires room { half ≤ length halves.now }
-    ensures { IfOk result (λ level. IsJoined halves.now half level) }
+    requires { half ≤ length halves.now }
+    ensures { IfOk result (λ level. IsJoined halves.now half level.least.items) }
 {
     let count = halves.len() - half;
     let mut least = Vec::with_capacity(alloc, count)?;
     for i in 0..count {
         least.push_reserved(halves[i].min(halves[i + half]));
     }
-    Ok(Level {
-        width: 2 * half,
-        least,
-    })
+    Ok(Level { least })
 }

@@ -1,7 +1,7 @@
 //! Values and their sparse table (Bender and Farach-Colton 2000).
 
 ghost use Rattle.std.specs.Prelude.{◌≡◌, ◌+◌, ◌^◌, ◌<◌, ◌≤◌, IfOk, length};
-ghost use Rattle.psi_index.specs.Extremes.{IsLeast, least_of, stretch};
+ghost use Rattle.psi_index.specs.Extremes.{AreLeast, IsLeast, least_of, stretch};
 
 use crate::level::{Level, levels_of};
 use std::alloc::{AllocError, Global};
@@ -27,8 +27,6 @@ impl Model for Minima {
 }
 
 impl Minima {
-    ghost use Rattle.psi_index.specs.Levels.{IsLevel};
-
     // The values with their levels.
     pub fn new(alloc: Global, values: Vec<u32>) -> Result<Minima, AllocError>
         requires some { 1 ≤ length values.items }
@@ -49,17 +47,17 @@ impl Minima {
         if from == to {
             return self.values[from as usize];
         }
-        let level = self.level(((to - from) as usize + 1).ilog2());
-        let last = to as usize + 1 - level.width;
-        level.least[from as usize].min(level.least[last])
+        let least = self.level(((to - from) as usize + 1).ilog2());
+        let last = least.len() - (self.values.len() - to as usize);
+        least[from as usize].min(least[last])
     }
 
-    // The level of the stretches of 2 to the power of `exponent` places.
-    fn level(&self, exponent: u32) -> &Level
+    // The least value of each stretch of 2 to the power of `exponent` places.
+    fn level(&self, exponent: u32) -> &[u32]
         requires some { 1 ≤ exponent }
         requires within { 2 ^ exponent ≤ length self.now }
-        ensures { IsLevel self.now (2 ^ exponent) result.now }
+        ensures { AreLeast self.now (2 ^ exponent) result.now }
     {
-        &self.levels[exponent as usize - 1]
+        &self.levels[exponent as usize - 1].least
     }
 }

@@ -1,6 +1,7 @@
 use Rattle.std.proofs.Common.{◌+◌, ◌^◌, ◌≤◌, length, List, sym, ◌∙◌, subst, arith, zero, ◌<◌}
 use Rattle.std.proofs.Math.Nat.{pow-le-pow_right}
-use Rattle.psi_index.specs.Levels.{AreLevels, IsLevel}
+use Rattle.psi_index.specs.Extremes.{AreLeast}
+use Rattle.psi_index.specs.Levels.{AreLevels}
 use Rattle.psi_index.specs.declared.level.Level.{Level}
 use Rattle.psi_index.proofs.Widths.{exponent-greatest, levels-more}
 use Rattle.psi_index.proofs.level.levels_of.Goals as goal
@@ -19,7 +20,7 @@ loop-made-preserved c =
       len = omega arith;
       levels = subst (λ (xs : List Level). AreLevels c.args.values.now xs) (sym pushed.items)
           (levels-more c.args.values.now c.loop-made.levels.items c.in_ok-level.level kept.levels
-          (subst (λ (xs : List Level). IsLevel c.args.values.now (2 ^ (length xs + 1)) c.in_ok-level.level) c.deref.ensures.value c.in_ok-level.ensures));
+          (subst (λ (xs : List Level). AreLeast c.args.values.now (2 ^ (length xs + 1)) c.in_ok-level.level.least.items) c.deref.ensures.value c.in_ok-level.ensures));
     }
 
 pub returns-clause-enough : goal.returns-clause-enough
