@@ -47,6 +47,20 @@ states-same (m ∷ old) (w ∷ now) (suc n) old_within now_within each =
     ap (λ (x : List ℕ). x ∷ states now n) (each 0 (omega arith))
     ∙ ap (λ (xs : List (List ℕ)). m.state ∷ xs) (states-same old now n (omega arith) (omega arith) (λ i small. each (suc i) (omega arith)))
 
+-- what a function makes of each state
+pub states-moved : (f : List ℕ → List ℕ) (old now : List Node) (n : ℕ) → n ≤ length old → n ≤ length now
+    → ((i : ℕ) → i < n → (node_at now i).state ≡ f (node_at old i).state) → states now n ≡ map f (states old n)
+states-moved f old now zero old_within now_within each = none now
+  where
+    none : (ns : List Node) → states ns 0 ≡ []
+    none [] = refl
+    none (w ∷ ns) = refl
+states-moved f [] now (suc n) old_within now_within each = absurd (omega arith)
+states-moved f (m ∷ old) [] (suc n) old_within now_within each = absurd (omega arith)
+states-moved f (m ∷ old) (w ∷ now) (suc n) old_within now_within each =
+    ap (λ (x : List ℕ). x ∷ states now n) (each 0 (omega arith))
+    ∙ ap (λ (xs : List (List ℕ)). f m.state ∷ xs) (states-moved f old now n (omega arith) (omega arith) (λ i small. each (suc i) (omega arith)))
+
 -- one node more, whose state is new
 pub distinct-more : (nodes : List Node) (n : ℕ) → n < length nodes → IsDistinct (states nodes n) → (In (node_at nodes n).state (states nodes n) → ⊥)
     → IsDistinct (states nodes (suc n))

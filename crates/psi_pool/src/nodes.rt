@@ -134,25 +134,35 @@ pub(crate) fn relink<E: EventLaw>(
     ensures fewer { result ≤ len }
 {
     empty(&mut heads[..used]);
-    link_all(nodes, &mut heads[..used], len, e)
+    move_on(&mut nodes[..len], e);
+    link_all(nodes, &mut heads[..used], len)
 }
 
-// The same where all buckets are in use and empty. A node whose state is there already is free again: the
-// last node that waits comes to its place.
-fn link_all<E: EventLaw>(nodes: &mut [Node], heads: &mut [u16], len: usize, e: &E) -> usize
+// Moves the state of each node on by the event. It is a pass of its own, since hashing reads in eights what
+// the event wrote in twos, and would wait for it.
+fn move_on<E: EventLaw>(nodes: &mut [Node], e: &E)
+    requires { (x : List ℕ) → In x (states nodes.old (length nodes.old)) → IsBelow x (E.capacities e.now) }
+    ensures { (i : ℕ) → i < length nodes.old → (node_at nodes.new i).state ≡ E.function e.now (node_at nodes.old i).state }
+{
+    for node in nodes.iter_mut() {
+        e.apply(&mut node.state);
+    }
+}
+
+// Links the first `len` nodes, where all buckets are in use and empty. A node whose state is there already is
+// free again: the last node that waits comes to its place.
+fn link_all(nodes: &mut [Node], heads: &mut [u16], len: usize) -> usize
     requires some { 1 ≤ length heads.old }
     requires few { length heads.old ≤ 16385 }
     requires none { (b : ℕ) → slice_index heads.old b ≡ 0 }
     requires small { len ≤ 4096 }
     requires len { len ≤ length nodes.old }
-    requires below { (x : List ℕ) → In x (states nodes.old len) → IsBelow x (E.capacities e.now) }
-    ensures holds { HoldSet (length heads.new) nodes.new heads.new result (map (E.function e.now) (states nodes.old len)) }
+    ensures holds { HoldSet (length heads.new) nodes.new heads.new result (states nodes.old len) }
     ensures fewer { result ≤ len }
 {
     let mut place = 0;
     let mut left = len;
     while place < left {
-        e.apply(&mut nodes[place].state);
         if link(nodes, heads, place) {
             place += 1;
         } else {

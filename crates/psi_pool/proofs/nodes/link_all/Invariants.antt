@@ -4,10 +4,10 @@ use Rattle.psi_pool.proofs.Relinking.{IsRelinking}
 use Rattle.psi_pool.proofs.nodes.link_all.Given as goal
 
 abbrev pub invariant-loop-place : goal.invariant-loop-place
-invariant-loop-place g l = record {
-  relinking : IsRelinking (g.E.EventLaw.function l.e) (states l.fn.nodes l.len) (length l.heads) l.nodes l.heads l.place l.left;
+invariant-loop-place l = record {
+  relinking : IsRelinking (states l.fn.nodes l.len) (length l.heads) l.nodes l.heads l.place l.left;
   fewer : l.left ≤ l.len;
 }
 
 abbrev pub decreases-loop-place : goal.decreases-loop-place
-decreases-loop-place g l = l.left - l.place
+decreases-loop-place l = l.left - l.place
