@@ -1,4 +1,5 @@
 mod Arrays
+mod Quads
 mod Counting
 mod Odometer
 mod Rows
