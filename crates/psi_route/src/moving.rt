@@ -66,7 +66,9 @@ impl Route {
         self.turn_away(x);
     }
 
-    // The place of the chosen target by the keys, if any has room.
+    // The place of the chosen target by the keys, if any has room. It stays out of line: inlined, it would spill
+    // the registers of every event's loop over the states of a set.
+    #[inline(never)]
     fn least_key(&self, x: &State) -> Option<u8>
         requires tables { 0 < length self.now.tables.items }
         requires length { length x.now ≡ length self.now.caps }
