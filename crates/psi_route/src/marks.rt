@@ -5,9 +5,9 @@ use crate::passing::{first_at_least, first_below};
 use psi_state::State;
 
 impl Route {
-    ghost use Rattle.std.specs.Prelude.{◌≡◌, ◌+◌, ◌<◌, ◌≤◌, length, slice_index, MatchOption};
+    ghost use Rattle.std.specs.Prelude.{◌≡◌, ◌+◌, ◌<◌, ◌≤◌, length, slice_index, MatchOption, IsTrue};
     ghost use Rattle.psi_route.specs.Routing.{full_but, pair_of, pair_between, pair_behind, first_pair, batch_pair, upset_of};
-    ghost use Rattle.psi_route.specs.Falls.{NoFall, IsFall, AreFalls};
+    ghost use Rattle.psi_route.specs.Falls.{NoFall, NoFalls, IsFall, AreFalls};
     ghost use Rattle.psi_route.specs.Route.{shape_of};
 
     // The two states whose order the route breaks, if there are any.
@@ -74,6 +74,9 @@ impl Route {
         requires tables { 0 < length self.now.tables.items }
         ensures { result ≡ pair_between (shape_of self.now) a b }
     {
+        if self.lie_apart(a, b) {
+            return None;
+        }
         let mut found = None;
         for w in 0..self.cap(b) {
             found = self.earlier(a, b, w, found);
@@ -82,6 +85,20 @@ impl Route {
             None => None,
             Some((v, w)) => Some(self.pair_of(a, b, v, w)),
         }
+    }
+
+    // Whether the values of places `a` and `b` lie wholly beside one another: then no key falls past another.
+    fn lie_apart(&self, a: u8, b: u8) -> bool
+        requires first { a < length self.now.targets }
+        requires second { b < length self.now.targets }
+        requires tables { 0 < length self.now.tables.items }
+        ensures { IsTrue result → NoFalls (shape_of self.now) a b (slice_index self.now.caps (slice_index self.now.targets b)) }
+    {
+        let own = &self.tables[a as usize];
+        let other = &self.tables[b as usize];
+        let last = own.len() - 1;
+        let end = other.len() - 1;
+        own.greatest(0, last) < other.least(0, end) || other.greatest(0, end) < own.least(0, last)
     }
 
     // The least fall of place `a` past place `b` with up to `w` customers, from the least with fewer.

@@ -33,6 +33,9 @@ pub(crate) fn first_below(table: &IndexTable, first: u16, bound: u64) -> u16
 {
     let mut low = first;
     let mut high = table.len();
+    if low < high && table.least(low, high - 1) as u64 >= bound {
+        return high;
+    }
     while low < high {
         let middle = low + (high - low) / 2;
         if (table.least(first, middle) as u64) < bound {

@@ -1,7 +1,12 @@
-use Rattle.std.proofs.Common.{ℕ, List, Some, ap, ◌∙◌, arith}
+use Rattle.std.proofs.Common.{ℕ, List, Some, slice_index, ap, ◌∙◌, arith}
 use Rattle.psi_route.specs.Route.{shape_of}
 use Rattle.psi_route.proofs.Falling.{between-none, between-some, found-none, found-some}
 use Rattle.psi_route.proofs.built.Route.pair_between.Goals as goal
+
+pub returns-then-lie_apart : goal.returns-then-lie_apart
+returns-then-lie_apart c =
+    between-none (shape_of c.args.self.now) c.args.a c.args.b (slice_index c.args.self.now.caps (slice_index c.args.self.now.targets c.args.b))
+    (c.lie_apart.ensures c.if-lie_apart.true) (omega arith)
 
 pub returns-in-None : goal.returns-in-None
 returns-in-None c =
