@@ -31,7 +31,9 @@ impl From<AllocError> for OutOfMemory {
 ///
 /// All its memory is taken by `reserve`: one vector of nodes, linked by index, the heads of the buckets, and
 /// room for the list of the states. No other call takes memory. The work of a step grows with the number of
-/// states, not with the room for them: it passes over each state and over four buckets for each.
+/// states, not with the room for them: it passes over each state and over four buckets for each, and looks for
+/// each among those of its bucket. The hash is fixed, so a network can be made whose states share one bucket, and
+/// then the work grows with the square of their number.
 #[derive(Drop)]
 pub struct Pool {
     // The nodes in use are the first `len`.
@@ -60,7 +62,8 @@ impl Model for Pool {
     ghost invariant = { λ p. IsPool p.nodes.items p.heads.items p.used p.len p.most (vec_capacity p.order) };
 }
 
-// The number of buckets for so many states: it keeps their chains short.
+// The number of buckets for so many states: four for each keep the chains short where the hash spreads the
+// states, which no clause promises.
 fn buckets_for(states: u16) -> u16
     requires { states ≤ 4096 }
     ensures { result ≡ 4 * states + 1 }
