@@ -1,6 +1,6 @@
 -- When an event by queues keeps the order of states.
 use Rattle.std.specs.Prelude.{◌≡◌, ℕ, ◌+◌, ◌-◌, ◌<◌, ◌≤◌, List, length, slice_index, refl}
-use Rattle.std.proofs.Common.{inl, inr, sym, ◌∙◌, subst, arith}
+use Rattle.std.proofs.Common.{inl, inr, ap, sym, ◌∙◌, subst, arith}
 use Rattle.std.proofs.lemmas.Bool.{cases_lt, cases_eq}
 use Rattle.psi_state.specs.State.{IsBelow}
 use Rattle.psi_state.specs.Boxes.{below-through}
@@ -154,26 +154,24 @@ refused_stays r x y q made refused place =
     ]
 
 -- two states, one allowed and one refused, that come in the wrong order at queue q
-pub upset_up : (r : Rule) (caps : List ℕ) (f : List ℕ → List ℕ) (x y : List ℕ) (q : ℕ) → IsRuleOf r caps f → IsBelow y caps → IsBelow x y → q < r.queues
-    → AllowsAll r x → RefusesSome r y → slice_index y q < r.moves q (slice_index x q) → IsUpset caps f x y
-upset_up r caps f x y q is within below place allowed refused less = record {
+pub upset_up : (r : Rule) (caps : List ℕ) (f : List ℕ → List ℕ) (x y : List ℕ) (q u v : ℕ) → IsRuleOf r caps f → IsBelow y caps → IsBelow x y → q < r.queues
+    → AllowsAll r x → RefusesSome r y → slice_index x q ≡ u → slice_index y q ≡ v → v < r.moves q u → IsUpset caps f x y
+upset_up r caps f x y q u v is within below place allowed refused first_at second_at less = record {
   within = within;
   ordered = below;
   upset = λ kept. (let first = is.makes x (below-through x y caps below within) in
-      let second = is.makes y within in
-      let u : slice_index (f x) q ≡ r.moves q (slice_index x q) = allowed_moves r x (f x) q first allowed place in
-      let w : slice_index (f y) q ≡ slice_index y q = refused_stays r y (f y) q second refused place in
+      let moved : slice_index (f x) q ≡ r.moves q u = allowed_moves r x (f x) q first allowed place ∙ ap (λ n. r.moves q n) first_at in
+      let stays : slice_index (f y) q ≡ v = refused_stays r y (f y) q (is.makes y within) refused place ∙ second_at in
       let step : slice_index (f x) q ≤ slice_index (f y) q = kept.each q (omega (arith, first.long)) in omega arith);
 }
 
-pub upset_down : (r : Rule) (caps : List ℕ) (f : List ℕ → List ℕ) (x y : List ℕ) (q : ℕ) → IsRuleOf r caps f → IsBelow y caps → IsBelow x y → q < r.queues
-    → RefusesSome r x → AllowsAll r y → r.moves q (slice_index y q) < slice_index x q → IsUpset caps f x y
-upset_down r caps f x y q is within below place refused allowed less = record {
+pub upset_down : (r : Rule) (caps : List ℕ) (f : List ℕ → List ℕ) (x y : List ℕ) (q u v : ℕ) → IsRuleOf r caps f → IsBelow y caps → IsBelow x y → q < r.queues
+    → RefusesSome r x → AllowsAll r y → slice_index x q ≡ u → slice_index y q ≡ v → r.moves q v < u → IsUpset caps f x y
+upset_down r caps f x y q u v is within below place refused allowed first_at second_at less = record {
   within = within;
   ordered = below;
   upset = λ kept. (let first = is.makes x (below-through x y caps below within) in
-      let second = is.makes y within in
-      let u : slice_index (f x) q ≡ slice_index x q = refused_stays r x (f x) q first refused place in
-      let w : slice_index (f y) q ≡ r.moves q (slice_index y q) = allowed_moves r y (f y) q second allowed place in
+      let stays : slice_index (f x) q ≡ u = refused_stays r x (f x) q first refused place ∙ first_at in
+      let moved : slice_index (f y) q ≡ r.moves q v = allowed_moves r y (f y) q (is.makes y within) allowed place ∙ ap (λ n. r.moves q n) second_at in
       let step : slice_index (f x) q ≤ slice_index (f y) q = kept.each q (omega (arith, first.long)) in omega arith);
 }

@@ -1,5 +1,5 @@
 -- The pairs of states that the four tests show.
-use Rattle.std.specs.Prelude.{◌≡◌, ℕ, ◌+◌, ◌-◌, ◌<◌, ◌≤◌, Bool, true, ◌&&◌, not, cond, nat_eq, nat_lt, List, length, slice_index, slice_set, Option, Some, None}
+use Rattle.std.specs.Prelude.{◌≡◌, ℕ, ◌+◌, ◌-◌, ◌<◌, ◌≤◌, Bool, true, ◌&&◌, not, cond, nat_eq, nat_lt, List, length, slice_index, slice_set, Option, Some, None, refl}
 use Rattle.std.proofs.Common.{inl, inr, ap, sym, ◌∙◌, subst, arith, length-set, get_or-set_same, get_or-set_other}
 use Rattle.std.proofs.lemmas.Bool.{cases_eq, cases_Bool, and_parts, and_from, ltb-true, lt-ltb, eqb-false, ne_eqb, not-true, not_from_false}
 use Rattle.psi_state.specs.State.{IsBelow}
@@ -8,174 +8,59 @@ use Rattle.psi_event.specs.Law.{IsMonotone, IsUpset, ShowsUpset}
 use Rattle.psi_guard.specs.declared.named.Part.{Part}
 use Rattle.psi_guard.specs.Guarding.{moved, guarded, part_of, leasts, around_most, around_least, both_with, exceeds, falls_short, leap, rise, plunge, fall, over_queues, over_pairs, upset_of}
 use Rattle.psi_guard.specs.Refusals.{AreGuards}
-use Rattle.psi_guard.specs.Rule.{Rule, rule, AllowsAll, RefusesSome}
+use Rattle.psi_guard.specs.Rule.{Rule, rule, AllowsAll, fits_guard}
 use Rattle.psi_guard.proofs.Steps.{length-leasts, slice_index-leasts}
 use Rattle.psi_guard.proofs.Order.{IsRuleOf, is_rule_of, PassesNone, monotone_without, upset_up, upset_down}
 
--- queue p holds v, and each other one its least
-pub record Around (r : Rule) (p v : ℕ) (x : List ℕ) : Type 0 where
-  pub long : length x ≡ r.queues
-  pub here : slice_index x p ≡ v
-  pub there : (i : ℕ) → i < r.queues → (i ≡ p → ⊥) → slice_index x i ≡ r.least i
+-- queue p holds v, and each other one what it holds in the state b
+record Around (r : Rule) (p v : ℕ) (b x : List ℕ) : Type 0 where
+  long : length x ≡ r.queues
+  here : slice_index x p ≡ v
+  there : (i : ℕ) → i < r.queues → (i ≡ p → ⊥) → slice_index x i ≡ slice_index b i
 
--- queue q holds w besides
-pub record AroundTwo (r : Rule) (p v q w : ℕ) (x : List ℕ) : Type 0 where
-  pub long : length x ≡ r.queues
-  pub here : slice_index x p ≡ v
-  pub second : slice_index x q ≡ w
-  pub there : (i : ℕ) → i < r.queues → (i ≡ p → ⊥) → (i ≡ q → ⊥) → slice_index x i ≡ r.least i
-
--- each queue holds its least
-pub record AreLeast (r : Rule) (x : List ℕ) : Type 0 where
-  pub long : length x ≡ r.queues
-  pub each : (i : ℕ) → i < r.queues → slice_index x i ≡ r.least i
-
-around-set : (r : Rule) (p v : ℕ) (x : List ℕ) → AreLeast r x → p < r.queues → Around r p v (slice_set x p v)
-around-set r p v x least place = record {
-  long = length-set {A = ℕ} x p v ∙ least.long;
-  here = get_or-set_same {A = ℕ} x p v 0 (omega (arith, least.long));
-  there = λ i small other. get_or-set_other {A = ℕ} x p i v 0 other ∙ least.each i small;
+around-set : (r : Rule) (p v : ℕ) (b : List ℕ) → length b ≡ r.queues → p < r.queues → Around r p v b (slice_set b p v)
+around-set r p v b long place = record {
+  long = length-set {A = ℕ} b p v ∙ long;
+  here = get_or-set_same {A = ℕ} b p v 0 (omega (arith, long));
+  there = λ i small other. get_or-set_other {A = ℕ} b p i v 0 other;
 }
 
-around-least : (r : Rule) (p : ℕ) (x : List ℕ) → AreLeast r x → p < r.queues → Around r p (r.least p) x
-around-least r p x least place = record { long = least.long; here = least.each p place; there = λ i small other. least.each i small }
-
-around-two : (r : Rule) (p v q w : ℕ) (x : List ℕ) → Around r p v x → (p ≡ q → ⊥) → q < r.queues → AroundTwo r p v q w (slice_set x q w)
-around-two r p v q w x around apart place = record {
-  long = length-set {A = ℕ} x q w ∙ around.long;
-  here = get_or-set_other {A = ℕ} x q p w 0 apart ∙ around.here;
-  second = get_or-set_same {A = ℕ} x q w 0 (omega (arith, around.long));
-  there = λ i small other another. get_or-set_other {A = ℕ} x q i w 0 another ∙ around.there i small other;
+-- one that is within the guards stays within them where the number is within queue p's guard
+allows-around : (r : Rule) (p v : ℕ) (b x : List ℕ) → AllowsAll r b → Around r p v b x → r.least p ≤ v → v ≤ r.most p → AllowsAll r x
+allows-around r p v b x all around low high = record {
+  low = λ i small. elim (cases_eq i p) [
+    | inl e ↦ subst (λ j. r.least j ≤ slice_index x j) (sym e) (omega (arith, around.here))
+    | inr ne ↦ (let least = all.low i small in omega (arith, least, around.there i small ne))
+  ];
+  high = λ i small. elim (cases_eq i p) [
+    | inl e ↦ subst (λ j. slice_index x j ≤ r.most j) (sym e) (omega (arith, around.here))
+    | inr ne ↦ (let most = all.high i small in omega (arith, most, around.there i small ne))
+  ];
 }
 
--- what is known of a pair: the smaller state is within the guards and the larger isn't, or the other way round
-pub record IsPair (r : Rule) (caps x y : List ℕ) (inner outer : List ℕ) : Type 0 where
-  pub within : IsBelow y caps
-  pub ordered : IsBelow x y
-  pub allowed : AllowsAll r inner
-  pub refused : RefusesSome r outer
+-- two states of the network, the smaller first
+record IsPair (caps x y : List ℕ) : Type 0 where
+  within : IsBelow y caps
+  ordered : IsBelow x y
 
-pair-up : (r : Rule) (caps : List ℕ) (f : List ℕ → List ℕ) (p : ℕ) (x y : List ℕ) → IsRuleOf r caps f → p < r.queues → r.most p < r.cap p
-    → Around r p (r.most p) x → Around r p (r.most p + 1) y → IsPair r caps x y x y
-pair-up r caps f p x y is place room first second = record {
+pair_of : (r : Rule) (caps : List ℕ) (f : List ℕ → List ℕ) (p u v : ℕ) (b x y : List ℕ) → IsRuleOf r caps f → AllowsAll r b
+    → Around r p u b x → Around r p v b y → u ≤ v → v ≤ r.cap p → IsPair caps x y
+pair_of r caps f p u v b x y is all first second less room = record {
   within = record {
     same_length = second.long ∙ is.queues;
-    each = λ i small. (let there : i < r.queues = omega (arith, second.long) in
-        let guard : r.least i ≤ r.most i = is.lawful.guard i there in
-        let most : r.most i ≤ r.cap i = is.lawful.most i there in
-        let cap : r.cap i ≡ slice_index caps i = is.cap i in
-        elim (cases_eq i p) [
-          | inl e ↦ (let v : slice_index y i ≡ r.most p + 1 = ap (λ j. slice_index y j) e ∙ second.here in
-              let c : r.cap i ≡ r.cap p = ap (λ j. r.cap j) e in omega arith)
-          | inr ne ↦ (let v : slice_index y i ≡ r.least i = second.there i there ne in omega arith)
-        ]);
+    each = λ i small. (let there : i < r.queues = omega (arith, second.long) in elim (cases_eq i p) [
+      | inl e ↦ subst (λ j. slice_index y j ≤ slice_index caps j) (sym e) (omega (arith, second.here, is.cap p))
+      | inr ne ↦ (let high = all.high i there in let most = is.lawful.most i there in omega (arith, high, most, second.there i there ne, is.cap i))
+    ]);
   };
   ordered = record {
     same_length = first.long ∙ sym second.long;
-    each = λ i small. (let there : i < r.queues = omega (arith, first.long) in
-        elim (cases_eq i p) [
-          | inl e ↦ (let u : slice_index x i ≡ r.most p = ap (λ j. slice_index x j) e ∙ first.here in
-              let v : slice_index y i ≡ r.most p + 1 = ap (λ j. slice_index y j) e ∙ second.here in omega arith)
-          | inr ne ↦ (let u : slice_index x i ≡ r.least i = first.there i there ne in
-              let v : slice_index y i ≡ r.least i = second.there i there ne in omega arith)
-        ]);
-  };
-  allowed = record {
-    low = λ i small. (let guard : r.least i ≤ r.most i = is.lawful.guard i small in elim (cases_eq i p) [
-      | inl e ↦ (let u : slice_index x i ≡ r.most p = ap (λ j. slice_index x j) e ∙ first.here in
-          let c : r.most i ≡ r.most p = ap (λ j. r.most j) e in omega arith)
-      | inr ne ↦ (let u : slice_index x i ≡ r.least i = first.there i small ne in omega arith)
-    ]);
-    high = λ i small. (let guard : r.least i ≤ r.most i = is.lawful.guard i small in elim (cases_eq i p) [
-      | inl e ↦ (let u : slice_index x i ≡ r.most p = ap (λ j. slice_index x j) e ∙ first.here in
-          let c : r.most i ≡ r.most p = ap (λ j. r.most j) e in omega arith)
-      | inr ne ↦ (let u : slice_index x i ≡ r.least i = first.there i small ne in omega arith)
+    each = λ i small. (let there : i < r.queues = omega (arith, first.long) in elim (cases_eq i p) [
+      | inl e ↦ subst (λ j. slice_index x j ≤ slice_index y j) (sym e) (omega (arith, first.here, second.here))
+      | inr ne ↦ omega (arith, first.there i there ne, second.there i there ne)
     ]);
   };
-  refused = record { queue = p; place = place; out = inr (let v : slice_index y p ≡ r.most p + 1 = second.here in omega arith) };
 }
-
-pair-down : (r : Rule) (caps : List ℕ) (f : List ℕ → List ℕ) (p : ℕ) (x y : List ℕ) → IsRuleOf r caps f → p < r.queues → 0 < r.least p
-    → Around r p (r.least p - 1) x → Around r p (r.least p) y → IsPair r caps x y y x
-pair-down r caps f p x y is place some first second =
-    let all : (i : ℕ) → i < r.queues → slice_index y i ≡ r.least i = λ i there. elim (cases_eq i p) [
-      | inl e ↦ ap (λ j. slice_index y j) e ∙ (second.here ∙ sym (ap (λ j. r.least j) e))
-      | inr ne ↦ second.there i there ne
-    ] in
-    record {
-      within = record {
-        same_length = second.long ∙ is.queues;
-        each = λ i small. (let there : i < r.queues = omega (arith, second.long) in
-            let guard : r.least i ≤ r.most i = is.lawful.guard i there in
-            let most : r.most i ≤ r.cap i = is.lawful.most i there in
-            let cap : r.cap i ≡ slice_index caps i = is.cap i in
-            let v : slice_index y i ≡ r.least i = all i there in omega arith);
-      };
-      ordered = record {
-        same_length = first.long ∙ sym second.long;
-        each = λ i small. (let there : i < r.queues = omega (arith, first.long) in
-            let v : slice_index y i ≡ r.least i = all i there in
-            elim (cases_eq i p) [
-              | inl e ↦ (let u : slice_index x i ≡ r.least p - 1 = ap (λ j. slice_index x j) e ∙ first.here in
-                  let c : r.least i ≡ r.least p = ap (λ j. r.least j) e in omega arith)
-              | inr ne ↦ (let u : slice_index x i ≡ r.least i = first.there i there ne in omega arith)
-            ]);
-      };
-      allowed = record {
-        low = λ i small. (let v : slice_index y i ≡ r.least i = all i small in omega arith);
-        high = λ i small. (let v : slice_index y i ≡ r.least i = all i small in
-            let guard : r.least i ≤ r.most i = is.lawful.guard i small in omega arith);
-      };
-      refused = record { queue = p; place = place; out = inl (let u : slice_index x p ≡ r.least p - 1 = first.here in omega arith) };
-    }
-
-pair-two : (r : Rule) (caps : List ℕ) (f : List ℕ → List ℕ) (p q : ℕ) (x y : List ℕ) → IsRuleOf r caps f → p < r.queues → q < r.queues → 0 < r.least p
-    → AroundTwo r p (r.least p - 1) q (r.most q) x → AroundTwo r p (r.least p) q (r.most q) y → IsPair r caps x y y x
-pair-two r caps f p q x y is place other some first second =
-    let all : (i : ℕ) → i < r.queues → (i ≡ q → ⊥) → slice_index y i ≡ r.least i = λ i there ne. elim (cases_eq i p) [
-      | inl e ↦ ap (λ j. slice_index y j) e ∙ (second.here ∙ sym (ap (λ j. r.least j) e))
-      | inr apart ↦ second.there i there apart ne
-    ] in
-    record {
-      within = record {
-        same_length = second.long ∙ is.queues;
-        each = λ i small. (let there : i < r.queues = omega (arith, second.long) in
-            let guard : r.least i ≤ r.most i = is.lawful.guard i there in
-            let most : r.most i ≤ r.cap i = is.lawful.most i there in
-            let cap : r.cap i ≡ slice_index caps i = is.cap i in
-            elim (cases_eq i q) [
-              | inl e ↦ (let v : slice_index y i ≡ r.most q = ap (λ j. slice_index y j) e ∙ second.second in
-                  let c : r.most i ≡ r.most q = ap (λ j. r.most j) e in omega arith)
-              | inr ne ↦ (let v : slice_index y i ≡ r.least i = all i there ne in omega arith)
-            ]);
-      };
-      ordered = record {
-        same_length = first.long ∙ sym second.long;
-        each = λ i small. (let there : i < r.queues = omega (arith, first.long) in
-            elim (cases_eq i q) [
-              | inl e ↦ (let u : slice_index x i ≡ r.most q = ap (λ j. slice_index x j) e ∙ first.second in
-                  let v : slice_index y i ≡ r.most q = ap (λ j. slice_index y j) e ∙ second.second in omega arith)
-              | inr ne ↦ (let v : slice_index y i ≡ r.least i = all i there ne in elim (cases_eq i p) [
-                | inl e ↦ (let u : slice_index x i ≡ r.least p - 1 = ap (λ j. slice_index x j) e ∙ first.here in
-                    let c : r.least i ≡ r.least p = ap (λ j. r.least j) e in omega arith)
-                | inr apart ↦ (let u : slice_index x i ≡ r.least i = first.there i there apart ne in omega arith)
-              ])
-            ]);
-      };
-      allowed = record {
-        low = λ i small. (let guard : r.least i ≤ r.most i = is.lawful.guard i small in elim (cases_eq i q) [
-          | inl e ↦ (let v : slice_index y i ≡ r.most q = ap (λ j. slice_index y j) e ∙ second.second in
-              let c : r.most i ≡ r.most q = ap (λ j. r.most j) e in omega arith)
-          | inr ne ↦ (let v : slice_index y i ≡ r.least i = all i small ne in omega arith)
-        ]);
-        high = λ i small. (let guard : r.least i ≤ r.most i = is.lawful.guard i small in elim (cases_eq i q) [
-          | inl e ↦ (let v : slice_index y i ≡ r.most q = ap (λ j. slice_index y j) e ∙ second.second in
-              let c : r.most i ≡ r.most q = ap (λ j. r.most j) e in omega arith)
-          | inr ne ↦ (let v : slice_index y i ≡ r.least i = all i small ne in omega arith)
-        ]);
-      };
-      refused = record { queue = p; place = place; out = inl (let u : slice_index x p ≡ r.least p - 1 = first.here in omega arith) };
-    }
 
 -- an answer isn't none
 none_some : {A : Type 0} (a : A) (o : Option A) → o ≡ None → o ≡ Some a → ⊥
@@ -195,11 +80,32 @@ test-some b a found is =
 test-none : {A : Type 0} (b : Bool) (a : A) → cond b (Some a) None ≡ None → b ≡ true → ⊥
 test-none b a is holds = none_some a (cond b (Some a) None) is (ap (λ t. cond t (Some a) None) holds)
 
-are_least : (caps : List ℕ) (parts : List Part) → AreLeast (rule caps parts) (leasts caps parts)
-are_least caps parts = record { long = length-leasts caps parts; each = λ i small. slice_index-leasts caps parts i small }
-
 abbrev IsShown : List ℕ → List Part → List ℕ × List ℕ → Type 0
 IsShown caps parts pair = IsUpset caps (guarded parts) pair.0 pair.1
+
+leasts-allowed : (caps : List ℕ) (parts : List Part) → AreGuards caps parts → AllowsAll (rule caps parts) (leasts caps parts)
+leasts-allowed caps parts guards = record {
+  low = λ p place. omega (arith, slice_index-leasts caps parts p place);
+  high = λ p place. (let guard = (fits_guard caps parts p guards).guard in omega (arith, guard, slice_index-leasts caps parts p place));
+}
+
+-- queue p at its most, where queue q passes what it holds with one customer more in p
+up-shows : (caps : List ℕ) (parts : List Part) (p q u v : ℕ) → AreGuards caps parts → p < length caps → q < length caps → exceeds caps parts p ≡ true
+    → slice_index (around_most caps parts p).0 q ≡ u → slice_index (around_most caps parts p).1 q ≡ v → v < moved (part_of caps parts q) u
+    → IsShown caps parts (around_most caps parts p)
+up-shows caps parts p q u v guards place other room first_at second_at less =
+    let r = rule caps parts in
+    let a = leasts caps parts in
+    let most = (part_of caps parts p).most in
+    let law = is_rule_of caps parts guards in
+    let all = leasts-allowed caps parts guards in
+    let free : most < slice_index caps p = ltb-true most (slice_index caps p) room in
+    let first = around-set r p most a (length-leasts caps parts) place in
+    let second = around-set r p (most + 1) a (length-leasts caps parts) place in
+    let two = pair_of r caps (guarded parts) p most (most + 1) a (slice_set a p most) (slice_set a p (most + 1)) law all first second (omega arith) (omega arith) in
+    upset_up r caps (guarded parts) (slice_set a p most) (slice_set a p (most + 1)) q u v law two.within two.ordered other
+    (allows-around r p most a (slice_set a p most) all first (law.lawful.guard p place) (omega arith))
+    (record { queue = p; place = place; out = inr (omega (arith, second.here)) }) first_at second_at less
 
 leap-shows : (caps : List ℕ) (parts : List Part) (p : ℕ) (pair : List ℕ × List ℕ) → AreGuards caps parts → p < length caps
     → leap caps parts p ≡ Some pair → IsShown caps parts pair
@@ -209,56 +115,54 @@ leap-shows caps parts p pair guards place is =
     let most = (part_of caps parts p).most in
     let t = test-some (exceeds caps parts p && nat_lt (most + 1) (moved (part_of caps parts p) most)) (around_most caps parts p) pair is in
     let both = and_parts (exceeds caps parts p) (nat_lt (most + 1) (moved (part_of caps parts p) most)) t.0 in
-    let law = is_rule_of caps parts guards in
-    let first = around-set r p most a (are_least caps parts) place in
-    let second = around-set r p (most + 1) a (are_least caps parts) place in
-    let two = pair-up r caps (guarded parts) p (slice_set a p most) (slice_set a p (most + 1)) law place (ltb-true most (slice_index caps p) both.0) first second in
-    let over : most + 1 < r.moves p most = ltb-true (most + 1) (moved (part_of caps parts p) most) both.1 in
-    let u : slice_index (slice_set a p (most + 1)) p ≡ most + 1 = second.here in
-    let less : slice_index (slice_set a p (most + 1)) p < r.moves p (slice_index (slice_set a p most) p) =
-    subst (λ v. slice_index (slice_set a p (most + 1)) p < r.moves p v) (sym first.here) (subst (λ v. v < r.moves p most) (sym u) over) in
     subst (λ (found : List ℕ × List ℕ). IsShown caps parts found) t.1
-    (upset_up r caps (guarded parts) (slice_set a p most) (slice_set a p (most + 1)) p law two.within two.ordered place two.allowed two.refused less)
+    (up-shows caps parts p p most (most + 1) guards place place both.0 (around-set r p most a (length-leasts caps parts) place).here
+    (around-set r p (most + 1) a (length-leasts caps parts) place).here (ltb-true (most + 1) (moved (part_of caps parts p) most) both.1))
 
 rise-shows : (caps : List ℕ) (parts : List Part) (p q : ℕ) (pair : List ℕ × List ℕ) → AreGuards caps parts → p < length caps → q < length caps
     → rise caps parts p q ≡ Some pair → IsShown caps parts pair
 rise-shows caps parts p q pair guards place other is =
-    let r = rule caps parts in
     let a = leasts caps parts in
     let most = (part_of caps parts p).most in
     let least = (part_of caps parts q).least in
     let t = test-some (exceeds caps parts p && (not (nat_eq p q) && nat_lt least (moved (part_of caps parts q) least))) (around_most caps parts p) pair is in
     let both = and_parts (exceeds caps parts p) (not (nat_eq p q) && nat_lt least (moved (part_of caps parts q) least)) t.0 in
     let rest = and_parts (not (nat_eq p q)) (nat_lt least (moved (part_of caps parts q) least)) both.1 in
-    let apart : p ≡ q → ⊥ = eqb-false p q (not-true (nat_eq p q) rest.0) in
-    let law = is_rule_of caps parts guards in
-    let first = around-set r p most a (are_least caps parts) place in
-    let second = around-set r p (most + 1) a (are_least caps parts) place in
-    let two = pair-up r caps (guarded parts) p (slice_set a p most) (slice_set a p (most + 1)) law place (ltb-true most (slice_index caps p) both.0) first second in
-    let over : least < r.moves q least = ltb-true least (moved (part_of caps parts q) least) rest.1 in
-    let less : slice_index (slice_set a p (most + 1)) q < r.moves q (slice_index (slice_set a p most) q) =
-    subst (λ v. slice_index (slice_set a p (most + 1)) q < r.moves q v) (sym (first.there q other (λ e. apart (sym e))))
-    (subst (λ v. v < r.moves q least) (sym (second.there q other (λ e. apart (sym e)))) over) in
+    let apart : q ≡ p → ⊥ = λ e. eqb-false p q (not-true (nat_eq p q) rest.0) (sym e) in
+    let held : slice_index a q ≡ least = slice_index-leasts caps parts q other in
     subst (λ (found : List ℕ × List ℕ). IsShown caps parts found) t.1
-    (upset_up r caps (guarded parts) (slice_set a p most) (slice_set a p (most + 1)) q law two.within two.ordered other two.allowed two.refused less)
+    (up-shows caps parts p q least least guards place other both.0 (get_or-set_other {A = ℕ} a p q most 0 apart ∙ held)
+    (get_or-set_other {A = ℕ} a p q (most + 1) 0 apart ∙ held) (ltb-true least (moved (part_of caps parts q) least) rest.1))
+
+-- a state y within the guards with queue p at its least, where queue q falls below what it holds in the state x with one customer less in p
+down-shows : (caps : List ℕ) (parts : List Part) (p q u v : ℕ) (x y : List ℕ) → AreGuards caps parts → p < length caps → q < length caps
+    → falls_short caps parts p ≡ true → AllowsAll (rule caps parts) y → Around (rule caps parts) p ((part_of caps parts p).least - 1) y x
+    → Around (rule caps parts) p (part_of caps parts p).least y y → slice_index x q ≡ u → slice_index y q ≡ v → moved (part_of caps parts q) v < u
+    → IsUpset caps (guarded parts) x y
+down-shows caps parts p q u v x y guards place other some all first second first_at second_at less =
+    let r = rule caps parts in
+    let least = (part_of caps parts p).least in
+    let law = is_rule_of caps parts guards in
+    let held : 0 < least = ltb-true 0 least some in
+    let guard = law.lawful.guard p place in
+    let most = law.lawful.most p place in
+    let two = pair_of r caps (guarded parts) p (least - 1) least y x y law all first second (omega arith) (omega (arith, guard, most)) in
+    upset_down r caps (guarded parts) x y q u v law two.within two.ordered other
+    (record { queue = p; place = place; out = inl (omega (arith, first.here)) }) all first_at second_at less
 
 plunge-shows : (caps : List ℕ) (parts : List Part) (p : ℕ) (pair : List ℕ × List ℕ) → AreGuards caps parts → p < length caps
     → plunge caps parts p ≡ Some pair → IsShown caps parts pair
 plunge-shows caps parts p pair guards place is =
-    let r = rule caps parts in
     let a = leasts caps parts in
     let least = (part_of caps parts p).least in
     let t = test-some (falls_short caps parts p && nat_lt (moved (part_of caps parts p) least) (least - 1)) (around_least caps parts p) pair is in
     let both = and_parts (falls_short caps parts p) (nat_lt (moved (part_of caps parts p) least) (least - 1)) t.0 in
-    let law = is_rule_of caps parts guards in
-    let first = around-set r p (least - 1) a (are_least caps parts) place in
-    let second = around-least r p a (are_least caps parts) place in
-    let two = pair-down r caps (guarded parts) p (slice_set a p (least - 1)) a law place (ltb-true 0 least both.0) first second in
-    let under : r.moves p least < least - 1 = ltb-true (moved (part_of caps parts p) least) (least - 1) both.1 in
-    let less : r.moves p (slice_index a p) < slice_index (slice_set a p (least - 1)) p =
-    subst (λ v. r.moves p v < slice_index (slice_set a p (least - 1)) p) (sym second.here) (subst (λ v. r.moves p least < v) (sym first.here) under) in
+    let first = around-set (rule caps parts) p (least - 1) a (length-leasts caps parts) place in
+    let held : slice_index a p ≡ least = slice_index-leasts caps parts p place in
     subst (λ (found : List ℕ × List ℕ). IsShown caps parts found) t.1
-    (upset_down r caps (guarded parts) (slice_set a p (least - 1)) a p law two.within two.ordered place two.refused two.allowed less)
+    (down-shows caps parts p p (least - 1) least (slice_set a p (least - 1)) a guards place place both.0 (leasts-allowed caps parts guards) first
+    (record { long = length-leasts caps parts; here = held; there = λ i small ne. refl }) first.here held
+    (ltb-true (moved (part_of caps parts p) least) (least - 1) both.1))
 
 fall-shows : (caps : List ℕ) (parts : List Part) (p q : ℕ) (pair : List ℕ × List ℕ) → AreGuards caps parts → p < length caps → q < length caps
     → fall caps parts p q ≡ Some pair → IsShown caps parts pair
@@ -271,17 +175,22 @@ fall-shows caps parts p q pair guards place other is =
     let both = and_parts (falls_short caps parts p) (not (nat_eq p q) && nat_lt (moved (part_of caps parts q) most) most) t.0 in
     let rest = and_parts (not (nat_eq p q)) (nat_lt (moved (part_of caps parts q) most) most) both.1 in
     let apart : p ≡ q → ⊥ = eqb-false p q (not-true (nat_eq p q) rest.0) in
-    let law = is_rule_of caps parts guards in
-    let x = slice_set (slice_set a p (least - 1)) q most in
-    let y = slice_set a q most in
-    let first = around-two r p (least - 1) q most (slice_set a p (least - 1)) (around-set r p (least - 1) a (are_least caps parts) place) apart other in
-    let second = around-two r p least q most a (around-least r p a (are_least caps parts) place) apart other in
-    let two = pair-two r caps (guarded parts) p q x y law place other (ltb-true 0 least both.0) first second in
-    let under : r.moves q most < most = ltb-true (moved (part_of caps parts q) most) most rest.1 in
-    let less : r.moves q (slice_index y q) < slice_index x q =
-    subst (λ v. r.moves q v < slice_index x q) (sym second.second) (subst (λ v. r.moves q most < v) (sym first.second) under) in
+    let one = around-set r p (least - 1) a (length-leasts caps parts) place in
+    let y = around-set r q most a (length-leasts caps parts) other in
+    let x = around-set r q most (slice_set a p (least - 1)) one.long other in
+    let all = allows-around r q most a (slice_set a q most) (leasts-allowed caps parts guards) y ((fits_guard caps parts q guards).guard) (omega arith) in
     subst (λ (found : List ℕ × List ℕ). IsShown caps parts found) t.1
-    (upset_down r caps (guarded parts) x y q law two.within two.ordered other two.refused two.allowed less)
+    (down-shows caps parts p q most most (slice_set (slice_set a p (least - 1)) q most) (slice_set a q most) guards place other both.0 all
+    (record {
+      long = x.long;
+      here = x.there p place apart ∙ one.here;
+      there = λ i small ne. elim (cases_eq i q) [
+        | inl e ↦ subst (λ j. slice_index (slice_set (slice_set a p (least - 1)) q most) j ≡ slice_index (slice_set a q most) j) (sym e) (x.here ∙ sym y.here)
+        | inr other ↦ x.there i small other ∙ (one.there i small ne ∙ sym (y.there i small other))
+      ];
+    })
+    (record { long = y.long; here = y.there p place apart ∙ slice_index-leasts caps parts p place; there = λ i small ne. refl }) x.here y.here
+    (ltb-true (moved (part_of caps parts q) most) most rest.1))
 
 -- no test succeeds
 pub record FindsNone (caps : List ℕ) (parts : List Part) : Type 0 where

@@ -1,5 +1,5 @@
 -- Guarded events: what they make of a state, and the two states by which they break the order.
-use Rattle.std.specs.Prelude.{ℕ, suc, ◌+◌, ◌-◌, min, max, ℤ, pos, negsuc, Bool, ◌&&◌, not, nat_eq, nat_lt, nat_le, if◌then◌else◌, List, [], ◌∷◌, length, map, slice_index, slice_set, Option, Some, None}
+use Rattle.std.specs.Prelude.{◌≡◌, ℕ, suc, ◌+◌, ◌-◌, ◌<◌, min, max, ℤ, pos, negsuc, Bool, ◌&&◌, not, nat_eq, nat_lt, nat_le, if◌then◌else◌, List, [], ◌∷◌, length, map, slice_index, slice_set, Option, Some, None}
 use Rattle.std.specs.List.{list_all}
 use Rattle.psi_state.specs.State.{numbers_from}
 use Rattle.psi_event.specs.Choice.{first_or, first_some}
@@ -98,6 +98,10 @@ fall caps parts p q =
 -- the first answer over the queues, by their numbers
 abbrev pub over_queues : {A : Type 0} → List ℕ → (ℕ → Option A) → Option A
 over_queues caps f = first_some f 0 (length caps)
+
+-- each answer that a test may give at a queue is that of f
+abbrev pub AnswersAs : {A : Type 0} → List ℕ → (ℕ → Option A → Type 0) → (ℕ → Option A) → Type 0
+AnswersAs {A} caps may_give f = (p : ℕ) (o : Option A) → p < length caps → may_give p o → o ≡ f p
 
 -- the first answer over two queues: the least first queue, then the least second one
 abbrev pub over_pairs : {A : Type 0} → List ℕ → (ℕ → ℕ → Option A) → Option A

@@ -1,7 +1,7 @@
 //! The four tests that tell whether a guarded event keeps the order of states, and the pair that they show.
 
-ghost use Rattle.std.specs.Prelude.{◌≡◌, ◌<◌, ◌≤◌, IsTrue, length, slice_index, unsigned_abs};
-ghost use Rattle.psi_guard.specs.Guarding.{around_least, around_most, exceeds, fall, leap, leasts, over_pairs, over_queues, part_of, plunge, rise};
+ghost use Rattle.std.specs.Prelude.{◌≡◌, ℕ, ◌<◌, ◌≤◌, List, Option, IsTrue, length, slice_index, unsigned_abs};
+ghost use Rattle.psi_guard.specs.Guarding.{AnswersAs, around_least, around_most, exceeds, fall, leap, leasts, over_pairs, over_queues, part_of, plunge, rise};
 ghost use Rattle.psi_guard.specs.Rule.{FitsGuard};
 
 use crate::event::moved;
@@ -14,70 +14,37 @@ impl Guarded {
     pub(crate) fn first_leap(&self) -> Option<(State, State)>
         ensures { result ≡ over_queues self.now.caps (leap self.now.caps self.now.parts) }
     {
-        for p in 0..self.caps.len() {
-            if let Some(pair) = self.leap(p) {
-                return Some(pair);
-            }
-        }
-        None
+        self.first_over(|p| self.leap(p))
     }
 
     // The first two queues of which the second rises.
     pub(crate) fn first_rise(&self) -> Option<(State, State)>
         ensures { result ≡ over_pairs self.now.caps (rise self.now.caps self.now.parts) }
     {
-        for p in 0..self.caps.len() {
-            if let Some(pair) = self.rise_beside(p) {
-                return Some(pair);
-            }
-        }
-        None
+        self.first_over(|p| self.first_over(|q| self.rise(p, q)))
     }
 
     // The first queue that plunges below its least.
     pub(crate) fn first_plunge(&self) -> Option<(State, State)>
         ensures { result ≡ over_queues self.now.caps (plunge self.now.caps self.now.parts) }
     {
-        for p in 0..self.caps.len() {
-            if let Some(pair) = self.plunge(p) {
-                return Some(pair);
-            }
-        }
-        None
+        self.first_over(|p| self.plunge(p))
     }
 
     // The first two queues of which the second falls.
     pub(crate) fn first_fall(&self) -> Option<(State, State)>
         ensures { result ≡ over_pairs self.now.caps (fall self.now.caps self.now.parts) }
     {
+        self.first_over(|p| self.first_over(|q| self.fall(p, q)))
+    }
+
+    // The first answer of a test over the queues, by their numbers.
+    fn first_over<F: Fn(u8) -> Option<(State, State)>>(&self, test: F) -> Option<(State, State)>
+        requires { (p : ℕ) → p < length self.now.caps → F.pre test p }
+        ensures { (f : ℕ → Option (List ℕ × List ℕ)) → AnswersAs self.now.caps (F.post test) f → result ≡ over_queues self.now.caps f }
+    {
         for p in 0..self.caps.len() {
-            if let Some(pair) = self.fall_beside(p) {
-                return Some(pair);
-            }
-        }
-        None
-    }
-
-    // The first queue that rises unless queue `p` holds more than its most.
-    fn rise_beside(&self, p: u8) -> Option<(State, State)>
-        requires { p < length self.now.caps }
-        ensures { result ≡ over_queues self.now.caps (rise self.now.caps self.now.parts p) }
-    {
-        for q in 0..self.caps.len() {
-            if let Some(pair) = self.rise(p, q) {
-                return Some(pair);
-            }
-        }
-        None
-    }
-
-    // The first queue that falls unless queue `p` holds less than its least.
-    fn fall_beside(&self, p: u8) -> Option<(State, State)>
-        requires { p < length self.now.caps }
-        ensures { result ≡ over_queues self.now.caps (fall self.now.caps self.now.parts p) }
-    {
-        for q in 0..self.caps.len() {
-            if let Some(pair) = self.fall(p, q) {
+            if let Some(pair) = test(p) {
                 return Some(pair);
             }
         }
