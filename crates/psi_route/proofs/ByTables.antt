@@ -1,11 +1,11 @@
 -- The targets of a route with tables, one after another: the ends of each, and how far the customers come.
-use Rattle.std.proofs.Common.{◌≡◌, ◌+◌, ◌<◌, ◌≤◌, ℕ, List, length, slice_index, slice_set, Option, is_none, Bool, true, false, refl, sym, ◌∙◌, subst, arith}
+use Rattle.std.proofs.Common.{◌≡◌, ◌+◌, ◌<◌, ◌≤◌, ℕ, List, length, slice_index, slice_set, Option, is_none, Bool, true, false, refl, ap, sym, ◌∙◌, subst, arith}
 use Rattle.std.specs.Bool.{MatchBool}
 use Rattle.psi_state.specs.State.{IsBelow}
 use Rattle.psi_route.specs.Routing.{Shape, routing, routed}
 use Rattle.psi_route.specs.Accepted.{IsRouteShape, routing-is}
 use Rattle.psi_route.specs.Ends.{IsLeastAfter, IsGreatestAfter, IsLowEnd, IsHighEnd, AreTargetEnds}
-use Rattle.psi_route.specs.Offers.{IsRival, IsBar, AreLeastTwo, beside, MayStay, MustRise, MayRise, MustStay}
+use Rattle.psi_route.specs.Offers.{IsRival, IsBar, IsLeastOffer, AreLeastTwo, beside, MayStay, MustRise, MayRise, MustStay}
 use Rattle.psi_route.specs.Coming.{Comes, Misses, AreComing}
 use Rattle.psi_route.specs.declared.keys.Key.{Key}
 use Rattle.psi_route.proofs.Tightness.{target-ordered}
@@ -19,24 +19,25 @@ pub record AreBothEnds (s : Shape) (l h : List ℕ) (j low high : ℕ) : Type 0 
   pub greatest : IsHighEnd (routing s) l h j high
   pub ordered : low ≤ high
 
-pub both-ends : (s : Shape) → IsRouteShape s → (l h u w : List ℕ) (j least greatest low high : ℕ) (always : Bool) (first second bar other : Option Key)
-    → IsBelow l h → IsBelow h s.caps → AreTargetEnds (routing s) l h u w j → j < length s.targets → least ≡ slice_index u (slice_index s.targets j)
-    → greatest ≡ slice_index w (slice_index s.targets j) → MatchBool always (Comes (routing s) l 0) (Misses (routing s) l 0) → Comes (routing s) h 0
+pub both-ends : (s : Shape) → IsRouteShape s → (l h u w : List ℕ) (j queue least greatest low high : ℕ) (always : Bool) (first second bar other rival block : Option Key)
+    → IsBelow l h → IsBelow h s.caps → AreTargetEnds (routing s) l h u w j → j < length s.targets → queue ≡ slice_index s.targets j → least ≡ slice_index u queue
+    → greatest ≡ slice_index w queue → MatchBool always (Comes (routing s) l 0) (Misses (routing s) l 0) → Comes (routing s) h 0
     → (always ≡ true → AreLeastTwo (IsRival (routing s) l h) (length s.targets) first second) → AreLeastTwo (IsBar (routing s) l h) (length s.targets) bar other
-    → (always ≡ false → low ≡ least)
-    → (always ≡ true → IsLeastAfter (MayStay (routing s) j (beside first second j)) (MustRise (routing s) j (beside first second j)) s.size least greatest low)
-    → IsGreatestAfter (MayRise (routing s) j (beside bar other j)) (MustStay (routing s) j (beside bar other j)) s.size least greatest high
-    → AreBothEnds s l h j low high
-both-ends s is l h u w j least greatest low high always first second bar other ordered within ends small is_least is_greatest coming comes rivals bars kept served after =
+    → rival ≡ beside first second j → block ≡ beside bar other j → (always ≡ false → low ≡ least)
+    → (always ≡ true → IsLeastAfter (MayStay (routing s) j rival) (MustRise (routing s) j rival) s.size least greatest low)
+    → IsGreatestAfter (MayRise (routing s) j block) (MustStay (routing s) j block) s.size least greatest high → AreBothEnds s l h j low high
+both-ends s is l h u w j queue least greatest low high always first second bar other rival block ordered within ends small at is_least is_greatest coming comes rivals bars
+    rival_is block_is kept served after =
     let r = routing s in
     let old = target-ends_kept r l h u w j (routing-is s is) ends small in
-    let low_is : least ≡ slice_index l (slice_index s.targets j) = is_least ∙ old.0 in
-    let high_is : greatest ≡ slice_index h (slice_index s.targets j) = is_greatest ∙ old.1 in
+    let low_is : least ≡ slice_index l (slice_index s.targets j) = is_least ∙ (ap (λ q. slice_index u q) at ∙ old.0) in
+    let high_is : greatest ≡ slice_index h (slice_index s.targets j) = is_greatest ∙ (ap (λ q. slice_index w q) at ∙ old.1) in
     let first_end : IsLowEnd r l h j low = low-end always coming low_is high_is rivals kept served in
     let last_end : IsHighEnd r l h j high =
-    high-weighed r l h j high (beside bar other j) (targets-ordered s is l h ordered within) (least-beside (IsBar r l h) (length s.targets) j bar other small bars) comes.serve
-    (subst (λ n. IsGreatestAfter (MayRise r j (beside bar other j)) (MustStay r j (beside bar other j)) s.size n (slice_index h (slice_index s.targets j)) high) low_is
-    (subst (λ n. IsGreatestAfter (MayRise r j (beside bar other j)) (MustStay r j (beside bar other j)) s.size least n high) high_is after)) in
+    high-weighed r l h j high block (targets-ordered s is l h ordered within)
+    (subst (λ (o : Option Key). IsLeastOffer (IsBar r l h) (length s.targets) j o) (sym block_is) (least-beside (IsBar r l h) (length s.targets) j bar other small bars)) comes.serve
+    (subst (λ n. IsGreatestAfter (MayRise r j block) (MustStay r j block) s.size n (slice_index h (slice_index s.targets j)) high) low_is
+    (subst (λ n. IsGreatestAfter (MayRise r j block) (MustStay r j block) s.size least n high) high_is after)) in
     record {
       least = first_end;
       greatest = last_end;
@@ -46,12 +47,14 @@ both-ends s is l h u w j least greatest low high always first second bar other o
     low-end : (always : Bool) → MatchBool always (Comes (routing s) l 0) (Misses (routing s) l 0) → least ≡ slice_index l (slice_index s.targets j)
         → greatest ≡ slice_index h (slice_index s.targets j)
         → (always ≡ true → AreLeastTwo (IsRival (routing s) l h) (length s.targets) first second) → (always ≡ false → low ≡ least)
-        → (always ≡ true → IsLeastAfter (MayStay (routing s) j (beside first second j)) (MustRise (routing s) j (beside first second j)) s.size least greatest low)
+        → (always ≡ true → IsLeastAfter (MayStay (routing s) j rival) (MustRise (routing s) j rival) s.size least greatest low)
         → IsLowEnd (routing s) l h j low
     low-end true comes low_is high_is offers kept served =
-        low-weighed (routing s) l h j low (beside first second j) (least-beside (IsRival (routing s) l h) (length s.targets) j first second small (offers refl)) comes.serve
-        (subst (λ n. IsLeastAfter (MayStay (routing s) j (beside first second j)) (MustRise (routing s) j (beside first second j)) s.size n (slice_index h (slice_index s.targets j)) low) low_is
-        (subst (λ n. IsLeastAfter (MayStay (routing s) j (beside first second j)) (MustRise (routing s) j (beside first second j)) s.size least n low) high_is (served refl)))
+        low-weighed (routing s) l h j low rival
+        (subst (λ (o : Option Key). IsLeastOffer (IsRival (routing s) l h) (length s.targets) j o) (sym rival_is)
+        (least-beside (IsRival (routing s) l h) (length s.targets) j first second small (offers refl))) comes.serve
+        (subst (λ n. IsLeastAfter (MayStay (routing s) j rival) (MustRise (routing s) j rival) s.size n (slice_index h (slice_index s.targets j)) low) low_is
+        (subst (λ n. IsLeastAfter (MayStay (routing s) j rival) (MustRise (routing s) j rival) s.size least n low) high_is (served refl)))
     low-end false misses low_is high_is offers kept served =
         subst (λ n. IsLowEnd (routing s) l h j n) (sym (kept refl ∙ low_is)) (low-missed-source (routing s) l h j is.sized (targets-ordered s is l h ordered within j small) misses)
 

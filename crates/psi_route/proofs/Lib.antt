@@ -2,7 +2,6 @@ mod Setting
 mod Tightness
 mod Offering
 mod Judged
-mod Told
 mod Choosing
 mod Searching
 mod Worked

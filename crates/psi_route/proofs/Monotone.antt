@@ -76,7 +76,7 @@ target-up r y z i is made place =
     ]
 
 -- a source that serves in a state serves where it holds more
-serves-up : (r : Routing) (x y : List ℕ) → IsRouting r → length x ≡ r.queues → IsBelow x y → r.least ≤ slice_index x r.source → r.least ≤ slice_index y r.source
+pub serves-up : (r : Routing) (x y : List ℕ) → IsRouting r → length x ≡ r.queues → IsBelow x y → r.least ≤ slice_index x r.source → r.least ≤ slice_index y r.source
 serves-up r x y is count below serves =
     elim is.sourced [
       | inl small ↦ (let more : slice_index x r.source ≤ slice_index y r.source = below.each r.source (omega arith) in omega arith)
@@ -120,7 +120,7 @@ source-turn r x u is small made =
     ]
 
 -- where one leaves, one leaves too where the targets hold less
-pub leaves-down : (r : Routing) (x y : List ℕ) → ((i : ℕ) → i < r.places → slice_index x (r.queue i) ≤ slice_index y (r.queue i)) → Leaves r y → Leaves r x
+leaves-down : (r : Routing) (x y : List ℕ) → ((i : ℕ) → i < r.places → slice_index x (r.queue i) ≤ slice_index y (r.queue i)) → Leaves r y → Leaves r x
 leaves-down r x y below leaves =
     elim leaves [
       | inl lost ↦ inl lost

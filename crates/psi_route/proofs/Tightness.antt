@@ -5,17 +5,12 @@ use Rattle.psi_state.specs.State.{IsBelow, box}
 use Rattle.psi_state.specs.Boxes.{IsBetween, below-itself, below-through}
 use Rattle.psi_state.specs.Sets.{image}
 use Rattle.psi_state.specs.Hull.{IsTight}
-use Rattle.psi_event.specs.Choice.{choose_each, all_or_some}
+use Rattle.psi_event.specs.Choice.{choose_each}
 use Rattle.psi_event.specs.Law.{tight-by}
-use Rattle.psi_route.specs.Routing.{Routing, IsRouting, HasRoom, Lacks, IsBest, IsPassed, Leaves, Routed}
-use Rattle.psi_route.specs.Acting.{best_or_passed, leaves_or_remains}
+use Rattle.psi_route.specs.Routing.{Routing, IsRouting, HasRoom, Lacks, IsBest, IsPassed, Routed}
+use Rattle.psi_route.specs.Acting.{best_or_passed}
 use Rattle.psi_route.specs.Ends.{CanChoose, CanPass, IsLowEnd, IsHighEnd, AreEnds}
-
--- a queue is the target at some place, or at none
-place_of : (r : Routing) (p : ℕ) → ((i : ℕ) → i < r.places → r.queue i ≢ p) ⊎ ((i : ℕ) × (i < r.places) × (r.queue i ≡ p))
-place_of r p =
-    all_or_some (λ i. r.queue i ≢ p) (λ i. r.queue i ≡ p) r.places
-    (λ i small. elim (cases_eq (r.queue i) p) [ inl e ↦ inr e | inr ne ↦ inl ne ])
+use Rattle.psi_route.proofs.Monotone.{serves-up, source-below, place_of}
 
 -- what is chosen for a queue
 record Held (r : Routing) (l h : List ℕ) (A : ℕ → ℕ → Type 0) (S : ℕ → Type 0) (p v : ℕ) : Type 0 where
@@ -96,13 +91,8 @@ pub record IsBoxOf (r : Routing) (l h : List ℕ) : Type 0 where
   pub below : IsBelow l h
   pub count : length l ≡ r.queues
 
-serves_high : (r : Routing) → IsRouting r → (l h x : List ℕ) → IsBoxOf r l h → IsBetween l h x → r.least ≤ slice_index x r.source → r.least ≤ slice_index h r.source
-serves_high r is l h x is_box between serve =
-    elim is.sourced [
-      | inl small ↦ (let count = is_box.count in let same = between.low.same_length in
-          let most : slice_index x r.source ≤ slice_index h r.source = between.high.each r.source (omega arith) in omega arith)
-      | inr e ↦ omega arith
-    ]
+between-long : (r : Routing) (l h x : List ℕ) → IsBoxOf r l h → IsBetween l h x → length x ≡ r.queues
+between-long r l h x is_box between = sym between.low.same_length ∙ is_box.count
 
 serves_low : (r : Routing) → IsRouting r → (l h x : List ℕ) → IsBoxOf r l h → IsBetween l h x → slice_index x r.source < r.least → slice_index l r.source < r.least
 serves_low r is l h x is_box between idle =
@@ -170,7 +160,7 @@ chosen_can : (r : Routing) → IsRouting r → (l h x : List ℕ) (j : ℕ) → 
     → r.least ≤ slice_index x r.source → CanChoose r l h j (slice_index x (r.queue j))
 chosen_can r is l h x j is_box between best serve = record {
   room = best.room;
-  serve = serves_high r is l h x is_box between serve;
+  serve = serves-up r x h is (between-long r l h x is_box between) between.high serve;
   others = λ i small ne. (let held = holds_at r is l h x i is_box between small in
       (slice_index x (r.queue i), held.low, held.high, best.others i small ne));
 }
@@ -297,9 +287,6 @@ turn_of r is l h x y j is_box between small routed =
 -- what the function makes of each state of the right length
 abbrev pub Routes : Routing → (List ℕ → List ℕ) → Type 0
 Routes r f = (x : List ℕ) → length x ≡ r.queues → Routed r x (f x)
-
-between-long : (r : Routing) (l h x : List ℕ) → IsBoxOf r l h → IsBetween l h x → length x ≡ r.queues
-between-long r l h x is_box between = sym between.low.same_length ∙ is_box.count
 
 between-low : (l h : List ℕ) → IsBelow l h → IsBetween l h l
 between-low l h below = record { low = below-itself l; high = below }
@@ -428,49 +415,6 @@ high_reached r is f routes l h j u is_box small end =
           ))
     ]
 
--- where a state lets one leave, so does each state below it
-leaves_down : (r : Routing) → IsRouting r → (x y : List ℕ) → IsBelow x y → length x ≡ r.queues → Leaves r y → Leaves r x
-leaves_down r is x y below count leaves =
-    elim leaves [
-      | inl lost ↦ inl lost
-      | inr rest ↦ elim rest [
-        | inl empty ↦ inr (inl empty)
-        | inr room ↦ (let small : room.0 < r.places = room.1 in
-            let within : r.queue room.0 < r.queues = is.is_queue room.0 small in
-            let order : slice_index x (r.queue room.0) ≤ slice_index y (r.queue room.0) = below.each (r.queue room.0) (omega arith) in
-            let fits : slice_index y (r.queue room.0) + r.size ≤ r.cap (r.queue room.0) = room.2 in
-            inr (inr (room.0, small, omega arith)))
-      ]
-    ]
-
--- the number at the source keeps the order of states
-source_monotone : (r : Routing) → IsRouting r → (f : List ℕ → List ℕ) → Routes r f → (x y : List ℕ) → IsBelow x y → length x ≡ r.queues → r.source < r.queues
-    → slice_index (f x) r.source ≤ slice_index (f y) r.source
-source_monotone r is f routes x y below count small =
-    let first = routes x count in
-    let second = routes y (sym below.same_length ∙ count) in
-    let order : slice_index x r.source ≤ slice_index y r.source = below.each r.source (omega arith) in
-    let some : 1 ≤ r.least = is.counts small in
-    elim (cases_lt (slice_index y r.source) r.least) [
-      | inl idle ↦ (let e : slice_index (f x) r.source ≡ slice_index x r.source = ap (λ (z : List ℕ). slice_index z r.source) (first.idle (omega arith)) in
-          let d : slice_index (f y) r.source ≡ slice_index y r.source = ap (λ (z : List ℕ). slice_index z r.source) (second.idle idle) in omega arith)
-      | inr serve ↦ elim (leaves_or_remains r y) [
-        | inl leaves ↦ (let d : slice_index (f y) r.source + 1 ≡ slice_index y r.source = second.takes small serve leaves in
-            elim (cases_lt (slice_index x r.source) r.least) [
-              | inl idle ↦ (let e : slice_index (f x) r.source ≡ slice_index x r.source = ap (λ (z : List ℕ). slice_index z r.source) (first.idle idle) in omega arith)
-              | inr served ↦ (let e : slice_index (f x) r.source + 1 ≡ slice_index x r.source = first.takes small served (leaves_down r is x y below count leaves) in omega arith)
-            ])
-        | inr remains ↦ (let d : slice_index (f y) r.source ≡ slice_index y r.source = second.keeps remains in
-            elim (cases_lt (slice_index x r.source) r.least) [
-              | inl idle ↦ (let e : slice_index (f x) r.source ≡ slice_index x r.source = ap (λ (z : List ℕ). slice_index z r.source) (first.idle idle) in omega arith)
-              | inr served ↦ elim (leaves_or_remains r x) [
-                | inl leaves ↦ (let e : slice_index (f x) r.source + 1 ≡ slice_index x r.source = first.takes small served leaves in omega arith)
-                | inr stays ↦ (let e : slice_index (f x) r.source ≡ slice_index x r.source = first.keeps stays in omega arith)
-              ]
-            ])
-      ]
-    ]
-
 -- a queue is a target, the source or neither
 data Place (r : Routing) (p : ℕ) : Type 0 where
   is_target : (i : ℕ) → i < r.places → r.queue i ≡ p → Place r p
@@ -501,7 +445,7 @@ ends_inside r is f routes l h u w x is_box ends between =
               (low_inside r is f routes l h x i (slice_index u (r.queue i)) is_box between within (ends.low.targets i within))
           | is_source e ↦ (let at : r.source < r.queues = omega arith in
               let same : slice_index u r.source ≡ slice_index (f l) r.source = ends.low.source at in
-              let order : slice_index (f l) r.source ≤ slice_index (f x) r.source = source_monotone r is f routes l x between.low is_box.count at in
+              let order : slice_index (f l) r.source ≤ slice_index (f x) r.source = source-below r l x (f l) (f x) is is_box.count between.low (routes l is_box.count) (routes x (between-long r l h x is_box between)) at in
               subst (λ q. slice_index u q ≤ slice_index (f x) q) (sym e) (omega arith))
           | is_other ne apart ↦ (let same : slice_index u p ≡ slice_index l p = ends.low.others p ne apart in
               let kept : slice_index (f x) p ≡ slice_index x p = (routes x (between-long r l h x is_box between)).others p ne apart in
@@ -515,8 +459,9 @@ ends_inside r is f routes l h u w x is_box ends between =
           | is_target i within e ↦ subst (λ q. slice_index (f x) q ≤ slice_index w q) e
               (high_inside r is f routes l h x i (slice_index w (r.queue i)) is_box between within (ends.high.targets i within))
           | is_source e ↦ (let at : r.source < r.queues = omega arith in
+              let long = between-long r l h x is_box between in
               let same : slice_index w r.source ≡ slice_index (f h) r.source = ends.high.source at in
-              let order : slice_index (f x) r.source ≤ slice_index (f h) r.source = source_monotone r is f routes x h between.high (between-long r l h x is_box between) at in
+              let order : slice_index (f x) r.source ≤ slice_index (f h) r.source = source-below r x h (f x) (f h) is long between.high (routes x long) (routes h (between-long r l h h is_box (between-high l h is_box.below))) at in
               subst (λ q. slice_index (f x) q ≤ slice_index w q) (sym e) (omega arith))
           | is_other ne apart ↦ (let same : slice_index w p ≡ slice_index h p = ends.high.others p ne apart in
               let long : length x ≡ r.queues = between-long r l h x is_box between in

@@ -45,6 +45,7 @@ impl Route {
     /// nothing changes.
     ///
     /// The refusals come in the order of `RouteRefusal`.
+    #[tactic(auto, unfolding(crate::specs::Refusals::refusal_of))]
     pub fn new(
         caps: State,
         source: Option<Source>,
