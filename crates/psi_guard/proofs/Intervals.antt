@@ -9,10 +9,10 @@ use Rattle.psi_guard.specs.declared.named.Part.{Part}
 use Rattle.psi_guard.specs.declared.ends.Leaving.{Leaving}
 use Rattle.psi_guard.specs.declared.ends.Leaving.TheVariants.{Nowhere, One, Several}
 use Rattle.psi_guard.specs.Guarding.{moved, free_part, part_of, guarded}
-use Rattle.psi_guard.specs.Refusals.{AreApart, AreGuards, at}
+use Rattle.psi_guard.specs.Refusals.{AreGuards, at}
 use Rattle.psi_guard.specs.Places.{IsFree, named_or_free, part_of-at}
 use Rattle.psi_guard.specs.Rule.{Rule, rule, moved-rises}
-use Rattle.psi_guard.specs.Envelope.{Leaves, CanMoveAll, MissesSome, OtherLeaves, CanKeep, IsLow, IsHigh, Knows, others, one_more, MayKeep, IsLeastOf, IsGreatestOf, CanTurn}
+use Rattle.psi_guard.specs.Envelope.{Leaves, CanMoveAll, MissesSome, OtherLeaves, CanKeep, IsLow, IsHigh, Knows, others, MayKeep, IsLeastOf, IsGreatestOf, CanTurn}
 use Rattle.psi_guard.proofs.Order.{is_rule_of}
 use Rattle.psi_guard.proofs.Hulls.{IsBoxOf, AreEnds, ends-tight}
 
@@ -64,51 +64,6 @@ KnowsParts parts l h i (One q) = (j : ℕ) × (j < i) × ((at parts j).queue ≡
     × ((k : ℕ) → k < i → ((at parts k).queue ≡ q → ⊥) → PartLeaves l h (at parts k) → ⊥)
 KnowsParts parts l h i Several = (j : ℕ) × (k : ℕ) × (j < i) × (k < i) × ((at parts j).queue ≡ (at parts k).queue → ⊥)
     × PartLeaves l h (at parts j) × PartLeaves l h (at parts k)
-
-pub knows-start : (parts : List Part) (l h : List ℕ) → KnowsParts parts l h 0 Nowhere
-knows-start parts l h = λ k small. absurd (omega arith)
-
-pub knows-stay : (parts : List Part) (l h : List ℕ) (i : ℕ) (leaving : Leaving) → (PartLeaves l h (at parts i) → ⊥) → KnowsParts parts l h i leaving
-    → KnowsParts parts l h (i + 1) leaving
-knows-stay parts l h i Nowhere stays known = λ k small out. elim (cases_eq k i) [
-  | inl e ↦ stays (subst (λ j. PartLeaves l h (at parts j)) e out)
-  | inr ne ↦ known k (omega arith) out
-]
-knows-stay parts l h i (One q) stays known =
-    let small : known.0 < i = known.1 in (
-      known.0,
-      omega arith,
-      known.2,
-      known.3,
-      λ k less other out. elim (cases_eq k i) [
-        | inl e ↦ stays (subst (λ j. PartLeaves l h (at parts j)) e out)
-        | inr ne ↦ known.4 k (omega arith) other out
-      ],
-    )
-knows-stay parts l h i Several stays known =
-    let first : known.0 < i = known.2 in
-    let second : known.1 < i = known.3 in
-    (known.0, known.1, omega arith, omega arith, known.4, known.5, known.6)
-
-pub knows-more : (parts : List Part) (l h : List ℕ) (i : ℕ) (leaving : Leaving) → AreApart parts → i < length parts → PartLeaves l h (at parts i)
-    → KnowsParts parts l h i leaving → KnowsParts parts l h (i + 1) (one_more leaving (at parts i).queue)
-knows-more parts l h i Nowhere apart small out known = (
-  i,
-  omega arith,
-  refl,
-  out,
-  λ k less other also. elim (cases_eq k i) [
-    | inl e ↦ other (ap (λ j. (at parts j).queue) e)
-    | inr ne ↦ known k (omega arith) also
-  ],
-)
-knows-more parts l h i (One q) apart small out known =
-    let less : known.0 < i = known.1 in
-    (known.0, i, omega arith, omega arith, λ same. (let e : known.0 ≡ i = apart.each known.0 i (omega arith) small same in omega arith), known.3, out)
-knows-more parts l h i Several apart small out known =
-    let first : known.0 < i = known.2 in
-    let second : known.1 < i = known.3 in
-    (known.0, known.1, omega arith, omega arith, known.4, known.5, known.6)
 
 leaves-at : (caps : List ℕ) (parts : List Part) (l h : List ℕ) (i : ℕ) → AreGuards caps parts → i < length parts → PartLeaves l h (at parts i)
     → Leaves (rule caps parts) l h (at parts i).queue

@@ -8,9 +8,6 @@ pub fit_tables-some : (caps targets : List ℕ) (tables : List (List ℕ)) → (
 fit_tables-some caps targets [] some = absurd (some refl)
 fit_tables-some caps targets (t ∷ ts) some = refl
 
-pub fit_tables-none : (caps targets : List ℕ) (tables : List (List ℕ)) → tables ≡ [] → fit_tables caps targets tables ≡ true
-fit_tables-none caps targets tables none_there = ap (λ (ts : List (List ℕ)). fit_tables caps targets ts) none_there
-
 pub not_empty : {A : Type 0} (xs : List A) (b : Bool) → b ≡ nat_eq (length xs) 0 → b ≡ false → xs ≡ [] → ⊥
 not_empty {A} xs b tells is empty =
     let none_there : length xs ≡ 0 = ap (λ (ys : List A). length ys) empty in

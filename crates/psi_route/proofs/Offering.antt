@@ -9,10 +9,6 @@ use Rattle.psi_route.specs.Offers.{IsRival, IsBar, IsLeastKey, IsLeastOffer, Are
 use Rattle.psi_route.specs.Coming.{Comes, Misses}
 use Rattle.psi_route.specs.declared.keys.Key.{Key}
 
--- no place yet
-pub least-nothing : (O : ℕ → Option Key → Type 0) (j : ℕ) → IsLeastOffer O 0 j None
-least-nothing O j = λ i small apart. absurd (omega arith)
-
 -- a key is still the least where the next place offers no lesser one
 least-still : (O : ℕ → Option Key → Type 0) (n j : ℕ) (best : Key) (offered : Option Key) → IsLeastKey O n j best → O n offered
     → MatchOption offered (Unit {0}) (λ key. key_of best ≤ key_of key) → IsLeastKey O (n + 1) j best

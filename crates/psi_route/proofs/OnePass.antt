@@ -8,7 +8,7 @@ use Rattle.psi_route.proofs.Plain.{weight-none}
 use Rattle.psi_route.specs.Ends.{CanChoose, CanPass, IsLowEnd, IsHighEnd, AreSet, AreTargetEnds}
 use Rattle.psi_route.specs.Coming.{Comes, Misses}
 use Rattle.psi_route.specs.Accepted.{IsRouteShape, routing-is}
-use Rattle.psi_route.proofs.Setting.{set-nothing, set-more, targets-ordered}
+use Rattle.psi_route.proofs.Setting.{set-more, targets-ordered}
 
 -- an earlier place has the lesser key
 pub record IsPlain (r : Routing) : Type 0 where
@@ -197,19 +197,7 @@ pub coming-more : (r : Routing) (x : List ℕ) (n : ℕ) (b : Bool) → MatchBoo
 coming-more r x n true comes lacks = comes-more r x n comes lacks
 coming-more r x n false misses lacks = misses-more r x n (n + 1) (omega arith) misses
 
--- who never come don't come always
-pub misses-low : (r : Routing) (l h : List ℕ) (n : ℕ) → ((i : ℕ) → i < n → slice_index l (r.queue i) ≤ slice_index h (r.queue i))
-    → slice_index l r.source ≤ slice_index h r.source → Misses r h n → Misses r l n
-misses-low r l h n ordered source misses =
-    elim misses [
-      | inl idle ↦ inl (omega arith)
-      | inr found ↦ inr (found.0, found.1, (let order = ordered found.0 found.1 in let fits : HasRoom r found.0 (slice_index h (r.queue found.0)) = found.2 in omega arith))
-    ]
-
 -- ---- the targets one after another
-
-pub target-ends_none : (r : Routing) (l h : List ℕ) → AreTargetEnds r l h l h 0
-target-ends_none r l h = record { low = set-nothing r.queue (λ i v. IsLowEnd r l h i v) l; high = set-nothing r.queue (λ i v. IsHighEnd r l h i v) h }
 
 -- a target that comes later has what it had
 pub target-ends_kept : (r : Routing) (l h u w : List ℕ) (n : ℕ) → IsRouting r → AreTargetEnds r l h u w n → n < r.places

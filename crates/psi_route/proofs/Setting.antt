@@ -1,5 +1,5 @@
 -- Numbers that are put at one queue after another.
-use Rattle.std.proofs.Common.{◌≡◌, ◌≢◌, ℕ, ◌+◌, ◌<◌, ◌≤◌, List, length, slice_index, slice_set, inl, inr, sym, ◌∙◌, subst, arith, refl, length-set, get_or-set_same, get_or-set_other}
+use Rattle.std.proofs.Common.{◌≡◌, ◌≢◌, ℕ, ◌+◌, ◌<◌, ◌≤◌, List, length, slice_index, slice_set, inl, inr, sym, ◌∙◌, subst, arith, length-set, get_or-set_same, get_or-set_other}
 use Rattle.std.proofs.lemmas.Bool.{cases_lt}
 use Rattle.psi_route.specs.Routing.{Shape, routing, routed}
 use Rattle.psi_state.specs.State.{Corners, IsBelow, box}
@@ -10,9 +10,6 @@ use Rattle.psi_route.specs.Acting.{act-routed}
 use Rattle.psi_route.specs.Accepted.{IsRouteShape, routing-is}
 use Rattle.psi_route.proofs.Tightness.{Routes, IsBoxOf, ends-tight, ends-below}
 use Rattle.psi_route.specs.Ends.{AreEnds, AreSet}
-
-pub set-nothing : (queue : ℕ → ℕ) (E : ℕ → ℕ → Type 0) (start : List ℕ) → AreSet queue E start start 0
-set-nothing queue E start = record { count = refl; set = λ i small. absurd (omega arith); rest = λ p free. refl }
 
 pub set-more : (queue : ℕ → ℕ) (E : ℕ → ℕ → Type 0) (start ends : List ℕ) (n places v : ℕ) → AreSet queue E start ends n → n < places
     → ((i j : ℕ) → i < places → j < places → queue i ≡ queue j → i ≡ j) → queue n < length start → E n v → AreSet queue E start (slice_set ends (queue n) v) (n + 1)

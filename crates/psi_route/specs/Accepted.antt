@@ -116,10 +116,8 @@ source-facts : (caps : List ℕ) (source : Option Source) → ForSome source (λ
     → ((source_queue source (length caps) < length caps) ⊎ (source_least source ≡ 0))
     × (source_queue source (length caps) < length caps → 1 ≤ source_least source)
     × (source_least source ≤ slice_index caps (source_queue source (length caps)))
-    × (source_queue source (length caps) ≤ length caps)
-source-facts caps None queue least most = (inr refl, λ small. absurd (omega arith), omega arith, omega arith)
-source-facts caps (Some s) queue least most =
-    (inl (queue s refl), λ small. least s refl, most s refl, (let small = queue s refl in omega (arith, small)))
+source-facts caps None queue least most = (inr refl, λ small. absurd (omega arith), omega arith)
+source-facts caps (Some s) queue least most = (inl (queue s refl), λ small. least s refl, most s refl)
 
 no_source-facts : (caps : List ℕ) (source : Option Source) (q : ℕ) → ((s : Source) → source ≡ Some s → q ≢ s.queue) → q < length caps
     → q ≢ source_queue source (length caps)
@@ -140,7 +138,3 @@ routing-is s is = record {
 -- a source that is full serves
 pub source-most : (s : Shape) → IsRouteShape s → (routing s).least ≤ slice_index s.caps ((routing s).source)
 source-most s is = (source-facts s.caps s.source is.source is.least is.most).2
-
--- a source is a queue, or past the last
-pub source-within : (s : Shape) → IsRouteShape s → (routing s).source ≤ length s.caps
-source-within s is = (source-facts s.caps s.source is.source is.least is.most).3

@@ -2,7 +2,7 @@
 use Rattle.std.specs.Prelude.{◌≡◌, ◌≢◌, ◌⊎◌, ℕ, zero, suc, ◌+◌, ◌-◌, ◌<◌, ◌≤◌, List, length, slice_index, slice_set, Option, Some, None, Bool, true, false, ◌&&◌, ◌||◌, nat_eq, nat_lt, is_none, if◌then◌else◌, refl}
 use Rattle.std.specs.Bool.{then_some}
 use Rattle.std.proofs.Common.{inl, inr, ap, sym, ◌∙◌, subst, arith, length-set, get_or-set_same, get_or-set_other}
-use Rattle.std.proofs.lemmas.Bool.{cases_lt, cases_eq, cases_order, cases_Bool, lt-ltb, le-ltb, le-leb, lt-leb, leb-true, leb-false, eq-eqb, ne_eqb, and_parts, and_left, and_right, and_from, or_left, or_right, or_from}
+use Rattle.std.proofs.lemmas.Bool.{cases_lt, cases_eq, cases_order, cases_Bool, lt-ltb, le-ltb, le-leb, lt-leb, leb-true, eq-eqb, ne_eqb, and_parts, and_left, and_right, and_from, or_left, or_right, or_from}
 use Rattle.std.proofs.lemmas.List.{set_past}
 use Rattle.psi_event.specs.Choice.{all_or_some, first_some, first_some-none, first_some-found, first_some-of_none, first_some-of_found}
 use Rattle.psi_route.specs.Routing.{Routing, has_room, beats, best_at, best, taken, moved, act, IsRouting, HasRoom, Lacks, IsBest, IsPassed, Leaves, Remains, Routed}
@@ -38,9 +38,6 @@ lacks-is r x i lacks = lt-leb (slice_index x (r.queue i) + r.size) (r.cap (r.que
 
 pub is-room : (r : Routing) (x : List ℕ) (i : ℕ) → has_room r x i ≡ true → HasRoom r i (slice_index x (r.queue i))
 is-room r x i is = leb-true (slice_index x (r.queue i) + r.size) (r.cap (r.queue i)) is
-
-pub is-lacks : (r : Routing) (x : List ℕ) (i : ℕ) → has_room r x i ≡ false → Lacks r i (slice_index x (r.queue i))
-is-lacks r x i is = leb-false (slice_index x (r.queue i) + r.size) (r.cap (r.queue i)) is
 
 pub room_or_lacks : (r : Routing) (i v : ℕ) → HasRoom r i v ⊎ Lacks r i v
 room_or_lacks r i v =
