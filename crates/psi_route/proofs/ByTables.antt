@@ -74,13 +74,13 @@ pub coming-weighed : (s : Shape) → IsRouteShape s → (l h : List ℕ) (always
     → AreComing (routing s) l h (length s.targets) (record { always = passes; sometimes = some })
 coming-weighed s is l h true passes some first bar ordered within comes high second other rivals bars tells quiet said = record {
   low = subst (λ b. MatchBool b (Comes (routing s) l (length s.targets)) (Misses (routing s) l (length s.targets))) (sym (tells refl))
-      (rival-passes (routing s) l h first ((rivals refl).first_is) comes.serve (targets-ordered s is l h ordered within));
+      (rival-passes (routing s) l h first ((rivals refl).first_is (length s.targets) (omega arith)) comes.serve (targets-ordered s is l h ordered within));
   high = subst (λ b. MatchBool b (Comes (routing s) h (length s.targets)) (Misses (routing s) h (length s.targets))) (sym said)
-      (bar-passes (routing s) l h bar bars.first_is high.serve);
+      (bar-passes (routing s) l h bar (bars.first_is (length s.targets) (omega arith)) high.serve);
 }
 coming-weighed s is l h false passes some first bar ordered within misses high second other rivals bars tells quiet said = record {
   low = subst (λ b. MatchBool b (Comes (routing s) l (length s.targets)) (Misses (routing s) l (length s.targets))) (sym (quiet refl))
       (misses-more (routing s) l 0 (length s.targets) (omega arith) misses);
   high = subst (λ b. MatchBool b (Comes (routing s) h (length s.targets)) (Misses (routing s) h (length s.targets))) (sym said)
-      (bar-passes (routing s) l h bar bars.first_is high.serve);
+      (bar-passes (routing s) l h bar (bars.first_is (length s.targets) (omega arith)) high.serve);
 }

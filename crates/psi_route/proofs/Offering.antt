@@ -5,107 +5,141 @@ use Rattle.std.proofs.lemmas.Bool.{cases_lt, cases_eq, eq-eqb, ne_eqb}
 use Rattle.psi_route.specs.Routing.{Routing, HasRoom, Lacks}
 use Rattle.psi_route.specs.Keys.{key_of, IsLesser}
 use Rattle.psi_route.specs.Ends.{CanChoose, CanPass, IsLeastAfter, IsGreatestAfter, IsLowEnd, IsHighEnd}
-use Rattle.psi_route.specs.Offers.{IsRival, IsBar, IsLeastKey, IsLeastOffer, AreLeastTwo, beside, MayStay, MustRise, MayRise, MustStay}
+use Rattle.psi_route.specs.Offers.{IsRival, IsBar, IsLeastKey, IsLeastOffer, AreLeastTwo, IsAdded, beside, MayStay, MustRise, MayRise, MustStay}
 use Rattle.psi_route.specs.Coming.{Comes, Misses}
 use Rattle.psi_route.specs.declared.keys.Key.{Key}
 
--- a key is still the least where the next place offers no lesser one
-least-still : (O : ℕ → Option Key → Type 0) (n j : ℕ) (best : Key) (offered : Option Key) → IsLeastKey O n j best → O n offered
-    → MatchOption offered (Unit {0}) (λ key. key_of best ≤ key_of key) → IsLeastKey O (n + 1) j best
-least-still O n j best offered is own order = record {
+-- place i offers no lesser key
+abbrev NoLesser : (ℕ → Option Key → Type 0) → Key → ℕ → Type 0
+NoLesser O key i = O i None ⊎ ((k : Key) × O i (Some k) × (key_of key ≤ key_of k))
+
+-- the next place is left out, or changes nothing
+least-step : (O : ℕ → Option Key → Type 0) (n j : ℕ) (found : Option Key) → IsLeastOffer O n j found
+    → (n ≢ j → MatchOption found (O n None) (λ best. NoLesser O best n)) → IsLeastOffer O (n + 1) j found
+least-step O n j None is last = λ i small ne. elim (cases_lt i n) [
+  | inl old ↦ is i old ne
+  | inr new ↦ (let e : n ≡ i = omega arith in subst (λ m. m ≢ j → O m None) e last ne)
+]
+least-step O n j (Some best) is last = record {
   place = (let before = is.place in omega arith);
   other = is.other;
   own = is.own;
-  least = λ i small apart.
-      elim (cases_lt i n) [
-        | inl old ↦ is.least i old apart
-        | inr new ↦ (let e : n ≡ i = omega arith in
-            subst (λ m. O m None ⊎ ((k : Key) × O m (Some k) × (key_of best ≤ key_of k))) e (last offered own order))
-      ];
+  least = λ i small ne. elim (cases_lt i n) [
+    | inl old ↦ is.least i old ne
+    | inr new ↦ (let e : n ≡ i = omega arith in subst (λ m. m ≢ j → NoLesser O best m) e last ne)
+  ];
+}
+
+-- the next place's key is the least
+least-new : (O : ℕ → Option Key → Type 0) (n j : ℕ) (found : Option Key) (key : Key) → IsLeastOffer O n j found
+    → MatchOption found (Unit {0}) (λ best. key_of key ≤ key_of best) → key.place ≡ n → n ≢ j → O n (Some key) → IsLeastKey O (n + 1) j key
+least-new O n j found key is less at apart own = record {
+  place = omega arith;
+  other = (λ e. apart (sym at ∙ e));
+  own = subst (λ m. O m (Some key)) (sym at) own;
+  least = λ i small ne. elim (cases_lt i n) [
+    | inl old ↦ before found is less i old ne
+    | inr new ↦ (let e : n ≡ i = omega arith in subst (λ m. NoLesser O key m) e (inr (key, own, omega arith)))
+  ];
 }
   where
-    last : (o : Option Key) → O n o → MatchOption o (Unit {0}) (λ key. key_of best ≤ key_of key) → O n None ⊎ ((k : Key) × O n (Some k) × (key_of best ≤ key_of k))
-    last None has less = inl has
-    last (Some key) has less = inr (key, has, less)
-
--- the next place's key is the least where it is less than the one before
-least-anew : (O : ℕ → Option Key → Type 0) (n j : ℕ) (best key : Key) → IsLeastKey O n j best → key.place ≡ n → n ≢ j → O n (Some key)
-    → key_of key ≤ key_of best → IsLeastKey O (n + 1) j key
-least-anew O n j best key is at apart own order = record {
-  place = omega arith;
-  other = (λ e. apart (sym at ∙ e));
-  own = subst (λ m. O m (Some key)) (sym at) own;
-  least = λ i small ne.
-      elim (cases_lt i n) [
-        | inl old ↦ elim (is.least i old ne) [
-          | inl empty ↦ inl empty
-          | inr found ↦ (let more : key_of best ≤ key_of found.0 = found.2 in inr (found.0, found.1, omega arith))
-        ]
-        | inr new ↦ (let e : n ≡ i = omega arith in
-            subst (λ m. O m None ⊎ ((k : Key) × O m (Some k) × (key_of key ≤ key_of k))) e (inr (key, own, omega arith)))
-      ];
-}
-
--- the first key
-least-first : (O : ℕ → Option Key → Type 0) (n j : ℕ) (key : Key) → IsLeastOffer O n j None → key.place ≡ n → n ≢ j → O n (Some key) → IsLeastKey O (n + 1) j key
-least-first O n j key empty at apart own = record {
-  place = omega arith;
-  other = (λ e. apart (sym at ∙ e));
-  own = subst (λ m. O m (Some key)) (sym at) own;
-  least = λ i small ne.
-      elim (cases_lt i n) [
-        | inl old ↦ inl (empty i old ne)
-        | inr new ↦ (let e : n ≡ i = omega arith in
-            subst (λ m. O m None ⊎ ((k : Key) × O m (Some k) × (key_of key ≤ key_of k))) e (inr (key, own, omega arith)))
-      ];
-}
-
--- a place more
-pub least-more : (O : ℕ → Option Key → Type 0) → ((i : ℕ) (key : Key) → O i (Some key) → key.place ≡ i) → (n j : ℕ) (found offered result : Option Key)
-    → IsLeastOffer O n j found → n ≢ j → O n offered → IsLesser found offered result → IsLeastOffer O (n + 1) j result
-least-more O placed n j None None result is apart own lesser =
-    subst (λ (o : Option Key). IsLeastOffer O (n + 1) j o) (sym lesser)
-    (λ i small ne. elim (cases_lt i n) [ inl old ↦ is i old ne | inr new ↦ (let e : n ≡ i = omega arith in subst (λ m. O m None) e own) ])
-least-more O placed n j (Some best) None result is apart own lesser =
-    subst (λ (o : Option Key). IsLeastOffer O (n + 1) j o) (sym lesser) (least-still O n j best None is own tt)
-least-more O placed n j None (Some key) result is apart own lesser =
-    subst (λ (o : Option Key). IsLeastOffer O (n + 1) j o) (sym lesser) (least-first O n j key is (placed n key own) apart own)
-least-more O placed n j (Some best) (Some key) result is apart own lesser =
-    elim lesser [
-      | inl new ↦ subst (λ (o : Option Key). IsLeastOffer O (n + 1) j o) (sym new.1) (least-anew O n j best key is (placed n key own) apart own new.0)
-      | inr old ↦ subst (λ (o : Option Key). IsLeastOffer O (n + 1) j o) (sym old.1) (least-still O n j best (Some key) is own old.0)
+    before : (o : Option Key) → IsLeastOffer O n j o → MatchOption o (Unit {0}) (λ best. key_of key ≤ key_of best) → (i : ℕ) → i < n → i ≢ j → NoLesser O key i
+    before None is less i old ne = inl (is i old ne)
+    before (Some best) is less i old ne = elim (is.least i old ne) [
+      | inl empty ↦ inl empty
+      | inr more ↦ (let far : key_of best ≤ key_of more.0 = more.2 in inr (more.0, more.1, omega arith))
     ]
 
--- the place that is left out
-pub least-skip : (O : ℕ → Option Key → Type 0) (n j : ℕ) (found : Option Key) → IsLeastOffer O n j found → n ≡ j → IsLeastOffer O (n + 1) j found
-least-skip O n j None is here = λ i small ne. is i (omega arith) ne
-least-skip O n j (Some best) is here = record {
-  place = (let before = is.place in omega arith);
+-- the lesser of it and the least one before
+least-lesser : (O : ℕ → Option Key → Type 0) (n j : ℕ) (found : Option Key) (key : Key) (result : Option Key) → IsLeastOffer O n j found → key.place ≡ n → n ≢ j
+    → O n (Some key) → IsLesser found (Some key) result → IsLeastOffer O (n + 1) j result
+least-lesser O n j None key result is at apart own lesser =
+    subst (λ (o : Option Key). IsLeastOffer O (n + 1) j o) (sym lesser) (least-new O n j None key is tt at apart own)
+least-lesser O n j (Some best) key result is at apart own lesser =
+    elim lesser [
+      | inl new ↦ subst (λ (o : Option Key). IsLeastOffer O (n + 1) j o) (sym new.1) (least-new O n j (Some best) key is new.0 at apart own)
+      | inr old ↦ subst (λ (o : Option Key). IsLeastOffer O (n + 1) j o) (sym old.1) (least-step O n j (Some best) is (λ ne. inr (key, own, old.0)))
+    ]
+
+-- a place that offers none
+two-kept : (O : ℕ → Option Key → Type 0) (n : ℕ) (first second : Option Key) → AreLeastTwo O n first second → O n None → AreLeastTwo O (n + 1) first second
+two-kept O n None second two own = record { first_is = λ j past. least-step O n j None (two.first_is j (omega arith)) (λ ne. own); second_is = tt }
+two-kept O n (Some best) second two own = record {
+  first_is = λ j past. least-step O n j (Some best) (two.first_is j (omega arith)) (λ ne. inl own);
+  second_is = least-step O n best.place second two.second_is (λ ne. none second);
+}
+  where
+    none : (o : Option Key) → MatchOption o (O n None) (λ other. NoLesser O other n)
+    none None = own
+    none (Some other) = inl own
+
+-- one whose key isn't less than the least before
+two-old : (O : ℕ → Option Key → Type 0) (n : ℕ) (first second : Option Key) (key : Key) (next : Option Key) → AreLeastTwo O n first second → key.place ≡ n → O n (Some key)
+    → MatchOption first ⊥ (λ best. key_of best ≤ key_of key) → IsLesser second (Some key) next → AreLeastTwo O (n + 1) first next
+two-old O n None second key next two at own less lesser = absurd less
+two-old O n (Some best) second key next two at own less lesser =
+    let head = two.first_is n (omega arith) in
+    let before = head.place in
+    record {
+      first_is = λ j past. least-step O n j (Some best) (two.first_is j (omega arith)) (λ ne. inr (key, own, less));
+      second_is = least-lesser O n best.place second key next two.second_is at (λ e. omega arith) own lesser;
+    }
+
+-- one whose key is the least
+two-new : (O : ℕ → Option Key → Type 0) (n : ℕ) (first second : Option Key) (key : Key) → AreLeastTwo O n first second → key.place ≡ n → O n (Some key)
+    → MatchOption first (Unit {0}) (λ best. key_of key ≤ key_of best) → AreLeastTwo O (n + 1) (Some key) first
+two-new O n first second key two at own less = record {
+  first_is = λ j past. least-new O n j first key (two.first_is j (omega arith)) less at (omega arith) own;
+  second_is = least-step O n key.place first (two.first_is key.place (omega arith)) (λ ne. absurd (ne (sym at)));
+}
+
+-- so after a place more these are the two least
+pub two-more : (O : ℕ → Option Key → Type 0) (n : ℕ) (first second offered least next : Option Key)
+    → ((key : Key) → O n (Some key) → key.place ≡ n) → AreLeastTwo O n first second → O n offered → IsAdded first second offered least next → AreLeastTwo O (n + 1) least next
+two-more O n first second None least next placed two own added =
+    subst (λ (o : Option Key). AreLeastTwo O (n + 1) o next) (sym added.0)
+    (subst (λ (o : Option Key). AreLeastTwo O (n + 1) first o) (sym added.1) (two-kept O n first second two own))
+two-more O n first second (Some key) least next placed two own added =
+    elim added [
+      | inl new ↦ subst (λ (o : Option Key). AreLeastTwo O (n + 1) o next) (sym new.1)
+          (subst (λ (o : Option Key). AreLeastTwo O (n + 1) (Some key) o) (sym new.2) (two-new O n first second key two (placed key own) own new.0))
+      | inr old ↦ subst (λ (o : Option Key). AreLeastTwo O (n + 1) o next) (sym old.1)
+          (two-old O n first second key next two (placed key own) own old.0 old.2)
+    ]
+
+-- what is offered by one measure is offered by another one that it implies
+least-as : (O P : ℕ → Option Key → Type 0) (n j : ℕ) (found : Option Key) → ((i : ℕ) (offer : Option Key) → i < n → O i offer → P i offer)
+    → IsLeastOffer O n j found → IsLeastOffer P n j found
+least-as O P n j None means is = λ i small ne. means i None small (is i small ne)
+least-as O P n j (Some best) means is = record {
+  place = is.place;
   other = is.other;
-  own = is.own;
-  least = λ i small ne. is.least i (omega arith) ne;
+  own = means best.place (Some best) is.place is.own;
+  least = λ i small ne. elim (is.least i small ne) [
+    | inl empty ↦ inl (means i None small empty)
+    | inr found ↦ inr (found.0, means i (Some found.0) small found.1, found.2)
+  ];
+}
+
+pub two-as : (O P : ℕ → Option Key → Type 0) (n : ℕ) (first second : Option Key) → ((i : ℕ) (offer : Option Key) → i < n → O i offer → P i offer)
+    → AreLeastTwo O n first second → AreLeastTwo P n first second
+two-as O P n None second means two = record { first_is = λ j past. least-as O P n j None means (two.first_is j past); second_is = tt }
+two-as O P n (Some best) second means two = record {
+  first_is = λ j past. least-as O P n j (Some best) means (two.first_is j past);
+  second_is = least-as O P n best.place second means two.second_is;
 }
 
 -- the least key of the places but j is one of the two
 pub least-beside : (O : ℕ → Option Key → Type 0) (n j : ℕ) (first second : Option Key) → j < n → AreLeastTwo O n first second → IsLeastOffer O n j (beside first second j)
-least-beside O n j None second small two = λ i within apart. two.first_is i within (omega arith)
+least-beside O n j None second small two = λ i within apart. two.first_is n (omega arith) i within (omega arith)
 least-beside O n j (Some key) second small two =
     elim (cases_eq key.place j) [
       | inl e ↦ subst (λ b. IsLeastOffer O n j (if b then second else Some key)) (sym (eq-eqb key.place j e))
           (subst (λ m. IsLeastOffer O n m second) e two.second_is)
-      | inr ne ↦ subst (λ b. IsLeastOffer O n j (if b then second else Some key)) (sym (ne_eqb key.place j ne)) (record {
-        place = two.first_is.place;
-        other = ne;
-        own = two.first_is.own;
-        least = λ i within apart. two.first_is.least i within (omega arith);
-      })
+      | inr ne ↦ (let head = two.first_is n (omega arith) in
+          subst (λ b. IsLeastOffer O n j (if b then second else Some key)) (sym (ne_eqb key.place j ne))
+          (record { place = head.place; other = ne; own = head.own; least = λ i within apart. head.least i within (omega arith) }))
     ]
-
-pub rival-placed : (r : Routing) (l h : List ℕ) (i : ℕ) (key : Key) → IsRival r l h i (Some key) → key.place ≡ i
-rival-placed r l h i key is = is.place
-
-pub bar-placed : (r : Routing) (l h : List ℕ) (i : ℕ) (key : Key) → IsBar r l h i (Some key) → key.place ≡ i
-bar-placed r l h i key is = is.place
 
 -- a number can stay where the least rival key is less than its own
 pub passed-rival : (r : Routing) (l h : List ℕ) (j v : ℕ) (key : Key) → IsLeastOffer (IsRival r l h) r.places j (Some key) → key_of key < r.key j v → CanPass r l h j v

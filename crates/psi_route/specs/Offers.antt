@@ -1,7 +1,7 @@
 -- What each place offers in a box of states: its least key with room in some state of the box, and its greatest one where it always has room.
 use Rattle.std.specs.Prelude.{◌≡◌, ◌≢◌, ◌⊎◌, ℕ, ◌<◌, ◌≤◌, List, slice_index, Option, Some, None, nat_eq, if◌then◌else◌, MatchOption}
 use Rattle.psi_route.specs.Routing.{Routing, HasRoom, Lacks}
-use Rattle.psi_route.specs.Keys.{key_of}
+use Rattle.psi_route.specs.Keys.{key_of, IsLesser}
 use Rattle.psi_route.specs.declared.keys.Key.{Key}
 
 -- the least key of place i with a number of customers that leaves room
@@ -44,8 +44,15 @@ beside (Some key) second j = if nat_eq key.place j then second else Some key
 
 -- the least of all keys, and the least of those of the other places
 pub record AreLeastTwo (O : ℕ → Option Key → Type 0) (n : ℕ) (first second : Option Key) : Type 0 where
-  pub first_is : IsLeastOffer O n n first
+  pub first_is : (j : ℕ) → n ≤ j → IsLeastOffer O n j first
   pub second_is : MatchOption first (Unit {0}) (λ key. IsLeastOffer O n key.place second)
+
+-- the two least keys once a later place offers one, or none
+abbrev pub IsAdded : Option Key → Option Key → Option Key → Option Key → Option Key → Type 0
+IsAdded first second offered least next =
+    MatchOption offered ((least ≡ first) × (next ≡ second))
+    (λ key. (MatchOption first (Unit {0}) (λ best. key_of key ≤ key_of best) × (least ≡ Some key) × (next ≡ first))
+    ⊎ (MatchOption first ⊥ (λ best. key_of best ≤ key_of key) × (least ≡ first) × IsLesser second (Some key) next))
 
 -- where the source serves, v customers can stay as they are at place j: there is no room, or another place has a lesser key
 abbrev pub MayStay : Routing → ℕ → Option Key → ℕ → Type 0

@@ -1,6 +1,6 @@
 //! The keys that the targets offer in a box of states.
 
-ghost use Rattle.std.specs.Prelude.{◌≡◌, ℕ, ◌<◌, ◌≤◌, length, slice_index};
+ghost use Rattle.std.specs.Prelude.{◌≡◌, ℕ, ◌<◌, ◌≤◌, Some, None, length, slice_index};
 ghost use Rattle.psi_state.specs.State.{IsBelow};
 
 use crate::built::Route;
@@ -15,7 +15,37 @@ pub(crate) struct Offers {
 }
 
 impl Offers {
-    ghost use Rattle.psi_route.specs.Offers.{beside};
+    ghost use Rattle.psi_route.specs.Offers.{IsAdded, beside};
+
+    /// No place offers a key.
+    pub fn none() -> Offers
+        ensures first { result.first ≡ None }
+        ensures second { result.second ≡ None }
+    {
+        Offers {
+            first: None,
+            second: None,
+        }
+    }
+
+    /// What is offered once the next place offers this key, or none.
+    pub fn with(self, offered: Option<Key>) -> Offers
+        ensures { IsAdded self.first self.second offered result.first result.second }
+    {
+        let Some(key) = offered else {
+            return self;
+        };
+        match self.first {
+            Some(best) if best.is_before(key) => Offers {
+                first: self.first,
+                second: Key::lesser(self.second, offered),
+            },
+            _ => Offers {
+                first: offered,
+                second: self.first,
+            },
+        }
+    }
 
     /// The least key of a place other than `place`.
     pub fn beside(self, place: u8) -> Option<Key>
@@ -35,7 +65,8 @@ impl Offers {
 impl Route {
     ghost use Rattle.psi_route.specs.Routing.{routing, weight};
     ghost use Rattle.psi_route.specs.Route.{shape_of};
-    ghost use Rattle.psi_route.specs.Offers.{IsRival, IsBar, IsLeastOffer, AreLeastTwo};
+    ghost use Rattle.psi_route.specs.Offers.{IsRival, IsBar, AreLeastTwo};
+    ghost use Rattle.psi_route.specs.declared.keys.Key.{Key};
 
     /// The least key of a target with room in some state of the box, and the least one of the other targets.
     pub(crate) fn rivals(&self, b: &Bounds) -> Offers
@@ -44,12 +75,7 @@ impl Route {
         requires within { IsBelow b.now.hi self.now.caps }
         ensures { AreLeastTwo (IsRival (routing (shape_of self.now)) b.now.lo b.now.hi) (length self.now.targets) result.first result.second }
     {
-        let first = self.least_rival(b, self.places());
-        let second = match first {
-            None => None,
-            Some(key) => self.least_rival(b, key.place),
-        };
-        Offers { first, second }
+        self.least_two(|i| self.rival(b, i))
     }
 
     /// The two least of the greatest keys of the targets that always have room in the box.
@@ -59,42 +85,18 @@ impl Route {
         requires within { IsBelow b.now.hi self.now.caps }
         ensures { AreLeastTwo (IsBar (routing (shape_of self.now)) b.now.lo b.now.hi) (length self.now.targets) result.first result.second }
     {
-        let first = self.least_bar(b, self.places());
-        let second = match first {
-            None => None,
-            Some(key) => self.least_bar(b, key.place),
-        };
-        Offers { first, second }
+        self.least_two(|i| self.bar(b, i))
     }
 
-    // The least key of a target at a place other than `without` with room in some state of the box.
-    fn least_rival(&self, b: &Bounds, without: u8) -> Option<Key>
-        requires tables { 0 < length self.now.tables.items }
-        requires ordered { IsBelow b.now.lo b.now.hi }
-        requires within { IsBelow b.now.hi self.now.caps }
-        ensures { IsLeastOffer (IsRival (routing (shape_of self.now)) b.now.lo b.now.hi) (length self.now.targets) without result }
+    // The least of the keys that the places offer, and the least one of the other places.
+    fn least_two<F: Fn(u8) -> Option<Key>>(&self, offer: F) -> Offers
+        requires callable { (i : ℕ) → i < length self.now.targets → F.pre offer i }
+        requires placed { (i : ℕ) (key : Key) → i < length self.now.targets → F.post offer i (Some key) → key.place ≡ i }
+        ensures { AreLeastTwo (F.post offer) (length self.now.targets) result.first result.second }
     {
-        let mut found = None;
+        let mut found = Offers::none();
         for i in 0..self.places() {
-            if i != without {
-                found = Key::lesser(found, self.rival(b, i));
-            }
-        }
-        found
-    }
-
-    // The least of the greatest keys of the targets at places other than `without` that always have room.
-    fn least_bar(&self, b: &Bounds, without: u8) -> Option<Key>
-        requires tables { 0 < length self.now.tables.items }
-        requires ordered { IsBelow b.now.lo b.now.hi }
-        requires within { IsBelow b.now.hi self.now.caps }
-        ensures { IsLeastOffer (IsBar (routing (shape_of self.now)) b.now.lo b.now.hi) (length self.now.targets) without result }
-    {
-        let mut found = None;
-        for i in 0..self.places() {
-            if i != without {
-                found = Key::lesser(found, self.bar(b, i));
-            }
+            found = found.with(offer(i));
         }
         found
     }

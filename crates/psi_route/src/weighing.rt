@@ -56,10 +56,7 @@ impl Route {
         ensures { always ≡ true → AreLeastTwo (IsRival (routing (shape_of self.now)) b.now.lo b.now.hi) (length self.now.targets) result.first result.second }
     {
         if !always {
-            return Offers {
-                first: None,
-                second: None,
-            };
+            return Offers::none();
         }
         self.rivals(b)
     }
