@@ -1,7 +1,7 @@
 -- What the loops over parts and queues know.
 use Rattle.std.specs.Prelude.{◌≡◌, ℕ, zero, suc, ◌+◌, ◌<◌, ◌≤◌, true, false, ◌⊎◌, nat_eq, nat_le, List, [], ◌∷◌, length, map, slice_index, slice_set, Option, Some, None, refl}
 use Rattle.std.proofs.Common.{inl, inr, ap, sym, ◌∙◌, arith, length-set, get_or-set_same, get_or-set_other}
-use Rattle.std.proofs.lemmas.Bool.{cases_eq, eq-eqb, ne_eqb, and_from, and_left, and_right, or_left, or_right, or_from, le-leb, lt-leb}
+use Rattle.std.proofs.lemmas.Bool.{cases_eq, eq-eqb, and_from, and_left, and_right, or_left, or_right, le-leb, lt-leb}
 use Rattle.std.proofs.lemmas.List.{ext_get_or}
 use Rattle.psi_state.specs.State.{IsBelow, numbers_from}
 use Rattle.psi_event.specs.Choice.{first_some-found, first_some-none}
@@ -15,12 +15,6 @@ pub names-at : (parts : List Part) (q i : ℕ) → i < length parts → (at part
 names-at [] q i small same = absurd (omega arith)
 names-at (part ∷ parts) q zero small same = or_left (nat_eq part.queue q) (names parts q) (eq-eqb part.queue q same)
 names-at (part ∷ parts) q (suc i) small same = or_right (nat_eq part.queue q) (names parts q) (names-at parts q i (omega arith) same)
-
-pub names-none : (parts : List Part) (q : ℕ) → ((i : ℕ) → i < length parts → (at parts i).queue ≡ q → ⊥) → names parts q ≡ false
-names-none [] q other = refl
-names-none (part ∷ parts) q other =
-    or_from (nat_eq part.queue q) (names parts q) (ne_eqb part.queue q (other 0 (omega arith)))
-    (names-none parts q (λ i small same. other (suc i) (omega arith) same))
 
 pub all_allow-from : (parts : List Part) (x : List ℕ)
     → ((i : ℕ) → i < length parts → ((at parts i).least ≤ slice_index x (at parts i).queue) × (slice_index x (at parts i).queue ≤ (at parts i).most))

@@ -50,6 +50,8 @@ impl Model for Parts {
 }
 
 impl Parts {
+    ghost use Rattle.psi_guard.specs.Refusals.{names};
+
     /// The list of no part.
     pub fn empty() -> Parts
         ensures { result ≡ [] }
@@ -95,11 +97,18 @@ impl Parts {
         self.items[i as usize]
     }
 
-    // The parts, one after another.
-    fn as_slice(&self) -> &[Part]
+    /// The parts, one after another.
+    pub fn as_slice(&self) -> &[Part]
         ensures { result.now ≡ self.now }
     {
         &self.items[..self.len as usize]
+    }
+
+    /// Whether one of the parts names the queue.
+    pub fn names(&self, queue: u8) -> bool
+        ensures { result ≡ names self.now queue }
+    {
+        self.as_slice().iter().any(|part| part.queue == queue)
     }
 }
 

@@ -3,7 +3,7 @@
 ghost use Rattle.std.specs.Prelude.{◌≡◌, IfOk, IfErr, OnOk, Some, None};
 ghost use Rattle.psi_state.specs.State.{AreCapacities};
 ghost use Rattle.psi_guard.specs.Guarding.{guarded, upset_of};
-ghost use Rattle.psi_guard.specs.Refusals.{AreGuards, names, is_out, refusal_at, refusal_of};
+ghost use Rattle.psi_guard.specs.Refusals.{AreGuards, is_out, refusal_at, refusal_of};
 
 use crate::named::{Part, Parts};
 use psi_event::EventLaw;
@@ -67,7 +67,7 @@ fn refusal(caps: &State, earlier: &Parts, part: Part) -> Option<GuardRefusal>
     if is_out(caps, part) {
         return Some(GuardRefusal::OutOfRange);
     }
-    if names(earlier, part.queue) {
+    if earlier.names(part.queue) {
         return Some(GuardRefusal::Repeated);
     }
     if part.least > part.most || part.floor > part.ceiling {
@@ -85,16 +85,4 @@ fn is_out(caps: &State, part: Part) -> bool
     }
     let cap = caps.get(part.queue);
     part.most > cap || part.ceiling > cap || part.shift.unsigned_abs() > 65_535
-}
-
-// Whether one of the parts names a queue.
-fn names(parts: &Parts, queue: u8) -> bool
-    ensures { result ≡ names parts.now queue }
-{
-    for i in 0..parts.len() {
-        if parts.get(i).queue == queue {
-            return true;
-        }
-    }
-    false
 }

@@ -169,8 +169,11 @@ fn parts_are_kept_in_their_order(rt: HostRuntime) {
     parts.push(part(1, (0, 2), 1, (0, 3)));
     parts.push(part(0, (1, 2), -1, (0, 2)));
     assert_eq!(rt; parts.len(), 2);
-    assert_eq!(rt; parts.get(0), part(1, (0, 2), 1, (0, 3)));
-    assert_eq!(rt; parts.get(1), part(0, (1, 2), -1, (0, 2)));
+    let first = part(1, (0, 2), 1, (0, 3));
+    let second = part(0, (1, 2), -1, (0, 2));
+    assert_eq!(rt; (parts.get(0), parts.get(1)), (first, second));
+    assert_eq!(rt; parts.as_slice(), [first, second].as_slice());
+    assert!(rt; parts.names(0) && parts.names(1) && !parts.names(2));
 }
 
 // So many queues with room for `room` customers each.

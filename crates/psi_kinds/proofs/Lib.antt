@@ -1,4 +1,3 @@
-mod Taking
 mod Chosen
 mod Routes
 mod Guards

@@ -15,7 +15,7 @@ ghost use Rattle.psi_kinds.specs.Forms.{form_of, function_of, pair_of, upset_of}
 ghost use Rattle.psi_kinds.specs.Refusals.{IsKindRefusal, IsShort, IsUnrefused, of_parts, refusal_of, refusal_of_parts};
 
 use crate::judging::listed_refusal;
-use crate::parting::{fork_parts, join_parts, listed_parts, negative_parts};
+use crate::parting::{fork_parts, join_parts, negative_parts};
 use crate::{Event, Kind, KindRefusal, Tables};
 use psi_event::EventLaw;
 use psi_guard::{Guarded, Part, Parts};
@@ -97,7 +97,7 @@ fn event_of(alloc: Global, caps: State, kind: &Kind) -> Result<Event, KindRefusa
             let parts = join_parts(alloc, &caps, from, *to)?;
             Ok(guarded(caps, parts.as_slice()))
         }
-        Kind::Guarded { parts } => judged(alloc, caps, parts),
+        Kind::Guarded { parts } => judged(caps, parts),
     }
 }
 
@@ -174,7 +174,7 @@ fn guarded(caps: State, parts: &[Part]) -> Event
 }
 
 // The guarded event of parts that may be refused.
-fn judged(alloc: Global, caps: State, parts: &Parts) -> Result<Event, KindRefusal>
+fn judged(caps: State, parts: &Parts) -> Result<Event, KindRefusal>
     requires { AreCapacities caps }
     ensures caps { IfOk result (λ event. ⟦<Event as EventLaw>⟧.capacities event ≡ caps) }
     ensures function { IfOk result (λ event. ⟦<Event as EventLaw>⟧.function event ≡ guarded parts.now) }
@@ -182,8 +182,7 @@ fn judged(alloc: Global, caps: State, parts: &Parts) -> Result<Event, KindRefusa
     ensures accepted { OnOk result (parts_refusal caps parts.now ≡ None) }
     ensures refused { IfErr result (λ refusal. IsKindRefusal refusal (option_map of_parts (parts_refusal caps parts.now))) }
 {
-    let list = listed_parts(alloc, parts)?;
-    match Guarded::new(caps, list.as_slice()) {
+    match Guarded::new(caps, parts.as_slice()) {
         Ok(event) => Ok(Event::Guarded(event)),
         Err(refusal) => Err(KindRefusal::of_parts(refusal)),
     }

@@ -6,7 +6,7 @@ ghost use Rattle.psi_kinds.specs.Kinds.{AreQueues, IsSource};
 ghost use Rattle.psi_kinds.specs.Forms.{losing_part, gaining_part, source_parts, negative_parts, fork_parts, join_parts};
 
 use crate::KindRefusal;
-use psi_guard::{Part, Parts};
+use psi_guard::Part;
 use psi_route::Source;
 use psi_state::{Queues, State};
 use std::alloc::Global;
@@ -116,16 +116,4 @@ pub(crate) fn join_parts(
         parts.push(gaining(caps, queue))?;
     }
     Ok(parts)
-}
-
-// The parts as they are.
-pub(crate) fn listed_parts(alloc: Global, parts: &Parts) -> Result<Vec<Part>, KindRefusal>
-    ensures parts { IfOk result (λ list. list.items ≡ parts.now) }
-    ensures memory { IfErr result (λ refusal. refusal ≡ KindRefusal.OutOfMemory) }
-{
-    let mut list = Vec::new(alloc);
-    for i in 0..parts.len() {
-        list.push(parts.get(i))?;
-    }
-    Ok(list)
 }

@@ -2,7 +2,6 @@
 
 ghost use Rattle.std.specs.Prelude.{◌≡◌, ℕ, ◌≤◌, ◌<◌, ◌+◌, [], length, map, codes, IfOk, OnOk};
 ghost use Rattle.toml.specs.View.{view, table_view};
-ghost use Rattle.psi_guard.specs.Refusals.{names as is_named};
 ghost use Rattle.psi_net.specs.Refusal.{Gives};
 ghost use Rattle.psi_net.specs.Values.{seen, required, each};
 ghost use Rattle.psi_net.specs.PartTables.{part_table, part_queue, part_of, part_step, parts_in, guarded_of};
@@ -28,19 +27,6 @@ fn part_table(place: Place, value: &Value) -> Result<&Table, NetError>
     }
 }
 
-// Whether one of the parts names the queue.
-#[tactic(auto, using(crate::proofs::Found::part_turn, crate::proofs::Found::part_found, crate::proofs::Found::part_ends))]
-fn names_queue(parts: &Parts, queue: u8) -> bool
-    ensures { result ≡ is_named parts.now queue }
-{
-    for place in 0..parts.len() {
-        if parts.get(place).queue == queue {
-            return true;
-        }
-    }
-    false
-}
-
 // The queue of a part, which no earlier part names.
 #[tactic(auto, unfolding(crate::specs::PartTables::part_queue))]
 fn part_queue(
@@ -55,7 +41,7 @@ fn part_queue(
 {
     let value = read!(present(place, "queue", value));
     let queue = read!(queue_in(place, "queue", names, value));
-    if names_queue(earlier, queue) {
+    if earlier.names(queue) {
         return Err(NetError::at_key(Cause::RepeatedTarget, place, "queue"));
     }
     Ok(queue)
