@@ -4,21 +4,20 @@ use Rattle.std.specs.Option.{option_map}
 use Rattle.std.proofs.Common.{sym, ◌∙◌, subst, arith, append_assoc, length-set}
 use Rattle.std.proofs.lemmas.List.{append-nil}
 use Rattle.psi_state.specs.State.{IsBelow, AreCapacities}
-use Rattle.psi_state.specs.Repeats.{apart-from_repeats}
 use Rattle.psi_event.specs.Law.{IsClosed}
 use Rattle.psi_event.specs.Choice.{first_or}
 use Rattle.psi_guard.specs.declared.Part.{Part}
 use Rattle.psi_guard.specs.Refusals.{AreGuards, refusal_at, refusal_after}
 use Rattle.psi_guard.specs.Refusals as guard
 use Rattle.psi_guard.specs.Rule.{guarded-closed}
-use Rattle.psi_guard.proofs.Accepted.{few_places, guards-empty, guards-push}
+use Rattle.psi_guard.proofs.Accepted.{guards-empty, guards-push}
 use Rattle.psi_route.specs.declared.Source.{Source}
 use Rattle.psi_route.specs.declared.Full.TheVariants.{Lost}
 use Rattle.psi_route.specs.Closed.{routed-closed}
 use Rattle.psi_kinds.specs.declared.kinds.Kind.{Kind}
 use Rattle.psi_kinds.specs.declared.kinds.Kind.TheVariants.{Arrival, Service, Index, Batch, Negative, Fork, Join, Guarded}
 use Rattle.psi_kinds.specs.Kinds.{lose, leave, may_serve, do_kind, IsKindOf, Does}
-use Rattle.psi_kinds.specs.Refusals.{refusal_of, refusal_of_parts, listed_refusal, of_parts, IsUnrefused, IsShort}
+use Rattle.psi_kinds.specs.Refusals.{refusal_of, refusal_of_parts, listed_refusal, of_parts, IsUnrefused}
 use Rattle.psi_kinds.specs.Forms.{fork_parts, join_parts, form_of, function_of}
 use Rattle.psi_kinds.proofs.Does.{unrefused, form-does}
 use Rattle.psi_kinds.proofs.Fitting.{fork-fits, join-fits}
@@ -61,20 +60,6 @@ negative-closed : (caps : List ℕ) (from : Option Source) (on amount : ℕ) (x 
 negative-closed caps from on amount x true below = lose-closed caps on amount (leave from x) (leave-closed caps from x below)
 negative-closed caps from on amount x false below = below
 
--- a list of an accepted index event is no longer than there are queues
-kind-short : (caps : List ℕ) (kind : Kind) → AreCapacities caps → IsKindOf caps kind → IsUnrefused caps kind → IsShort kind
-kind-short caps (Arrival to) valid named free = tt
-kind-short caps (Service from to full) valid named free = tt
-kind-short caps (Index from to table full size) valid named free =
-    let few : length to ≤ length caps = few_places (length caps) (length to) (λ i. slice_index to i) named.1 (λ i j first second same. apart-from_repeats to i j free.once first second same) in
-    let most : length caps ≤ 32 = valid.few in
-    omega arith
-kind-short caps (Batch to size) valid named free = tt
-kind-short caps (Negative from on amount) valid named free = tt
-kind-short caps (Fork from to) valid named free = tt
-kind-short caps (Join from to) valid named free = tt
-kind-short caps (Guarded parts) valid named free = tt
-
 by-form : (caps : List ℕ) (kind : Kind) → Does caps (function_of (form_of caps kind)) kind → IsClosed caps (function_of (form_of caps kind)) → IsClosed caps (do_kind caps kind)
 by-form caps kind does closed = record {
   each = λ x below. subst (λ (y : List ℕ). IsBelow y caps) (does.each x below) (closed.each x below);
@@ -106,4 +91,4 @@ unfolding refusal_of
 kind-closed caps kind valid named is =
     let both = first_or-none (listed_refusal caps kind) (refusal_of_parts caps kind) is in
     let free = unrefused caps kind both.0 in
-    closed-cases caps kind valid named free both.1 (form-does caps kind valid named (kind-short caps kind valid named free) free)
+    closed-cases caps kind valid named free both.1 (form-does caps kind valid named free)

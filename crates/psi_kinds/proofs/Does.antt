@@ -4,9 +4,10 @@ use Rattle.std.specs.List.{list_any, list_all}
 use Rattle.std.proofs.Common.{ap, ◌∙◌, arith}
 use Rattle.std.proofs.lemmas.Bool.{le-leb, leb-true, and_parts}
 use Rattle.psi_state.specs.State.{IsBelow, AreCapacities}
-use Rattle.psi_state.specs.Repeats.{repeats}
+use Rattle.psi_state.specs.Repeats.{repeats, apart-from_repeats}
 use Rattle.psi_guard.specs.declared.Part.{Part}
 use Rattle.psi_guard.specs.Guarding.{moved, allows, all_allow, guarded}
+use Rattle.psi_guard.proofs.Accepted.{few_places}
 use Rattle.psi_route.specs.declared.Source.{Source}
 use Rattle.psi_route.specs.declared.Full.{Full}
 use Rattle.psi_route.specs.declared.Full.TheVariants.{Lost}
@@ -18,7 +19,7 @@ use Rattle.psi_kinds.specs.Kinds.{has_room, is_held, serves, first_with_room, be
 use Rattle.std.specs.Bool.{then_some}
 use Rattle.psi_event.specs.Choice.{first_or}
 use Rattle.psi_kinds.specs.declared.refusals.KindRefusal.TheVariants.{SelfTarget, Repeated, TableLength, SizeRange, Empty}
-use Rattle.psi_kinds.specs.Refusals.{IsUnrefused, IsShort, listed_refusal, lacks_queues, repeats_queue, targets_itself, lacks_tables, is_out_of_size, has_given}
+use Rattle.psi_kinds.specs.Refusals.{IsUnrefused, listed_refusal, lacks_queues, repeats_queue, targets_itself, lacks_tables, is_out_of_size, has_given}
 use Rattle.psi_kinds.specs.Forms.{losing_part, gaining_part, source_parts, joined_parts, form_of, function_of}
 use Rattle.psi_kinds.proofs.Routes.{first-choice, best-choice, without, with, routed-without, routed-with, absent}
 use Rattle.psi_kinds.proofs.Guards.{move_each, AreApart, guarded-by, allows-losing, allows-gaining, moved-losing, moved-gaining, all_allow-append, move_each-append, all_allow-gaining, all_allow-losing, HoldAtMost, HaveCaps, lose-less, lose_each-less, move_each-losing, move_each-gaining, room-all, names-map, single-map, single-append, apart-map}
@@ -198,18 +199,26 @@ given_away : (queues : List ℕ) (to : Option ℕ) → has_given queues to ≡ f
 given_away queues None is = tt
 given_away queues (Some q) is = is
 
+-- a list in which no queue stands twice is no longer than there are queues
+few-listed : (caps to : List ℕ) → AreCapacities caps → AreQueues caps to → repeats to ≡ false → length to ≤ 32
+few-listed caps to valid listed once =
+    let few : length to ≤ length caps = few_places (length caps) (length to) (λ i. slice_index to i) listed (λ i j first second same. apart-from_repeats to i j once first second same) in
+    let most : length caps ≤ 32 = valid.few in
+    omega arith
+
 -- the form of a kind that isn't refused does what the kind does
-pub form-does : (caps : List ℕ) (kind : Kind) → AreCapacities caps → IsKindOf caps kind → IsShort kind → IsUnrefused caps kind
+pub form-does : (caps : List ℕ) (kind : Kind) → AreCapacities caps → IsKindOf caps kind → IsUnrefused caps kind
     → Does caps (function_of (form_of caps kind)) kind
-form-does caps (Arrival to) valid named short free = record { each = λ x below. arrival-does caps to x below }
-form-does caps (Service from to full) valid named short free = record { each = λ x below. service-does caps from to full x free.away }
-form-does caps (Index from to table full size) valid named short free =
+form-does caps (Arrival to) valid named free = record { each = λ x below. arrival-does caps to x below }
+form-does caps (Service from to full) valid named free = record { each = λ x below. service-does caps from to full x free.away }
+form-does caps (Index from to table full size) valid named free =
+    let short : length to ≤ 32 = few-listed caps to valid named.1 free.once in
     record { each = λ x below. index-does caps from to table full size x below short free.away }
-form-does caps (Batch to size) valid named short free = record { each = λ x below. batch-does caps to size x below }
-form-does caps (Negative from on amount) valid named short free =
+form-does caps (Batch to size) valid named free = record { each = λ x below. batch-does caps to size x below }
+form-does caps (Negative from on amount) valid named free =
     record { each = λ x below. negative-does caps from on amount x below (source_queue caps from named.0) named.1 free.away }
-form-does caps (Fork from to) valid named short free =
+form-does caps (Fork from to) valid named free =
     record { each = λ x below. fork-does caps from to x valid below (source_queue caps from named.0) named.1 free.once free.away }
-form-does caps (Join from to) valid named short free =
+form-does caps (Join from to) valid named free =
     record { each = λ x below. join-does caps from to x valid below named.0 named.1 free.once (given_away from to free.away) }
-form-does caps (Guarded parts) valid named short free = record { each = λ x below. guarded-does caps parts x }
+form-does caps (Guarded parts) valid named free = record { each = λ x below. guarded-does caps parts x }

@@ -1,5 +1,5 @@
 -- Which kinds are refused, and why.
-use Rattle.std.specs.Prelude.{◌≡◌, ◌≤◌, length, ℕ, List, [], ◌∷◌, Bool, true, false, not, nat_eq, Option, Some, None}
+use Rattle.std.specs.Prelude.{◌≡◌, ℕ, List, [], ◌∷◌, Bool, true, false, not, nat_eq, Option, Some, None}
 use Rattle.std.specs.Bool.{then_some}
 use Rattle.std.specs.List.{list_any}
 use Rattle.std.specs.Option.{option_map}
@@ -127,14 +127,3 @@ pub record IsUnrefused (caps : List ℕ) (kind : Kind) : Type 0 where
   pub away : targets_itself kind ≡ false
   pub tables : lacks_tables caps kind ≡ false
   pub size : is_out_of_size caps kind ≡ false
-
--- the list of an index event is one that a `Queues` holds
-abbrev pub IsShort : Kind → Type 0
-IsShort (Arrival to) = Unit {0}
-IsShort (Service from to full) = Unit {0}
-IsShort (Index from to table full size) = length to ≤ 32
-IsShort (Batch to size) = Unit {0}
-IsShort (Negative from on amount) = Unit {0}
-IsShort (Fork from to) = Unit {0}
-IsShort (Join from to) = Unit {0}
-IsShort (Guarded parts) = Unit {0}

@@ -12,7 +12,7 @@ ghost use Rattle.psi_route.specs.Routing.{upset_of as upset_of_shape};
 ghost use Rattle.psi_route.specs.Refusals.{refusal_of as shape_refusal};
 ghost use Rattle.psi_kinds.specs.Kinds.{AreQueues, IsSource, IsKindOf, Does};
 ghost use Rattle.psi_kinds.specs.Forms.{form_of, function_of, pair_of, upset_of};
-ghost use Rattle.psi_kinds.specs.Refusals.{IsKindRefusal, IsShort, IsUnrefused, of_parts, refusal_of, refusal_of_parts};
+ghost use Rattle.psi_kinds.specs.Refusals.{IsKindRefusal, IsUnrefused, of_parts, refusal_of, refusal_of_parts};
 
 use crate::judging::listed_refusal;
 use crate::parting::{fork_parts, join_parts, negative_parts};
@@ -42,19 +42,9 @@ pub fn lower(alloc: Global, caps: State, kind: &Kind) -> Result<Event, KindRefus
     ensures accepted { OnOk result (refusal_of caps kind.now ≡ None) }
     ensures refused { IfErr result (λ refusal. IsKindRefusal refusal (refusal_of caps kind.now)) }
 {
-    note_length(kind);
     match listed_refusal(&caps, kind) {
         Some(refusal) => Err(refusal),
         None => event_of(alloc, caps, kind),
-    }
-}
-
-// The list of an index event is one of at most 32 queues.
-fn note_length(kind: &Kind)
-    ensures { IsShort kind.now }
-{
-    if let Kind::Index { to, .. } = kind {
-        let _few = to.len();
     }
 }
 

@@ -16,7 +16,7 @@ returns-in-Some-clause-refused c =
 pub returns-in-None-clause-does : goal.returns-in-None-clause-does
 returns-in-None-clause-does c =
     IfOk-weaker c.event_of.result _ _ (λ event is. subst (λ (f : List ℕ → List ℕ). Does c.args.caps f c.args.kind.now) (sym is)
-    (form-does c.args.caps c.args.kind.now c.requires.caps c.requires.named c.note_length.ensures
+    (form-does c.args.caps c.args.kind.now c.requires.caps c.requires.named
     (unrefused c.args.caps c.args.kind.now (sym c.listed_refusal.ensures ∙ c.in-None.is)))) c.event_of.ensures.function
 
 pub returns-in-None-clause-upset : goal.returns-in-None-clause-upset
