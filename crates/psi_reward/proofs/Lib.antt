@@ -5,3 +5,4 @@ mod Adding
 mod Rising
 mod Fitting
 mod Accepted
+mod Worked
