@@ -1,4 +1,6 @@
 //! Whether the rows of a reward fit its queues.
+//!
+//! The loop goes from the last queue to the first, since rows fit where the first one and the rest do.
 
 ghost use Rattle.std.specs.Prelude.{◌≡◌, ◌<◌, length, All};
 ghost use Rattle.psi_reward.specs.Held.{held};

@@ -1,4 +1,6 @@
 //! Rewards that are sums over the queues, and their ranges.
+//!
+//! The loops go from the last queue to the first, since a sum is its first term and the sum of the rest.
 
 ghost use Rattle.std.specs.Prelude.{◌≡◌, ℕ, ℤ, pos, ◌+◌, ◌*◌, ◌<◌, ◌≤◌, ◌*ℤ◌, unsigned_abs, length, map, slice_index, slice_index_or, All};
 ghost use Rattle.std.specs.Int.{int_min, int_max};
