@@ -13,7 +13,8 @@ use psi_state::{Bounds, State};
 
 /// An event of a network: a route, a guarded event or the idle one.
 ///
-/// It stands for what its form stands for.
+/// Its capacities, its function on states and the two states whose order it doesn't keep, if there are
+/// such, are those of the route, the guarded event or the idle event that it is.
 #[derive(Drop, Debug)]
 pub enum Event {
     /// Customers come from outside or from a source and join the best queue of a list.

@@ -69,6 +69,12 @@ impl<T: Drop> From<AllocFailed<T>> for KindRefusal {
     }
 }
 
+impl<T: Drop> From<AllocFailed<T>> for OutOfMemory {
+    fn from(_error: AllocFailed<T>) -> OutOfMemory {
+        OutOfMemory
+    }
+}
+
 impl From<psi_index::OutOfMemory> for KindRefusal {
     ghost use Rattle.psi_kinds.specs.declared.refusals.KindRefusal.TheVariants.{OutOfMemory};
 

@@ -32,18 +32,21 @@ impl Tables {
         }
     }
 
-    /// Puts a table behind the others; where there is no memory for it, they stay as they are.
+    /// Puts a table at the end of the list.
+    ///
+    /// # Errors
+    ///
+    /// [`OutOfMemory`] where there is no memory for one table more. The list then stays as it was, and the
+    /// table is dropped.
     pub fn push(&mut self, row: Vec<u32>) -> Result<(), OutOfMemory>
         ensures pushed { OnOk result (self.new ≡ self.old ++ row.items ∷ []) }
         ensures refused { OnErr result (self.new ≡ self.old) }
     {
-        match self.rows.push(row) {
-            Ok(()) => Ok(()),
-            Err(_) => Err(OutOfMemory),
-        }
+        self.rows.push(row)?;
+        Ok(())
     }
 
-    /// The number of tables.
+    /// The number of tables in the list.
     pub fn len(&self) -> usize
         ensures { result ≡ length self.now }
     {
