@@ -11,16 +11,20 @@ use psi_state::{Bounds, State};
 ///
 /// No call takes memory.
 pub trait RewardLaw {
+    // How many customers each queue has room for.
     ghost capacities: { Self → List ℕ };
 
+    // The number of each state.
     ghost worth: { Self → List ℕ → ℤ };
 
-    /// The number of the state.
+    /// The number of a state within the capacities, in the unit of the reward: that of its weights or entries,
+    /// or else customers or queues.
     fn value(&self, x: &State) -> i64
         requires { IsBelow x.now (capacities self.now) }
         ensures { result ≡ worth self.now x.now };
 
-    /// The least and the greatest number of a state of the box. Each is the number of some state there.
+    /// The least and the greatest number of a state of a box within the capacities, in the same unit. Each is
+    /// the number of some state there.
     fn range(&self, b: &Bounds) -> (i64, i64)
         requires { IsBelow b.now.hi (capacities self.now) }
         ensures least { result.0 ≡ least (map (worth self.now) (box b.now.lo b.now.hi)) }
