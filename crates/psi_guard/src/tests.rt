@@ -131,6 +131,8 @@ fn parts_are_refused_by_the_first_cause(rt: HostRuntime) {
     let wide = part(0, (0, 4), 1, (0, 3));
     let cases = [
         ([hollow, good], GuardRefusal::Empty),
+        ([part(0, (4, 3), 1, (0, 3)), good], GuardRefusal::Empty),
+        ([part(0, (0, 3), 1, (4, 3)), good], GuardRefusal::Empty),
         ([part(0, (0, 3), 1, (2, 1)), good], GuardRefusal::Empty),
         ([wide, good], GuardRefusal::OutOfRange),
         ([part(0, (0, 3), 1, (0, 4)), good], GuardRefusal::OutOfRange),

@@ -371,8 +371,6 @@ fn parts_are_judged_one_after_another(rt: HostRuntime) {
     let alloc = rt.alloc();
     let good = part(0, 2, 1);
     let far = part(2, 2, 1);
-    let high = part(1, 4, 1);
-    let steep = part(1, 3, 65536);
     let narrow = Part {
         least: 3,
         most: 2,
@@ -384,10 +382,8 @@ fn parts_are_judged_one_after_another(rt: HostRuntime) {
         ..part(1, 3, 1)
     };
     for (items, refusal) in [
-        ([good, part(1, 3, -65535)], None),
+        ([good, part(1, 3, 1)], None),
         ([good, far], Some(KindRefusal::PartRange)),
-        ([good, high], Some(KindRefusal::PartRange)),
-        ([good, steep], Some(KindRefusal::PartRange)),
         ([good, good], Some(KindRefusal::Repeated)),
         ([good, narrow], Some(KindRefusal::EmptyGuard)),
         ([upside, far], Some(KindRefusal::EmptyGuard)),
@@ -400,6 +396,33 @@ fn parts_are_judged_one_after_another(rt: HostRuntime) {
     }
     let none = Kind::Guarded { parts: parts(&[]) };
     assert_refusal(&rt, alloc, &none, Some(KindRefusal::Empty));
+}
+
+// Each number of a part at the end of its range, and one beyond it.
+#[test]
+fn parts_have_ranges(rt: HostRuntime) {
+    let alloc = rt.alloc();
+    let own = part(1, 3, 1);
+    let range = Some(KindRefusal::PartRange);
+    let empty = Some(KindRefusal::EmptyGuard);
+    for (second, refusal) in [
+        (Part { least: 3, ..own }, None),
+        (Part { floor: 3, ..own }, None),
+        (part(1, 3, 65535), None),
+        (part(1, 3, -65535), None),
+        (Part { queue: 2, ..own }, range),
+        (Part { most: 4, ..own }, range),
+        (Part { ceiling: 4, ..own }, range),
+        (part(1, 3, 65536), range),
+        (part(1, 3, -65536), range),
+        (Part { least: 4, ..own }, empty),
+        (Part { floor: 4, ..own }, empty),
+    ] {
+        let kind = Kind::Guarded {
+            parts: parts(&[part(0, 2, 1), second]),
+        };
+        assert_refusal(&rt, alloc, &kind, refusal);
+    }
 }
 
 #[test]
