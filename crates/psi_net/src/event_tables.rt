@@ -1,24 +1,24 @@
 //! The array `event`.
 
-ghost use Rattle.std.specs.Prelude.{◌≡◌, ℕ, ◌≤◌, ◌<◌, ◌+◌, ◌++◌, ◌∷◌, [], length, map, codes, None, false, IfOk, OnOk};
+ghost use Rattle.std.specs.Prelude.{◌≡◌, ℕ, ◌≤◌, ◌<◌, ◌+◌, ◌++◌, ◌∷◌, [], length, map, codes, None, false, IfSome, IfOk, OnOk};
 ghost use Rattle.std.specs.List.{list_any};
 ghost use Rattle.std.specs.Str.{bytes_eq};
 ghost use Rattle.toml.specs.View.{view, table_view};
 ghost use Rattle.psi_rate.specs.Rates.{total};
 ghost use Rattle.psi_net.specs.Refusal.{Gives, event_place};
 ghost use Rattle.psi_net.specs.Values.{seen, no_unknown, required, each};
-ghost use Rattle.psi_net.specs.Expansion.{served_by};
+ghost use Rattle.psi_net.specs.Expansion.{source_of, servers_at, served_by};
 ghost use Rattle.psi_net.specs.EventTables.{kind_named, kind_in, event_keys, kind_of, event_of, are_within, event_step, events_of};
 ghost use Rattle.psi_net.specs.Counting.{IsCounted};
 ghost use Rattle.psi_net.specs.Listing.{listed};
-ghost use Rattle.psi_net.specs.Kept.{AreListed};
 
-use crate::entries::{NamedEvent, Queue};
+use crate::entries::NamedEvent;
 use crate::expansion::{MOST_INDEX_VALUES, index_values, push_expanded, servers_at, source_of};
 use crate::keys::{
     elements_in, find, no_unknown, present, read, required_name, required_number, table_in, text_in,
 };
 use crate::kind_tables::{arrival, batch, fork, index, join, negative, service};
+use crate::known_queues::KnownQueues;
 use crate::naming::Name;
 use crate::part_tables::guarded;
 use crate::queue_tables::unless_taken;
@@ -26,7 +26,6 @@ use crate::refusals::{Cause, NetError, Place, Section};
 use crate::words::KindWord;
 use indexmap::IndexSet;
 use psi_kinds::Kind;
-use psi_state::State;
 use std::alloc::Global;
 use toml::{Table, Value};
 
@@ -104,23 +103,20 @@ fn kind_of(
     alloc: Global,
     place: Place,
     word: KindWord,
-    names: &IndexSet<Name>,
-    caps: &State,
+    known: &KnownQueues,
     table: &Table,
 ) -> Result<Kind, NetError>
-    requires few { length names.now.keys ≤ 32 }
-    requires same { length names.now.keys ≡ length caps.now }
-    ensures { Gives (λ kind. kind) result (kind_of place word names.now.keys caps.now (table_view table.now)) }
+    ensures { Gives (λ kind. kind) result (kind_of place word known.now.names.keys known.now.caps (table_view table.now)) }
 {
     match word {
-        KindWord::Arrival => arrival(place, names, table),
-        KindWord::Service => service(place, names, table),
-        KindWord::Index => index(alloc, place, names, caps, table),
-        KindWord::Batch => batch(place, names, caps, table),
-        KindWord::Negative => negative(place, names, table),
-        KindWord::Fork => fork(place, names, table),
-        KindWord::Join => join(place, names, table),
-        KindWord::Guarded => guarded(place, names, caps, table),
+        KindWord::Arrival => arrival(place, known, table),
+        KindWord::Service => service(place, known, table),
+        KindWord::Index => index(alloc, place, known, table),
+        KindWord::Batch => batch(place, known, table),
+        KindWord::Negative => negative(place, known, table),
+        KindWord::Fork => fork(place, known, table),
+        KindWord::Join => join(place, known, table),
+        KindWord::Guarded => guarded(place, known, table),
     }
 }
 
@@ -132,13 +128,10 @@ fn event(
     place: Place,
     version: u32,
     earlier: &IndexSet<Name>,
-    names: &IndexSet<Name>,
-    caps: &State,
+    known: &KnownQueues,
     table: &Table,
 ) -> Result<NamedEvent, NetError>
-    requires few { length names.now.keys ≤ 32 }
-    requires same { length names.now.keys ≡ length caps.now }
-    ensures value { Gives (λ event. event) result (event_of place version earlier.now.keys names.now.keys caps.now (table_view table.now)) }
+    ensures value { Gives (λ event. event) result (event_of place version earlier.now.keys known.now.names.keys known.now.caps (table_view table.now)) }
     ensures fresh { IfOk result (λ event. list_any (bytes_eq event.name) earlier.now.keys ≡ false) }
     ensures rate { IfOk result (λ event. event.rate ≤ 1048576) }
 {
@@ -147,7 +140,7 @@ fn event(
     let name = read!(required_name(place, "name", find(table, "name")));
     read!(unless_taken(place, earlier, name));
     let rate = read!(required_number(place, "rate", 1, 1_048_576, find(table, "rate")));
-    let kind = read!(kind_of(alloc, place, word, names, caps, table));
+    let kind = read!(kind_of(alloc, place, word, known, table));
     Ok(NamedEvent {
         name,
         server: 1,
@@ -209,23 +202,28 @@ fn sums(
     Ok(Counts { values, rates })
 }
 
+// How many servers the source of a kind has; without a source there is 1.
+fn servers_of(known: &KnownQueues, kind: &Kind) -> u16
+    requires { IfSome (source_of kind.now) (λ source. source.queue < length known.now.queues.items) }
+    ensures value { result ≡ servers_at known.now.queues.items (source_of kind.now) }
+    ensures some { 1 ≤ result }
+    ensures few { result ≤ 64 }
+{
+    servers_at(known.queues.as_slice(), source_of(kind))
+}
+
 // One element of the array, with its number and what was read before it.
-#[tactic(auto, using(crate::proofs::KeptQueues::names_few, crate::proofs::KeptQueues::names_same), unfolding(crate::specs::EventTables::event_step))]
+#[tactic(auto, unfolding(crate::specs::EventTables::event_step))]
 fn push_event(
     alloc: Global,
     version: u32,
     number: u32,
-    names: &IndexSet<Name>,
-    queues: &[Queue],
-    caps: &State,
+    known: &KnownQueues,
     list: &mut EventList,
     value: &Value,
 ) -> Result<(), NetError>
-    requires queues { AreListed queues.now }
-    requires names { names.now.keys ≡ map (λ q. q.name) queues.now }
-    requires caps { caps.now ≡ map (λ q. q.capacity) queues.now }
-    requires counted { IsCounted list.old.events.items list.old.values list.old.rates }
-    ensures value { Gives (λ _. listed list.new) result (event_step version queues.now number (listed list.old) (view value.now)) }
+    requires { IsCounted list.old.events.items list.old.values list.old.rates }
+    ensures value { Gives (λ _. listed list.new) result (event_step version known.now.queues.items number (listed list.old) (view value.now)) }
     ensures counted { OnOk result (IsCounted list.new.events.items list.new.values list.new.rates) }
 {
     let place = Place {
@@ -233,8 +231,8 @@ fn push_event(
         number,
     };
     let table = read!(table_in(place, value));
-    let event = read!(event(alloc, place, version, &list.names, names, caps, table));
-    let servers = servers_at(queues, source_of(&event.kind));
+    let event = read!(event(alloc, place, version, &list.names, known, table));
+    let servers = servers_of(known, &event.kind);
     let sums = read!(sums(place, list, &event, servers));
     read!(push_expanded(alloc, &mut list.events, &event, servers));
     list.names.insert(event.name)?;
@@ -248,16 +246,11 @@ fn push_event(
 fn all_events(
     alloc: Global,
     version: u32,
-    names: &IndexSet<Name>,
-    queues: &[Queue],
-    caps: &State,
+    known: &KnownQueues,
     values: &[Value],
 ) -> Result<EventList, NetError>
-    requires queues { AreListed queues.now }
-    requires names { names.now.keys ≡ map (λ q. q.name) queues.now }
-    requires caps { caps.now ≡ map (λ q. q.capacity) queues.now }
-    requires count { length values.now ≤ 1024 }
-    ensures { Gives listed result (each (event_step version queues.now) 1 (record { names = []; events = [] }) (map view values.now)) }
+    requires { length values.now ≤ 1024 }
+    ensures { Gives listed result (each (event_step version known.now.queues.items) 1 (record { names = []; events = [] }) (map view values.now)) }
 {
     let mut list = EventList {
         names: IndexSet::new(alloc),
@@ -267,9 +260,7 @@ fn all_events(
     };
     for (index, value) in values.iter().enumerate() {
         let number = index as u32 + 1;
-        read!(push_event(
-            alloc, version, number, names, queues, caps, &mut list, value
-        ));
+        read!(push_event(alloc, version, number, known, &mut list, value));
     }
     Ok(list)
 }
@@ -279,20 +270,15 @@ fn all_events(
 pub(crate) fn events(
     alloc: Global,
     version: u32,
-    names: &IndexSet<Name>,
-    queues: &[Queue],
-    caps: &State,
+    known: &KnownQueues,
     value: Option<&Value>,
 ) -> Result<Vec<NamedEvent>, NetError>
-    requires queues { AreListed queues.now }
-    requires names { names.now.keys ≡ map (λ q. q.name) queues.now }
-    requires caps { caps.now ≡ map (λ q. q.capacity) queues.now }
-    ensures { Gives (λ events. events.items) result (events_of version queues.now (seen value.entry)) }
+    ensures { Gives (λ events. events.items) result (events_of version known.now.queues.items (seen value.entry)) }
 {
     match value {
         Some(value) => {
             let values = read!(elements_in(Place::top(), "event", Cause::NoEvents, 1024, value));
-            let list = read!(all_events(alloc, version, names, queues, caps, values));
+            let list = read!(all_events(alloc, version, known, values));
             Ok(list.events)
         }
         None => Err(NetError::at_key(Cause::NoEvents, Place::top(), "event")),

@@ -11,10 +11,9 @@ ghost use Rattle.psi_net.specs.Targets.{AreTargets, are_below};
 ghost use Rattle.psi_net.specs.KindTables.{source_in, queue_of_source, full_in, number_step, row_step, table_of, size_fits, arrival_of, service_of, index_of, batch_of, negative_of, fork_of, joined_in, join_of};
 
 use crate::keys::{array_in, find, number_in, number_or, present, read, required_number, text_in};
-use crate::naming::Name;
+use crate::known_queues::KnownQueues;
 use crate::references::{queue_in, some_targets_in, target_in, targets_in};
 use crate::refusals::{Cause, NetError, Place};
-use indexmap::IndexSet;
 use psi_kinds::{Kind, Tables};
 use psi_route::{Full, Source};
 use psi_state::{Queues, State};
@@ -25,45 +24,42 @@ use toml::{Table, Value};
 fn required_targets(
     place: Place,
     key: &str,
-    names: &IndexSet<Name>,
+    known: &KnownQueues,
     sources: &Queues,
     value: Option<&Value>,
 ) -> Result<Queues, NetError>
-    requires { length names.now.keys ≤ 32 }
-    ensures value { Gives (λ qs. qs) result (required place key.now (some_targets_in place key.now names.now.keys sources.now) (seen value.entry)) }
-    ensures valid { IfOk result (AreTargets (length names.now.keys) sources.now) }
+    ensures value { Gives (λ qs. qs) result (required place key.now (some_targets_in place key.now known.now.names.keys sources.now) (seen value.entry)) }
+    ensures valid { IfOk result (AreTargets (length known.now.names.keys) sources.now) }
 {
     let value = read!(present(place, key, value));
-    some_targets_in(place, key, names, sources, value)
+    some_targets_in(place, key, known, sources, value)
 }
 
 // The name of a queue, which is required.
 fn required_queue(
     place: Place,
     key: &str,
-    names: &IndexSet<Name>,
+    known: &KnownQueues,
     value: Option<&Value>,
 ) -> Result<u8, NetError>
-    requires { length names.now.keys ≤ 32 }
-    ensures { Gives (λ q. q) result (required place key.now (queue_in place key.now names.now.keys) (seen value.entry)) }
+    ensures { Gives (λ q. q) result (required place key.now (queue_in place key.now known.now.names.keys) (seen value.entry)) }
 {
     let value = read!(present(place, key, value));
-    queue_in(place, key, names, value)
+    queue_in(place, key, known, value)
 }
 
 // `from`, where it is optional, with its first server.
 #[tactic(auto, unfolding(crate::specs::KindTables::source_in))]
 fn source(
     place: Place,
-    names: &IndexSet<Name>,
+    known: &KnownQueues,
     value: Option<&Value>,
 ) -> Result<Option<Source>, NetError>
-    requires { length names.now.keys ≤ 32 }
-    ensures { Gives (λ source. source) result (optional None (source_in place names.now.keys) (seen value.entry)) }
+    ensures { Gives (λ source. source) result (optional None (source_in place known.now.names.keys) (seen value.entry)) }
 {
     match value {
         Some(value) => {
-            let queue = read!(queue_in(place, "from", names, value));
+            let queue = read!(queue_in(place, "from", known, value));
             Ok(Some(Source { queue, k: 1 }))
         }
         None => Ok(None),
@@ -242,40 +238,37 @@ fn size_fits(
 
 // An arrival's keys.
 #[tactic(auto, unfolding(crate::specs::KindTables::arrival_of))]
-pub(crate) fn arrival(place: Place, names: &IndexSet<Name>, table: &Table) -> Result<Kind, NetError>
-    requires { length names.now.keys ≤ 32 }
-    ensures { Gives (λ kind. kind) result (arrival_of place names.now.keys (table_view table.now)) }
+pub(crate) fn arrival(place: Place, known: &KnownQueues, table: &Table) -> Result<Kind, NetError>
+    ensures { Gives (λ kind. kind) result (arrival_of place known.now.names.keys (table_view table.now)) }
 {
-    let to = read!(required_targets(place, "to", names, &Queues::empty(), find(table, "to")));
+    let to = read!(required_targets(place, "to", known, &Queues::empty(), find(table, "to")));
     Ok(Kind::Arrival { to })
 }
 
 // `to` of a service.
 fn optional_targets(
     place: Place,
-    names: &IndexSet<Name>,
+    known: &KnownQueues,
     sources: &Queues,
     value: Option<&Value>,
 ) -> Result<Queues, NetError>
-    requires { length names.now.keys ≤ 32 }
-    ensures { Gives (λ qs. qs) result (optional [] (targets_in place (codes "to") names.now.keys sources.now) (seen value.entry)) }
+    ensures { Gives (λ qs. qs) result (optional [] (targets_in place (codes "to") known.now.names.keys sources.now) (seen value.entry)) }
 {
     match value {
-        Some(value) => targets_in(place, "to", names, sources, value),
+        Some(value) => targets_in(place, "to", known, sources, value),
         None => Ok(Queues::empty()),
     }
 }
 
 // A service's keys.
 #[tactic(auto, unfolding(crate::specs::KindTables::service_of))]
-pub(crate) fn service(place: Place, names: &IndexSet<Name>, table: &Table) -> Result<Kind, NetError>
-    requires { length names.now.keys ≤ 32 }
-    ensures { Gives (λ kind. kind) result (service_of place names.now.keys (table_view table.now)) }
+pub(crate) fn service(place: Place, known: &KnownQueues, table: &Table) -> Result<Kind, NetError>
+    ensures { Gives (λ kind. kind) result (service_of place known.now.names.keys (table_view table.now)) }
 {
-    let queue = read!(required_queue(place, "from", names, find(table, "from")));
+    let queue = read!(required_queue(place, "from", known, find(table, "from")));
     let from = Source { queue, k: 1 };
     let sources = queue_of_source(Some(from));
-    let to = read!(optional_targets(place, names, &sources, find(table, "to")));
+    let to = read!(optional_targets(place, known, &sources, find(table, "to")));
     let full = read!(full(place, find(table, "full")));
     Ok(Kind::Service { from, to, full })
 }
@@ -285,21 +278,18 @@ pub(crate) fn service(place: Place, names: &IndexSet<Name>, table: &Table) -> Re
 pub(crate) fn index(
     alloc: Global,
     place: Place,
-    names: &IndexSet<Name>,
-    caps: &State,
+    known: &KnownQueues,
     table: &Table,
 ) -> Result<Kind, NetError>
-    requires few { length names.now.keys ≤ 32 }
-    requires same { length names.now.keys ≡ length caps.now }
-    ensures { Gives (λ kind. kind) result (index_of place names.now.keys caps.now (table_view table.now)) }
+    ensures { Gives (λ kind. kind) result (index_of place known.now.names.keys known.now.caps (table_view table.now)) }
 {
-    let from = read!(source(place, names, find(table, "from")));
+    let from = read!(source(place, known, find(table, "from")));
     let sources = queue_of_source(from);
-    let to = read!(required_targets(place, "to", names, &sources, find(table, "to")));
-    let rows = read!(table_of(alloc, place, caps, &to, find(table, "table")));
+    let to = read!(required_targets(place, "to", known, &sources, find(table, "to")));
+    let rows = read!(table_of(alloc, place, &known.caps, &to, find(table, "table")));
     let full = read!(full(place, find(table, "full")));
     let size = read!(number_or(place, "size", 1, 1, 65535, find(table, "size")));
-    let size = read!(size_fits(place, caps, from.is_some(), &to, size));
+    let size = read!(size_fits(place, &known.caps, from.is_some(), &to, size));
     Ok(Kind::Index {
         from,
         to,
@@ -311,19 +301,12 @@ pub(crate) fn index(
 
 // A batch's keys.
 #[tactic(auto, unfolding(crate::specs::KindTables::batch_of))]
-pub(crate) fn batch(
-    place: Place,
-    names: &IndexSet<Name>,
-    caps: &State,
-    table: &Table,
-) -> Result<Kind, NetError>
-    requires few { length names.now.keys ≤ 32 }
-    requires same { length names.now.keys ≡ length caps.now }
-    ensures { Gives (λ kind. kind) result (batch_of place names.now.keys caps.now (table_view table.now)) }
+pub(crate) fn batch(place: Place, known: &KnownQueues, table: &Table) -> Result<Kind, NetError>
+    ensures { Gives (λ kind. kind) result (batch_of place known.now.names.keys known.now.caps (table_view table.now)) }
 {
-    let to = read!(required_targets(place, "to", names, &Queues::empty(), find(table, "to")));
+    let to = read!(required_targets(place, "to", known, &Queues::empty(), find(table, "to")));
     let size = read!(required_number(place, "size", 1, 65535, find(table, "size")));
-    let size = read!(size_fits(place, caps, false, &to, size));
+    let size = read!(size_fits(place, &known.caps, false, &to, size));
     Ok(Kind::Batch { to, size })
 }
 
@@ -331,30 +314,24 @@ pub(crate) fn batch(
 fn required_target(
     place: Place,
     key: &str,
-    names: &IndexSet<Name>,
+    known: &KnownQueues,
     sources: &Queues,
     value: Option<&Value>,
 ) -> Result<u8, NetError>
-    requires { length names.now.keys ≤ 32 }
-    ensures { Gives (λ q. q) result (required place key.now (target_in place key.now names.now.keys sources.now) (seen value.entry)) }
+    ensures { Gives (λ q. q) result (required place key.now (target_in place key.now known.now.names.keys sources.now) (seen value.entry)) }
 {
     let value = read!(present(place, key, value));
-    target_in(place, key, names, sources, value)
+    target_in(place, key, known, sources, value)
 }
 
 // A negative event's keys.
 #[tactic(auto, unfolding(crate::specs::KindTables::negative_of))]
-pub(crate) fn negative(
-    place: Place,
-    names: &IndexSet<Name>,
-    table: &Table,
-) -> Result<Kind, NetError>
-    requires { length names.now.keys ≤ 32 }
-    ensures { Gives (λ kind. kind) result (negative_of place names.now.keys (table_view table.now)) }
+pub(crate) fn negative(place: Place, known: &KnownQueues, table: &Table) -> Result<Kind, NetError>
+    ensures { Gives (λ kind. kind) result (negative_of place known.now.names.keys (table_view table.now)) }
 {
-    let from = read!(source(place, names, find(table, "from")));
+    let from = read!(source(place, known, find(table, "from")));
     let sources = queue_of_source(from);
-    let on = read!(required_target(place, "on", names, &sources, find(table, "on")));
+    let on = read!(required_target(place, "on", known, &sources, find(table, "on")));
     let amount = read!(number_or(place, "amount", 1, 1, 65535, find(table, "amount")));
     Ok(Kind::Negative {
         from,
@@ -365,13 +342,12 @@ pub(crate) fn negative(
 
 // A fork's keys.
 #[tactic(auto, unfolding(crate::specs::KindTables::fork_of))]
-pub(crate) fn fork(place: Place, names: &IndexSet<Name>, table: &Table) -> Result<Kind, NetError>
-    requires { length names.now.keys ≤ 32 }
-    ensures { Gives (λ kind. kind) result (fork_of place names.now.keys (table_view table.now)) }
+pub(crate) fn fork(place: Place, known: &KnownQueues, table: &Table) -> Result<Kind, NetError>
+    ensures { Gives (λ kind. kind) result (fork_of place known.now.names.keys (table_view table.now)) }
 {
-    let from = read!(source(place, names, find(table, "from")));
+    let from = read!(source(place, known, find(table, "from")));
     let sources = queue_of_source(from);
-    let to = read!(required_targets(place, "to", names, &sources, find(table, "to")));
+    let to = read!(required_targets(place, "to", known, &sources, find(table, "to")));
     Ok(Kind::Fork { from, to })
 }
 
@@ -379,16 +355,15 @@ pub(crate) fn fork(place: Place, names: &IndexSet<Name>, table: &Table) -> Resul
 #[tactic(auto, unfolding(crate::specs::KindTables::joined_in))]
 fn joined(
     place: Place,
-    names: &IndexSet<Name>,
+    known: &KnownQueues,
     from: &Queues,
     value: Option<&Value>,
 ) -> Result<Option<u8>, NetError>
-    requires { length names.now.keys ≤ 32 }
-    ensures { Gives (λ to. to) result (optional None (joined_in place names.now.keys from.now) (seen value.entry)) }
+    ensures { Gives (λ to. to) result (optional None (joined_in place known.now.names.keys from.now) (seen value.entry)) }
 {
     match value {
         Some(value) => {
-            let queue = read!(target_in(place, "to", names, from, value));
+            let queue = read!(target_in(place, "to", known, from, value));
             Ok(Some(queue))
         }
         None => Ok(None),
@@ -397,11 +372,10 @@ fn joined(
 
 // A join's keys.
 #[tactic(auto, unfolding(crate::specs::KindTables::join_of))]
-pub(crate) fn join(place: Place, names: &IndexSet<Name>, table: &Table) -> Result<Kind, NetError>
-    requires { length names.now.keys ≤ 32 }
-    ensures { Gives (λ kind. kind) result (join_of place names.now.keys (table_view table.now)) }
+pub(crate) fn join(place: Place, known: &KnownQueues, table: &Table) -> Result<Kind, NetError>
+    ensures { Gives (λ kind. kind) result (join_of place known.now.names.keys (table_view table.now)) }
 {
-    let from = read!(required_targets(place, "from", names, &Queues::empty(), find(table, "from")));
-    let to = read!(joined(place, names, &from, find(table, "to")));
+    let from = read!(required_targets(place, "from", known, &Queues::empty(), find(table, "from")));
+    let to = read!(joined(place, known, &from, find(table, "to")));
     Ok(Kind::Join { from, to })
 }

@@ -31,6 +31,7 @@ mod expansion;
 mod generating;
 mod keys;
 mod kind_tables;
+mod known_queues;
 mod naming;
 mod network;
 mod part_tables;

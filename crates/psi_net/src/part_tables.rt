@@ -7,13 +7,11 @@ ghost use Rattle.psi_net.specs.Values.{seen, required, each};
 ghost use Rattle.psi_net.specs.PartTables.{part_table, part_queue, part_of, part_step, parts_in, guarded_of};
 
 use crate::keys::{elements_in, find, integer_or_zero, no_unknown, number_or, present, read};
-use crate::naming::Name;
+use crate::known_queues::KnownQueues;
 use crate::references::queue_in;
 use crate::refusals::{Cause, NetError, Place};
-use indexmap::IndexSet;
 use psi_guard::{Part, Parts};
 use psi_kinds::Kind;
-use psi_state::State;
 use toml::{Table, Value};
 
 // An element that is a table; another one is refused at the key `part`.
@@ -31,16 +29,15 @@ fn part_table(place: Place, value: &Value) -> Result<&Table, NetError>
 #[tactic(auto, unfolding(crate::specs::PartTables::part_queue))]
 fn part_queue(
     place: Place,
-    names: &IndexSet<Name>,
+    known: &KnownQueues,
     earlier: &Parts,
     value: Option<&Value>,
 ) -> Result<u8, NetError>
-    requires { length names.now.keys ≤ 32 }
-    ensures value { Gives (λ q. q) result (required place (codes "queue") (part_queue place names.now.keys earlier.now) (seen value.entry)) }
-    ensures within { IfOk result (λ q. q < length names.now.keys) }
+    ensures value { Gives (λ q. q) result (required place (codes "queue") (part_queue place known.now.names.keys earlier.now) (seen value.entry)) }
+    ensures within { IfOk result (λ q. q < length known.now.names.keys) }
 {
     let value = read!(present(place, "queue", value));
-    let queue = read!(queue_in(place, "queue", names, value));
+    let queue = read!(queue_in(place, "queue", known, value));
     if earlier.names(queue) {
         return Err(NetError::at_key(Cause::RepeatedTarget, place, "queue"));
     }
@@ -49,21 +46,13 @@ fn part_queue(
 
 // A part's table, with the parts before it.
 #[tactic(auto, unfolding(crate::specs::PartTables::part_of))]
-fn part(
-    place: Place,
-    names: &IndexSet<Name>,
-    caps: &State,
-    earlier: &Parts,
-    table: &Table,
-) -> Result<Part, NetError>
-    requires few { length names.now.keys ≤ 32 }
-    requires same { length names.now.keys ≡ length caps.now }
-    ensures { Gives (λ part. part) result (part_of place names.now.keys caps.now earlier.now (table_view table.now)) }
+fn part(place: Place, known: &KnownQueues, earlier: &Parts, table: &Table) -> Result<Part, NetError>
+    ensures { Gives (λ part. part) result (part_of place known.now.names.keys known.now.caps earlier.now (table_view table.now)) }
 {
     let keys = &["ceiling", "floor", "least", "most", "queue", "shift"];
     read!(no_unknown(place, keys, table));
-    let queue = read!(part_queue(place, names, earlier, find(table, "queue")));
-    let cap = caps.get(queue) as u32;
+    let queue = read!(part_queue(place, known, earlier, find(table, "queue")));
+    let cap = known.caps.get(queue) as u32;
     let least = read!(number_or(place, "least", 0, 0, cap, find(table, "least")));
     let most = read!(number_or(place, "most", cap, 0, cap, find(table, "most")));
     let shift = read!(integer_or_zero(place, "shift", 65535, find(table, "shift")));
@@ -89,72 +78,48 @@ fn part(
 #[tactic(auto, unfolding(crate::specs::PartTables::part_step))]
 fn push_part(
     place: Place,
-    names: &IndexSet<Name>,
-    caps: &State,
+    known: &KnownQueues,
     parts: &mut Parts,
     value: &Value,
 ) -> Result<(), NetError>
-    requires few { length names.now.keys ≤ 32 }
-    requires same { length names.now.keys ≡ length caps.now }
-    requires room { length parts.old < 32 }
-    ensures value { (n : ℕ) → Gives (λ _. parts.new) result (part_step place names.now.keys caps.now n parts.old (view value.now)) }
+    requires { length parts.old < 32 }
+    ensures value { (n : ℕ) → Gives (λ _. parts.new) result (part_step place known.now.names.keys known.now.caps n parts.old (view value.now)) }
     ensures count { OnOk result (length parts.new ≡ length parts.old + 1) }
 {
     let table = read!(part_table(place, value));
-    let part = read!(part(place, names, caps, parts, table));
+    let part = read!(part(place, known, parts, table));
     parts.push(part);
     Ok(())
 }
 
 // The parts of the array's elements.
 #[tactic(auto, using(crate::proofs::Turns::turn, crate::proofs::Turns::turn_fails, crate::proofs::Turns::turn_ends))]
-fn all_parts(
-    place: Place,
-    names: &IndexSet<Name>,
-    caps: &State,
-    values: &[Value],
-) -> Result<Parts, NetError>
-    requires few { length names.now.keys ≤ 32 }
-    requires same { length names.now.keys ≡ length caps.now }
-    requires count { length values.now ≤ 32 }
-    ensures { Gives (λ parts. parts) result (each (part_step place names.now.keys caps.now) 1 [] (map view values.now)) }
+fn all_parts(place: Place, known: &KnownQueues, values: &[Value]) -> Result<Parts, NetError>
+    requires { length values.now ≤ 32 }
+    ensures { Gives (λ parts. parts) result (each (part_step place known.now.names.keys known.now.caps) 1 [] (map view values.now)) }
 {
     let mut parts = Parts::empty();
     for value in values {
-        read!(push_part(place, names, caps, &mut parts, value));
+        read!(push_part(place, known, &mut parts, value));
     }
     Ok(parts)
 }
 
 // `part`: an array of 1 to 32 tables.
 #[tactic(auto, unfolding(crate::specs::PartTables::parts_in))]
-fn parts(
-    place: Place,
-    names: &IndexSet<Name>,
-    caps: &State,
-    value: Option<&Value>,
-) -> Result<Parts, NetError>
-    requires few { length names.now.keys ≤ 32 }
-    requires same { length names.now.keys ≡ length caps.now }
-    ensures { Gives (λ parts. parts) result (required place (codes "part") (parts_in place names.now.keys caps.now) (seen value.entry)) }
+fn parts(place: Place, known: &KnownQueues, value: Option<&Value>) -> Result<Parts, NetError>
+    ensures { Gives (λ parts. parts) result (required place (codes "part") (parts_in place known.now.names.keys known.now.caps) (seen value.entry)) }
 {
     let value = read!(present(place, "part", value));
     let values = read!(elements_in(place, "part", Cause::OutOfRange, 32, value));
-    all_parts(place, names, caps, values)
+    all_parts(place, known, values)
 }
 
 // A guarded event's keys.
 #[tactic(auto, unfolding(crate::specs::PartTables::guarded_of))]
-pub(crate) fn guarded(
-    place: Place,
-    names: &IndexSet<Name>,
-    caps: &State,
-    table: &Table,
-) -> Result<Kind, NetError>
-    requires few { length names.now.keys ≤ 32 }
-    requires same { length names.now.keys ≡ length caps.now }
-    ensures { Gives (λ kind. kind) result (guarded_of place names.now.keys caps.now (table_view table.now)) }
+pub(crate) fn guarded(place: Place, known: &KnownQueues, table: &Table) -> Result<Kind, NetError>
+    ensures { Gives (λ kind. kind) result (guarded_of place known.now.names.keys known.now.caps (table_view table.now)) }
 {
-    let parts = read!(parts(place, names, caps, find(table, "part")));
+    let parts = read!(parts(place, known, find(table, "part")));
     Ok(Kind::Guarded { parts })
 }

@@ -6,25 +6,26 @@ ghost use Rattle.std.specs.Str.{bytes_eq};
 ghost use Rattle.toml.specs.View.{view, table_view};
 ghost use Rattle.psi_net.specs.Refusal.{Gives, queue_place};
 ghost use Rattle.psi_net.specs.Values.{seen, each};
-ghost use Rattle.psi_net.specs.Kept.{AreListed};
 ghost use Rattle.psi_net.specs.QueueTables.{unless_taken, queue_of, queue_step, queues_in, queues_of};
 
+use crate::building::capacities;
 use crate::entries::Queue;
 use crate::keys::{
     elements_in, find, no_unknown, number_or, present, read, required_name, required_number,
     table_in,
 };
+use crate::known_queues::KnownQueues;
 use crate::naming::Name;
 use crate::refusals::{Cause, NetError, Place, Section};
 use indexmap::IndexSet;
 use std::alloc::Global;
 use toml::{Table, Value};
 
-/// The queues of a network, and their names.
+// The queues of a file, and their names.
 #[derive(Drop)]
-pub(crate) struct QueueList {
-    pub(crate) names: IndexSet<Name>,
-    pub(crate) queues: Vec<Queue>,
+struct QueueList {
+    names: IndexSet<Name>,
+    queues: Vec<Queue>,
 }
 
 // No earlier table of the section has the name.
@@ -122,13 +123,15 @@ fn listed_queues(alloc: Global, value: Option<&Value>) -> Result<QueueList, NetE
     all_queues(alloc, values)
 }
 
-// The same, with what the queues keep.
-#[tactic(auto, using(crate::proofs::KeptQueues::queues_kept))]
-pub(crate) fn queues(alloc: Global, value: Option<&Value>) -> Result<QueueList, NetError>
-    ensures value { Gives (λ list. list.queues.items) result (queues_of (seen value.entry)) }
-    ensures names { IfOk result (λ list. list.names.keys ≡ map (λ q. q.name) list.queues.items) }
-    ensures kept { IfOk result (λ list. AreListed list.queues.items) }
+// The same queues, as the rest of the file may name them.
+pub(crate) fn queues(alloc: Global, value: Option<&Value>) -> Result<KnownQueues, NetError>
+    ensures { Gives (λ known. known.queues.items) result (queues_of (seen value.entry)) }
 {
     let list = read!(listed_queues(alloc, value));
-    Ok(list)
+    let caps = capacities(list.queues.as_slice());
+    Ok(KnownQueues {
+        queues: list.queues,
+        names: list.names,
+        caps,
+    })
 }

@@ -7,7 +7,6 @@ ghost use Rattle.psi_net.specs.Values.{seen, required};
 ghost use Rattle.psi_net.specs.Draft.{drafted, IsWhole};
 ghost use Rattle.psi_net.specs.Reading.{version_in, most_limit, network_at, file_text, text_network, network_of};
 
-use crate::building::capacities;
 use crate::entries::Draft;
 use crate::event_tables::events;
 use crate::keys::{find, no_unknown, number_or, present, read};
@@ -55,27 +54,23 @@ fn most_limit(version: u32) -> u32
 }
 
 // The top of a document, which stands at this place.
-#[tactic(auto, using(crate::proofs::KeptQueues::names_few, crate::proofs::KeptQueues::names_same), unfolding(crate::specs::Reading::network_at))]
+#[tactic(auto, unfolding(crate::specs::Reading::network_at))]
 fn document(alloc: Global, place: Place, table: &Table) -> Result<Draft, NetError>
     ensures network { Gives drafted result (network_at place (table_view table.now)) }
     ensures whole { IfOk result IsWhole }
 {
     let version = read!(version(find(table, "version")));
-    let known = &["event", "limit", "queue", "reward", "split", "version"];
-    read!(no_unknown(place, known, table));
+    let keys = &["event", "limit", "queue", "reward", "split", "version"];
+    read!(no_unknown(place, keys, table));
     let most = most_limit(version);
     let limit = read!(number_or(place, "limit", 18, 0, most, find(table, "limit")));
     let split = read!(number_or(place, "split", 256, 1, 4096, find(table, "split")));
-    let list = read!(queues(alloc, find(table, "queue")));
-    let queues = list.queues;
-    let names = list.names;
-    let caps = capacities(queues.as_slice());
-    let value = find(table, "event");
-    let events = read!(events(alloc, version, &names, queues.as_slice(), &caps, value));
-    let rewards = read!(rewards(alloc, &names, &caps, find(table, "reward")));
+    let known = read!(queues(alloc, find(table, "queue")));
+    let events = read!(events(alloc, version, &known, find(table, "event")));
+    let rewards = read!(rewards(alloc, &known, find(table, "reward")));
     Ok(Draft {
-        queues,
-        caps,
+        queues: known.queues,
+        caps: known.caps,
         events,
         limit: limit as u8,
         split: split as u16,

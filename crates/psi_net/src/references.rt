@@ -1,6 +1,6 @@
 //! References to queues: by one name, or by a list of names.
 
-ghost use Rattle.std.specs.Prelude.{◌≡◌, ◌≤◌, ◌<◌, ℕ, [], length, map, IfOk, OnOk};
+ghost use Rattle.std.specs.Prelude.{◌≡◌, ◌<◌, ℕ, [], length, map, IfOk, OnOk};
 ghost use Rattle.toml.specs.View.{view};
 ghost use Rattle.psi_net.specs.Name.{name_of};
 ghost use Rattle.psi_net.specs.Refusal.{Gives};
@@ -9,18 +9,18 @@ ghost use Rattle.psi_net.specs.References.{number_of, queue_in, target_in, targe
 ghost use Rattle.psi_net.specs.Targets.{AreTargets};
 
 use crate::keys::{array_in, read, text_in};
-use crate::naming::{Name, name_of};
+use crate::known_queues::KnownQueues;
+use crate::naming::name_of;
 use crate::refusals::{Cause, NetError, Place};
-use indexmap::IndexSet;
 use psi_state::Queues;
 use toml::Value;
 
 // The number of the queue that a text names.
-fn number_of(names: &IndexSet<Name>, text: &str) -> Option<usize>
-    ensures { result ≡ number_of names.now.keys (name_of text.now) }
+fn number_of(known: &KnownQueues, text: &str) -> Option<usize>
+    ensures { result ≡ number_of known.now.names.keys (name_of text.now) }
 {
     match name_of(text) {
-        Some(name) => names.get_index_of(&name),
+        Some(name) => known.names.get_index_of(&name),
         None => None,
     }
 }
@@ -30,15 +30,14 @@ fn number_of(names: &IndexSet<Name>, text: &str) -> Option<usize>
 pub(crate) fn queue_in(
     place: Place,
     key: &str,
-    names: &IndexSet<Name>,
+    known: &KnownQueues,
     value: &Value,
 ) -> Result<u8, NetError>
-    requires { length names.now.keys ≤ 32 }
-    ensures value { Gives (λ q. q) result (queue_in place key.now names.now.keys (view value.now)) }
-    ensures within { IfOk result (λ q. q < length names.now.keys) }
+    ensures value { Gives (λ q. q) result (queue_in place key.now known.now.names.keys (view value.now)) }
+    ensures within { IfOk result (λ q. q < length known.now.names.keys) }
 {
     let text = read!(text_in(place, key, value));
-    match number_of(names, text) {
+    match number_of(known, text) {
         Some(number) => Ok(number as u8),
         None => Err(NetError::at_key(Cause::UnknownQueue, place, key)),
     }
@@ -49,15 +48,14 @@ pub(crate) fn queue_in(
 pub(crate) fn target_in(
     place: Place,
     key: &str,
-    names: &IndexSet<Name>,
+    known: &KnownQueues,
     sources: &Queues,
     value: &Value,
 ) -> Result<u8, NetError>
-    requires { length names.now.keys ≤ 32 }
-    ensures value { Gives (λ q. q) result (target_in place key.now names.now.keys sources.now (view value.now)) }
-    ensures within { IfOk result (λ q. q < length names.now.keys) }
+    ensures value { Gives (λ q. q) result (target_in place key.now known.now.names.keys sources.now (view value.now)) }
+    ensures within { IfOk result (λ q. q < length known.now.names.keys) }
 {
-    let queue = read!(queue_in(place, key, names, value));
+    let queue = read!(queue_in(place, key, known, value));
     if sources.contains(queue) {
         return Err(NetError::at_key(Cause::SelfTarget, place, key));
     }
@@ -70,17 +68,16 @@ pub(crate) fn target_in(
 fn push_target(
     place: Place,
     key: &str,
-    names: &IndexSet<Name>,
+    known: &KnownQueues,
     sources: &Queues,
     earlier: &mut Queues,
     value: &Value,
 ) -> Result<(), NetError>
-    requires few { length names.now.keys ≤ 32 }
-    requires valid { AreTargets (length names.now.keys) sources.now earlier.old }
-    ensures value { (n : ℕ) → Gives (λ _. earlier.new) result (target_step place key.now names.now.keys sources.now n earlier.old (view value.now)) }
-    ensures valid { OnOk result (AreTargets (length names.now.keys) sources.now earlier.new) }
+    requires { AreTargets (length known.now.names.keys) sources.now earlier.old }
+    ensures value { (n : ℕ) → Gives (λ _. earlier.new) result (target_step place key.now known.now.names.keys sources.now n earlier.old (view value.now)) }
+    ensures valid { OnOk result (AreTargets (length known.now.names.keys) sources.now earlier.new) }
 {
-    let queue = read!(queue_in(place, key, names, value));
+    let queue = read!(queue_in(place, key, known, value));
     if earlier.contains(queue) {
         return Err(NetError::at_key(Cause::RepeatedTarget, place, key));
     }
@@ -96,17 +93,16 @@ fn push_target(
 fn all_targets(
     place: Place,
     key: &str,
-    names: &IndexSet<Name>,
+    known: &KnownQueues,
     sources: &Queues,
     values: &[Value],
 ) -> Result<Queues, NetError>
-    requires { length names.now.keys ≤ 32 }
-    ensures value { Gives (λ qs. qs) result (each (target_step place key.now names.now.keys sources.now) 1 [] (map view values.now)) }
-    ensures valid { IfOk result (AreTargets (length names.now.keys) sources.now) }
+    ensures value { Gives (λ qs. qs) result (each (target_step place key.now known.now.names.keys sources.now) 1 [] (map view values.now)) }
+    ensures valid { IfOk result (AreTargets (length known.now.names.keys) sources.now) }
 {
     let mut queues = Queues::empty();
     for value in values {
-        read!(push_target(place, key, names, sources, &mut queues, value));
+        read!(push_target(place, key, known, sources, &mut queues, value));
     }
     Ok(queues)
 }
@@ -116,16 +112,15 @@ fn all_targets(
 pub(crate) fn targets_in(
     place: Place,
     key: &str,
-    names: &IndexSet<Name>,
+    known: &KnownQueues,
     sources: &Queues,
     value: &Value,
 ) -> Result<Queues, NetError>
-    requires { length names.now.keys ≤ 32 }
-    ensures value { Gives (λ qs. qs) result (targets_in place key.now names.now.keys sources.now (view value.now)) }
-    ensures valid { IfOk result (AreTargets (length names.now.keys) sources.now) }
+    ensures value { Gives (λ qs. qs) result (targets_in place key.now known.now.names.keys sources.now (view value.now)) }
+    ensures valid { IfOk result (AreTargets (length known.now.names.keys) sources.now) }
 {
     let values = read!(array_in(place, key, value));
-    all_targets(place, key, names, sources, values)
+    all_targets(place, key, known, sources, values)
 }
 
 // A list of at least one name.
@@ -133,17 +128,16 @@ pub(crate) fn targets_in(
 pub(crate) fn some_targets_in(
     place: Place,
     key: &str,
-    names: &IndexSet<Name>,
+    known: &KnownQueues,
     sources: &Queues,
     value: &Value,
 ) -> Result<Queues, NetError>
-    requires { length names.now.keys ≤ 32 }
-    ensures value { Gives (λ qs. qs) result (some_targets_in place key.now names.now.keys sources.now (view value.now)) }
-    ensures valid { IfOk result (AreTargets (length names.now.keys) sources.now) }
+    ensures value { Gives (λ qs. qs) result (some_targets_in place key.now known.now.names.keys sources.now (view value.now)) }
+    ensures valid { IfOk result (AreTargets (length known.now.names.keys) sources.now) }
 {
     let values = read!(array_in(place, key, value));
     if values.is_empty() {
         return Err(NetError::at_key(Cause::OutOfRange, place, key));
     }
-    all_targets(place, key, names, sources, values)
+    all_targets(place, key, known, sources, values)
 }

@@ -18,6 +18,7 @@ use crate::keys::{
     array_in, find, integer_in, no_unknown, present, read, required_name, required_number,
     table_in, text_in,
 };
+use crate::known_queues::KnownQueues;
 use crate::naming::Name;
 use crate::queue_tables::unless_taken;
 use crate::references::some_targets_in;
@@ -236,15 +237,14 @@ fn worth(
 // `queues`: a list of at least one name.
 fn reward_queues(
     place: Place,
-    names: &IndexSet<Name>,
+    known: &KnownQueues,
     value: Option<&Value>,
 ) -> Result<Queues, NetError>
-    requires { length names.now.keys ≤ 32 }
-    ensures value { Gives (λ qs. qs) result (required place (codes "queues") (some_targets_in place (codes "queues") names.now.keys []) (seen value.entry)) }
-    ensures valid { IfOk result (AreTargets (length names.now.keys) []) }
+    ensures value { Gives (λ qs. qs) result (required place (codes "queues") (some_targets_in place (codes "queues") known.now.names.keys []) (seen value.entry)) }
+    ensures valid { IfOk result (AreTargets (length known.now.names.keys) []) }
 {
     let value = read!(present(place, "queues", value));
-    some_targets_in(place, "queues", names, &Queues::empty(), value)
+    some_targets_in(place, "queues", known, &Queues::empty(), value)
 }
 
 // The reward of a kind that isn't refused.
@@ -266,26 +266,22 @@ fn reward(
     alloc: Global,
     place: Place,
     earlier: &IndexSet<Name>,
-    names: &IndexSet<Name>,
-    caps: &State,
+    known: &KnownQueues,
     table: &Table,
 ) -> Result<NamedValue, NetError>
-    requires few { length names.now.keys ≤ 32 }
-    requires same { length names.now.keys ≡ length caps.now }
-    requires valid { AreCapacities caps.now }
-    ensures value { Gives named result (reward_of place earlier.now.keys names.now.keys caps.now (table_view table.now)) }
+    ensures value { Gives named result (reward_of place earlier.now.keys known.now.names.keys known.now.caps (table_view table.now)) }
     ensures fresh { IfOk result (λ value. list_any (bytes_eq value.name) earlier.now.keys ≡ false) }
-    ensures caps { IfOk result (λ value. value.reward.caps ≡ caps.now) }
+    ensures caps { IfOk result (λ value. value.reward.caps ≡ known.now.caps) }
 {
     let word = read!(reward_kind(place, find(table, "kind")));
     read!(no_unknown_reward_key(place, word, table));
     let name = read!(required_name(place, "name", find(table, "name")));
     read!(unless_taken(place, earlier, name));
-    let queues = read!(reward_queues(place, names, find(table, "queues")));
-    let kind = read!(worth(alloc, place, word, caps, queues, table));
+    let queues = read!(reward_queues(place, known, find(table, "queues")));
+    let kind = read!(worth(alloc, place, word, &known.caps, queues, table));
     Ok(NamedValue {
         name,
-        reward: valued(*caps, kind),
+        reward: valued(known.caps, kind),
     })
 }
 
@@ -294,27 +290,23 @@ fn reward(
 fn push_reward(
     alloc: Global,
     number: u32,
-    names: &IndexSet<Name>,
-    caps: &State,
+    known: &KnownQueues,
     earlier: &mut IndexSet<Name>,
     rewards: &mut Vec<NamedValue>,
     value: &Value,
 ) -> Result<(), NetError>
-    requires few { length names.now.keys ≤ 32 }
-    requires same { length names.now.keys ≡ length caps.now }
-    requires valid { AreCapacities caps.now }
     requires names { earlier.old.keys ≡ map (λ r. r.name) (map named rewards.old.items) }
-    requires caps { All (λ v. v.reward.caps ≡ caps.now) rewards.old.items }
-    ensures value { Gives (λ _. map named rewards.new.items) result (reward_step names.now.keys caps.now number (map named rewards.old.items) (view value.now)) }
+    requires caps { All (λ v. v.reward.caps ≡ known.now.caps) rewards.old.items }
+    ensures value { Gives (λ _. map named rewards.new.items) result (reward_step known.now.names.keys known.now.caps number (map named rewards.old.items) (view value.now)) }
     ensures names { OnOk result (earlier.new.keys ≡ map (λ r. r.name) (map named rewards.new.items)) }
-    ensures caps { OnOk result (All (λ v. v.reward.caps ≡ caps.now) rewards.new.items) }
+    ensures caps { OnOk result (All (λ v. v.reward.caps ≡ known.now.caps) rewards.new.items) }
 {
     let place = Place {
         section: Section::Reward,
         number,
     };
     let table = read!(table_in(place, value));
-    let reward = read!(reward(alloc, place, earlier, names, caps, table));
+    let reward = read!(reward(alloc, place, earlier, known, table));
     earlier.insert(reward.name)?;
     rewards.push(reward)?;
     Ok(())
@@ -324,30 +316,18 @@ fn push_reward(
 #[tactic(auto, using(crate::proofs::Turns::turn, crate::proofs::Turns::turn_fails, crate::proofs::Turns::turn_ends, crate::proofs::KeptRewards::no_caps))]
 fn all_rewards(
     alloc: Global,
-    names: &IndexSet<Name>,
-    caps: &State,
+    known: &KnownQueues,
     values: &[Value],
 ) -> Result<Vec<NamedValue>, NetError>
-    requires few { length names.now.keys ≤ 32 }
-    requires same { length names.now.keys ≡ length caps.now }
-    requires valid { AreCapacities caps.now }
-    requires count { length values.now ≤ 64 }
-    ensures value { Gives (λ rewards. map named rewards.items) result (each (reward_step names.now.keys caps.now) 1 [] (map view values.now)) }
-    ensures caps { IfOk result (λ rewards. All (λ v. v.reward.caps ≡ caps.now) rewards.items) }
+    requires { length values.now ≤ 64 }
+    ensures value { Gives (λ rewards. map named rewards.items) result (each (reward_step known.now.names.keys known.now.caps) 1 [] (map view values.now)) }
+    ensures caps { IfOk result (λ rewards. All (λ v. v.reward.caps ≡ known.now.caps) rewards.items) }
 {
     let mut earlier = IndexSet::new(alloc);
     let mut rewards = Vec::new(alloc);
     for (index, value) in values.iter().enumerate() {
         let number = index as u32 + 1;
-        read!(push_reward(
-            alloc,
-            number,
-            names,
-            caps,
-            &mut earlier,
-            &mut rewards,
-            value
-        ));
+        read!(push_reward(alloc, number, known, &mut earlier, &mut rewards, value));
     }
     Ok(rewards)
 }
@@ -356,15 +336,11 @@ fn all_rewards(
 #[tactic(auto, using(crate::proofs::KeptRewards::no_caps), unfolding(crate::specs::RewardTables::rewards_in))]
 pub(crate) fn rewards(
     alloc: Global,
-    names: &IndexSet<Name>,
-    caps: &State,
+    known: &KnownQueues,
     value: Option<&Value>,
 ) -> Result<Vec<NamedValue>, NetError>
-    requires few { length names.now.keys ≤ 32 }
-    requires same { length names.now.keys ≡ length caps.now }
-    requires valid { AreCapacities caps.now }
-    ensures value { Gives (λ rewards. map named rewards.items) result (rewards_of names.now.keys caps.now (seen value.entry)) }
-    ensures caps { IfOk result (λ rewards. All (λ v. v.reward.caps ≡ caps.now) rewards.items) }
+    ensures value { Gives (λ rewards. map named rewards.items) result (rewards_of known.now.names.keys known.now.caps (seen value.entry)) }
+    ensures caps { IfOk result (λ rewards. All (λ v. v.reward.caps ≡ known.now.caps) rewards.items) }
 {
     match value {
         Some(value) => {
@@ -372,7 +348,7 @@ pub(crate) fn rewards(
             if values.len() > 64 {
                 return Err(NetError::at_key(Cause::TooMany, Place::top(), "reward"));
             }
-            all_rewards(alloc, names, caps, values)
+            all_rewards(alloc, known, values)
         }
         None => Ok(Vec::new(alloc)),
     }

@@ -8,5 +8,5 @@ use Rattle.psi_net.proofs.event_tables.all_events.Given as goal
 
 abbrev pub invariant-loop-index : goal.invariant-loop-index
 invariant-loop-index l =
-    (each (event_step l.version l.queues) (l.index + 1) (listed l.list) (map view (drop l.index l.values)) ≡ each (event_step l.version l.queues) 1 (record { names = []; events = [] }) (map view l.values))
+    (each (event_step l.version l.known.queues.items) (l.index + 1) (listed l.list) (map view (drop l.index l.values)) ≡ each (event_step l.version l.known.queues.items) 1 (record { names = []; events = [] }) (map view l.values))
     × IsCounted l.list.events.items l.list.values l.list.rates

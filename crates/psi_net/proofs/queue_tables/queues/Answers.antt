@@ -1,5 +1,21 @@
-use Rattle.psi_net.proofs.KeptQueues.{queues_kept}
+use Rattle.std.proofs.Common.{List, map, ap, sym, ◌∙◌, subst}
+use Rattle.psi_net.specs.Kept.{AreListed}
+use Rattle.psi_net.specs.declared.entries.Queue.{Queue}
+use Rattle.psi_net.proofs.KeptQueues.{queues_kept, names_few, names_same}
 use Rattle.psi_net.proofs.queue_tables.queues.Goals as goal
 
-pub returns-clause-kept : goal.returns-clause-kept
-returns-clause-kept c = queues_kept _ _ c.in-Ok.ensures.value
+pub capacities-caps-requires : goal.capacities-caps-requires
+capacities-caps-requires c = subst (λ (qs : List Queue). AreListed qs) (sym c.as_slice.ensures.value) (queues_kept _ _ c.in-Ok.ensures.value)
+
+pub invariant_of-result : goal.invariant_of-result
+invariant_of-result c =
+    let listed = queues_kept _ _ c.in-Ok.ensures.value in
+    let held = c.capacities-caps.ensures.value ∙ ap (λ (qs : List Queue). map (λ (q : Queue). q.capacity) qs) c.as_slice.ensures.value in
+    record {
+      listed = listed;
+      named = c.in-Ok.ensures.names;
+      held = held;
+      few = names_few _ _ listed c.in-Ok.ensures.names;
+      same = names_same _ _ _ c.in-Ok.ensures.names held;
+      valid = c.capacities-caps.ensures.valid;
+    }
