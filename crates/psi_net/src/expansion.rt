@@ -64,10 +64,7 @@ fn tables_again(alloc: Global, tables: &Tables) -> Result<Tables, NetError>
     let mut copy = Tables::new(alloc);
     for place in 0..tables.len() {
         let row = Vec::from_slice(alloc, tables.row(place))?;
-        match copy.push(row) {
-            Ok(()) => (),
-            Err(_) => return Err(NetError::OutOfMemory),
-        }
+        copy.push(row)?;
     }
     Ok(copy)
 }

@@ -154,10 +154,8 @@ fn push_row(
         return Err(NetError::at_key(Cause::TableLength, place, "table"));
     }
     let row = read!(all_numbers(alloc, place, values));
-    match rows.push(row) {
-        Ok(()) => Ok(()),
-        Err(_) => Err(NetError::OutOfMemory),
-    }
+    rows.push(row)?;
+    Ok(())
 }
 
 // The rows of an index's table.

@@ -176,6 +176,22 @@ impl From<AllocError> for NetError {
     }
 }
 
+impl From<psi_kinds::OutOfMemory> for NetError {
+    ghost from_gives = { λ _ error. error ≡ OutOfMemory };
+
+    fn from(_error: psi_kinds::OutOfMemory) -> NetError {
+        NetError::OutOfMemory
+    }
+}
+
+impl From<psi_reward::OutOfMemory> for NetError {
+    ghost from_gives = { λ _ error. error ≡ OutOfMemory };
+
+    fn from(_error: psi_reward::OutOfMemory) -> NetError {
+        NetError::OutOfMemory
+    }
+}
+
 impl<T: Drop> From<AllocFailed<T>> for NetError {
     ghost from_gives = { λ _ error. error ≡ OutOfMemory };
 

@@ -89,10 +89,8 @@ fn push_integer(
     ensures { (n : ℕ) → Gives (λ _. numbers.new) result (integer_step place key.now n numbers.old (view value.now)) }
 {
     let number = read!(integer_in(place, key, MOST_NUMBER, value));
-    match numbers.push(number) {
-        Ok(()) => Ok(()),
-        Err(_) => Err(NetError::OutOfMemory),
-    }
+    numbers.push(number)?;
+    Ok(())
 }
 
 // The integers of an array.
@@ -153,10 +151,8 @@ fn push_grid_row(
         return Err(NetError::at_key(Cause::TableLength, place, "table"));
     }
     let row = read!(all_integers(alloc, place, "table", values));
-    match rows.push(row) {
-        Ok(()) => Ok(()),
-        Err(_) => Err(NetError::OutOfMemory),
-    }
+    rows.push(row)?;
+    Ok(())
 }
 
 // The rows of `table`.
