@@ -10,7 +10,7 @@ use Rattle.psi_net.specs.Values.{no_unknown, required, optional, number_in, arra
 use Rattle.psi_net.specs.QueueTables.{queues_of}
 use Rattle.psi_net.specs.EventTables.{events_of}
 use Rattle.psi_net.specs.RewardTables.{reward_of, reward_step, rewards_in, rewards_of}
-use Rattle.psi_net.specs.Reading.{version_in, top_keys, most_limit, default_limit, default_split, network_at, document_network, text_network}
+use Rattle.psi_net.specs.Reading.{version_in, top_keys, most_limit, default_limit, default_split, document_network, text_network}
 use Rattle.psi_net.specs.Kept.{IsNetwork}
 use Rattle.psi_net.specs.declared.refusals.Cause.TheVariants.{NotToml}
 use Rattle.psi_net.proofs.Readings.{bind_ok, ok_same, held, optional_kept, number_range, each_kept}
@@ -50,7 +50,7 @@ record IsSplit (n : ℕ) : Type 0 where
 
 -- a document's network can be sampled
 document_kept : (ms : Members) (net : Network) → document_network ms ≡ Ok net → IsNetwork net
-unfolding network_at
+unfolding document_network
 document_kept ms net h =
     let version = bind_ok (required top (codes "version") version_in (get_member (codes "version") ms)) _ net h in
     let known = bind_ok (no_unknown top top_keys ms) _ net version.2 in

@@ -11,7 +11,6 @@ use Rattle.psi_net.specs.QueueTables.{queues_of}
 use Rattle.psi_net.specs.EventTables.{events_of}
 use Rattle.psi_net.specs.RewardTables.{rewards_of}
 use Rattle.psi_net.specs.declared.refusals.Cause.TheVariants.{TooLong, NotToml, Version, WrongType}
-use Rattle.psi_net.specs.declared.refusals.Place.{Place}
 use Rattle.psi_net.specs.declared.refusals.NetRefusal.{NetRefusal}
 
 -- `version`: the integer 1 or 2
@@ -36,21 +35,17 @@ default_limit = 18
 abbrev pub default_split : ℕ
 default_split = 256
 
--- the top of a document, which stands at this place
-unfoldable pub network_at : Place → Members → Result Network NetRefusal
-network_at place ms = do
+-- the network of a document
+unfoldable pub document_network : Members → Result Network NetRefusal
+document_network ms = do
   version ← required top (codes "version") version_in (get_member (codes "version") ms)
-  known ← no_unknown place top_keys ms
-  limit ← optional default_limit (number_in place (codes "limit") 0 (most_limit version)) (get_member (codes "limit") ms)
-  split ← optional default_split (number_in place (codes "split") 1 4096) (get_member (codes "split") ms)
+  known ← no_unknown top top_keys ms
+  limit ← optional default_limit (number_in top (codes "limit") 0 (most_limit version)) (get_member (codes "limit") ms)
+  split ← optional default_split (number_in top (codes "split") 1 4096) (get_member (codes "split") ms)
   queues ← queues_of (get_member (codes "queue") ms)
   events ← events_of version queues (get_member (codes "event") ms)
   rewards ← rewards_of (map (λ q. q.name) queues) (map (λ q. q.capacity) queues) (get_member (codes "reward") ms)
   Ok (record { queues = queues; events = events; limit = limit; split = split; rewards = rewards })
-
--- the network of a document
-abbrev pub document_network : Members → Result Network NetRefusal
-document_network ms = network_at top ms
 
 -- the most bytes that a file may have
 abbrev pub most_bytes : ℕ

@@ -277,10 +277,10 @@ pub(crate) fn events(
 {
     match value {
         Some(value) => {
-            let values = read!(elements_in(Place::top(), "event", Cause::NoEvents, 1024, value));
+            let values = read!(elements_in(Place::TOP, "event", Cause::NoEvents, 1024, value));
             let list = read!(all_events(alloc, version, known, values));
             Ok(list.events)
         }
-        None => Err(NetError::at_key(Cause::NoEvents, Place::top(), "event")),
+        None => Err(NetError::at_key(Cause::NoEvents, Place::TOP, "event")),
     }
 }

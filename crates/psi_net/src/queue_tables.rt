@@ -118,8 +118,8 @@ fn listed_queues(alloc: Global, value: Option<&Value>) -> Result<QueueList, NetE
     ensures value { Gives (λ list. list.queues.items) result (queues_of (seen value.entry)) }
     ensures names { IfOk result (λ list. list.names.keys ≡ map (λ q. q.name) list.queues.items) }
 {
-    let value = read!(present(Place::top(), "queue", value));
-    let values = read!(elements_in(Place::top(), "queue", Cause::MissingKey, 32, value));
+    let value = read!(present(Place::TOP, "queue", value));
+    let values = read!(elements_in(Place::TOP, "queue", Cause::MissingKey, 32, value));
     all_queues(alloc, values)
 }
 

@@ -5,7 +5,7 @@ ghost use Rattle.psi_net.specs.Refusal.{Gives, IsNetError, top};
 ghost use Rattle.toml.specs.View.{view, table_view};
 ghost use Rattle.psi_net.specs.Values.{seen, required};
 ghost use Rattle.psi_net.specs.Draft.{drafted, IsWhole};
-ghost use Rattle.psi_net.specs.Reading.{version_in, most_limit, network_at, file_text, text_network, network_of};
+ghost use Rattle.psi_net.specs.Reading.{version_in, most_limit, document_network, file_text, text_network, network_of};
 
 use crate::entries::Draft;
 use crate::event_tables::events;
@@ -28,10 +28,10 @@ fn version_in(value: &Value) -> Result<u32, NetError>
             if *number == 1 || *number == 2 {
                 Ok(*number as u32)
             } else {
-                Err(NetError::at_key(Cause::Version, Place::top(), "version"))
+                Err(NetError::at_key(Cause::Version, Place::TOP, "version"))
             }
         }
-        _ => Err(NetError::at_key(Cause::WrongType, Place::top(), "version")),
+        _ => Err(NetError::at_key(Cause::WrongType, Place::TOP, "version")),
     }
 }
 
@@ -40,7 +40,7 @@ fn version(value: Option<&Value>) -> Result<u32, NetError>
     ensures value { Gives (λ n. n) result (required top (codes "version") version_in (seen value.entry)) }
     ensures range { IfOk result (λ n. (1 ≤ n) × (n ≤ 2)) }
 {
-    let value = read!(present(Place::top(), "version", value));
+    let value = read!(present(Place::TOP, "version", value));
     version_in(value)
 }
 
@@ -53,18 +53,18 @@ fn most_limit(version: u32) -> u32
     if version == 1 { 20 } else { 22 }
 }
 
-// The top of a document, which stands at this place.
-#[tactic(auto, unfolding(crate::specs::Reading::network_at))]
-fn document(alloc: Global, place: Place, table: &Table) -> Result<Draft, NetError>
-    ensures network { Gives drafted result (network_at place (table_view table.now)) }
+// The network that a document says.
+#[tactic(auto, unfolding(crate::specs::Reading::document_network))]
+fn document(alloc: Global, table: &Table) -> Result<Draft, NetError>
+    ensures network { Gives drafted result (document_network (table_view table.now)) }
     ensures whole { IfOk result IsWhole }
 {
     let version = read!(version(find(table, "version")));
     let keys = &["event", "limit", "queue", "reward", "split", "version"];
-    read!(no_unknown(place, keys, table));
+    read!(no_unknown(Place::TOP, keys, table));
     let most = most_limit(version);
-    let limit = read!(number_or(place, "limit", 18, 0, most, find(table, "limit")));
-    let split = read!(number_or(place, "split", 256, 1, 4096, find(table, "split")));
+    let limit = read!(number_or(Place::TOP, "limit", 18, 0, most, find(table, "limit")));
+    let split = read!(number_or(Place::TOP, "split", 256, 1, 4096, find(table, "split")));
     let known = read!(queues(alloc, find(table, "queue")));
     let events = read!(events(alloc, version, &known, find(table, "event")));
     let rewards = read!(rewards(alloc, &known, find(table, "reward")));
@@ -84,11 +84,11 @@ fn file_text(bytes: &[u8]) -> Result<&str, NetError>
     ensures { Gives (λ text. text.now) result (file_text bytes.now) }
 {
     if bytes.len() > 1048576 {
-        return Err(NetError::at_place(Cause::TooLong, Place::top()));
+        return Err(NetError::at_place(Cause::TooLong, Place::TOP));
     }
     match std::str::from_utf8(bytes) {
         Ok(text) => Ok(text),
-        Err(_) => Err(NetError::at_place(Cause::NotToml, Place::top())),
+        Err(_) => Err(NetError::at_place(Cause::NotToml, Place::TOP)),
     }
 }
 
@@ -99,12 +99,12 @@ fn text_draft(alloc: Global, text: &str) -> Result<Draft, NetError>
     ensures whole { IfOk result IsWhole }
 {
     match toml::table_from_str(alloc, text) {
-        Ok(table) => document(alloc, Place::top(), &table),
+        Ok(table) => document(alloc, &table),
         Err(error) => {
             if error.is_memory() {
                 Err(NetError::OutOfMemory)
             } else {
-                Err(NetError::at_place(Cause::NotToml, Place::top()))
+                Err(NetError::at_place(Cause::NotToml, Place::TOP))
             }
         }
     }

@@ -127,17 +127,11 @@ pub(crate) struct Place {
 }
 
 impl Place {
-    ghost use Rattle.psi_net.specs.Refusal.{top};
-
     // The file as a whole.
-    pub(crate) fn top() -> Place
-        ensures { result ≡ top }
-    {
-        Place {
-            section: Section::Top,
-            number: 0,
-        }
-    }
+    pub(crate) const TOP: Place = Place {
+        section: Section::Top,
+        number: 0,
+    };
 }
 
 impl NetError {

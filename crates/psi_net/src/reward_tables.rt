@@ -340,9 +340,9 @@ pub(crate) fn rewards(
 {
     match value {
         Some(value) => {
-            let values = read!(array_in(Place::top(), "reward", value));
+            let values = read!(array_in(Place::TOP, "reward", value));
             if values.len() > 64 {
-                return Err(NetError::at_key(Cause::TooMany, Place::top(), "reward"));
+                return Err(NetError::at_key(Cause::TooMany, Place::TOP, "reward"));
             }
             all_rewards(alloc, known, values)
         }
