@@ -1,5 +1,6 @@
 pub mod Cells
 pub mod Lists
+pub mod UnknownKeys
 pub mod Turns
 pub mod Texts
 pub mod Found

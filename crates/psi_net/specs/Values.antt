@@ -1,8 +1,10 @@
 -- The values of a document: each reading takes what a look-up found, and gives a value or the first refusal.
-use Rattle.std.specs.Prelude.{ℕ, ◌+◌, ℤ, pos, negsuc, List, [], ◌∷◌, length, ◌&&◌, nat_lt, nat_le, Option, Some, None, option_map, Result, Ok, Err, if◌then◌else◌}
+use Rattle.std.specs.Prelude.{ℕ, ◌+◌, ℤ, pos, negsuc, List, [], ◌∷◌, length, filter, not, ◌&&◌, nat_lt, nat_le, Option, Some, None, option_map, Result, Ok, Err, if◌then◌else◌}
 use Rattle.std.proofs.Common.{Bor}
 use Rattle.std.specs.Int.RustNames.{unsigned_abs}
+use Rattle.std.specs.Cmp.Lexicographic.{slice_cmp}
 use Rattle.std.specs.List.{list_any}
+use Rattle.std.specs.Ordering.{nat_cmp, is_lt}
 use Rattle.std.specs.Str.{bytes_eq}
 use Rattle.toml.specs.Data.{Data, string, integer, array, table, Items, no_items, item, Members, no_members, member}
 use Rattle.toml.specs.View.{view}
@@ -27,14 +29,23 @@ abbrev pub member_keys : Members → List (List ℕ)
 member_keys no_members = []
 member_keys (member key d ms) = key ∷ member_keys ms
 
--- the first key that isn't among those known; the keys of a document's table stand in byte order
-unfoldable pub unknown_among : Place → List (List ℕ) → List (List ℕ) → Result (Unit {0}) NetRefusal
-unknown_among place known [] = Ok tt
-unknown_among place known (key ∷ keys) = if list_any (bytes_eq key) known then unknown_among place known keys else Err (at_key UnknownKey place key)
+-- the keys that aren't among those known
+abbrev pub unknown_keys : List (List ℕ) → List (List ℕ) → List (List ℕ)
+unknown_keys known keys = filter (λ key. not (list_any (bytes_eq key) known)) keys
+
+-- the least in byte order of a key and others
+abbrev pub least_key : List ℕ → List (List ℕ) → List ℕ
+least_key key [] = key
+least_key key (other ∷ others) = least_key (if is_lt (slice_cmp nat_cmp other key) then other else key) others
+
+-- of unknown keys the least in byte order is refused
+abbrev pub unless_unknown : Place → List (List ℕ) → Result (Unit {0}) NetRefusal
+unless_unknown place [] = Ok tt
+unless_unknown place (key ∷ keys) = Err (at_key UnknownKey place (least_key key keys))
 
 -- the table has no other keys than these
 unfoldable pub no_unknown : Place → List (List ℕ) → Members → Result (Unit {0}) NetRefusal
-no_unknown place known ms = unknown_among place known (member_keys ms)
+no_unknown place known ms = unless_unknown place (unknown_keys known (member_keys ms))
 
 -- a required key: missing, or its value is read
 abbrev pub required : {A : Type 0} → Place → List ℕ → (Data → Result A NetRefusal) → Option Data → Result A NetRefusal

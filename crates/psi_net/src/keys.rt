@@ -42,8 +42,8 @@ fn is_known(known: &[&str], key: &str) -> bool
     known.iter().any(|other| key == *other)
 }
 
-// The table has no other keys than these.
-#[tactic(auto, using(crate::proofs::Lists::unknown_none, crate::proofs::Lists::keys_of_table), unfolding(crate::specs::Values::no_unknown))]
+// The table has no other keys than these. Its keys stand in byte order.
+#[tactic(auto, using(crate::proofs::UnknownKeys::keys_of_table), unfolding(crate::specs::Values::no_unknown))]
 pub(crate) fn no_unknown(place: Place, known: &[&str], table: &Table) -> Result<(), NetError>
     ensures { Gives (λ _. tt) result (no_unknown place (map (λ k. k.now) known.now) (table_view table.now)) }
 {
