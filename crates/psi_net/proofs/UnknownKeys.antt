@@ -1,5 +1,5 @@
 -- The unknown keys of a table, as a loop over its keys finds them.
-use Rattle.std.proofs.Common.{◌≡◌, ℕ, List, [], ◌∷◌, map, Bool, true, false, ◌||◌, Err, Result, String, Global, Less, nat_cmp, string_bytes, Bor, refl, ap, sym, ◌∙◌, subst}
+use Rattle.std.proofs.Common.{◌≡◌, ℕ, List, [], ◌∷◌, ◌++◌, map, Bool, true, false, ◌||◌, Err, Result, String, Global, Less, nat_cmp, string_bytes, Bor, refl, ap, sym, ◌∙◌, subst}
 use Rattle.std.specs.Cmp.Lexicographic.{slice_cmp}
 use Rattle.std.specs.Ordering.{is_lt}
 use Rattle.std.specs.List.{list_any, AllByRecursion}
@@ -8,6 +8,7 @@ use Rattle.std.specs.Map.{keys_of}
 use Rattle.std.specs.Str.{bytes_eq}
 use Rattle.std.specs.String.{string_cmp}
 use Rattle.std.proofs.lemmas.Cmp.{nat_list_cmp_total}
+use Rattle.std.proofs.lemmas.List.Folds.{list_any-append}
 use Rattle.toml.specs.View.{members_view}
 use Rattle.toml.specs.declared.value.Value.{Value}
 use Rattle.psi_net.specs.Values.{member_keys, unknown_keys, least_key, unless_unknown}
@@ -21,9 +22,14 @@ keys_of_table [] = refl
 keys_of_table (e ∷ entries) = ap (λ (ks : List (List ℕ)). string_bytes e.0 ∷ ks) (keys_of_table entries)
 
 -- a key among those of the code's list
-pub any_known : (key : List ℕ) (known : List (Bor (List ℕ))) → list_any (bytes_eq key) (map (λ k. k.now) known) ≡ list_any (λ k. bytes_eq key k.now) known
+any_known : (key : List ℕ) (known : List (Bor (List ℕ))) → list_any (bytes_eq key) (map (λ k. k.now) known) ≡ list_any (λ k. bytes_eq key k.now) known
 any_known key [] = refl
 any_known key (k ∷ known) = ap (λ (b : Bool). bytes_eq key k.now || b) (any_known key known)
+
+-- a key among those of two lists
+pub known_either : (key : List ℕ) (common own : List (Bor (List ℕ)))
+    → list_any (bytes_eq key) (map (λ k. k.now) common ++ map (λ k. k.now) own) ≡ list_any (λ k. bytes_eq key k.now) common || list_any (λ k. bytes_eq key k.now) own
+known_either key common own = list_any-append (bytes_eq key) (map (λ k. k.now) common) (map (λ k. k.now) own) ∙ rw (any_known key common, any_known key own) refl
 
 later : (key other : List ℕ) → slice_cmp nat_cmp key other ≡ Less → is_lt (slice_cmp nat_cmp other key) ≡ false
 later key other h = rw (nat_list_cmp_total.antisymm other key, h) refl

@@ -37,18 +37,22 @@ kind_in place version d = do
   text ← text_in place (codes "kind") d
   ok_or (kind_named version text) (at_key UnknownKind place (codes "kind"))
 
+-- the keys that only events of some kinds have
+abbrev pub own_keys : KindWord → List (List ℕ)
+own_keys word.Arrival = codes "to" ∷ []
+own_keys word.Service = codes "from" ∷ codes "to" ∷ codes "full" ∷ []
+own_keys word.Index = codes "from" ∷ codes "to" ∷ codes "table" ∷ codes "full" ∷ codes "size" ∷ []
+own_keys word.Batch = codes "to" ∷ codes "size" ∷ []
+own_keys word.Negative = codes "from" ∷ codes "on" ∷ codes "amount" ∷ []
+own_keys word.Fork = codes "from" ∷ codes "to" ∷ []
+own_keys word.Join = codes "from" ∷ codes "to" ∷ []
+own_keys word.Guarded = codes "part" ∷ []
+
 -- the keys of the table of an event of this kind
 abbrev pub event_keys : KindWord → List (List ℕ)
-event_keys word.Arrival = codes "kind" ∷ codes "name" ∷ codes "rate" ∷ codes "to" ∷ []
-event_keys word.Service = codes "from" ∷ codes "full" ∷ codes "kind" ∷ codes "name" ∷ codes "rate" ∷ codes "to" ∷ []
-event_keys word.Index = codes "from" ∷ codes "full" ∷ codes "kind" ∷ codes "name" ∷ codes "rate" ∷ codes "size" ∷ codes "table" ∷ codes "to" ∷ []
-event_keys word.Batch = codes "kind" ∷ codes "name" ∷ codes "rate" ∷ codes "size" ∷ codes "to" ∷ []
-event_keys word.Negative = codes "amount" ∷ codes "from" ∷ codes "kind" ∷ codes "name" ∷ codes "on" ∷ codes "rate" ∷ []
-event_keys word.Fork = codes "from" ∷ codes "kind" ∷ codes "name" ∷ codes "rate" ∷ codes "to" ∷ []
-event_keys word.Join = codes "from" ∷ codes "kind" ∷ codes "name" ∷ codes "rate" ∷ codes "to" ∷ []
-event_keys word.Guarded = codes "kind" ∷ codes "name" ∷ codes "part" ∷ codes "rate" ∷ []
+event_keys word = codes "kind" ∷ codes "name" ∷ codes "rate" ∷ own_keys word
 
--- the keys of its own that a kind has
+-- what the keys of its own say of an event of this kind
 unfoldable pub kind_of : Place → KindWord → List (List ℕ) → List ℕ → Members → Result Kind NetRefusal
 kind_of place word.Arrival names caps ms = arrival_of place names ms
 kind_of place word.Service names caps ms = service_of place names ms

@@ -19,7 +19,7 @@ part_table place d = Err (at_key WrongType place (codes "part"))
 
 -- the keys of a part's table
 abbrev pub part_keys : List (List ℕ)
-part_keys = codes "ceiling" ∷ codes "floor" ∷ codes "least" ∷ codes "most" ∷ codes "queue" ∷ codes "shift" ∷ []
+part_keys = codes "queue" ∷ codes "least" ∷ codes "most" ∷ codes "shift" ∷ codes "floor" ∷ codes "ceiling" ∷ []
 
 -- the queue of a part, which no earlier part names
 unfoldable pub part_queue : Place → List (List ℕ) → List Part → Data → Result ℕ NetRefusal

@@ -16,7 +16,7 @@ unless_taken place earlier name = holds_or (at_key DuplicateName place (codes "n
 
 -- the keys of a queue's table
 abbrev pub queue_keys : List (List ℕ)
-queue_keys = codes "capacity" ∷ codes "name" ∷ codes "servers" ∷ []
+queue_keys = codes "name" ∷ codes "capacity" ∷ codes "servers" ∷ []
 
 -- a queue's table, with its number and the names of the queues before it
 unfoldable pub queue_of : ℕ → List (List ℕ) → Members → Result Queue NetRefusal

@@ -21,7 +21,7 @@ version_in d = Err (at_key WrongType top (codes "version"))
 
 -- the keys at the top
 abbrev pub top_keys : List (List ℕ)
-top_keys = codes "event" ∷ codes "limit" ∷ codes "queue" ∷ codes "reward" ∷ codes "split" ∷ codes "version" ∷ []
+top_keys = codes "version" ∷ codes "limit" ∷ codes "split" ∷ codes "queue" ∷ codes "event" ∷ codes "reward" ∷ []
 
 -- horizons are at most 2 to the power 20 steps in a file of version 1, and 2 to the power 22 in one of version 2
 abbrev pub most_limit : ℕ → ℕ

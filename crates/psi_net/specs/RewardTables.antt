@@ -31,13 +31,17 @@ reward_kind_in place d = do
   text ← text_in place (codes "kind") d
   ok_or (reward_named text) (at_key UnknownKind place (codes "kind"))
 
+-- the key that only rewards of one kind have
+abbrev pub own_keys : RewardWord → List (List ℕ)
+own_keys word.Linear = codes "weights" ∷ []
+own_keys word.Table = codes "table" ∷ []
+own_keys word.Greatest = []
+own_keys word.Least = []
+own_keys word.Above = codes "level" ∷ []
+
 -- the keys of the table of a reward of this kind
 abbrev pub reward_keys : RewardWord → List (List ℕ)
-reward_keys word.Linear = codes "kind" ∷ codes "name" ∷ codes "queues" ∷ codes "weights" ∷ []
-reward_keys word.Table = codes "kind" ∷ codes "name" ∷ codes "queues" ∷ codes "table" ∷ []
-reward_keys word.Greatest = codes "kind" ∷ codes "name" ∷ codes "queues" ∷ []
-reward_keys word.Least = codes "kind" ∷ codes "name" ∷ codes "queues" ∷ []
-reward_keys word.Above = codes "kind" ∷ codes "level" ∷ codes "name" ∷ codes "queues" ∷ []
+reward_keys word = codes "kind" ∷ codes "name" ∷ codes "queues" ∷ own_keys word
 
 -- the greatest weight or number of a table; the least is its negative
 abbrev pub greatest_number : ℕ

@@ -70,30 +70,26 @@ fn kind_word(place: Place, version: u32, value: Option<&Value>) -> Result<KindWo
     }
 }
 
+// The table of an event has no other keys than those of every event and these.
+fn no_other_key(place: Place, own: &[&str], table: &Table) -> Result<(), NetError>
+    ensures { Gives (λ _. tt) result (no_unknown place (codes "kind" ∷ codes "name" ∷ codes "rate" ∷ map (λ k. k.now) own.now) (table_view table.now)) }
+{
+    no_unknown(place, &["kind", "name", "rate"], own, table)
+}
+
 // The table of an event of this kind has no other keys than the kind's.
 fn no_unknown_event_key(place: Place, word: KindWord, table: &Table) -> Result<(), NetError>
     ensures { Gives (λ _. tt) result (no_unknown place (event_keys word) (table_view table.now)) }
 {
     match word {
-        KindWord::Arrival => no_unknown(place, &["kind", "name", "rate", "to"], table),
-        KindWord::Service => {
-            let known = &["from", "full", "kind", "name", "rate", "to"];
-            no_unknown(place, known, table)
-        }
-        KindWord::Index => {
-            let known = &[
-                "from", "full", "kind", "name", "rate", "size", "table", "to",
-            ];
-            no_unknown(place, known, table)
-        }
-        KindWord::Batch => no_unknown(place, &["kind", "name", "rate", "size", "to"], table),
-        KindWord::Negative => {
-            let known = &["amount", "from", "kind", "name", "on", "rate"];
-            no_unknown(place, known, table)
-        }
-        KindWord::Fork => no_unknown(place, &["from", "kind", "name", "rate", "to"], table),
-        KindWord::Join => no_unknown(place, &["from", "kind", "name", "rate", "to"], table),
-        KindWord::Guarded => no_unknown(place, &["kind", "name", "part", "rate"], table),
+        KindWord::Arrival => no_other_key(place, &["to"], table),
+        KindWord::Service => no_other_key(place, &["from", "to", "full"], table),
+        KindWord::Index => no_other_key(place, &["from", "to", "table", "full", "size"], table),
+        KindWord::Batch => no_other_key(place, &["to", "size"], table),
+        KindWord::Negative => no_other_key(place, &["from", "on", "amount"], table),
+        KindWord::Fork => no_other_key(place, &["from", "to"], table),
+        KindWord::Join => no_other_key(place, &["from", "to"], table),
+        KindWord::Guarded => no_other_key(place, &["part"], table),
     }
 }
 

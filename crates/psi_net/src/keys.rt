@@ -1,6 +1,6 @@
 //! The values of keys: integers, strings, names, arrays and tables.
 
-ghost use Rattle.std.specs.Prelude.{◌≡◌, ◌≤◌, ◌<◌, ◌^◌, pos, length, map, Some, None, IfOk, IfErr};
+ghost use Rattle.std.specs.Prelude.{◌≡◌, ◌≤◌, ◌<◌, ◌^◌, ◌++◌, pos, length, map, Some, None, IfOk, IfErr};
 ghost use Rattle.std.specs.Int.RustNames.{unsigned_abs};
 ghost use Rattle.std.specs.List.{list_any};
 ghost use Rattle.std.specs.Str.{bytes_eq};
@@ -36,20 +36,33 @@ pub(crate) fn find<'t>(table: &'t Table, key: &str) -> Option<&'t Value>
 }
 
 // Whether the key is one of these.
-fn is_known(known: &[&str], key: &str) -> bool
-    ensures { result ≡ list_any (λ other. bytes_eq key.now other.now) known.now }
+fn is_among(keys: &[&str], key: &str) -> bool
+    ensures { result ≡ list_any (λ other. bytes_eq key.now other.now) keys.now }
 {
-    known.iter().any(|other| key == *other)
+    keys.iter().any(|other| key == *other)
 }
 
-// The table has no other keys than these. Its keys stand in byte order.
+// Whether the key is one of these two lists.
+#[tactic(auto, using(crate::proofs::UnknownKeys::known_either))]
+fn is_known(common: &[&str], own: &[&str], key: &str) -> bool
+    ensures { result ≡ list_any (bytes_eq key.now) (map (λ k. k.now) common.now ++ map (λ k. k.now) own.now) }
+{
+    is_among(common, key) || is_among(own, key)
+}
+
+// The table has no other keys than those of these two lists. Its keys stand in byte order.
 #[tactic(auto, using(crate::proofs::UnknownKeys::keys_of_table), unfolding(crate::specs::Values::no_unknown))]
-pub(crate) fn no_unknown(place: Place, known: &[&str], table: &Table) -> Result<(), NetError>
-    ensures { Gives (λ _. tt) result (no_unknown place (map (λ k. k.now) known.now) (table_view table.now)) }
+pub(crate) fn no_unknown(
+    place: Place,
+    common: &[&str],
+    own: &[&str],
+    table: &Table,
+) -> Result<(), NetError>
+    ensures { Gives (λ _. tt) result (no_unknown place (map (λ k. k.now) common.now ++ map (λ k. k.now) own.now) (table_view table.now)) }
 {
     for key in table.keys() {
         let key = key.as_str();
-        if !is_known(known, key) {
+        if !is_known(common, own, key) {
             return Err(NetError::at_key(Cause::UnknownKey, place, key));
         }
     }

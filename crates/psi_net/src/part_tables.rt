@@ -49,8 +49,8 @@ fn part_queue(
 fn part(place: Place, known: &KnownQueues, earlier: &Parts, table: &Table) -> Result<Part, NetError>
     ensures { Gives (λ part. part) result (part_of place known.now.names.keys known.now.caps earlier.now (table_view table.now)) }
 {
-    let keys = &["ceiling", "floor", "least", "most", "queue", "shift"];
-    read!(no_unknown(place, keys, table));
+    let keys = &["queue", "least", "most", "shift", "floor", "ceiling"];
+    read!(no_unknown(place, keys, &[], table));
     let queue = read!(part_queue(place, known, earlier, find(table, "queue")));
     let cap = known.caps.get(queue) as u32;
     let least = read!(number_or(place, "least", 0, 0, cap, find(table, "least")));

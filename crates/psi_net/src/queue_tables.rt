@@ -55,7 +55,7 @@ fn queue(number: u32, earlier: &IndexSet<Name>, table: &Table) -> Result<Queue, 
         section: Section::Queue,
         number,
     };
-    read!(no_unknown(place, &["capacity", "name", "servers"], table));
+    read!(no_unknown(place, &["name", "capacity", "servers"], &[], table));
     let name = read!(required_name(place, "name", find(table, "name")));
     read!(unless_taken(place, earlier, name));
     let capacity = read!(required_number(place, "capacity", 1, 65535, find(table, "capacity")));

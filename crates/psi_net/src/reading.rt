@@ -60,8 +60,8 @@ fn document(alloc: Global, table: &Table) -> Result<Draft, NetError>
     ensures whole { IfOk result IsWhole }
 {
     let version = read!(version(find(table, "version")));
-    let keys = &["event", "limit", "queue", "reward", "split", "version"];
-    read!(no_unknown(Place::TOP, keys, table));
+    let keys = &["version", "limit", "split", "queue", "event", "reward"];
+    read!(no_unknown(Place::TOP, keys, &[], table));
     let most = most_limit(version);
     let limit = read!(number_or(Place::TOP, "limit", 18, 0, most, find(table, "limit")));
     let split = read!(number_or(Place::TOP, "split", 256, 1, 4096, find(table, "split")));

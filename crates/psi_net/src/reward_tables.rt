@@ -1,6 +1,6 @@
 //! The array `reward`.
 
-ghost use Rattle.std.specs.Prelude.{◌≡◌, ℕ, ◌≤◌, ◌<◌, ◌+◌, [], true, false, length, map, codes, IfOk, OnOk, All};
+ghost use Rattle.std.specs.Prelude.{◌≡◌, ℕ, ◌≤◌, ◌<◌, ◌+◌, ◌∷◌, [], true, false, length, map, codes, IfOk, OnOk, All};
 ghost use Rattle.std.specs.List.{list_any};
 ghost use Rattle.std.specs.Str.{bytes_eq};
 ghost use Rattle.toml.specs.View.{view, table_view};
@@ -62,16 +62,23 @@ fn reward_kind(place: Place, value: Option<&Value>) -> Result<RewardWord, NetErr
     }
 }
 
+// The table of a reward has no other keys than those of every reward and these.
+fn no_other_key(place: Place, own: &[&str], table: &Table) -> Result<(), NetError>
+    ensures { Gives (λ _. tt) result (no_unknown place (codes "kind" ∷ codes "name" ∷ codes "queues" ∷ map (λ k. k.now) own.now) (table_view table.now)) }
+{
+    no_unknown(place, &["kind", "name", "queues"], own, table)
+}
+
 // The table of a reward of this kind has no other keys than the kind's.
 fn no_unknown_reward_key(place: Place, word: RewardWord, table: &Table) -> Result<(), NetError>
     ensures { Gives (λ _. tt) result (no_unknown place (reward_keys word) (table_view table.now)) }
 {
     match word {
-        RewardWord::Linear => no_unknown(place, &["kind", "name", "queues", "weights"], table),
-        RewardWord::Table => no_unknown(place, &["kind", "name", "queues", "table"], table),
-        RewardWord::Greatest => no_unknown(place, &["kind", "name", "queues"], table),
-        RewardWord::Least => no_unknown(place, &["kind", "name", "queues"], table),
-        RewardWord::Above => no_unknown(place, &["kind", "level", "name", "queues"], table),
+        RewardWord::Linear => no_other_key(place, &["weights"], table),
+        RewardWord::Table => no_other_key(place, &["table"], table),
+        RewardWord::Greatest => no_other_key(place, &[], table),
+        RewardWord::Least => no_other_key(place, &[], table),
+        RewardWord::Above => no_other_key(place, &["level"], table),
     }
 }
 

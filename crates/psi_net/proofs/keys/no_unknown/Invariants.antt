@@ -1,4 +1,4 @@
-use Rattle.std.proofs.Common.{◌≡◌, map, string_bytes}
+use Rattle.std.proofs.Common.{◌≡◌, ◌++◌, map, string_bytes}
 use Rattle.std.specs.List.Sorted.{IsStrictlySortedBy}
 use Rattle.std.specs.String.{string_cmp}
 use Rattle.toml.specs.View.{table_view}
@@ -10,5 +10,5 @@ invariant-loop-key l =
     (goal.iterator-loop-key).can_next l.key-iterator ×
     (goal.iterator-loop-key).is_finite l.key-iterator ×
     IsStrictlySortedBy string_cmp l.key-iterator ×
-    (unless_unknown l.place (unknown_keys (map (λ k. k.now) l.known) (map string_bytes l.key-iterator))
-    ≡ unless_unknown l.place (unknown_keys (map (λ k. k.now) l.known) (member_keys (table_view l.table))))
+    (unless_unknown l.place (unknown_keys (map (λ k. k.now) l.common ++ map (λ k. k.now) l.own) (map string_bytes l.key-iterator))
+    ≡ unless_unknown l.place (unknown_keys (map (λ k. k.now) l.common ++ map (λ k. k.now) l.own) (member_keys (table_view l.table))))
