@@ -17,10 +17,10 @@ use Rattle.psi_reward.specs.declared.RewardRefusal.{RewardRefusal}
 use Rattle.psi_net.specs.Refusal.{holds_or}
 use Rattle.psi_net.specs.Values.{required, number_in, integer_in, array_in, each}
 use Rattle.psi_net.specs.References.{some_targets_in}
-use Rattle.psi_net.specs.RewardTables.{greatest_number, integer_step, weights_in, grid_step, grid_in, worth_in}
+use Rattle.psi_net.specs.RewardTables.{greatest_number, integer_step, weights_in, grid_step, grid_in, reward_kind_of}
 use Rattle.psi_net.specs.Draft.{named}
 use Rattle.psi_net.specs.Kept.{IsReward}
-use Rattle.psi_net.specs.declared.entries.NamedValue.{NamedValue}
+use Rattle.psi_net.specs.declared.entries.RewardEntry.{RewardEntry}
 use Rattle.psi_net.specs.declared.refusals.Place.{Place}
 use Rattle.psi_net.specs.declared.words.RewardWord.{RewardWord}
 use Rattle.psi_net.specs.declared.words.RewardWord.TheVariants as word
@@ -133,8 +133,8 @@ made caps k targets small fits = record {
   accepted = accepted caps k (listed_some (queues_of k) targets.some) targets.targets.distinct fits;
 }
 
-worth_kept : (place : Place) (w : RewardWord) (caps queues : List ℕ) (ms : Members) (k : RewardKind) → AreSomeTargets (length caps) [] queues → worth_in place w caps queues ms ≡ Ok k → IsReward caps k
-unfolding worth_in
+worth_kept : (place : Place) (w : RewardWord) (caps queues : List ℕ) (ms : Members) (k : RewardKind) → AreSomeTargets (length caps) [] queues → reward_kind_of place w caps queues ms ≡ Ok k → IsReward caps k
+unfolding reward_kind_of
 worth_kept place word.Linear caps queues ms k targets h =
     let weights = bind_ok (required place (codes "weights") (weights_in place (length queues)) (get_member (codes "weights") ms)) _ k h in
     let read = required_ok place (codes "weights") (weights_in place (length queues)) (get_member (codes "weights") ms) weights.0 weights.1 in
@@ -152,18 +152,18 @@ worth_kept place word.Above caps queues ms k targets h =
     subst (λ (x : RewardKind). IsReward caps x) (ok_same _ k level.2) (made caps (kind.Above queues level.0) targets (All-nil IsSmall) refl)
 
 pub reward_kept : (place : Place) (w : RewardWord) (names : List (List ℕ)) (caps queues : List ℕ) (found : Option Data) (ms : Members) (k : RewardKind) → length names ≡ length caps
-    → required place (codes "queues") (some_targets_in place (codes "queues") names []) found ≡ Ok queues → worth_in place w caps queues ms ≡ Ok k → IsReward caps k
+    → required place (codes "queues") (some_targets_in place (codes "queues") names []) found ≡ Ok queues → reward_kind_of place w caps queues ms ≡ Ok k → IsReward caps k
 reward_kept place w names caps queues found ms k same listed h =
     let read = required_ok place (codes "queues") (some_targets_in place (codes "queues") names []) found queues listed in
     worth_kept place w caps queues ms k (subst (λ (n : ℕ). AreSomeTargets n [] queues) same (some_targets_kept place (codes "queues") names [] read.0 queues read.1)) h
 
 -- one reward more
-pub named_more : (values : List NamedValue) (value : NamedValue) → map named (values ++ value ∷ []) ≡ map named values ++ named value ∷ []
+pub named_more : (values : List RewardEntry) (value : RewardEntry) → map named (values ++ value ∷ []) ≡ map named values ++ named value ∷ []
 named_more values value = map_push named values value
 
-pub no_caps : (caps : List ℕ) → All (λ (v : NamedValue). v.reward.caps ≡ caps) []
-no_caps caps = All-nil (λ (v : NamedValue). v.reward.caps ≡ caps)
+pub no_caps : (caps : List ℕ) → All (λ (v : RewardEntry). v.reward.caps ≡ caps) []
+no_caps caps = All-nil (λ (v : RewardEntry). v.reward.caps ≡ caps)
 
-pub caps_more : (caps : List ℕ) (values : List NamedValue) (value : NamedValue) → All (λ (v : NamedValue). v.reward.caps ≡ caps) values → value.reward.caps ≡ caps
-    → All (λ (v : NamedValue). v.reward.caps ≡ caps) (values ++ value ∷ [])
-caps_more caps values value all one = All-push (λ (v : NamedValue). v.reward.caps ≡ caps) values value all one
+pub caps_more : (caps : List ℕ) (values : List RewardEntry) (value : RewardEntry) → All (λ (v : RewardEntry). v.reward.caps ≡ caps) values → value.reward.caps ≡ caps
+    → All (λ (v : RewardEntry). v.reward.caps ≡ caps) (values ++ value ∷ [])
+caps_more caps values value all one = All-push (λ (v : RewardEntry). v.reward.caps ≡ caps) values value all one

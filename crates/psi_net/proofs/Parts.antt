@@ -16,7 +16,7 @@ use Rattle.psi_net.specs.Made.{EachDoes, AreMade}
 use Rattle.psi_net.specs.Draft.{named}
 use Rattle.psi_net.specs.declared.entries.Queue.{Queue}
 use Rattle.psi_net.specs.declared.entries.NamedEvent.{NamedEvent}
-use Rattle.psi_net.specs.declared.entries.NamedValue.{NamedValue}
+use Rattle.psi_net.specs.declared.entries.RewardEntry.{RewardEntry}
 
 -- the capacities set so far are those of the queues
 pub record AreSet (caps : List ℕ) (queues : List Queue) (i : ℕ) : Type 0 where
@@ -84,9 +84,9 @@ module _ {E : Type 0} (capacities : E → List ℕ) (function : E → List ℕ �
       omega arith
 
 -- a reward at its place
-pub got_named : (values : List NamedValue) (i : ℕ) (value : NamedValue) → slice_get values i ≡ Some value → slice_get (map named values) i ≡ Some (named value)
+pub got_named : (values : List RewardEntry) (i : ℕ) (value : RewardEntry) → slice_get values i ≡ Some value → slice_get (map named values) i ≡ Some (named value)
 got_named [] i value h = absurd cc
-got_named (v ∷ values) zero value h = (let e : v ≡ value = cc in ap (λ (x : NamedValue). Some (named x)) e)
+got_named (v ∷ values) zero value h = (let e : v ≡ value = cc in ap (λ (x : RewardEntry). Some (named x)) e)
 got_named (v ∷ values) (suc i) value h = got_named values i value h
 
 -- rates that make a wheel are some

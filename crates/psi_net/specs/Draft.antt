@@ -1,11 +1,11 @@
 -- The network that a document says.
 use Rattle.std.specs.Prelude.{◌≡◌, map, All}
 use Rattle.psi_net.specs.Network.{Network, NamedReward}
-use Rattle.psi_net.specs.declared.entries.NamedValue.{NamedValue}
+use Rattle.psi_net.specs.declared.entries.RewardEntry.{RewardEntry}
 use Rattle.psi_net.specs.declared.entries.Draft.{Draft}
 
 -- a reward with its name
-abbrev pub named : NamedValue → NamedReward
+abbrev pub named : RewardEntry → NamedReward
 named value = record { name = value.name; kind = value.reward.kind }
 
 -- the network of what was read

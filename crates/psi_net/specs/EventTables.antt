@@ -105,6 +105,7 @@ events_in version queues d = do
   read ← each (event_step version queues) 1 (record { names = []; events = [] }) tables
   Ok read.events
 
+-- the events of a document, whose key `event` is required
 abbrev pub events_of : ℕ → List Queue → Option Data → Result (List NamedEvent) NetRefusal
 events_of version queues None = Err (at_key NoEvents top (codes "event"))
 events_of version queues (Some d) = events_in version queues d

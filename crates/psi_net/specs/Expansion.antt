@@ -51,7 +51,7 @@ served_by n event = map (served event) (numbers_from 1 n)
 abbrev pub expanded : List Queue → NamedEvent → List NamedEvent
 expanded queues event = served_by (servers_at queues (source_of event.kind)) event
 
--- the number of index values of a kind, and of events
+-- the number of index values of a kind
 abbrev pub values_in : Kind → ℕ
 values_in (Arrival to) = 0
 values_in (Service from to full) = 0
@@ -62,6 +62,7 @@ values_in (Fork from to) = 0
 values_in (Join from to) = 0
 values_in (Guarded parts) = 0
 
+-- the number of index values of events
 abbrev pub values_of : List NamedEvent → ℕ
 values_of events = total (map (λ e. values_in e.kind) events)
 

@@ -20,6 +20,7 @@ queue_count n = 4 + n % 13
 abbrev pub nth_queue : ℕ → ℕ → Queue
 nth_queue n i = record { name = codes "q" ++ decimal i; capacity = 8 + (5 * i + n) % 25; servers = 1 + (i + n) % 3 }
 
+-- the queues of the network of a number
 unfoldable pub generated_queues : ℕ → List Queue
 generated_queues n = map (nth_queue n) (numbers_from 1 (queue_count n))
 
@@ -59,6 +60,7 @@ odd_events n = if n % 2 == 1 then bulk_event ∷ negative_event (queue_count n) 
 abbrev pub listed_events : ℕ → List NamedEvent
 listed_events n = arrival_event ∷ map passing_event (numbers_from 1 (queue_count n - 1)) ++ leaving_event (queue_count n) ∷ odd_events n
 
+-- its events, expanded over servers
 unfoldable pub generated_events : ℕ → List NamedEvent
 generated_events n = flat_map (expanded (generated_queues n)) (listed_events n)
 

@@ -65,16 +65,18 @@ table_of place caps to d = do
 
 -- `size`: 1 beside a source, and at most every target's capacity
 unfoldable pub size_fits : Place → List ℕ → Bool → List ℕ → ℕ → Result ℕ NetRefusal
-size_fits place caps sourced to size = do
-  single ← holds_or (at_key OutOfRange place (codes "size")) (not sourced || size == 1)
+size_fits place caps has_source to size = do
+  single ← holds_or (at_key OutOfRange place (codes "size")) (not has_source || size == 1)
   roomy ← holds_or (at_key BatchTooLarge place (codes "size")) (list_all (λ q. nat_le size (slice_index caps q)) to)
   Ok size
 
+-- the keys of an arrival
 unfoldable pub arrival_of : Place → List (List ℕ) → Members → Result Kind NetRefusal
 arrival_of place names ms = do
   to ← required place (codes "to") (some_targets_in place (codes "to") names []) (get_member (codes "to") ms)
   Ok (kind.Arrival to)
 
+-- the keys of a service: customers leave the network where `to` is left out
 unfoldable pub service_of : Place → List (List ℕ) → Members → Result Kind NetRefusal
 service_of place names ms = do
   from ← required place (codes "from") (queue_in place (codes "from") names) (get_member (codes "from") ms)
@@ -82,6 +84,7 @@ service_of place names ms = do
   full ← optional Lost (full_in place) (get_member (codes "full") ms)
   Ok (kind.Service (first_server from) to full)
 
+-- the keys of an index event
 unfoldable pub index_of : Place → List (List ℕ) → List ℕ → Members → Result Kind NetRefusal
 index_of place names caps ms = do
   from ← optional None (source_in place names) (get_member (codes "from") ms)
@@ -92,6 +95,7 @@ index_of place names caps ms = do
   fitting ← size_fits place caps (is_some from) to size
   Ok (kind.Index from to table full fitting)
 
+-- the keys of a batch
 unfoldable pub batch_of : Place → List (List ℕ) → List ℕ → Members → Result Kind NetRefusal
 batch_of place names caps ms = do
   to ← required place (codes "to") (some_targets_in place (codes "to") names []) (get_member (codes "to") ms)
@@ -99,6 +103,7 @@ batch_of place names caps ms = do
   fitting ← size_fits place caps false to size
   Ok (kind.Batch to fitting)
 
+-- the keys of a negative event: `on` isn't the source
 unfoldable pub negative_of : Place → List (List ℕ) → Members → Result Kind NetRefusal
 negative_of place names ms = do
   from ← optional None (source_in place names) (get_member (codes "from") ms)
@@ -106,18 +111,20 @@ negative_of place names ms = do
   amount ← optional 1 (number_in place (codes "amount") 1 65535) (get_member (codes "amount") ms)
   Ok (kind.Negative from on amount)
 
+-- the keys of a fork
 unfoldable pub fork_of : Place → List (List ℕ) → Members → Result Kind NetRefusal
 fork_of place names ms = do
   from ← optional None (source_in place names) (get_member (codes "from") ms)
   to ← required place (codes "to") (some_targets_in place (codes "to") names (queue_of_source from)) (get_member (codes "to") ms)
   Ok (kind.Fork from to)
 
--- `to` of a join
+-- `to` of a join: it isn't in `from`
 unfoldable pub joined_in : Place → List (List ℕ) → List ℕ → Data → Result (Option ℕ) NetRefusal
 joined_in place names from d = do
   queue ← target_in place (codes "to") names from d
   Ok (Some queue)
 
+-- the keys of a join
 unfoldable pub join_of : Place → List (List ℕ) → Members → Result Kind NetRefusal
 join_of place names ms = do
   from ← required place (codes "from") (some_targets_in place (codes "from") names []) (get_member (codes "from") ms)

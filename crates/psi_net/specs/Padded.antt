@@ -4,9 +4,11 @@ use Rattle.std.proofs.Common.{ap, sym, ◌∙◌, arith}
 use Rattle.std.proofs.lemmas.List.{take-append-drop, length-take-le}
 use Rattle.psi_net.specs.declared.naming.Name.TheInside.{Inside}
 
+-- the front and zeros behind it are the array
 filled : (cells : List ℕ) (len : ℕ) → drop len cells ≡ replicate (32 - len) 0 → take len cells ++ replicate (32 - len) 0 ≡ cells
 filled cells len rest = ap (λ (xs : List ℕ). take len cells ++ xs) (sym rest) ∙ take-append-drop len cells
 
+-- the inside of a name
 abbrev inside : List ℕ → ℕ → Inside
 inside cells len = record { cells = cells; len = len }
 

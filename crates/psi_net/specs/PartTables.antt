@@ -55,6 +55,7 @@ parts_in place names caps d = do
   tables ← elements_in place (codes "part") OutOfRange 32 d
   each (part_step place names caps) 1 [] tables
 
+-- the key of a guarded event
 unfoldable pub guarded_of : Place → List (List ℕ) → List ℕ → Members → Result Kind NetRefusal
 guarded_of place names caps ms = do
   parts ← required place (codes "part") (parts_in place names caps) (get_member (codes "part") ms)

@@ -41,5 +41,6 @@ queues_in d = do
   tables ← elements_in top (codes "queue") MissingKey 32 d
   each queue_step 1 [] tables
 
+-- the queues of a document, whose key `queue` is required
 abbrev pub queues_of : Option Data → Result (List Queue) NetRefusal
 queues_of found = required top (codes "queue") queues_in found

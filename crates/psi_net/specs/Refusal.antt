@@ -30,16 +30,19 @@ code_of cause.NoEvents = 15
 code_of cause.TotalTooLarge = 16
 code_of cause.EmptyGuard = 18
 
--- the places of a file: its top, and the tables of its arrays, numbered from 1
+-- the file as a whole
 abbrev pub top : Place
 top = record { section = section.Top; number = 0 }
 
+-- the n-th table of the array `queue`, n from 1
 abbrev pub queue_place : ℕ → Place
 queue_place n = record { section = section.Queue; number = n }
 
+-- the n-th table of the array `event`, n from 1
 abbrev pub event_place : ℕ → Place
 event_place n = record { section = section.Event; number = n }
 
+-- the n-th table of the array `reward`, n from 1
 abbrev pub reward_place : ℕ → Place
 reward_place n = record { section = section.Reward; number = n }
 

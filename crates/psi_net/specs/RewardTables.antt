@@ -76,16 +76,16 @@ grid_in place caps queues d = do
   each (grid_step place caps queues) 1 [] elements
 
 -- the key of its own that a kind has
-unfoldable pub worth_in : Place → RewardWord → List ℕ → List ℕ → Members → Result RewardKind NetRefusal
-worth_in place word.Linear caps queues ms = do
+unfoldable pub reward_kind_of : Place → RewardWord → List ℕ → List ℕ → Members → Result RewardKind NetRefusal
+reward_kind_of place word.Linear caps queues ms = do
   weights ← required place (codes "weights") (weights_in place (length queues)) (get_member (codes "weights") ms)
   Ok (kind.Linear queues weights)
-worth_in place word.Table caps queues ms = do
+reward_kind_of place word.Table caps queues ms = do
   table ← required place (codes "table") (grid_in place caps queues) (get_member (codes "table") ms)
   Ok (kind.Table queues table)
-worth_in place word.Greatest caps queues ms = Ok (kind.Greatest queues)
-worth_in place word.Least caps queues ms = Ok (kind.Least queues)
-worth_in place word.Above caps queues ms = do
+reward_kind_of place word.Greatest caps queues ms = Ok (kind.Greatest queues)
+reward_kind_of place word.Least caps queues ms = Ok (kind.Least queues)
+reward_kind_of place word.Above caps queues ms = do
   level ← required place (codes "level") (number_in place (codes "level") 0 65535) (get_member (codes "level") ms)
   Ok (kind.Above queues level)
 
@@ -97,7 +97,7 @@ reward_of place earlier names caps ms = do
   name ← required place (codes "name") (name_in place (codes "name")) (get_member (codes "name") ms)
   fresh ← unless_taken place earlier name
   queues ← required place (codes "queues") (some_targets_in place (codes "queues") names []) (get_member (codes "queues") ms)
-  kind ← worth_in place word caps queues ms
+  kind ← reward_kind_of place word caps queues ms
   Ok (record { name = name; kind = kind })
 
 -- one element of the array, with its number and the rewards before it
@@ -114,5 +114,6 @@ rewards_in names caps d = do
   few ← holds_or (at_key TooMany top (codes "reward")) (nat_le (length tables) 64)
   each (reward_step names caps) 1 [] tables
 
+-- the rewards of a document: none where `reward` is left out
 abbrev pub rewards_of : List (List ℕ) → List ℕ → Option Data → Result (List NamedReward) NetRefusal
 rewards_of names caps found = optional [] (rewards_in names caps) found

@@ -20,11 +20,12 @@ use Rattle.psi_net.specs.declared.refusals.NetRefusal.{NetRefusal}
 abbrev pub seen : Option (Bor Value) → Option Data
 seen found = option_map (λ (v : Bor Value). view v.now) found
 
--- the elements of an array, and the keys of a table, in their order
+-- the elements of an array, in their order
 abbrev pub elements_of : Items → List Data
 elements_of no_items = []
 elements_of (item d ds) = d ∷ elements_of ds
 
+-- the keys of a table, in their order
 abbrev pub member_keys : Members → List (List ℕ)
 member_keys no_members = []
 member_keys (member key d ms) = key ∷ member_keys ms
@@ -73,11 +74,12 @@ unfoldable pub text_in : Place → List ℕ → Data → Result (List ℕ) NetRe
 text_in place key (string text) = Ok text
 text_in place key d = Err (at_key WrongType place key)
 
--- a string in the form of a name
+-- a name, or the refusal where there is none
 abbrev pub name_or : NetRefusal → Option (List ℕ) → Result (List ℕ) NetRefusal
 name_or refusal None = Err refusal
 name_or refusal (Some name) = Ok name
 
+-- a string in the form of a name
 unfoldable pub name_in : Place → List ℕ → Data → Result (List ℕ) NetRefusal
 name_in place key d = do
   text ← text_in place key d

@@ -31,7 +31,7 @@ pub(crate) struct NamedEvent {
 
 /// A reward of the network.
 #[derive(Drop)]
-pub(crate) struct NamedValue {
+pub(crate) struct RewardEntry {
     /// The reward's name.
     pub(crate) name: Name,
     /// What it makes of a state.
@@ -52,5 +52,5 @@ pub(crate) struct Draft {
     /// The number of states up to which a region is followed state by state, 1 to 4,096.
     pub(crate) split: u16,
     /// The rewards in the order of the file.
-    pub(crate) rewards: Vec<NamedValue>,
+    pub(crate) rewards: Vec<RewardEntry>,
 }

@@ -161,9 +161,9 @@ struct Counts {
     rates: u32,
 }
 
-// The events so far, the last ones those of this event, are within their limits.
+// What the events so far and those of this one come to, which is within the limits.
 #[tactic(auto, using(crate::proofs::Copies::length_more, crate::proofs::Copies::values_more, crate::proofs::Copies::rates_more, crate::proofs::Copies::too_many), unfolding(crate::specs::EventTables::are_within, crate::specs::EventTables::within_limits))]
-fn sums(
+fn counted(
     place: Place,
     list: &EventList,
     event: &NamedEvent,
@@ -174,7 +174,7 @@ fn sums(
     requires few { servers ≤ 64 }
     requires rate { event.now.rate ≤ 1048576 }
     ensures value { Gives (λ _. tt) result (are_within place event.now (list.now.events.items ++ served_by servers event.now)) }
-    ensures counted { IfOk result (λ sums. IsCounted (list.now.events.items ++ served_by servers event.now) sums.values sums.rates) }
+    ensures counted { IfOk result (λ counts. IsCounted (list.now.events.items ++ served_by servers event.now) counts.values counts.rates) }
 {
     if list.events.len() + servers as usize > 1024 {
         let key = if source_of(&event.kind).is_some() {
@@ -229,11 +229,11 @@ fn push_event(
     let table = read!(table_in(place, value));
     let event = read!(event(alloc, place, version, &list.names, known, table));
     let servers = servers_of(known, &event.kind);
-    let sums = read!(sums(place, list, &event, servers));
+    let counts = read!(counted(place, list, &event, servers));
     read!(push_expanded(alloc, &mut list.events, &event, servers));
     list.names.insert(event.name)?;
-    list.values = sums.values;
-    list.rates = sums.rates;
+    list.values = counts.values;
+    list.rates = counts.rates;
     Ok(())
 }
 

@@ -55,9 +55,9 @@ fn with_server(k: u16, source: Option<Source>) -> Option<Source>
     }
 }
 
-// The tables again.
+// A copy of the tables.
 #[tactic(auto, using(crate::proofs::Servers::rows_more, crate::proofs::Servers::rows_all))]
-fn tables_again(alloc: Global, tables: &Tables) -> Result<Tables, NetError>
+fn copied_tables(alloc: Global, tables: &Tables) -> Result<Tables, NetError>
     ensures value { IfOk result (λ copy. copy ≡ tables.now) }
     ensures memory { IfErr result (λ error. error ≡ NetError.OutOfMemory) }
 {
@@ -89,7 +89,7 @@ fn at_server(alloc: Global, k: u16, kind: &Kind) -> Result<Kind, NetError>
         } => Kind::Index {
             from: with_server(k, from),
             to,
-            table: read!(tables_again(alloc, table)),
+            table: read!(copied_tables(alloc, table)),
             full,
             size,
         },

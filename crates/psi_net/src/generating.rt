@@ -9,11 +9,11 @@ ghost use Rattle.psi_net.specs.Draft.{named};
 ghost use Rattle.psi_net.specs.Generated.{queue_count, nth_queue, generated_queues, server_of, arrival_event, full_behind, passing_event, leaving_event, bulk_event, negative_event, odd_events, generated_events, total_reward, generated_network};
 
 use crate::building::capacities;
-use crate::entries::{Draft, NamedEvent, NamedValue, Queue};
+use crate::entries::{Draft, NamedEvent, Queue, RewardEntry};
 use crate::expansion::{push_expanded, servers_at, source_of};
 use crate::naming::{Name, name_from};
 use crate::network::Net;
-use crate::reward_tables::valued;
+use crate::reward_tables::accepted_reward;
 use psi_kinds::Kind;
 use psi_reward::{Numbers, RewardKind};
 use psi_route::{Full, Source};
@@ -290,7 +290,7 @@ fn ones(alloc: Global, count: u8) -> Result<Numbers, OutOfMemory>
 
 // The number of customers in the network.
 #[tactic(auto, unfolding(crate::specs::Generated::total_reward, crate::specs::Name::is_name))]
-fn total_reward(alloc: Global, number: u16, caps: State) -> Result<NamedValue, OutOfMemory>
+fn total_reward(alloc: Global, number: u16, caps: State) -> Result<RewardEntry, OutOfMemory>
     requires valid { AreCapacities caps }
     requires count { length caps ≡ queue_count number }
     ensures reward { IfOk result (λ value. named value ≡ total_reward number) }
@@ -302,14 +302,14 @@ fn total_reward(alloc: Global, number: u16, caps: State) -> Result<NamedValue, O
         queues: first_queues(count),
         weights,
     };
-    Ok(NamedValue {
+    Ok(RewardEntry {
         name: name_from(b"total"),
-        reward: valued(caps, kind),
+        reward: accepted_reward(caps, kind),
     })
 }
 
 // The rewards.
-fn all_rewards(alloc: Global, number: u16, caps: State) -> Result<Vec<NamedValue>, OutOfMemory>
+fn all_rewards(alloc: Global, number: u16, caps: State) -> Result<Vec<RewardEntry>, OutOfMemory>
     requires valid { AreCapacities caps }
     requires count { length caps ≡ queue_count number }
     ensures rewards { IfOk result (λ rewards. map named rewards.items ≡ total_reward number ∷ []) }

@@ -217,15 +217,15 @@ fn are_roomy(caps: &State, to: &Queues, size: u32) -> bool
 fn size_fits(
     place: Place,
     caps: &State,
-    sourced: bool,
+    has_source: bool,
     to: &Queues,
     size: u32,
 ) -> Result<u16, NetError>
     requires among { are_below (length caps.now) to.now ≡ true }
     requires most { size ≤ 65535 }
-    ensures { Gives (λ n. n) result (size_fits place caps.now sourced to.now size) }
+    ensures { Gives (λ n. n) result (size_fits place caps.now has_source to.now size) }
 {
-    if sourced && size != 1 {
+    if has_source && size != 1 {
         return Err(NetError::at_key(Cause::OutOfRange, place, "size"));
     }
     if !are_roomy(caps, to, size) {

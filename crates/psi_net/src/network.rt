@@ -3,7 +3,7 @@
 ghost use Rattle.std.specs.Prelude.{◌≡◌, ◌<◌, length, map, Some, slice_get, option_map, All, IfOk, IfErr};
 
 use crate::building::{all_lowered, rates, wheel};
-use crate::entries::{Draft, NamedEvent, NamedValue, Queue};
+use crate::entries::{Draft, NamedEvent, Queue, RewardEntry};
 use crate::keys::read;
 use crate::naming::Name;
 use crate::refusals::NetError;
@@ -28,7 +28,7 @@ pub struct Net {
     wheel: Wheel,
     limit: u8,
     split: u16,
-    rewards: Vec<NamedValue>,
+    rewards: Vec<RewardEntry>,
 }
 
 impl Model for Net {

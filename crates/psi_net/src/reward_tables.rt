@@ -11,9 +11,9 @@ ghost use Rattle.psi_net.specs.Targets.{AreTargets, are_below};
 ghost use Rattle.psi_net.specs.Draft.{named};
 ghost use Rattle.psi_net.specs.Kept.{IsReward};
 ghost use Rattle.psi_net.specs.References.{some_targets_in};
-ghost use Rattle.psi_net.specs.RewardTables.{reward_named, reward_kind_in, reward_keys, integer_step, weights_in, grid_step, grid_in, worth_in, reward_of, reward_step, rewards_in, rewards_of};
+ghost use Rattle.psi_net.specs.RewardTables.{reward_named, reward_kind_in, reward_keys, integer_step, weights_in, grid_step, grid_in, reward_kind_of, reward_of, reward_step, rewards_in, rewards_of};
 
-use crate::entries::NamedValue;
+use crate::entries::RewardEntry;
 use crate::keys::{
     array_in, find, integer_in, no_unknown, present, read, required_name, required_number,
     table_in, text_in,
@@ -51,7 +51,7 @@ fn reward_named(text: &str) -> Option<RewardWord>
 
 // `kind`.
 #[tactic(auto, unfolding(crate::specs::RewardTables::reward_kind_in))]
-fn reward_kind(place: Place, value: Option<&Value>) -> Result<RewardWord, NetError>
+fn reward_word(place: Place, value: Option<&Value>) -> Result<RewardWord, NetError>
     ensures { Gives (λ word. word) result (required place (codes "kind") (reward_kind_in place) (seen value.entry)) }
 {
     let value = read!(present(place, "kind", value));
@@ -204,8 +204,8 @@ fn grid(
 }
 
 // The key of its own that a kind has.
-#[tactic(auto, unfolding(crate::specs::RewardTables::worth_in))]
-fn worth(
+#[tactic(auto, unfolding(crate::specs::RewardTables::reward_kind_of))]
+fn reward_kind_of(
     alloc: Global,
     place: Place,
     word: RewardWord,
@@ -214,7 +214,7 @@ fn worth(
     table: &Table,
 ) -> Result<RewardKind, NetError>
     requires { are_below (length caps.now) queues ≡ true }
-    ensures { Gives (λ kind. kind) result (worth_in place word caps.now queues (table_view table.now)) }
+    ensures { Gives (λ kind. kind) result (reward_kind_of place word caps.now queues (table_view table.now)) }
 {
     match word {
         RewardWord::Linear => {
@@ -252,7 +252,7 @@ fn reward_queues(
 
 // The reward of a kind that isn't refused.
 #[tactic(auto, using(crate::proofs::KeptRewards::not_refused))]
-pub(crate) fn valued(caps: State, kind: RewardKind) -> Reward
+pub(crate) fn accepted_reward(caps: State, kind: RewardKind) -> Reward
     requires valid { AreCapacities caps }
     requires kind { IsReward caps kind }
     ensures { result ≡ record { caps = caps; kind = kind } }
@@ -271,20 +271,20 @@ fn reward(
     earlier: &IndexSet<Name>,
     known: &KnownQueues,
     table: &Table,
-) -> Result<NamedValue, NetError>
+) -> Result<RewardEntry, NetError>
     ensures value { Gives named result (reward_of place earlier.now.keys known.now.names.keys known.now.caps (table_view table.now)) }
     ensures fresh { IfOk result (λ value. list_any (bytes_eq value.name) earlier.now.keys ≡ false) }
     ensures caps { IfOk result (λ value. value.reward.caps ≡ known.now.caps) }
 {
-    let word = read!(reward_kind(place, find(table, "kind")));
+    let word = read!(reward_word(place, find(table, "kind")));
     read!(no_unknown_reward_key(place, word, table));
     let name = read!(required_name(place, "name", find(table, "name")));
     read!(unless_taken(place, earlier, name));
     let queues = read!(reward_queues(place, known, find(table, "queues")));
-    let kind = read!(worth(alloc, place, word, &known.caps, queues, table));
-    Ok(NamedValue {
+    let kind = read!(reward_kind_of(alloc, place, word, &known.caps, queues, table));
+    Ok(RewardEntry {
         name,
-        reward: valued(known.caps, kind),
+        reward: accepted_reward(known.caps, kind),
     })
 }
 
@@ -295,7 +295,7 @@ fn push_reward(
     number: u32,
     known: &KnownQueues,
     earlier: &mut IndexSet<Name>,
-    rewards: &mut Vec<NamedValue>,
+    rewards: &mut Vec<RewardEntry>,
     value: &Value,
 ) -> Result<(), NetError>
     requires names { earlier.old.keys ≡ map (λ r. r.name) (map named rewards.old.items) }
@@ -321,7 +321,7 @@ fn all_rewards(
     alloc: Global,
     known: &KnownQueues,
     values: &[Value],
-) -> Result<Vec<NamedValue>, NetError>
+) -> Result<Vec<RewardEntry>, NetError>
     requires { length values.now ≤ 64 }
     ensures value { Gives (λ rewards. map named rewards.items) result (each (reward_step known.now.names.keys known.now.caps) 1 [] (map view values.now)) }
     ensures caps { IfOk result (λ rewards. All (λ v. v.reward.caps ≡ known.now.caps) rewards.items) }
@@ -341,7 +341,7 @@ pub(crate) fn rewards(
     alloc: Global,
     known: &KnownQueues,
     value: Option<&Value>,
-) -> Result<Vec<NamedValue>, NetError>
+) -> Result<Vec<RewardEntry>, NetError>
     ensures value { Gives (λ rewards. map named rewards.items) result (rewards_of known.now.names.keys known.now.caps (seen value.entry)) }
     ensures caps { IfOk result (λ rewards. All (λ v. v.reward.caps ≡ known.now.caps) rewards.items) }
 {
