@@ -75,7 +75,7 @@ pub(crate) fn all_lowered(
     ensures made { IfOk result (λ made. AreMade ⟦<Event as EventLaw>⟧.capacities ⟦<Event as EventLaw>⟧.function ⟦<Event as EventLaw>⟧.upset_pair caps events.now made.items) }
     ensures memory { IfErr result (λ error. error ≡ NetError.OutOfMemory) }
 {
-    let mut made = Vec::new(alloc);
+    let mut made = Vec::with_capacity(alloc, events.len())?;
     for event in events {
         let one = read!(lowered(alloc, caps, &event.kind));
         made.push(one)?;

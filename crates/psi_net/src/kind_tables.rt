@@ -125,32 +125,32 @@ fn push_number(place: Place, numbers: &mut Vec<u32>, value: &Value) -> Result<()
 fn all_numbers(alloc: Global, place: Place, values: &[Value]) -> Result<Vec<u32>, NetError>
     ensures { Gives (λ numbers. numbers.items) result (each (number_step place) 1 [] (map view values.now)) }
 {
-    let mut numbers = Vec::new(alloc);
+    let mut numbers = Vec::with_capacity(alloc, values.len())?;
     for value in values {
         read!(push_number(place, &mut numbers, value));
     }
     Ok(numbers)
 }
 
-// One row of an index's table, with the rows before it.
+// The row of an index's table for the target at this place, counted from 0, with the rows before it.
 #[tactic(auto, using(crate::proofs::Found::below_at), unfolding(crate::specs::KindTables::row_step))]
 fn push_row(
     alloc: Global,
     place: Place,
     caps: &State,
     to: &Queues,
+    number: u8,
     rows: &mut Tables,
     value: &Value,
 ) -> Result<(), NetError>
     requires among { are_below (length caps.now) to.now ≡ true }
-    requires next { length rows.old < length to.now }
+    requires next { number < length to.now }
+    requires count { length rows.old ≡ number }
     ensures value { (n : ℕ) → Gives (λ _. rows.new) result (row_step place caps.now to.now n rows.old (view value.now)) }
-    ensures count { OnOk result (length rows.new ≡ length rows.old + 1) }
+    ensures count { OnOk result (length rows.new ≡ number + 1) }
 {
     let values = read!(array_in(place, "table", value));
-    let _targets = to.len();
-    let queue = to.get(rows.len() as u8);
-    if values.len() != caps.get(queue) as usize {
+    if values.len() != caps.get(to.get(number)) as usize {
         return Err(NetError::at_key(Cause::TableLength, place, "table"));
     }
     let row = read!(all_numbers(alloc, place, values));
@@ -172,8 +172,9 @@ fn all_rows(
     ensures { Gives (λ rows. rows) result (each (row_step place caps.now to.now) 1 [] (map view values.now)) }
 {
     let mut rows = Tables::new(alloc);
-    for value in values {
-        read!(push_row(alloc, place, caps, to, &mut rows, value));
+    for number in 0..to.len() {
+        let value = &values[number as usize];
+        read!(push_row(alloc, place, caps, to, number, &mut rows, value));
     }
     Ok(rows)
 }

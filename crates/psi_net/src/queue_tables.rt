@@ -105,7 +105,7 @@ fn all_queues(alloc: Global, values: &[Value]) -> Result<QueueList, NetError>
     ensures names { IfOk result (λ list. list.names.keys ≡ map (λ q. q.name) list.queues.items) }
 {
     let mut names = IndexSet::new(alloc);
-    let mut queues = Vec::new(alloc);
+    let mut queues = Vec::with_capacity(alloc, values.len())?;
     for (index, value) in values.iter().enumerate() {
         read!(push_queue(index as u32 + 1, &mut names, &mut queues, value));
     }

@@ -135,7 +135,7 @@ fn weights(
     all_integers(alloc, place, "weights", values)
 }
 
-// One row of `table`, with its number, counted from 0, and the rows before it.
+// The row of `table` for the queue at this place, counted from 0, with the rows before it.
 #[tactic(auto, using(crate::proofs::Found::below_at), unfolding(crate::specs::RewardTables::grid_step))]
 fn push_grid_row(
     alloc: Global,
@@ -153,8 +153,7 @@ fn push_grid_row(
     ensures count { OnOk result (length rows.new ≡ number + 1) }
 {
     let values = read!(array_in(place, "table", value));
-    let queue = queues.get(number);
-    if values.len() != caps.get(queue) as usize + 1 {
+    if values.len() != caps.get(queues.get(number)) as usize + 1 {
         return Err(NetError::at_key(Cause::TableLength, place, "table"));
     }
     let row = read!(all_integers(alloc, place, "table", values));
@@ -175,10 +174,10 @@ fn all_grid_rows(
     requires count { length values.now ≡ length queues.now }
     ensures { Gives (λ rows. rows) result (each (grid_step place caps.now queues.now) 1 [] (map view values.now)) }
 {
-    let _queues = queues.len();
     let mut rows = Grid::new(alloc);
-    for (number, value) in values.iter().enumerate() {
-        read!(push_grid_row(alloc, place, caps, queues, number as u8, &mut rows, value));
+    for number in 0..queues.len() {
+        let value = &values[number as usize];
+        read!(push_grid_row(alloc, place, caps, queues, number, &mut rows, value));
     }
     Ok(rows)
 }
@@ -327,7 +326,7 @@ fn all_rewards(
     ensures caps { IfOk result (λ rewards. All (λ v. v.reward.caps ≡ known.now.caps) rewards.items) }
 {
     let mut earlier = IndexSet::new(alloc);
-    let mut rewards = Vec::new(alloc);
+    let mut rewards = Vec::with_capacity(alloc, values.len())?;
     for (index, value) in values.iter().enumerate() {
         let number = index as u32 + 1;
         read!(push_reward(alloc, number, known, &mut earlier, &mut rewards, value));

@@ -4,7 +4,7 @@ use Rattle.psi_net.specs.Values.{each}
 use Rattle.psi_net.specs.KindTables.{row_step}
 use Rattle.psi_net.proofs.kind_tables.all_rows.Given as goal
 
-abbrev pub invariant-loop-value : goal.invariant-loop-value
-invariant-loop-value l =
-    (each (row_step l.place l.caps l.to) (l.value-index + 1) l.rows (map view (drop l.value-index l.values)) ≡ each (row_step l.place l.caps l.to) 1 [] (map view l.values))
-    × (length l.rows ≡ l.value-index)
+abbrev pub invariant-loop-number : goal.invariant-loop-number
+invariant-loop-number l =
+    (each (row_step l.place l.caps l.to) (l.number + 1) l.rows (map view (drop l.number l.values)) ≡ each (row_step l.place l.caps l.to) 1 [] (map view l.values))
+    × (length l.rows ≡ l.number)
