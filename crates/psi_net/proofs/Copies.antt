@@ -1,18 +1,18 @@
 -- Events of several servers: how many they are, their index values and their rates.
-use Rattle.std.proofs.Common.{◌≡◌, ℕ, zero, suc, ◌+◌, ◌*◌, ◌<◌, ◌≤◌, List, [], ◌∷◌, ◌++◌, length, map, nat_le, false, refl, sym, ap, ◌∙◌, arith, length-append}
+use Rattle.std.proofs.Common.{◌≡◌, ℕ, zero, suc, ◌+◌, ◌*◌, ◌<◌, ◌≤◌, List, [], ◌∷◌, ◌++◌, length, map, nat_le, false, refl, sym, ap, arith, length-append}
 use Rattle.std.proofs.Math.Nat.{suc-mul}
 use Rattle.std.proofs.lemmas.Bool.{lt-leb}
-use Rattle.std.proofs.lemmas.List.{map-append, length-map, append-nil, append_assoc}
+use Rattle.std.proofs.lemmas.List.{length-map, append-nil, append_assoc, map_push}
 use Rattle.psi_state.specs.State.{numbers_from}
 use Rattle.psi_rate.specs.Rates.{total}
 use Rattle.psi_kinds.specs.declared.Kind.{Kind}
-use Rattle.psi_kinds.specs.declared.Kind.TheVariants.{Arrival, Service, Index, Batch, Negative, Fork, Join, Guarded}
 use Rattle.psi_net.specs.Expansion.{at_server, served, served_by, values_in, values_of, most_index_values}
 use Rattle.psi_net.specs.declared.entries.NamedEvent.{NamedEvent}
 
-pub total_append : (xs ys : List ℕ) → total (xs ++ ys) ≡ total xs + total ys
-total_append [] ys = omega arith
-total_append (x ∷ xs) ys = (let rest = total_append xs ys in omega arith)
+-- the total of two lists of events, one behind the other
+pub total_map : (f : NamedEvent → ℕ) (xs ys : List NamedEvent) → total (map f (xs ++ ys)) ≡ total (map f xs) + total (map f ys)
+total_map f [] ys = omega arith
+total_map f (x ∷ xs) ys = (let rest = total_map f xs ys in omega arith)
 
 pub length_numbers : (first n : ℕ) → length (numbers_from first n) ≡ n
 length_numbers first zero = refl
@@ -20,17 +20,13 @@ length_numbers first (suc n) = ap suc (length_numbers (suc first) n)
 
 pub numbers_more : (first n : ℕ) → numbers_from first (n + 1) ≡ numbers_from first n ++ (first + n) ∷ []
 numbers_more first zero = (let e : first ≡ first + 0 = omega arith in ap (λ (k : ℕ). k ∷ []) e)
-numbers_more first (suc n) = (let steps : suc n + 1 ≡ suc (n + 1) = omega arith in ap (λ (k : ℕ). numbers_from first k) steps) ∙ ap (λ (ks : List ℕ). first ∷ ks) (numbers_more (suc first) n ∙ (let e : suc first + n ≡ first + suc n = omega arith in ap (λ (k : ℕ). numbers_from (suc first) n ++ k ∷ []) e))
+numbers_more first (suc n) = grind (arith, numbers_more (suc first) n)
+
+pub map_more : {A : Type 0} (f : ℕ → A) (n : ℕ) → map f (numbers_from 1 (n + 1)) ≡ map f (numbers_from 1 n) ++ f (n + 1) ∷ []
+map_more {A = A} f n = rw (numbers_more 1 n, map_push f (numbers_from 1 n) (1 + n)) (let e : 1 + n ≡ n + 1 = omega arith in ap (λ (k : ℕ). map f (numbers_from 1 n) ++ f k ∷ []) e)
 
 pub values_served : (k : ℕ) (kind : Kind) → values_in (at_server k kind) ≡ values_in kind
-values_served k (Arrival to) = refl
-values_served k (Service from to full) = refl
-values_served k (Index from to table full size) = refl
-values_served k (Batch to size) = refl
-values_served k (Negative from on amount) = refl
-values_served k (Fork from to) = refl
-values_served k (Join from to) = refl
-values_served k (Guarded parts) = refl
+values_served k kind = grind arith
 
 rates_from : (event : NamedEvent) (first n : ℕ) → total (map (λ e. e.rate) (map (served event) (numbers_from first n))) ≡ n * event.rate
 rates_from event first zero = omega arith
@@ -42,33 +38,20 @@ values_from event first (suc n) = (let rest = values_from event (suc first) n in
 
 pub length_more : (events : List NamedEvent) (n : ℕ) (event : NamedEvent) → length (events ++ served_by n event) ≡ length events + n
 unfolding served_by
-length_more events n event =
-    let joined = length-append events (map (served event) (numbers_from 1 n)) in
-    let mapped = length-map (numbers_from 1 n) (served event) in
-    let count = length_numbers 1 n in
-    omega arith
+length_more events n event = rw (length-append events (map (served event) (numbers_from 1 n)), length-map (numbers_from 1 n) (served event), length_numbers 1 n) refl
 
 pub values_more : (events : List NamedEvent) (n : ℕ) (event : NamedEvent) → values_of (events ++ served_by n event) ≡ values_of events + n * values_in event.kind
 unfolding served_by
-values_more events n event =
-    ap total (map-append (λ (e : NamedEvent). values_in e.kind) events (map (served event) (numbers_from 1 n)))
-    ∙ (total_append (map (λ (e : NamedEvent). values_in e.kind) events) (map (λ (e : NamedEvent). values_in e.kind) (map (served event) (numbers_from 1 n)))
-    ∙ ap (λ (k : ℕ). values_of events + k) (values_from event 1 n))
+values_more events n event = rw (total_map (λ (e : NamedEvent). values_in e.kind) events (map (served event) (numbers_from 1 n)), values_from event 1 n) refl
 
 pub rates_more : (events : List NamedEvent) (n : ℕ) (event : NamedEvent) → total (map (λ e. e.rate) (events ++ served_by n event)) ≡ total (map (λ e. e.rate) events) + n * event.rate
 unfolding served_by
-rates_more events n event =
-    ap total (map-append (λ (e : NamedEvent). e.rate) events (map (served event) (numbers_from 1 n)))
-    ∙ (total_append (map (λ (e : NamedEvent). e.rate) events) (map (λ (e : NamedEvent). e.rate) (map (served event) (numbers_from 1 n)))
-    ∙ ap (λ (k : ℕ). total (map (λ (e : NamedEvent). e.rate) events) + k) (rates_from event 1 n))
+rates_more events n event = rw (total_map (λ (e : NamedEvent). e.rate) events (map (served event) (numbers_from 1 n)), rates_from event 1 n) refl
 
 -- one server more
 pub served_more : (n : ℕ) (event : NamedEvent) → served_by (n + 1) event ≡ served_by n event ++ served event (n + 1) ∷ []
 unfolding served_by
-served_more n event =
-    let e : 1 + n ≡ n + 1 = omega arith in
-    ap (λ (ks : List ℕ). map (served event) ks) (numbers_more 1 n)
-    ∙ (map-append (served event) (numbers_from 1 n) ((1 + n) ∷ []) ∙ ap (λ (k : ℕ). map (served event) (numbers_from 1 n) ++ served event k ∷ []) e)
+served_more n event = map_more (served event) n
 
 -- no server, and one server more behind others
 pub served_start : (events : List NamedEvent) (event : NamedEvent) → events ≡ events ++ served_by 0 event
@@ -77,10 +60,7 @@ served_start events event = sym (append-nil events)
 
 pub served_next : (before events : List NamedEvent) (n : ℕ) (event next : NamedEvent) → events ≡ before ++ served_by n event → next ≡ served event (n + 1)
     → events ++ next ∷ [] ≡ before ++ served_by (n + 1) event
-served_next before events n event next is so =
-    ap (λ (es : List NamedEvent). es ++ next ∷ []) is
-    ∙ (append_assoc before (served_by n event) (next ∷ [])
-    ∙ ap (λ (es : List NamedEvent). before ++ es) (ap (λ (e : NamedEvent). served_by n event ++ e ∷ []) so ∙ sym (served_more n event)))
+served_next before events n event next is so = rw (is, so, served_more n event) (append_assoc before (served_by n event) (served event (n + 1) ∷ []))
 
 at_least : (n v : ℕ) → 1 ≤ n → v ≤ n * v
 at_least zero v some = absurd (omega arith)

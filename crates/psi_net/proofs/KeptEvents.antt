@@ -1,31 +1,27 @@
 -- Every event that is read is accepted, and their rates make a wheel.
-use Rattle.std.specs.Prelude.{◌≡◌, ℕ, zero, suc, ◌+◌, ◌<◌, ◌≤◌, List, [], ◌++◌, length, map, slice_index, codes, All, IfSome, nat_le, Option, Some, None, Ok, refl}
-use Rattle.std.proofs.Common.{sym, ◌∙◌, subst, arith}
-use Rattle.std.proofs.lemmas.Bool.{leb-true}
+use Rattle.std.specs.Prelude.{◌≡◌, ℕ, zero, suc, ◌+◌, ◌<◌, ◌≤◌, List, [], ◌++◌, length, map, slice_index, codes, All, IfSome, IfOk, Option, Some, None, Ok, refl}
+use Rattle.std.proofs.Common.{ap, sym, ◌∙◌, subst, arith}
 use Rattle.std.proofs.lemmas.List.{length-map}
-use Rattle.std.specs.Option.{option_map}
 use Rattle.std.proofs.lemmas.List.Elements.{All-nil, All-cons, All-append, All-weaker, All-map}
-use Rattle.toml.specs.Data.{Data, Members, get_member}
+use Rattle.toml.specs.Data.{Data, Members}
 use Rattle.psi_state.specs.State.{AreCapacities, numbers_from}
 use Rattle.psi_rate.specs.Rates.{AreRates, greatest_total, total}
 use Rattle.psi_route.specs.declared.Source.{Source}
-use Rattle.psi_kinds.specs.Kinds.{IsKindOf, IsSource}
+use Rattle.psi_kinds.specs.Kinds.{IsKindOf}
 use Rattle.psi_kinds.specs.Refusals.{refusal_of}
 use Rattle.psi_kinds.specs.declared.Kind.{Kind}
-use Rattle.psi_kinds.specs.declared.Kind.TheVariants as kind
-use Rattle.psi_net.specs.Refusal.{◌>>=◌, holds_or, at_key, top, event_place}
-use Rattle.psi_net.specs.Values.{no_unknown, required, number_in, name_in, elements_in, table_in, each}
-use Rattle.psi_net.specs.QueueTables.{unless_taken}
-use Rattle.psi_net.specs.Expansion.{source_of, with_server, at_server, servers_at, served, served_by, expanded, values_of, most_index_values, count_key}
-use Rattle.psi_net.specs.EventTables.{kind_in, event_keys, kind_of, event_of, within_limits, are_within, Listed, event_step, events_in, events_of}
+use Rattle.psi_net.specs.Refusal.{top, event_place}
+use Rattle.psi_net.specs.Values.{elements_in, table_in, each}
+use Rattle.psi_net.specs.Expansion.{source_of, at_server, servers_at, served, served_by, expanded, values_of, count_key}
+use Rattle.psi_net.specs.EventTables.{event_of, within_limits, are_within, Listed, event_step, events_in, events_of}
 use Rattle.psi_net.specs.Kept.{AreListed, IsAccepted}
-use Rattle.psi_net.specs.declared.refusals.Cause.TheVariants.{TooMany, NoEvents, TotalTooLarge}
+use Rattle.psi_net.specs.declared.refusals.Cause.TheVariants.{NoEvents}
 use Rattle.psi_net.specs.declared.refusals.Place.{Place}
 use Rattle.psi_net.specs.declared.entries.Queue.{Queue}
 use Rattle.psi_net.specs.declared.entries.NamedEvent.{NamedEvent}
-use Rattle.psi_net.proofs.Readings.{bind_ok, ok_same, held, required_ok, number_range, elements_count, each_kept}
+use Rattle.psi_net.proofs.Readings.{if_ok, bind_ok, ok_same, number_range, elements_count, each_kept}
 use Rattle.psi_net.proofs.Copies.{length_more}
-use Rattle.psi_net.proofs.KeptQueues.{capacities_kept, servers_most, servers_fit}
+use Rattle.psi_net.proofs.KeptQueues.{capacities_kept, names_same, servers_most, servers_fit}
 use Rattle.psi_net.proofs.KeptKinds.{kind_kept}
 
 -- what an event that is read keeps
@@ -34,75 +30,30 @@ pub record IsEvent (caps : List ℕ) (event : NamedEvent) : Type 0 where
   pub least : 1 ≤ event.rate
   pub most : event.rate ≤ 1048576
 
-pub event_kept : (place : Place) (version : ℕ) (earlier names : List (List ℕ)) (caps : List ℕ) → length names ≡ length caps → AreCapacities caps → (ms : Members) (event : NamedEvent)
-    → event_of place version earlier names caps ms ≡ Ok event → IsEvent caps event
+pub event_kept : (place : Place) (version : ℕ) (earlier names : List (List ℕ)) (caps : List ℕ) → length names ≡ length caps → AreCapacities caps → (ms : Members)
+    → IfOk (event_of place version earlier names caps ms) (IsEvent caps)
 unfolding event_of
-event_kept place version earlier names caps same valid ms event h =
-    let word = bind_ok (required place (codes "kind") (kind_in place version) (get_member (codes "kind") ms)) _ event h in
-    let known = bind_ok (no_unknown place (event_keys word.0) ms) _ event word.2 in
-    let name = bind_ok (required place (codes "name") (name_in place (codes "name")) (get_member (codes "name") ms)) _ event known.2 in
-    let fresh = bind_ok (unless_taken place earlier name.0) _ event name.2 in
-    let rate = bind_ok (required place (codes "rate") (number_in place (codes "rate") 1 1048576) (get_member (codes "rate") ms)) _ event fresh.2 in
-    let kind = bind_ok (kind_of place word.0 names caps ms) _ event rate.2 in
-    let read = required_ok place (codes "rate") (number_in place (codes "rate") 1 1048576) (get_member (codes "rate") ms) rate.0 rate.1 in
-    let range = number_range place (codes "rate") 1 1048576 read.0 rate.0 read.1 in
-    subst (λ (e : NamedEvent). IsEvent caps e) (ok_same _ event kind.2) (record { kind = kind_kept caps names same valid place word.0 ms kind.0 kind.1; least = range.0; most = range.1 })
+event_kept place version earlier names caps same valid ms = grind (arith, kind_kept, number_range)
 
 -- the queue of a kind's source
 source_small : (caps : List ℕ) (k : Kind) → IsKindOf caps k → IfSome (source_of k) (λ s. s.queue < length caps)
-source_small caps (kind.Arrival to) h = tt
-source_small caps (kind.Service from to full) h = (h.0).queue
-source_small caps (kind.Index None to table full size) h = tt
-source_small caps (kind.Index (Some from) to table full size) h = (h.0).queue
-source_small caps (kind.Batch to size) h = tt
-source_small caps (kind.Negative None on amount) h = tt
-source_small caps (kind.Negative (Some from) on amount) h = (h.0).queue
-source_small caps (kind.Fork None to) h = tt
-source_small caps (kind.Fork (Some from) to) h = (h.0).queue
-source_small caps (kind.Join from to) h = tt
-source_small caps (kind.Guarded parts) h = tt
+source_small caps k h = grind arith
 
-small_same : (s : Option Source) (m n : ℕ) → m ≡ n → IfSome s (λ x. x.queue < m) → IfSome s (λ x. x.queue < n)
-small_same None m n e h = tt
-small_same (Some s) m n e h = subst (λ (k : ℕ). s.queue < k) e h
-
--- so its servers are some
-pub event_source : (place : Place) (version : ℕ) (earlier : List (List ℕ)) (queues : List Queue) (ms : Members) (event : NamedEvent) → AreListed queues
-    → event_of place version earlier (map (λ q. q.name) queues) (map (λ q. q.capacity) queues) ms ≡ Ok event → IfSome (source_of event.kind) (λ s. s.queue < length queues)
-event_source place version earlier queues ms event listed h =
-    let names : length (map (λ (q : Queue). q.name) queues) ≡ length queues = length-map queues (λ (q : Queue). q.name) in
-    let caps : length (map (λ (q : Queue). q.capacity) queues) ≡ length queues = length-map queues (λ (q : Queue). q.capacity) in
-    let kept = event_kept place version earlier (map (λ q. q.name) queues) (map (λ q. q.capacity) queues) (names ∙ sym caps) (capacities_kept queues listed) ms event h in
-    small_same (source_of event.kind) (length (map (λ (q : Queue). q.capacity) queues)) (length queues) caps (source_small (map (λ q. q.capacity) queues) event.kind kept.kind.named)
+-- the source of an event that is read with the names and capacities of these queues
+pub source_read : (place : Place) (version : ℕ) (earlier names : List (List ℕ)) (caps : List ℕ) (queues : List Queue) (ms : Members) (event : NamedEvent) → AreListed queues
+    → names ≡ map (λ q. q.name) queues → caps ≡ map (λ q. q.capacity) queues → event_of place version earlier names caps ms ≡ Ok event → IfSome (source_of event.kind) (λ s. s.queue < length queues)
+source_read place version earlier names caps queues ms event listed is are h =
+    let valid = subst (λ (cs : List ℕ). AreCapacities cs) (sym are) (capacities_kept queues listed) in
+    let kept = if_ok (IsEvent caps) (event_kept place version earlier names caps (names_same queues names caps is are) valid ms) h in
+    subst (λ (n : ℕ). IfSome (source_of event.kind) (λ s. s.queue < n)) (ap (λ (cs : List ℕ). length cs) are ∙ length-map queues (λ (q : Queue). q.capacity)) (source_small caps event.kind kept.kind.named)
 
 -- another server of a source
-another : (caps : List ℕ) (s : Option Source) (k : ℕ) → IfSome s (λ x. IsSource caps x) → IfSome s (λ x. (1 ≤ k) × (k ≤ slice_index caps x.queue)) → IfSome (option_map (with_server k) s) (λ x. IsSource caps x)
-another caps None k h fits = tt
-another caps (Some s) k h fits = record { queue = h.queue; least = fits.0; most = fits.1 }
-
 at_kind : (caps : List ℕ) (k : Kind) (n : ℕ) → IsKindOf caps k → IfSome (source_of k) (λ x. (1 ≤ n) × (n ≤ slice_index caps x.queue)) → IsKindOf caps (at_server n k)
-at_kind caps (kind.Arrival to) n h fits = h
-at_kind caps (kind.Service from to full) n h fits = (record { queue = (h.0).queue; least = fits.0; most = fits.1 }, h.1)
-at_kind caps (kind.Index from to table full size) n h fits = (another caps from n h.0 fits, h.1)
-at_kind caps (kind.Batch to size) n h fits = h
-at_kind caps (kind.Negative from on amount) n h fits = (another caps from n h.0 fits, h.1)
-at_kind caps (kind.Fork from to) n h fits = (another caps from n h.0 fits, h.1)
-at_kind caps (kind.Join from to) n h fits = h
-at_kind caps (kind.Guarded parts) n h fits = h
+at_kind caps k n h fits = grind arith
 
 same_refusal : (caps : List ℕ) (k : Kind) (n : ℕ) → refusal_of caps (at_server n k) ≡ refusal_of caps k
 unfolding refusal_of
-same_refusal caps (kind.Arrival to) n = refl
-same_refusal caps (kind.Service from to full) n = refl
-same_refusal caps (kind.Index None to table full size) n = refl
-same_refusal caps (kind.Index (Some from) to table full size) n = refl
-same_refusal caps (kind.Batch to size) n = refl
-same_refusal caps (kind.Negative None on amount) n = refl
-same_refusal caps (kind.Negative (Some from) on amount) n = refl
-same_refusal caps (kind.Fork None to) n = refl
-same_refusal caps (kind.Fork (Some from) to) n = refl
-same_refusal caps (kind.Join from to) n = refl
-same_refusal caps (kind.Guarded parts) n = refl
+same_refusal caps k n = grind arith
 
 -- what the events read so far keep
 pub record AreEvents (caps : List ℕ) (events : List NamedEvent) : Type 0 where
@@ -110,15 +61,14 @@ pub record AreEvents (caps : List ℕ) (events : List NamedEvent) : Type 0 where
   pub few : length events ≤ 1024
   pub light : total (map (λ e. e.rate) events) ≤ greatest_total
 
--- and with each table they become more
-record AreSoFar (queues : List Queue) (n : ℕ) (before : List NamedEvent) (read : Listed) : Type 0 where
+-- and of the tables: each has at least one event
+record AreRead (queues : List Queue) (n : ℕ) (read : Listed) : Type 0 where
   events : AreEvents (map (λ q. q.capacity) queues) read.events
-  more : length before + 1 ≤ length read.events
+  count : n ≤ length read.events + 1
 
 -- each server's event is one of them
 first_fits : (caps : List ℕ) (first most : ℕ) (s : Option Source) → 1 ≤ first → first ≤ most → IfSome s (λ x. most ≤ slice_index caps x.queue) → IfSome s (λ x. (1 ≤ first) × (first ≤ slice_index caps x.queue))
-first_fits caps first most None some fits h = tt
-first_fits caps first most (Some s) some fits h = (some, omega arith)
+first_fits caps first most s some fits h = grind arith
 
 served_kept : (caps : List ℕ) (event : NamedEvent) (first n most : ℕ) → IsEvent caps event → 1 ≤ first → first + n ≤ most + 1
     → IfSome (source_of event.kind) (λ s. most ≤ slice_index caps s.queue) → All (IsEvent caps) (map (served event) (numbers_from first n))
@@ -144,55 +94,31 @@ expanded_kept queues event listed small kept =
 
 limits_kept : (place : Place) (key : List ℕ) (n v r : ℕ) (u : Unit {0}) → within_limits place key n v r ≡ Ok u → (n ≤ 1024) × (r ≤ greatest_total)
 unfolding within_limits
-limits_kept place key n v r u h =
-    let few = bind_ok (holds_or (at_key TooMany place key) (nat_le n 1024))
-    (λ _. holds_or (at_key TooMany place (codes "table")) (nat_le v most_index_values) >>= (λ _. holds_or (at_key TotalTooLarge place (codes "rate")) (nat_le r greatest_total))) u h in
-    let small = bind_ok (holds_or (at_key TooMany place (codes "table")) (nat_le v most_index_values)) (λ _. holds_or (at_key TotalTooLarge place (codes "rate")) (nat_le r greatest_total)) u few.2 in (
-      leb-true n 1024 (held (at_key TooMany place key) (nat_le n 1024) few.0 few.1),
-      leb-true r greatest_total (held (at_key TotalTooLarge place (codes "rate")) (nat_le r greatest_total) u small.2),
-    )
+limits_kept place key n v r u h = grind arith
 
-event_step_kept : (version : ℕ) (queues : List Queue) → AreListed queues → (n : ℕ) (s t : Listed) (d : Data) → AreEvents (map (λ q. q.capacity) queues) s.events
-    → event_step version queues n s d ≡ Ok t → AreSoFar queues (n + 1) s.events t
+event_step_kept : (version : ℕ) (queues : List Queue) → AreListed queues → (n : ℕ) (s t : Listed) (d : Data) → AreRead queues n s → event_step version queues n s d ≡ Ok t → AreRead queues (n + 1) t
 unfolding event_step are_within
 event_step_kept version queues listed n s t d kept h =
-    let names : length (map (λ (q : Queue). q.name) queues) ≡ length queues = length-map queues (λ (q : Queue). q.name) in
-    let caps : length (map (λ (q : Queue). q.capacity) queues) ≡ length queues = length-map queues (λ (q : Queue). q.capacity) in
     let ms = bind_ok (table_in (event_place n) d) _ t h in
     let event = bind_ok (event_of (event_place n) version s.names (map (λ q. q.name) queues) (map (λ q. q.capacity) queues) ms.0) _ t ms.2 in
     let within = bind_ok (are_within (event_place n) event.0 (s.events ++ expanded queues event.0)) _ t event.2 in
     let limits = limits_kept (event_place n) (count_key (source_of event.0.kind)) (length (s.events ++ expanded queues event.0)) (values_of (s.events ++ expanded queues event.0))
     (total (map (λ e. e.rate) (s.events ++ expanded queues event.0))) within.0 within.1 in
-    let one = event_kept (event_place n) version s.names (map (λ q. q.name) queues) (map (λ q. q.capacity) queues) (names ∙ sym caps) (capacities_kept queues listed) ms.0 event.0 event.1 in
-    let source = event_source (event_place n) version s.names queues ms.0 event.0 listed event.1 in
-    subst (λ (l : Listed). AreSoFar queues (n + 1) s.events l) (ok_same _ t within.2) (record {
+    let one = if_ok (IsEvent (map (λ q. q.capacity) queues)) (event_kept (event_place n) version s.names (map (λ q. q.name) queues) (map (λ q. q.capacity) queues) (names_same queues (map (λ q. q.name) queues) (map (λ q. q.capacity) queues) refl refl) (capacities_kept queues listed) ms.0) event.1 in
+    let source = source_read (event_place n) version s.names (map (λ q. q.name) queues) (map (λ q. q.capacity) queues) queues ms.0 event.0 listed refl refl event.1 in
+    subst (λ (l : Listed). AreRead queues (n + 1) l) (ok_same _ t within.2) (record {
       events = record {
-        each = All-append (IsEvent (map (λ q. q.capacity) queues)) s.events (expanded queues event.0) kept.each (expanded_kept queues event.0 listed source one);
+        each = All-append (IsEvent (map (λ q. q.capacity) queues)) s.events (expanded queues event.0) kept.events.each (expanded_kept queues event.0 listed source one);
         few = limits.0;
         light = limits.1;
       };
-      more = (let joined = length_more s.events (servers_at queues (source_of event.0.kind)) event.0 in let least = (servers_most queues (source_of event.0.kind) listed source).0 in omega arith);
+      count = (let before = kept.count in let joined = length_more s.events (servers_at queues (source_of event.0.kind)) event.0 in let least = (servers_most queues (source_of event.0.kind) listed source).0 in omega arith);
     })
-
--- what is kept while events are read
-record AreRead (queues : List Queue) (n : ℕ) (read : Listed) : Type 0 where
-  events : AreEvents (map (λ q. q.capacity) queues) read.events
-  count : n ≤ length read.events + 1
-
-step_read : (version : ℕ) (queues : List Queue) → AreListed queues → (n : ℕ) (s t : Listed) (d : Data) → AreRead queues n s → event_step version queues n s d ≡ Ok t → AreRead queues (n + 1) t
-step_read version queues listed n s t d kept h =
-    let more = event_step_kept version queues listed n s t d kept.events h in
-    let count = kept.count in
-    let grown = more.more in
-    record { events = more.events; count = omega arith }
 
 -- what the events of a file keep
 pub record AreEventsOf (caps : List ℕ) (events : List NamedEvent) : Type 0 where
   pub rates : AreRates (map (λ e. e.rate) events)
   pub kinds : All (λ e. IsAccepted caps e.kind) events
-
-no_events : (caps : List ℕ) → AreEvents caps []
-no_events caps = record { each = All-nil (IsEvent caps); few = omega arith; light = omega arith }
 
 pub events_of_kept : (caps : List ℕ) (events : List NamedEvent) → 1 ≤ length events → AreEvents caps events → AreEventsOf caps events
 events_of_kept caps events some kept =
@@ -219,15 +145,8 @@ events_kept version queues (Some d) events listed h =
     let read = bind_ok (each (event_step version queues) 1 (record { names = []; events = [] }) tables.0) _ events tables.2 in
     let least = (elements_count top (codes "event") NoEvents 1024 d tables.0 tables.1).0 in
     let kept : AreRead queues (1 + length tables.0) read.0 =
-    each_kept (AreRead queues) (event_step version queues) (λ n s t e k r. step_read version queues listed n s t e k r) tables.0 1 (1 + length tables.0) (record { names = []; events = [] }) read.0 refl
-    (record { events = no_events (map (λ q. q.capacity) queues); count = omega arith }) read.1 in
+    each_kept (AreRead queues) (event_step version queues) (λ n s t e k r. event_step_kept version queues listed n s t e k r) tables.0 1 (1 + length tables.0) (record { names = []; events = [] }) read.0 refl
+    (record { events = record { each = All-nil (IsEvent (map (λ q. q.capacity) queues)); few = omega arith; light = omega arith }; count = omega arith }) read.1 in
     let count = kept.count in
     subst (λ (es : List NamedEvent). AreEventsOf (map (λ q. q.capacity) queues) es) (ok_same read.0.events events read.2)
     (events_of_kept (map (λ q. q.capacity) queues) read.0.events (omega arith) kept.events)
-
--- the source of an event that is read with these names and capacities
-pub source_read : (place : Place) (version : ℕ) (earlier names : List (List ℕ)) (caps : List ℕ) (queues : List Queue) (ms : Members) (event : NamedEvent) → AreListed queues
-    → names ≡ map (λ q. q.name) queues → caps ≡ map (λ q. q.capacity) queues → event_of place version earlier names caps ms ≡ Ok event → IfSome (source_of event.kind) (λ s. s.queue < length queues)
-source_read place version earlier names caps queues ms event listed is are h =
-    event_source place version earlier queues ms event listed
-    (subst (λ (cs : List ℕ). event_of place version earlier (map (λ q. q.name) queues) cs ms ≡ Ok event) are (subst (λ (ns : List (List ℕ)). event_of place version earlier ns caps ms ≡ Ok event) is h))

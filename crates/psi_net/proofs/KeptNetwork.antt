@@ -1,15 +1,15 @@
 -- Every network that is read can be sampled.
-use Rattle.std.specs.Prelude.{◌≡◌, ℕ, ◌+◌, ◌≤◌, List, [], ◌∷◌, ◌++◌, length, map, codes, Bool, true, false, ◌==◌, Ok, ok_or, refl}
-use Rattle.std.proofs.Common.{ap, subst, arith, length-append}
+use Rattle.std.specs.Prelude.{◌≡◌, ℕ, ◌+◌, ◌≤◌, List, [], length, map, codes, Ok, ok_or, refl}
+use Rattle.std.proofs.Common.{subst, arith, length-append}
 use Rattle.std.proofs.lemmas.Bool.{leb-true}
 use Rattle.toml.specs.Data.{Data, Members, get_member}
 use Rattle.toml.specs.Parse.{parse_document}
 use Rattle.psi_net.specs.Network.{Network, NamedReward}
-use Rattle.psi_net.specs.Refusal.{holds_or, at_place, top, reward_place}
-use Rattle.psi_net.specs.Values.{no_unknown, required, optional, number_in, array_in, table_in}
+use Rattle.psi_net.specs.Refusal.{holds_or, at_place, top}
+use Rattle.psi_net.specs.Values.{no_unknown, required, optional, number_in, array_in}
 use Rattle.psi_net.specs.QueueTables.{queues_of}
 use Rattle.psi_net.specs.EventTables.{events_of}
-use Rattle.psi_net.specs.RewardTables.{reward_of, reward_step, rewards_in, rewards_of}
+use Rattle.psi_net.specs.RewardTables.{reward_step, rewards_in, rewards_of}
 use Rattle.psi_net.specs.Reading.{version_in, top_keys, most_limit, default_limit, default_split, document_network, text_network}
 use Rattle.psi_net.specs.Kept.{IsNetwork}
 use Rattle.psi_net.specs.declared.refusals.Cause.TheVariants.{NotToml}
@@ -18,21 +18,11 @@ use Rattle.psi_net.proofs.KeptQueues.{queues_kept}
 use Rattle.psi_net.proofs.KeptEvents.{events_kept}
 
 most_is : (version : ℕ) → most_limit version ≤ 22
-most_is version = by (version == 1) refl
-  where
-    by : (b : Bool) → (version == 1) ≡ b → most_limit version ≤ 22
-    by true e = rw (e) (omega arith)
-    by false e = rw (e) (omega arith)
+most_is version = grind arith
 
 reward_step_kept : (names : List (List ℕ)) (caps : List ℕ) (n : ℕ) (s t : List NamedReward) (d : Data) → n ≡ length s + 1 → reward_step names caps n s d ≡ Ok t → n + 1 ≡ length t + 1
 unfolding reward_step
-reward_step_kept names caps n s t d count h =
-    let ms = bind_ok (table_in (reward_place n) d) _ t h in
-    let reward = bind_ok (reward_of (reward_place n) (map (λ r. r.name) s) names caps ms.0) _ t ms.2 in
-    let same : s ++ reward.0 ∷ [] ≡ t = ok_same _ t reward.2 in
-    let sized : length (s ++ reward.0 ∷ []) ≡ length t = ap (λ (rs : List NamedReward). length rs) same in
-    let joined : length (s ++ reward.0 ∷ []) ≡ length s + 1 = length-append s (reward.0 ∷ []) in
-    omega arith
+reward_step_kept names caps n s t d count h = grind (arith, length-append {A = NamedReward})
 
 rewards_in_kept : (names : List (List ℕ)) (caps : List ℕ) (d : Data) (rewards : List NamedReward) → rewards_in names caps d ≡ Ok rewards → length rewards ≤ 64
 unfolding rewards_in
@@ -43,10 +33,6 @@ rewards_in_kept names caps d rewards h =
     let count : 1 + length tables.0 ≡ length rewards + 1 =
     each_kept (λ n (s : List NamedReward). n ≡ length s + 1) (reward_step names caps) (λ n s t e k r. reward_step_kept names caps n s t e k r) tables.0 1 (1 + length tables.0) [] rewards refl refl few.2 in
     omega arith
-
-record IsSplit (n : ℕ) : Type 0 where
-  some : 1 ≤ n
-  most : n ≤ 4096
 
 -- a document's network can be sampled
 document_kept : (ms : Members) (net : Network) → document_network ms ≡ Ok net → IsNetwork net
@@ -64,8 +50,8 @@ document_kept ms net h =
     let most : most_limit version.0 ≤ 22 = most_is version.0 in
     let horizon : limit.0 ≤ 22 = optional_kept (λ (n : ℕ). n ≤ 22) default_limit (number_in top (codes "limit") 0 (most_limit version.0)) (get_member (codes "limit") ms) limit.0 (omega arith)
     (λ d r. (let own = (number_range top (codes "limit") 0 (most_limit version.0) d limit.0 r).1 in omega arith)) limit.1 in
-    let states : IsSplit split.0 = optional_kept IsSplit default_split (number_in top (codes "split") 1 4096) (get_member (codes "split") ms) split.0 (record { some = omega arith; most = omega arith })
-    (λ d r. (let own = number_range top (codes "split") 1 4096 d split.0 r in record { some = own.0; most = own.1 })) split.1 in
+    let states : (1 ≤ split.0) × (split.0 ≤ 4096) = optional_kept (λ (n : ℕ). (1 ≤ n) × (n ≤ 4096)) default_split (number_in top (codes "split") 1 4096) (get_member (codes "split") ms) split.0 (omega arith, omega arith)
+    (λ d r. number_range top (codes "split") 1 4096 d split.0 r) split.1 in
     let worths : length rewards.0 ≤ 64 = optional_kept (λ (rs : List NamedReward). length rs ≤ 64) [] (rewards_in (map (λ q. q.name) queues.0) (map (λ q. q.capacity) queues.0)) (get_member (codes "reward") ms) rewards.0 (omega arith)
     (λ d r. rewards_in_kept (map (λ q. q.name) queues.0) (map (λ q. q.capacity) queues.0) d rewards.0 r) rewards.1 in
     subst (λ (n : Network). IsNetwork n) (ok_same _ net rewards.2) (record {
@@ -73,8 +59,8 @@ document_kept ms net h =
       rates = kept.rates;
       kinds = kept.kinds;
       limit = horizon;
-      some_split = states.some;
-      most_split = states.most;
+      some_split = states.0;
+      most_split = states.1;
       few_rewards = worths;
     })
 

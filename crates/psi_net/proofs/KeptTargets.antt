@@ -1,17 +1,19 @@
 -- Lists of queues that are read, and what kinds ask of them.
-use Rattle.std.specs.Prelude.{◌≡◌, ℕ, ◌+◌, ◌<◌, List, [], ◌∷◌, ◌++◌, length, slice_index, EachIndex, true, false, not, nat_eq, Ok, refl}
-use Rattle.std.proofs.Common.{subst, arith, length-append}
+use Rattle.std.specs.Prelude.{◌≡◌, ℕ, ◌+◌, ◌<◌, List, [], ◌∷◌, length, slice_index, EachIndex, true, false, not, nat_eq, Ok, refl}
+use Rattle.std.proofs.Common.{arith, length-append}
 use Rattle.std.specs.List.{list_all, list_any}
-use Rattle.std.proofs.lemmas.Bool.{and_parts, or_parts, or_from, not-true, ltb-true}
+use Rattle.std.proofs.lemmas.Bool.{ltb-true}
 use Rattle.toml.specs.Data.{Data}
+use Rattle.psi_state.specs.Repeats.{repeats}
 use Rattle.psi_kinds.specs.Refusals.{is_empty}
 use Rattle.psi_net.specs.Refusal.{holds_or}
 use Rattle.psi_net.specs.Values.{array_in, each}
-use Rattle.psi_net.specs.References.{is_in, queue_in, target_in, target_step, targets_in, some_targets_in}
+use Rattle.psi_net.specs.References.{is_in, target_in, target_step, targets_in, some_targets_in}
 use Rattle.psi_net.specs.Targets.{are_below, AreTargets}
 use Rattle.psi_net.specs.declared.refusals.Place.{Place}
-use Rattle.psi_net.proofs.Readings.{bind_ok, ok_same, held, each_kept, queue_small}
-use Rattle.psi_net.proofs.Pigeons.{no_targets, targets_more, other_way}
+use Rattle.psi_net.proofs.Readings.{bind_ok, held, each_kept, queue_small}
+use Rattle.psi_net.proofs.Pigeons.{no_targets, distinct_more}
+use Rattle.std.proofs.lemmas.List.Folds.{list_all-append}
 use Rattle.psi_net.proofs.Found.{below_at}
 
 -- what the queues read so far keep
@@ -22,16 +24,7 @@ record AreSome (count : ℕ) (sources : List ℕ) (n : ℕ) (queues : List ℕ) 
 target_step_kept : (place : Place) (key : List ℕ) (names : List (List ℕ)) (sources : List ℕ) (n : ℕ) (s t : List ℕ) (d : Data) → AreSome (length names) sources n s
     → target_step place key names sources n s d ≡ Ok t → AreSome (length names) sources (n + 1) t
 unfolding target_step
-target_step_kept place key names sources n s t d kept h =
-    let queue = bind_ok (queue_in place key names d) _ t h in
-    let fresh = bind_ok (holds_or _ _) _ t queue.2 in
-    let apart = bind_ok (holds_or _ _) _ t fresh.2 in
-    let same : s ++ queue.0 ∷ [] ≡ t = ok_same (s ++ queue.0 ∷ []) t apart.2 in
-    subst (λ (qs : List ℕ). AreSome (length names) sources (n + 1) qs) same (record {
-      targets = targets_more (length names) sources s queue.0 kept.targets (queue_small place key names d queue.0 queue.1)
-          (not-true (is_in queue.0 s) (held _ _ fresh.0 fresh.1)) (not-true (is_in queue.0 sources) (held _ _ apart.0 apart.1));
-      length_is = omega (arith, kept.length_is, length-append s (queue.0 ∷ []));
-    })
+target_step_kept place key names sources n s t d kept h = grind (arith, queue_small, distinct_more, list_all-append {X = ℕ}, length-append {A = ℕ})
 
 all_targets : (place : Place) (key : List ℕ) (names : List (List ℕ)) (sources : List ℕ) (ds : List Data) (qs : List ℕ) → each (target_step place key names sources) 1 [] ds ≡ Ok qs
     → AreSome (length names) sources (1 + length ds) qs
@@ -46,13 +39,15 @@ unfolding targets_in
 targets_kept place key names sources d qs h =
     let elements = bind_ok (array_in place key d) _ qs h in (all_targets place key names sources elements.0 qs elements.2).targets
 
-not_empty : (qs : List ℕ) → 0 < length qs → is_empty qs ≡ false
+pub not_empty : {A : Type 0} (xs : List A) → 0 < length xs → is_empty xs ≡ false
 not_empty [] some = absurd (omega arith)
-not_empty (q ∷ qs) some = refl
+not_empty (x ∷ xs) some = refl
 
 -- and one of at least one name
 pub record AreSomeTargets (n : ℕ) (sources queues : List ℕ) : Type 0 where
-  pub targets : AreTargets n sources queues
+  pub distinct : repeats queues ≡ false
+  pub within : are_below n queues ≡ true
+  pub apart : list_all (λ queue. not (is_in queue sources)) queues ≡ true
   pub some : is_empty queues ≡ false
 
 pub some_targets_kept : (place : Place) (key : List ℕ) (names : List (List ℕ)) (sources : List ℕ) (d : Data) (qs : List ℕ) → some_targets_in place key names sources d ≡ Ok qs
@@ -64,27 +59,21 @@ some_targets_kept place key names sources d qs h =
     let kept = all_targets place key names sources elements.0 qs some.2 in
     let many : 0 < length elements.0 = ltb-true 0 (length elements.0) (held _ _ some.0 some.1) in
     let count : 1 + length elements.0 ≡ length qs + 1 = kept.length_is in
-    record { targets = kept.targets; some = not_empty qs (omega arith) }
+    record { distinct = kept.targets.distinct; within = kept.targets.within; apart = kept.targets.apart; some = not_empty qs (omega arith) }
 
--- a single name that isn't a source
-pub target_kept : (place : Place) (key : List ℕ) (names : List (List ℕ)) (sources : List ℕ) (d : Data) (q : ℕ) → target_in place key names sources d ≡ Ok q
-    → (q < length names) × (is_in q sources ≡ false)
+-- a single name is a queue's, and isn't a source's
+pub target_small : (place : Place) (key : List ℕ) (names : List (List ℕ)) (sources : List ℕ) (d : Data) (q : ℕ) → target_in place key names sources d ≡ Ok q → q < length names
 unfolding target_in
-target_kept place key names sources d q h =
-    let queue = bind_ok (queue_in place key names d) _ q h in
-    let apart = bind_ok (holds_or _ _) _ q queue.2 in
-    let same : queue.0 ≡ q = ok_same queue.0 q apart.2 in (
-      subst (λ (k : ℕ). k < length names) same (queue_small place key names d queue.0 queue.1),
-      subst (λ (k : ℕ). is_in k sources ≡ false) same (not-true (is_in queue.0 sources) (held _ _ apart.0 apart.1)),
-    )
+target_small place key names sources d q h = grind (arith, queue_small)
+
+pub target_apart : (place : Place) (key : List ℕ) (names : List (List ℕ)) (sources : List ℕ) (d : Data) (q : ℕ) → target_in place key names sources d ≡ Ok q → is_in q sources ≡ false
+unfolding target_in
+target_apart place key names sources d q h = grind arith
 
 -- a source that isn't among the targets
 pub away : (source : ℕ) (qs : List ℕ) → list_all (λ q. not (is_in q (source ∷ []))) qs ≡ true → list_any (λ q. nat_eq q source) qs ≡ false
 away source [] h = refl
-away source (q ∷ qs) h =
-    let parts = and_parts (not (is_in q (source ∷ []))) (list_all (λ p. not (is_in p (source ∷ []))) qs) h in
-    let apart = or_parts (nat_eq source q) (is_in q []) (not-true (is_in q (source ∷ [])) parts.0) in
-    or_from (nat_eq q source) (list_any (λ p. nat_eq p source) qs) (other_way source q apart.0) (away source qs parts.1)
+away source (q ∷ qs) h = grind (arith, away source qs)
 
 -- the queues are among those of the capacities
 pub among : (n : ℕ) (qs : List ℕ) → are_below n qs ≡ true → EachIndex qs (λ i. slice_index qs i < n)

@@ -1,6 +1,5 @@
 -- What an event of a network stands for, by its form.
 use Rattle.std.specs.Prelude.{◌≡◌, ℕ, ◌+◌, ◌<◌, List, [], ◌∷◌, ◌++◌, length, take, get_or, Option, None}
-use Rattle.std.proofs.Common.{sym, subst}
 use Rattle.psi_event.specs.Idle.{unchanged}
 use Rattle.psi_guard.specs.Guarding.{guarded}
 use Rattle.psi_guard.specs.Guarding.{upset_of as upset_of_parts}
@@ -28,6 +27,4 @@ upset_pair event = by_form (λ route. upset_of_shape (shape_of route)) (λ guard
 pub lowered_more : (caps : List ℕ) (events : List NamedEvent) (i : ℕ) (event : NamedEvent) (made more : List Event) (one : Event) → i < length events → event ≡ get_or events i event
     → capacities one ≡ caps → Does caps (function one) event.kind → upset_pair one ≡ upset_of caps event.kind → more ≡ made ++ one ∷ []
     → AreMade capacities function upset_pair caps (take i events) made → AreMade capacities function upset_pair caps (take (i + 1) events) more
-lowered_more caps events i event made more one small is same does mark pushed so =
-    subst (λ (es : List Event). AreMade capacities function upset_pair caps (take (i + 1) events) es) (sym pushed)
-    (made_more capacities function upset_pair caps events i event made one small is same does mark so)
+lowered_more caps events i event made more one small is same does mark pushed so = rw (pushed) (made_more capacities function upset_pair caps events i event made one small is same does mark so)

@@ -1,6 +1,8 @@
 -- The parts of a network, as loops make them.
-use Rattle.std.proofs.Common.{◌≡◌, ℕ, zero, suc, ◌+◌, ◌<◌, ◌≤◌, List, [], ◌∷◌, ◌++◌, length, map, take, slice_index, slice_set, get_or, Option, Some, None, inl, inr, ap, sym, ◌∙◌, subst, arith, get_or-set_same, get_or-set_other, refl}
+use Rattle.std.proofs.Common.{◌≡◌, ℕ, suc, ◌+◌, ◌<◌, ◌≤◌, List, [], ◌∷◌, ◌++◌, length, map, take, slice_index, slice_set, get_or, Option, Some, None, inl, inr, ap, sym, ◌∙◌, subst, arith, get_or-set_same, get_or-set_other, refl}
 use Rattle.std.specs.List.{slice_get}
+use Rattle.std.specs.Option.{option_map}
+use Rattle.std.proofs.lemmas.Option.{slice_get-map}
 use Rattle.std.proofs.lemmas.List.Elements.{All-push, All-nil}
 use Rattle.std.proofs.lemmas.Bool.{cases_eq}
 use Rattle.std.proofs.lemmas.List.{get_or-map, length-map, map_push, take_more, take_all}
@@ -27,17 +29,10 @@ pub set_more : (caps : List ℕ) (queues : List Queue) (i : ℕ) (queue : Queue)
     → (new : List ℕ) → new ≡ slice_set caps i queue.capacity → length new ≡ length caps → AreSet new queues (i + 1)
 set_more caps queues i queue small at set new is long = record {
   sized = long ∙ set.sized;
-  each = λ k below.
-      (let there : i < length caps = omega (arith, set.sized) in
-      let same : slice_index new k ≡ slice_index (slice_set caps i queue.capacity) k = ap (λ xs. slice_index xs k) is in
-      elim (cases_eq k i) [
-        | inl e ↦ (let wrote : slice_index (slice_set caps i queue.capacity) i ≡ queue.capacity = get_or-set_same {A = ℕ} caps i queue.capacity 0 there in
-            let reads : slice_index (map (λ (q : Queue). q.capacity) queues) i ≡ (get_or queues i queue).capacity = get_or-map (λ (q : Queue). q.capacity) queues i queue 0 small in
-            let own : queue.capacity ≡ (get_or queues i queue).capacity = ap (λ (q : Queue). q.capacity) at in
-            same ∙ (ap (λ j. slice_index (slice_set caps i queue.capacity) j) e ∙ (wrote ∙ (own ∙ (sym reads ∙ ap (λ j. slice_index (map (λ (q : Queue). q.capacity) queues) j) (sym e))))))
-        | inr ne ↦ (let kept : slice_index (slice_set caps i queue.capacity) k ≡ slice_index caps k = get_or-set_other {A = ℕ} caps i k queue.capacity 0 ne in
-            same ∙ (kept ∙ set.each k (omega arith)))
-      ]);
+  each = λ k below. rw (is) (elim (cases_eq k i) [
+    | inl e ↦ rw (e, get_or-set_same {A = ℕ} caps i queue.capacity 0 (omega (arith, set.sized)), get_or-map (λ (q : Queue). q.capacity) queues i queue 0 small) (ap (λ (q : Queue). q.capacity) at)
+    | inr ne ↦ rw (get_or-set_other {A = ℕ} caps i k queue.capacity 0 ne) (set.each k (omega arith))
+  ]);
 }
 
 -- what is accepted isn't refused
@@ -59,16 +54,10 @@ module _ {E : Type 0} (capacities : E → List ℕ) (function : E → List ℕ �
       → capacities one ≡ caps → Does caps (function one) event.kind → upset_pair one ≡ upset_of caps event.kind
       → AreMade capacities function upset_pair caps (take i events) made → AreMade capacities function upset_pair caps (take (i + 1) events) (made ++ one ∷ [])
   made_more events i event made one small is same does mark so =
-      let front : take (i + 1) events ≡ take i events ++ get_or events i event ∷ [] = take_more events i event small in
-      let last : take i events ++ get_or events i event ∷ [] ≡ take i events ++ event ∷ [] = ap (λ (e : NamedEvent). take i events ++ e ∷ []) (sym is) in
-      subst (λ (es : List NamedEvent). AreMade capacities function upset_pair caps es (made ++ one ∷ [])) (sym (front ∙ last)) (record {
+      rw (take_more events i event small, ← is) (record {
         same_caps = All-push (λ (e : E). capacities e ≡ caps) made one so.same_caps same;
-        functions = subst (λ (fs : List (List ℕ → List ℕ)). EachDoes caps fs (take i events ++ event ∷ [])) (sym (map_push function made one))
-            (does_more caps (map function made) (take i events) (function one) event so.functions does);
-        marks = map_push upset_pair made one
-            ∙ (ap (λ (ps : List (Option (List ℕ × List ℕ))). ps ++ upset_pair one ∷ []) so.marks
-            ∙ (ap (λ (p : Option (List ℕ × List ℕ)). map (λ (e : NamedEvent). upset_of caps e.kind) (take i events) ++ p ∷ []) mark
-            ∙ sym (map_push (λ (e : NamedEvent). upset_of caps e.kind) (take i events) event)));
+        functions = rw (map_push function made one) (does_more caps (map function made) (take i events) (function one) event so.functions does);
+        marks = rw (map_push upset_pair made one, so.marks, mark, map_push (λ (e : NamedEvent). upset_of caps e.kind) (take i events) event) refl;
       })
 
   pub all_made : (events : List NamedEvent) (i : ℕ) (made : List E) → length events ≤ i → AreMade capacities function upset_pair caps (take i events) made → AreMade capacities function upset_pair caps events made
@@ -76,18 +65,11 @@ module _ {E : Type 0} (capacities : E → List ℕ) (function : E → List ℕ �
 
   pub made_count : (events : List NamedEvent) (made : List E) (rates : List ℕ) → AreMade capacities function upset_pair caps events made → rates ≡ map (λ e. e.rate) events → length rates ≡ length made
   made_count events made rates so is =
-      let pairs : length (map upset_pair made) ≡ length (map (λ (e : NamedEvent). upset_of caps e.kind) events) = ap (λ (ps : List (Option (List ℕ × List ℕ))). length ps) so.marks in
-      let all : length (map upset_pair made) ≡ length made = length-map made upset_pair in
-      let listed : length (map (λ (e : NamedEvent). upset_of caps e.kind) events) ≡ length events = length-map events (λ (e : NamedEvent). upset_of caps e.kind) in
-      let rated : length rates ≡ length (map (λ (e : NamedEvent). e.rate) events) = ap (λ (rs : List ℕ). length rs) is in
-      let counted : length (map (λ (e : NamedEvent). e.rate) events) ≡ length events = length-map events (λ (e : NamedEvent). e.rate) in
-      omega arith
+      rw (is, length-map events (λ (e : NamedEvent). e.rate), ← length-map made upset_pair, so.marks, length-map events (λ (e : NamedEvent). upset_of caps e.kind)) refl
 
 -- a reward at its place
 pub got_named : (values : List RewardEntry) (i : ℕ) (value : RewardEntry) → slice_get values i ≡ Some value → slice_get (map named values) i ≡ Some (named value)
-got_named [] i value h = absurd cc
-got_named (v ∷ values) zero value h = (let e : v ≡ value = cc in ap (λ (x : RewardEntry). Some (named x)) e)
-got_named (v ∷ values) (suc i) value h = got_named values i value h
+got_named values i value h = slice_get-map named values i ∙ ap (λ (o : Option RewardEntry). option_map named o) h
 
 -- rates that make a wheel are some
 pub some_rates : (rates : List ℕ) → AreRates rates → rates ≡ [] → ⊥

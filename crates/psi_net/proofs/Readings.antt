@@ -1,14 +1,12 @@
 -- What was read, step by step.
-use Rattle.std.specs.Prelude.{◌≡◌, ℕ, ◌+◌, ◌<◌, ◌≤◌, ℤ, pos, negsuc, List, [], ◌∷◌, length, Bool, true, false, ◌&&◌, nat_le, Option, Some, None, Result, Ok, Err, ok_or, cond, refl}
-use Rattle.std.proofs.Common.{ap, subst, arith}
+use Rattle.std.specs.Prelude.{◌≡◌, ℕ, ◌+◌, ◌<◌, ◌≤◌, ℤ, List, [], ◌∷◌, length, Bool, true, false, Option, Some, None, Result, Ok, Err, IfOk, refl}
+use Rattle.std.proofs.Common.{subst, arith}
 use Rattle.std.specs.Int.RustNames.{unsigned_abs}
 use Rattle.std.specs.Str.{bytes_eq}
-use Rattle.std.proofs.lemmas.Bool.{and_parts, leb-true, ltb-true}
 use Rattle.std.proofs.lemmas.List.Quantifiers.{position-Some}
-use Rattle.toml.specs.Data.{Data, integer}
-use Rattle.psi_net.specs.Name.{name_of}
+use Rattle.toml.specs.Data.{Data}
 use Rattle.psi_net.specs.Refusal.{◌>>=◌, holds_or}
-use Rattle.psi_net.specs.Values.{required, optional, number_in, integer_in, text_in, array_in, elements_in, each}
+use Rattle.psi_net.specs.Values.{required, optional, number_in, integer_in, elements_in, each}
 use Rattle.psi_net.specs.References.{number_of, queue_in}
 use Rattle.psi_net.specs.declared.refusals.Cause.{Cause}
 use Rattle.psi_net.specs.declared.refusals.Place.{Place}
@@ -19,6 +17,10 @@ pub bind_ok : {A B : Type 0} (r : Result A NetRefusal) (f : A → Result B NetRe
 bind_ok (Ok x) f y h = (x, refl, h)
 bind_ok (Err refusal) f y h = absurd cc
 
+-- what is kept of a reading's value
+pub if_ok : {A : Type 0} (P : A → Type 0) {r : Result A NetRefusal} {x : A} → IfOk r P → r ≡ Ok x → P x
+if_ok P kept h = subst (λ s. IfOk s P) h kept
+
 pub ok_same : {A : Type 0} (x y : A) → ◌≡◌ {A = Result A NetRefusal} (Ok x) (Ok y) → x ≡ y
 ok_same x y h = cc
 
@@ -26,14 +28,6 @@ ok_same x y h = cc
 pub held : (refusal : NetRefusal) (b : Bool) (u : Unit {0}) → holds_or refusal b ≡ Ok u → b ≡ true
 held refusal true u h = refl
 held refusal false u h = absurd cc
-
-pub passed : {A : Type 0} (b : Bool) (x y : A) (refusal : NetRefusal) → cond b (Ok x) (Err refusal) ≡ Ok y → (b ≡ true) × (x ≡ y)
-passed true x y refusal h = (refl, cc)
-passed false x y refusal h = absurd cc
-
-pub found_some : {A : Type 0} (o : Option A) (refusal : NetRefusal) (x : A) → ok_or o refusal ≡ Ok x → o ≡ Some x
-found_some None refusal x h = absurd cc
-found_some (Some y) refusal x h = ap (λ z. Some z) cc
 
 -- a required key has a value that was read, and so has an optional one unless it is the default
 pub required_ok : {A : Type 0} (place : Place) (key : List ℕ) (reading : Data → Result A NetRefusal) (found : Option Data) (x : A) → required place key reading found ≡ Ok x → (d : Data) × (reading d ≡ Ok x)
@@ -48,48 +42,16 @@ optional_kept P default reading (Some d) x start keep h = keep d h
 -- a number is in its range
 pub number_range : (place : Place) (key : List ℕ) (lo hi : ℕ) (d : Data) (n : ℕ) → number_in place key lo hi d ≡ Ok n → (lo ≤ n) × (n ≤ hi)
 unfolding number_in
-number_range place key lo hi (integer (pos k)) n h =
-    let both = passed (nat_le lo k && nat_le k hi) k n _ h in
-    let parts = and_parts (nat_le lo k) (nat_le k hi) both.0 in
-    let least : lo ≤ k = leb-true lo k parts.0 in
-    let most : k ≤ hi = leb-true k hi parts.1 in
-    let same : k ≡ n = both.1 in
-    (omega arith, omega arith)
-number_range place key lo hi (integer (negsuc k)) n h = absurd cc
-number_range place key lo hi d n h = absurd cc
+number_range place key lo hi d n h = grind arith
 
 pub integer_range : (place : Place) (key : List ℕ) (most : ℕ) (d : Data) (z : ℤ) → integer_in place key most d ≡ Ok z → unsigned_abs z ≤ most
 unfolding integer_in
-integer_range place key most (integer y) z h =
-    let both = passed (nat_le (unsigned_abs y) most) y z _ h in
-    subst (λ (x : ℤ). unsigned_abs x ≤ most) both.1 (leb-true (unsigned_abs y) most both.0)
-integer_range place key most d z h = absurd cc
+integer_range place key most d z h = grind arith
 
 -- an array that isn't empty has at least one element, and at most so many
 pub elements_count : (place : Place) (key : List ℕ) (empty : Cause) (most : ℕ) (d : Data) (ds : List Data) → elements_in place key empty most d ≡ Ok ds → (1 ≤ length ds) × (length ds ≤ most)
 unfolding elements_in
-elements_count place key empty most d ds h =
-    let read = bind_ok (array_in place key d) _ ds h in
-    let some = bind_ok (holds_or _ _) _ ds read.2 in
-    let few = bind_ok (holds_or _ _) _ ds some.2 in
-    let same : read.0 ≡ ds = ok_same read.0 ds few.2 in
-    let least : 0 < length read.0 = ltb-true 0 (length read.0) (held _ _ some.0 some.1) in
-    let all : length read.0 ≤ most = leb-true (length read.0) most (held _ _ few.0 few.1) in
-    let count : length read.0 ≡ length ds = ap (λ (es : List Data). length es) same in
-    (omega arith, omega arith)
-
--- what each step keeps is kept by the whole; the steps are numbered
-pub each_kept : {S : Type 0} (P : ℕ → S → Type 0) (step : ℕ → S → Data → Result S NetRefusal)
-    → ((n : ℕ) (s t : S) (d : Data) → P n s → step n s d ≡ Ok t → P (n + 1) t)
-    → (ds : List Data) (n m : ℕ) (s t : S) → m ≡ n + length ds → P n s → each step n s ds ≡ Ok t → P m t
-unfolding each
-each_kept {S} P step keep [] n m s t count start h =
-    let same : s ≡ t = ok_same s t h in
-    let all : n ≡ m = omega arith in
-    subst (λ (k : ℕ). P k t) all (subst (λ (u : S). P n u) same start)
-each_kept {S} P step keep (d ∷ ds) n m s t count start h =
-    let first = bind_ok (step n s d) (λ (u : S). each step (n + 1) u ds) t h in
-    each_kept P step keep ds (n + 1) m first.0 t (omega arith) (keep n s first.0 d start first.1) first.2
+elements_count place key empty most d ds h = grind arith
 
 number_small : (names : List (List ℕ)) (name : Option (List ℕ)) (n : ℕ) → number_of names name ≡ Some n → n < length names
 number_small names None n h = absurd cc
@@ -99,11 +61,9 @@ number_small (other ∷ names) (Some name) n h = (position-Some (bytes_eq name) 
 -- the number of a queue is below their count
 pub queue_small : (place : Place) (key : List ℕ) (names : List (List ℕ)) (d : Data) (n : ℕ) → queue_in place key names d ≡ Ok n → n < length names
 unfolding queue_in
-queue_small place key names d n h =
-    let text = bind_ok (text_in place key d) _ n h in
-    number_small names (name_of text.0) n (found_some (number_of names (name_of text.0)) _ n text.2)
+queue_small place key names d n h = grind (arith, number_small)
 
--- the same of steps that know how many there are
+-- what each step keeps is kept by the whole; the steps are numbered, and know how many there are
 pub each_kept_below : {S : Type 0} (P : ℕ → S → Type 0) (step : ℕ → S → Data → Result S NetRefusal) (m : ℕ)
     → ((n : ℕ) (s t : S) (d : Data) → n < m → P n s → step n s d ≡ Ok t → P (n + 1) t)
     → (ds : List Data) (n : ℕ) (s t : S) → m ≡ n + length ds → P n s → each step n s ds ≡ Ok t → P m t
@@ -115,3 +75,9 @@ each_kept_below {S} P step m keep [] n s t count start h =
 each_kept_below {S} P step m keep (d ∷ ds) n s t count start h =
     let first = bind_ok (step n s d) (λ (u : S). each step (n + 1) u ds) t h in
     each_kept_below P step m keep ds (n + 1) first.0 t (omega arith) (keep n s first.0 d (omega arith) start first.1) first.2
+
+-- the same of steps that don't ask for their count
+pub each_kept : {S : Type 0} (P : ℕ → S → Type 0) (step : ℕ → S → Data → Result S NetRefusal)
+    → ((n : ℕ) (s t : S) (d : Data) → P n s → step n s d ≡ Ok t → P (n + 1) t)
+    → (ds : List Data) (n m : ℕ) (s t : S) → m ≡ n + length ds → P n s → each step n s ds ≡ Ok t → P m t
+each_kept P step keep ds n m s t count start h = each_kept_below P step m (λ k u v d less so r. keep k u v d so r) ds n s t count start h

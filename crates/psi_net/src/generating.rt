@@ -71,7 +71,7 @@ fn nth_queue(alloc: Global, number: u16, i: u8) -> Result<Queue, OutOfMemory>
     })
 }
 
-// The queues.
+// All queues, `q1` first.
 #[tactic(auto, using(crate::proofs::Making::queues_more), unfolding(crate::specs::Generated::generated_queues))]
 fn all_queues(alloc: Global, number: u16) -> Result<Vec<Queue>, OutOfMemory>
     ensures { IfOk result (λ queues. queues.items ≡ generated_queues number) }
@@ -244,7 +244,7 @@ fn push_odd(
     Ok(())
 }
 
-// The events.
+// All events in the order of the table of `generated`, each expanded over the servers of its source.
 #[tactic(auto, using(crate::proofs::Making::queues_count, crate::proofs::Making::all_joined))]
 fn all_events(alloc: Global, number: u16, queues: &[Queue]) -> Result<Vec<NamedEvent>, OutOfMemory>
     requires { queues.now ≡ generated_queues number }
@@ -274,16 +274,12 @@ fn first_queues(count: u8) -> Queues
 }
 
 // So many weights of 1.
-#[tactic(auto, using(crate::proofs::Making::ones_next))]
 fn ones(alloc: Global, count: u8) -> Result<Numbers, OutOfMemory>
     ensures { IfOk result (λ weights. weights ≡ replicate count (pos 1)) }
 {
     let mut weights = Numbers::new(alloc);
     for _place in 0..count {
-        match weights.push(1) {
-            Ok(()) => (),
-            Err(_) => return Err(OutOfMemory),
-        }
+        weights.push(1).map_err(|_| OutOfMemory)?;
     }
     Ok(weights)
 }
@@ -308,7 +304,7 @@ fn total_reward(alloc: Global, number: u16, caps: State) -> Result<RewardEntry, 
     })
 }
 
-// The rewards.
+// The list of the one reward, `total`.
 fn all_rewards(alloc: Global, number: u16, caps: State) -> Result<Vec<RewardEntry>, OutOfMemory>
     requires valid { AreCapacities caps }
     requires count { length caps ≡ queue_count number }
