@@ -51,7 +51,7 @@ self_away : (s : Option Source) (qs : List ℕ) → list_all (λ q. not (is_in q
 self_away None qs h = refl
 self_away (Some source) qs h = away source.queue qs h
 
--- what the list at a required key keeps
+-- what the list at a required key keeps, fact by fact
 module _ (caps : List ℕ) (names : List (List ℕ)) (sources : List ℕ) (same : length names ≡ length caps) (place : Place) (key : List ℕ) (found : Option Data) (qs : List ℕ)
     (h : required place key (some_targets_in place key names sources) found ≡ Ok qs) where
   targets_at : AreSomeTargets (length caps) sources qs

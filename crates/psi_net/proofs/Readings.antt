@@ -1,4 +1,5 @@
--- What was read, step by step.
+-- What was read, step by step. Where `grind` proves what a definition's value keeps, it takes the definition's steps in turn:
+-- each reading gives a value, or the refusal that ends the whole.
 use Rattle.std.specs.Prelude.{◌≡◌, ℕ, ◌+◌, ◌<◌, ◌≤◌, ℤ, List, [], ◌∷◌, length, Bool, true, false, Option, Some, None, Result, Ok, Err, IfOk, refl}
 use Rattle.std.proofs.Common.{subst, arith}
 use Rattle.std.specs.Int.RustNames.{unsigned_abs}
