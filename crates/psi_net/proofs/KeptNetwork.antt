@@ -52,7 +52,7 @@ document_kept ms net h =
     (λ d r. (let own = (number_range top (codes "limit") 0 (most_limit version.0) d limit.0 r).1 in omega arith)) limit.1 in
     let states : (1 ≤ split.0) × (split.0 ≤ 4096) = optional_kept (λ (n : ℕ). (1 ≤ n) × (n ≤ 4096)) default_split (number_in top (codes "split") 1 4096) (get_member (codes "split") ms) split.0 (omega arith, omega arith)
     (λ d r. number_range top (codes "split") 1 4096 d split.0 r) split.1 in
-    let worths : length rewards.0 ≤ 64 = optional_kept (λ (rs : List NamedReward). length rs ≤ 64) [] (rewards_in (map (λ q. q.name) queues.0) (map (λ q. q.capacity) queues.0)) (get_member (codes "reward") ms) rewards.0 (omega arith)
+    let few : length rewards.0 ≤ 64 = optional_kept (λ (rs : List NamedReward). length rs ≤ 64) [] (rewards_in (map (λ q. q.name) queues.0) (map (λ q. q.capacity) queues.0)) (get_member (codes "reward") ms) rewards.0 (omega arith)
     (λ d r. rewards_in_kept (map (λ q. q.name) queues.0) (map (λ q. q.capacity) queues.0) d rewards.0 r) rewards.1 in
     subst (λ (n : Network). IsNetwork n) (ok_same _ net rewards.2) (record {
       queues = listed;
@@ -61,7 +61,7 @@ document_kept ms net h =
       limit = horizon;
       some_split = states.0;
       most_split = states.1;
-      few_rewards = worths;
+      few_rewards = few;
     })
 
 -- so can the network of a text

@@ -99,15 +99,15 @@ accepted caps k some once fits = rw (some, once, fits) refl
 listed_below : (n : ℕ) (xs : List ℕ) (i d : ℕ) → are_below n xs ≡ true → i < length xs → get_or xs i d < n
 listed_below n xs i d below small = All-from_get_or (λ q. q < n) xs 0 (λ k less. below_at n xs k below less) i d small
 
-worth_kept : (place : Place) (w : RewardWord) (caps queues : List ℕ) (ms : Members) → AreSomeTargets (length caps) [] queues → IfOk (reward_kind_of place w caps queues ms) (IsReward caps)
+reward_kind_kept : (place : Place) (w : RewardWord) (caps queues : List ℕ) (ms : Members) → AreSomeTargets (length caps) [] queues → IfOk (reward_kind_of place w caps queues ms) (IsReward caps)
 unfolding reward_kind_of
-worth_kept place w caps queues ms targets = grind (arith, accepted, listed_some, listed_below, weights_kept, grid_kept)
+reward_kind_kept place w caps queues ms targets = grind (arith, accepted, listed_some, listed_below, weights_kept, grid_kept)
 
 pub reward_kept : (place : Place) (w : RewardWord) (names : List (List ℕ)) (caps queues : List ℕ) (found : Option Data) (ms : Members) (k : RewardKind) → length names ≡ length caps
     → required place (codes "queues") (some_targets_in place (codes "queues") names []) found ≡ Ok queues → reward_kind_of place w caps queues ms ≡ Ok k → IsReward caps k
 reward_kept place w names caps queues found ms k same listed h =
     let read = required_ok place (codes "queues") (some_targets_in place (codes "queues") names []) found queues listed in
-    subst (λ r. IfOk r (IsReward caps)) h (worth_kept place w caps queues ms (subst (λ (n : ℕ). AreSomeTargets n [] queues) same (some_targets_kept place (codes "queues") names [] read.0 queues read.1)))
+    subst (λ r. IfOk r (IsReward caps)) h (reward_kind_kept place w caps queues ms (subst (λ (n : ℕ). AreSomeTargets n [] queues) same (some_targets_kept place (codes "queues") names [] read.0 queues read.1)))
 
 -- one reward more
 pub named_more : (values : List RewardEntry) (value : RewardEntry) → map named (values ++ value ∷ []) ≡ map named values ++ named value ∷ []
