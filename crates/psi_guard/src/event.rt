@@ -28,7 +28,9 @@ impl EventLaw for Guarded {
     }
 
     fn apply(&self, x: &mut State) {
-        if self.allows(x) {
+        if self.count() == 1 {
+            self.apply_one(x);
+        } else if self.allows(x) {
             self.move_each(x);
         }
     }
@@ -71,6 +73,20 @@ impl Guarded {
         ensures fits { FitsQueue self.now.caps result }
     {
         self.parts.get(i)
+    }
+
+    // Moves the queue of the only part where it holds a number from its least to its most. Most guarded events
+    // name one queue, and it is looked at once here.
+    fn apply_one(&self, x: &mut State)
+        requires one { length self.now.parts ≡ 1 }
+        requires below { IsBelow x.old self.now.caps }
+        ensures { x.new ≡ guarded self.now.parts x.old }
+    {
+        let part = self.part(0);
+        let held = x.get(part.queue);
+        if part.least <= held && held <= part.most {
+            x.set(part.queue, moved(part, held));
+        }
     }
 
     // Whether every named queue holds a number from its least to its most.
