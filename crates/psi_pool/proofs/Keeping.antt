@@ -42,11 +42,11 @@ module _ (nodes : List Node) (heads : List ℕ) (used len most room : ℕ) (pool
 
     here : node_at more len ≡ record { state = x; next = next }
     unfolding more
-    here = get_or-set_same nodes len (record { state = x; next = next }) (record { state = []; next = 0 }) free
+    here = get_or-set_same nodes len (record { state = x; next = next }) (record { state = []; next = 4096 }) free
 
     there : (i : ℕ) → i < len → node_at more i ≡ node_at nodes i
     unfolding more
-    there i less = get_or-set_other nodes len i (record { state = x; next = next }) (record { state = []; next = 0 }) (λ e. (omega arith))
+    there i less = get_or-set_other nodes len i (record { state = x; next = next }) (record { state = []; next = 4096 }) (λ e. (omega arith))
 
     length-more : length more ≡ length nodes
     unfolding more
@@ -55,10 +55,12 @@ module _ (nodes : List Node) (heads : List ℕ) (used len most room : ℕ) (pool
     within : home < length heads
     within = (let few = pool.few in let buckets = pool.buckets in omega arith)
 
-    linked-inserted : IsLinked used more (slice_set heads home (len + 1)) (len + 1)
+    linked-inserted : IsLinked used more (slice_set heads home len) (len + 1)
     linked-inserted =
         let inside = within in
-        linked-more used nodes more heads len home inside there
+        let limit = pool.small in
+        let count = pool.count in
+        linked-more used nodes more heads len home (omega arith) inside there
         (ap (λ (m : Node). bucket used m.state) here ∙ sym own)
         (ap (λ (m : Node). m.next) here ∙ (read ∙ get_or_default heads home next 0 inside))
         small pool.linked
@@ -71,13 +73,13 @@ module _ (nodes : List Node) (heads : List ℕ) (used len most room : ℕ) (pool
         absent (subst (λ (xs : List (List ℕ)). In x xs) same
         (subst (λ (m : Node). In m.state (states more len)) here member))
 
-    keeps-inserted : IsPool more (slice_set heads home (len + 1)) used (len + 1) most room
+    keeps-inserted : IsPool more (slice_set heads home len) used (len + 1) most room
     keeps-inserted =
         let count = length-more in
         let next_place : suc len ≡ len + 1 = omega arith in
         record {
           count = count ∙ pool.count;
-          buckets = length-set heads home (len + 1) ∙ pool.buckets;
+          buckets = length-set heads home len ∙ pool.buckets;
           small = pool.small;
           some = pool.some;
           few = pool.few;
@@ -89,7 +91,7 @@ module _ (nodes : List Node) (heads : List ℕ) (used len most room : ℕ) (pool
         }
 
     -- the set has one state more
-    pub pool-inserted : IsPool (slice_set nodes len (record { state = x; next = next })) (slice_set heads home (len + 1)) used (len + 1) most room
+    pub pool-inserted : IsPool (slice_set nodes len (record { state = x; next = next })) (slice_set heads home len) used (len + 1) most room
     unfolding more
     pool-inserted = keeps-inserted
 

@@ -9,9 +9,8 @@ use Rattle.psi_pool.specs.Nodes.{node_at, bucket_at, IsLast, IsLinked, HoldSet}
 last-same : (used : ℕ) (old now : List Node) (n b link : ℕ) → ((i : ℕ) → i < n → node_at now i ≡ node_at old i) → IsLast used old n b link
     → IsLast used now n b link
 last-same used old now n b link same last = record {
-  within = last.within;
-  own = λ i is. (let within = last.within in ap (λ (m : Node). bucket used m.state) (same i (omega arith)) ∙ last.own i is);
-  last = λ i low small e. last.last i low small (sym (ap (λ (m : Node). bucket used m.state) (same i small)) ∙ e);
+  own = λ some. (let own = last.own some in (own.0, ap (λ (m : Node). bucket used m.state) (same link own.0) ∙ own.1));
+  last = λ i small e. last.last i small (sym (ap (λ (m : Node). bucket used m.state) (same i small)) ∙ e);
 }
 
 -- what stands past the linked nodes may change
@@ -43,41 +42,32 @@ linked-part used nodes now heads tops n nodes_is heads_is inside room linked =
     (linked-heads used (take n now) heads (take used tops) n
     (λ b small. get_or-take used tops b 0 small ∙ ap (λ (hs : List ℕ). slice_index hs b) heads_is)
     (linked-same used nodes (take n now) heads n
-    (λ i small. get_or-take n now i (record { state = []; next = 0 }) small ∙ ap (λ (ns : List Node). node_at ns i) nodes_is)
+    (λ i small. get_or-take n now i (record { state = []; next = 4096 }) small ∙ ap (λ (ns : List Node). node_at ns i) nodes_is)
     linked)))
 
 -- empty buckets have no node
-pub linked-none : (used : ℕ) (nodes : List Node) (heads : List ℕ) → ((b : ℕ) → slice_index heads b ≡ 0) → IsLinked used nodes heads 0
+pub linked-none : (used : ℕ) (nodes : List Node) (heads : List ℕ) → ((b : ℕ) → b < used → slice_index heads b ≡ 4096) → IsLinked used nodes heads 0
 linked-none used nodes heads none = record {
-  heads_lead = λ b small. (let is = none b in record {
-    within = omega arith;
-    own = λ i one. absurd (omega arith);
-    last = λ i low past. absurd (omega arith);
-  });
+  heads_lead = λ b small. record { own = λ some. absurd (some (none b small)); last = λ i past. absurd (omega arith) };
   nodes_lead = λ i past. absurd (omega arith);
 }
 
 -- the node that comes next is linked before the others of its bucket
-pub linked-more : (used : ℕ) (old now : List Node) (heads : List ℕ) (n b : ℕ) → b < length heads → ((i : ℕ) → i < n → node_at now i ≡ node_at old i)
+pub linked-more : (used : ℕ) (old now : List Node) (heads : List ℕ) (n b : ℕ) → n < 4096 → b < length heads → ((i : ℕ) → i < n → node_at now i ≡ node_at old i)
     → bucket_at used now n ≡ b → (node_at now n).next ≡ slice_index heads b → b < used → IsLinked used old heads n
-    → IsLinked used now (slice_set heads b (n + 1)) (n + 1)
-linked-more used old now heads n b within same own next small linked =
+    → IsLinked used now (slice_set heads b n) (n + 1)
+linked-more used old now heads n b few within same own next small linked =
     let kept : IsLinked used now heads n = linked-same used old now heads n same linked in
     record {
       heads_lead = λ c less. elim (cases_eq c b) [
-        | inl e ↦ subst (λ k. IsLast used now (n + 1) c k) (sym (ap (λ k. slice_index (slice_set heads b (n + 1)) k) e ∙ get_or-set_same heads b (n + 1) 0 within))
-            (record {
-              within = omega arith;
-              own = λ i is. (let place : i ≡ n = omega arith in ap (λ k. bucket_at used now k) place ∙ (own ∙ sym e));
-              last = λ i low past. absurd (omega arith);
-            })
-        | inr apart ↦ subst (λ k. IsLast used now (n + 1) c k) (sym (get_or-set_other heads b c (n + 1) 0 apart))
-            (let before = kept.heads_lead c less in let bound = before.within in record {
-              within = omega arith;
-              own = before.own;
-              last = λ i low past. elim (cases_lt i n) [
-                | inl inside ↦ before.last i low inside
-                | inr beyond ↦ (let place : i ≡ n = omega arith in λ is. apart (sym is ∙ (ap (λ k. bucket_at used now k) place ∙ own)))
+        | inl e ↦ subst (λ k. IsLast used now (n + 1) c k) (sym (ap (λ k. slice_index (slice_set heads b n) k) e ∙ get_or-set_same heads b n 0 within))
+            (record { own = λ some. (omega arith, own ∙ sym e); last = λ i low is. (omega arith, omega arith) })
+        | inr apart ↦ subst (λ k. IsLast used now (n + 1) c k) (sym (get_or-set_other heads b c n 0 apart))
+            (let before = kept.heads_lead c less in record {
+              own = λ some. (let there = before.own some in let small = there.0 in (omega arith, there.1));
+              last = λ i low is. elim (cases_lt i n) [
+                | inl inside ↦ before.last i inside is
+                | inr beyond ↦ (let place : i ≡ n = omega arith in absurd (apart (sym is ∙ (ap (λ k. bucket_at used now k) place ∙ own))))
               ];
             })
       ];

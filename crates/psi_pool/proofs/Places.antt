@@ -14,7 +14,7 @@ StandsIn nodes from to x = (i : ℕ) × (from ≤ i) × (i < to) × (x ≡ (node
 
 -- a node that is read
 pub node-read : (nodes : List Node) (i : ℕ) (d : Node) → i < length nodes → get_or nodes i d ≡ node_at nodes i
-node-read nodes i d within = get_or_default nodes i d (record { state = []; next = 0 }) within
+node-read nodes i d within = get_or_default nodes i d (record { state = []; next = 4096 }) within
 
 pub place-of : (nodes : List Node) (n : ℕ) (x : List ℕ) → In x (states nodes n) → StandsIn nodes 0 n x
 place-of [] zero x member = absurd member

@@ -16,7 +16,7 @@ pub record IsRelinking (xs : List (List ℕ)) (used : ℕ) (nodes : List Node) (
   pub distinct : IsDistinct (states nodes place)
   pub members : HaveSame (states nodes left) xs
 
-pub relink-start : (used : ℕ) (nodes : List Node) (heads : List ℕ) (len : ℕ) → len ≤ length nodes → ((b : ℕ) → slice_index heads b ≡ 0)
+pub relink-start : (used : ℕ) (nodes : List Node) (heads : List ℕ) (len : ℕ) → len ≤ length nodes → ((b : ℕ) → b < used → slice_index heads b ≡ 4096)
     → IsRelinking (states nodes len) used nodes heads 0 len
 relink-start used nodes heads len within none = record {
   low = omega arith;
@@ -55,12 +55,12 @@ module _ (now : List Node) (place last : ℕ) (early : place ≤ last) (within :
   new-here : (node_at new place).state ≡ (node_at now last).state
   unfolding new
   new-here =
-      ap (λ (n : Node). n.state) (get_or-set_same now place w (record { state = []; next = 0 }) (omega arith))
+      ap (λ (n : Node). n.state) (get_or-set_same now place w (record { state = []; next = 4096 }) (omega arith))
       ∙ (came ∙ ap (λ (n : Node). n.state) (node-read now last e within))
 
   new-there : (i : ℕ) → i ≢ place → node_at new i ≡ node_at now i
   unfolding new
-  new-there i apart = get_or-set_other now place i w (record { state = []; next = 0 }) apart
+  new-there i apart = get_or-set_other now place i w (record { state = []; next = 4096 }) apart
 
   kept : (i : ℕ) → i ≢ place → (node_at new i).state ≡ (node_at now i).state
   kept i apart = ap (λ (n : Node). n.state) (new-there i apart)

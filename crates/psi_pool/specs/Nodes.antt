@@ -1,5 +1,5 @@
 -- Nodes that are linked by index into the buckets of a hash table.
-use Rattle.std.specs.Prelude.{◌≡◌, ◌≢◌, ℕ, suc, ◌+◌, ◌*◌, ◌<◌, ◌≤◌, List, [], length, map, take, slice_index, get_or}
+use Rattle.std.specs.Prelude.{◌≡◌, ◌≢◌, ℕ, ◌+◌, ◌*◌, ◌<◌, ◌≤◌, List, [], length, map, take, slice_index, get_or}
 use Rattle.psi_state.specs.Members.{In}
 use Rattle.psi_state.specs.Ascending.{IsDistinct, HaveSame}
 use Rattle.psi_pool.specs.declared.nodes.Node.{Node}
@@ -7,7 +7,7 @@ use Rattle.psi_pool.specs.Buckets.{bucket}
 
 -- the node at a place, and an empty one past the last
 abbrev pub node_at : List Node → ℕ → Node
-node_at nodes i = get_or nodes i (record { state = []; next = 0 })
+node_at nodes i = get_or nodes i (record { state = []; next = 4096 })
 
 -- the states of the first n nodes
 abbrev pub states : List Node → ℕ → List (List ℕ)
@@ -17,11 +17,10 @@ states nodes n = map (λ (m : Node). m.state) (take n nodes)
 abbrev pub bucket_at : ℕ → List Node → ℕ → ℕ
 bucket_at used nodes i = bucket used (node_at nodes i).state
 
--- the link to the last of the first n nodes that belongs to the bucket: its place and one, or 0 where there is none
+-- the link to the last of the first n nodes that belongs to the bucket: its place, or 4096 where there is none
 pub record IsLast (used : ℕ) (nodes : List Node) (n b link : ℕ) : Type 0 where
-  pub within : link ≤ n
-  pub own : (i : ℕ) → suc i ≡ link → bucket_at used nodes i ≡ b
-  pub last : (i : ℕ) → link ≤ i → i < n → bucket_at used nodes i ≢ b
+  pub own : link ≢ 4096 → (link < n) × (bucket_at used nodes link ≡ b)
+  pub last : (i : ℕ) → i < n → bucket_at used nodes i ≡ b → (link ≢ 4096) × (i ≤ link)
 
 -- the first n nodes are linked: each head leads to the last node of its bucket, and each node to the last one of its own bucket before it
 pub record IsLinked (used : ℕ) (nodes : List Node) (heads : List ℕ) (n : ℕ) : Type 0 where

@@ -143,8 +143,8 @@ impl Pool {
             state: x,
             next: self.heads[home],
         };
-        self.len += 1;
         self.heads[home] = self.len;
+        self.len += 1;
         true
     }
 

@@ -1,7 +1,8 @@
 //! Nodes in one vector, linked by index into the chains of a hash table.
 //!
-//! The nodes in use are the first ones. A link is the place of a node and one, or 0 where there is none. It
-//! leads to the last node of a bucket before some place, so links fall along a chain, and every chain ends.
+//! The nodes in use are the first ones, at most 4,096. A link is the place of a node, or 4096 where there is
+//! none. It leads to the last node of a bucket before some place, so links fall along a chain, and every chain
+//! ends.
 
 ghost use Rattle.std.specs.Prelude.{◌≡◌, ℕ, ◌+◌, ◌<◌, ◌≤◌, ◌↔◌, List, IsTrue, IfOk, MatchOption, length, map, slice_index, vec_capacity};
 ghost use Rattle.psi_state.specs.State.{IsBelow};
@@ -13,6 +14,9 @@ use crate::hashing::bucket_of;
 use psi_event::EventLaw;
 use psi_state::State;
 use std::alloc::{AllocError, Global};
+
+// The link to no node: the most nodes there can be, so that none stands at this place.
+const NONE: u16 = 4096;
 
 /// A state, and the link to the node before it in its bucket.
 #[derive(Clone, Copy)]
@@ -29,7 +33,7 @@ pub(crate) fn free_nodes(alloc: Global, most: u16) -> Result<Vec<Node>, AllocErr
     for _place in 0..most {
         nodes.push_reserved(Node {
             state: State::zero(1),
-            next: 0,
+            next: NONE,
         });
     }
     Ok(nodes)
@@ -38,35 +42,36 @@ pub(crate) fn free_nodes(alloc: Global, most: u16) -> Result<Vec<Node>, AllocErr
 /// The heads of so many buckets, all of them empty.
 pub(crate) fn free_heads(alloc: Global, count: u16) -> Result<Vec<u16>, AllocError>
     ensures count { IfOk result (λ heads. length heads.items ≡ count) }
-    ensures none { IfOk result (λ heads. (b : ℕ) → slice_index heads.items b ≡ 0) }
+    ensures none { IfOk result (λ heads. (b : ℕ) → b < count → slice_index heads.items b ≡ 4096) }
 {
     let mut heads = Vec::with_capacity(alloc, count as usize)?;
     for _bucket in 0..count {
-        heads.push_reserved(0);
+        heads.push_reserved(NONE);
     }
     Ok(heads)
 }
 
 /// Empties all buckets.
 pub(crate) fn empty(heads: &mut [u16])
-    ensures { (b : ℕ) → slice_index heads.new b ≡ 0 }
+    ensures { (b : ℕ) → b < length heads.new → slice_index heads.new b ≡ 4096 }
 {
     for bucket in 0..heads.len() {
-        heads[bucket] = 0;
+        heads[bucket] = NONE;
     }
 }
 
 /// Whether one of the nodes has the state `x`, whose bucket is given: all nodes are in use.
 #[inline]
 pub(crate) fn has(nodes: &[Node], heads: &[u16], home: usize, x: &State) -> bool
+    requires small { length nodes.now ≤ 4096 }
     requires linked { IsLinked (length heads.now) nodes.now heads.now (length nodes.now) }
     requires own { home ≡ bucket (length heads.now) x.now }
     requires within { home < length heads.now }
     ensures { IsTrue result ↔ In x.now (states nodes.now (length nodes.now)) }
 {
     let mut link = heads[home] as usize;
-    while link > 0 {
-        let node = &nodes[link - 1];
+    while link < nodes.len() {
+        let node = &nodes[link];
         if node.state == *x {
             return true;
         }
@@ -93,7 +98,7 @@ fn link(nodes: &mut [Node], heads: &mut [u16], place: usize) -> bool
         return false;
     };
     nodes[place].next = heads[home];
-    heads[home] = place as u16 + 1;
+    heads[home] = place as u16;
     true
 }
 
@@ -101,6 +106,7 @@ fn link(nodes: &mut [Node], heads: &mut [u16], place: usize) -> bool
 #[inline]
 fn home_if_new(nodes: &[Node], heads: &[u16], place: usize) -> Option<usize>
     requires place { place < length nodes.now }
+    requires few { place < 4096 }
     requires some { 1 ≤ length heads.now }
     requires buckets { length heads.now ≤ 16385 }
     requires linked { IsLinked (length heads.now) nodes.now heads.now place }
@@ -154,7 +160,7 @@ fn move_on<E: EventLaw>(nodes: &mut [Node], e: &E)
 fn link_all(nodes: &mut [Node], heads: &mut [u16], len: usize) -> usize
     requires some { 1 ≤ length heads.old }
     requires few { length heads.old ≤ 16385 }
-    requires none { (b : ℕ) → slice_index heads.old b ≡ 0 }
+    requires none { (b : ℕ) → b < length heads.old → slice_index heads.old b ≡ 4096 }
     requires small { len ≤ 4096 }
     requires len { len ≤ length nodes.old }
     ensures holds { HoldSet (length heads.new) nodes.new heads.new result (states nodes.old len) }

@@ -2,4 +2,4 @@ use Rattle.std.proofs.Common.{◌≡◌, ℕ, ◌<◌, slice_index}
 use Rattle.psi_pool.proofs.nodes.empty.Given as goal
 
 abbrev pub invariant-loop-bucket : goal.invariant-loop-bucket
-invariant-loop-bucket l = (b : ℕ) → b < l.bucket → slice_index l.heads b ≡ 0
+invariant-loop-bucket l = (b : ℕ) → b < l.bucket → slice_index l.heads b ≡ 4096

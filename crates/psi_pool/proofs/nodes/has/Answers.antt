@@ -1,17 +1,15 @@
-use Rattle.std.proofs.Common.{◌≡◌, ◌-◌, length, arith, sym, ◌∙◌, refl}
+use Rattle.std.proofs.Common.{length, arith, sym, ◌∙◌, refl}
 use Rattle.psi_pool.proofs.Seeking.{seek-found, seek-end}
 use Rattle.psi_pool.proofs.nodes.has.Goals as goal
 
 pub returns-then-eq : goal.returns-then-eq
-returns-then-eq c =
-    let bound = c.loop-link.invariant.within in (
-      λ yes. seek-found c.args.nodes.now (c.loop-link.link - 1) c.args.x.now c.index-nodes-link.result (omega arith) c.index-nodes-link.is (sym c.eq.ensures ∙ c.if-eq.true),
-      λ member. refl,
-    )
+returns-then-eq c = (
+  λ yes. seek-found c.args.nodes.now c.loop-link.link c.args.x.now c.index-nodes-link.result (omega arith) c.index-nodes-link.is (sym c.eq.ensures ∙ c.if-eq.true),
+  λ member. refl,
+)
 
 pub returns : goal.returns
-returns c =
-    let none : c.loop-link.link ≡ 0 = omega arith in (
-      λ no. absurd cc,
-      λ member. absurd (seek-end (length c.args.heads.now) c.args.nodes.now (length c.args.nodes.now) c.args.x.now c.loop-link.link none c.loop-link.invariant member),
-    )
+returns c = (
+  λ no. absurd cc,
+  λ member. absurd (seek-end (length c.args.heads.now) c.args.nodes.now (length c.args.nodes.now) c.args.x.now c.loop-link.link (omega arith) c.loop-link.invariant member),
+)

@@ -15,7 +15,7 @@ pub returns-clause-holds : goal.returns-clause-holds
 returns-clause-holds g c =
     let inside = c.requires.used in
     let f = λ (x : List ℕ). g.E.EventLaw.function c.args.e.now x in
-    let none : Node = record { state = []; next = 0 } in
+    let none : Node = record { state = []; next = 4096 } in
     let count : length c.move_on.new.nodes ≡ c.args.len = c.move_on.auto.nodes ∙ length-take-le c.args.len c.args.nodes.now c.requires.len in
     let all : length c.link_all.new.heads ≡ c.args.used =
     c.link_all.auto.heads ∙ length-take-le c.args.used (c.empty.new.heads ++ drop c.args.used c.args.heads.now) (omega arith) in
