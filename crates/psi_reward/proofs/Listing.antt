@@ -1,13 +1,13 @@
 -- The numbers that the states of a box hold in distinct queues: all lists between those of its corners.
 use Rattle.std.specs.Prelude.{◌≡◌, ℕ, suc, ◌<◌, ◌≤◌, ℤ, List, [], ◌∷◌, length, slice_index, slice_set, All, false, nat_eq, refl}
 use Rattle.std.specs.List.{list_any}
-use Rattle.std.proofs.Common.{inl, inr, ap, sym, ◌∙◌, subst, arith}
-use Rattle.std.proofs.lemmas.Bool.{cases_eq, eqb-false, or_parts}
-use Rattle.std.proofs.lemmas.List.{length-set, get_or-set_same, get_or-set_other}
+use Rattle.std.proofs.Common.{inl, inr, ap, ◌∙◌, subst, arith}
+use Rattle.std.proofs.lemmas.Bool.{eqb-false, or_parts}
+use Rattle.std.proofs.lemmas.List.{get_or-set_same, get_or-set_other}
 use Rattle.psi_state.specs.State.{IsBelow, box}
 use Rattle.psi_state.specs.Members.{In}
 use Rattle.psi_state.specs.Repeats.{repeats}
-use Rattle.psi_state.specs.Boxes.{IsBetween, In-box, In-of_box, below-head, below-tail, below-cons, below-itself}
+use Rattle.psi_state.specs.Boxes.{IsBetween, set-between, In-box, In-of_box, below-head, below-tail, below-cons, below-itself}
 use Rattle.psi_reward.specs.Held.{held}
 use Rattle.psi_reward.specs.Ranges.{IsReached}
 use Rattle.psi_reward.specs.Spans.{IsSpread, IsRange}
@@ -43,31 +43,6 @@ held-set (q ∷ queues) x queue v none =
     let first : slice_index (slice_set x queue v) q ≡ slice_index x q = get_or-set_other x queue q v 0 (eqb-false q queue parts.0) in
     cc
 
-between-set : (l h x : List ℕ) (queue v : ℕ) → IsBetween l h x → queue < length l → slice_index l queue ≤ v → v ≤ slice_index h queue
-    → IsBetween l h (slice_set x queue v)
-between-set l h x queue v between small low high =
-    let same : length l ≡ length x = between.low.same_length in
-    let count : length (slice_set x queue v) ≡ length x = length-set x queue v in
-    let own : slice_index (slice_set x queue v) queue ≡ v = get_or-set_same x queue v 0 (omega arith) in
-    record {
-      low = record {
-        same_length = same ∙ sym count;
-        each = λ i within. elim (cases_eq i queue) [
-          | inl e ↦ subst (λ k. slice_index l k ≤ slice_index (slice_set x queue v) k) (sym e) (omega arith)
-          | inr ne ↦ (let other : slice_index (slice_set x queue v) i ≡ slice_index x i = get_or-set_other x queue i v 0 ne in
-              let before : slice_index l i ≤ slice_index x i = between.low.each i within in omega arith)
-        ];
-      };
-      high = record {
-        same_length = count ∙ between.high.same_length;
-        each = λ i within. elim (cases_eq i queue) [
-          | inl e ↦ subst (λ k. slice_index (slice_set x queue v) k ≤ slice_index h k) (sym e) (omega arith)
-          | inr ne ↦ (let other : slice_index (slice_set x queue v) i ≡ slice_index x i = get_or-set_other x queue i v 0 ne in
-              let before : slice_index x i ≤ slice_index h i = between.high.each i (omega arith) in omega arith)
-        ];
-      };
-    }
-
 -- each list between those of the corners is what some state of the box holds
 pub held-all : (queues l h vs : List ℕ) → repeats queues ≡ false → AreListed (length l) queues → IsBelow l h
     → IsBetween (held queues l) (held queues h) vs → (x : List ℕ) × IsBetween l h x × (held queues x ≡ vs)
@@ -86,7 +61,7 @@ held-all (queue ∷ queues) l h (v ∷ vs) once listed ordered between =
     let count : length l ≡ length found.0 = found.1.low.same_length in
     let own : slice_index (slice_set found.0 queue v) queue ≡ v = get_or-set_same found.0 queue v 0 (omega arith) in
     let rest : held queues (slice_set found.0 queue v) ≡ vs = held-set queues found.0 queue v parts.0 ∙ found.2 in
-    (slice_set found.0 queue v, between-set l h found.0 queue v found.1 small low high, cc)
+    (slice_set found.0 queue v, set-between l h found.0 queue v found.1 small low high, cc)
 
 reached-from : (f : List ℕ → ℤ) (queues l h : List ℕ) (z : ℤ) → repeats queues ≡ false → AreListed (length l) queues → IsBelow l h
     → (vs : List ℕ) → IsBetween (held queues l) (held queues h) vs → f vs ≡ z → IsReached (λ x. f (held queues x)) (box l h) z

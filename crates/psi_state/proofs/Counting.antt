@@ -3,10 +3,10 @@ use Rattle.std.specs.Prelude.{◌≡◌, ℕ, suc, ◌+◌, ◌-◌, ◌*◌, �
 use Rattle.std.proofs.Common.{inl, inr, ap, sym, ◌∙◌, subst, arith}
 use Rattle.std.proofs.Math.Nat.{mul_assoc, zero-mul, le-mul_of_pos_right}
 use Rattle.std.proofs.lemmas.Bool.{cases_eq}
-use Rattle.std.proofs.lemmas.List.{drop-set-lt, get_or-set_same, get_or-set_other, length-set}
+use Rattle.std.proofs.lemmas.List.{drop-set-lt, get_or-set_same}
 use Rattle.psi_state.specs.State.{IsBelow, box}
 use Rattle.psi_state.specs.Members.{In}
-use Rattle.psi_state.specs.Boxes.{IsBetween, In-of_box}
+use Rattle.psi_state.specs.Boxes.{IsBetween, set-between, In-of_box}
 use Rattle.psi_state.specs.Volume.{volume, volume-drop, volume-drop-some, volume-drop-all, place_in, place_in-drop, place_in-drop-all, place_in-small, length-box, slice_get-box}
 
 -- so many states in what was passed, times those in what is left, are all
@@ -106,28 +106,6 @@ ranking-last l h x i rank ordered member end so_far =
 pub record IsUnranking (l h x : List ℕ) (i left r : ℕ) : Type 0 where
   pub between : IsBetween l h x
   pub all : left * volume (drop i l) (drop i h) + place_in (drop i l) (drop i h) (drop i x) ≡ r
-
-set-between : (l h x : List ℕ) (i v : ℕ) → IsBetween l h x → i < length l → slice_index l i ≤ v → v ≤ slice_index h i → IsBetween l h (slice_set x i v)
-set-between l h x i v between small low high =
-    let count : length l ≡ length x = between.low.same_length in
-    let same : length (slice_set x i v) ≡ length x = length-set x i v in
-    let at : slice_index (slice_set x i v) i ≡ v = get_or-set_same x i v 0 (omega arith) in
-    record {
-      low = record {
-        same_length = count ∙ sym same;
-        each = λ k within. elim (cases_eq k i) [
-          | inl e ↦ subst (λ j. slice_index l j ≤ slice_index (slice_set x i v) j) (sym e) (omega arith)
-          | inr ne ↦ (let other : slice_index (slice_set x i v) k ≡ slice_index x k = get_or-set_other x i k v 0 ne in omega (arith, between.low.each k within))
-        ];
-      };
-      high = record {
-        same_length = same ∙ between.high.same_length;
-        each = λ k within. elim (cases_eq k i) [
-          | inl e ↦ subst (λ j. slice_index (slice_set x i v) j ≤ slice_index h j) (sym e) (omega arith)
-          | inr ne ↦ (let other : slice_index (slice_set x i v) k ≡ slice_index x k = get_or-set_other x i k v 0 ne in omega (arith, between.high.each k (omega arith)))
-        ];
-      };
-    }
 
 -- the number that a place is given is between the corners
 pub digit-high : (l h : List ℕ) (i left width : ℕ) → IsBelow l h → i < length l → width ≡ suc (slice_index h i) - slice_index l i

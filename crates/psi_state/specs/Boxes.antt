@@ -82,6 +82,22 @@ pub record IsBetween (l h x : List ℕ) : Type 0 where
   pub low : IsBelow l x
   pub high : IsBelow x h
 
+-- a state between the corners stays between them where one place is given a number that is between theirs
+pub set-between : (l h x : List ℕ) (q v : ℕ) → IsBetween l h x → q < length l → slice_index l q ≤ v → v ≤ slice_index h q
+    → IsBetween l h (slice_set x q v)
+set-between l h x q v between small low high = record {
+  low = record {
+    same_length = between.low.same_length ∙ sym (length-set {A = ℕ} x q v);
+    each = λ i within. elim (cases_eq i q) [
+      | inl e ↦ (let is : slice_index (slice_set x q v) q ≡ v = get_or-set_same {A = ℕ} x q v 0 (omega (arith, between.low.same_length)) in
+          subst (λ k. slice_index l k ≤ slice_index (slice_set x q v) k) (sym e) (omega arith))
+      | inr ne ↦ (let is : slice_index (slice_set x q v) i ≡ slice_index x i = get_or-set_other {A = ℕ} x q i v 0 ne in
+          omega (arith, between.low.each i within))
+    ];
+  };
+  high = set-below x h q v between.high high;
+}
+
 pub In-of_box : (l h x : List ℕ) → In x (box l h) → IsBetween l h x
 In-of_box [] [] x member = elim member [ inl e ↦ subst (λ (y : List ℕ). IsBetween [] [] y) (sym e) (record { low = below-itself []; high = below-itself [] }) | inr none ↦ absurd none ]
 In-of_box [] (k ∷ h) x member = absurd member
