@@ -1,7 +1,6 @@
 -- A list of parts in an array is told by its front, where all behind the front is one part that says nothing.
 use Rattle.std.specs.Prelude.{◌≡◌, ℕ, ◌-◌, ◌≤◌, pos, List, length, take, drop, replicate, ◌++◌}
-use Rattle.std.proofs.Common.{ap, sym, ◌∙◌, arith}
-use Rattle.std.proofs.lemmas.List.{take-append-drop, length-take-le}
+use Rattle.psi_state.specs.Inverse.{filled}
 use Rattle.psi_guard.specs.declared.named.Part.{Part}
 use Rattle.psi_guard.specs.declared.named.Parts.TheInside.{Inside as Array}
 
@@ -15,7 +14,4 @@ array items len = record { items = items; len = len }
 -- the array of a list is its parts and those behind them
 pub padded : (items : List Part) (len : ℕ) → len ≤ 32 → length items ≡ 32 → drop len items ≡ replicate (32 - len) no_part
     → array (take len items ++ replicate (32 - length (take len items)) no_part) (length (take len items)) ≡ array items len
-padded items len few full rest =
-    let count : length (take len items) ≡ len = length-take-le len items (omega arith) in
-    ap (λ n. array (take len items ++ replicate (32 - n) no_part) n) count
-    ∙ ap (λ (xs : List Part). array xs len) (ap (λ (xs : List Part). take len items ++ xs) (sym rest) ∙ take-append-drop len items)
+padded items len few full rest = filled array no_part items len few full rest

@@ -1,12 +1,18 @@
--- A fixed array of numbers is told by its front, where all behind the front is 0.
+-- A fixed array is told by its front, where all behind the front is one filler.
 use Rattle.std.specs.Prelude.{◌≡◌, ℕ, ◌-◌, ◌≤◌, List, length, take, drop, replicate, ◌++◌}
 use Rattle.std.proofs.Common.{ap, sym, ◌∙◌, arith}
 use Rattle.std.proofs.lemmas.List.{take-append-drop, length-take-le}
 use Rattle.psi_state.specs.declared.vector.State.TheInside.{Inside as Vector}
 use Rattle.psi_state.specs.declared.numbers.Queues.TheInside.{Inside as Numbers}
 
-filled : (values : List ℕ) (len : ℕ) → drop len values ≡ replicate (32 - len) 0 → take len values ++ replicate (32 - len) 0 ≡ values
-filled values len rest = ap (λ (xs : List ℕ). take len values ++ xs) (sym rest) ∙ take-append-drop len values
+-- an array and its front with fillers behind it are one, where the fillers stand in the array, and so is all that is made of them
+pub filled : {A B : Type 0} (made : List A → ℕ → B) (filler : A) (items : List A) (len : ℕ) → len ≤ 32 → length items ≡ 32
+    → drop len items ≡ replicate (32 - len) filler
+    → made (take len items ++ replicate (32 - length (take len items)) filler) (length (take len items)) ≡ made items len
+filled {A = A} made filler items len few full rest =
+    let count : length (take len items) ≡ len = length-take-le len items (omega arith) in
+    let whole : take len items ++ replicate (32 - len) filler ≡ items = ap (λ (xs : List A). take len items ++ xs) (sym rest) ∙ take-append-drop len items in
+    ap (λ n. made (take len items ++ replicate (32 - n) filler) n) count ∙ ap (λ (xs : List A). made xs len) whole
 
 abbrev vector : List ℕ → ℕ → Vector
 vector values len = record { values = values; len = len }
@@ -17,13 +23,9 @@ numbers items len = record { items = items; len = len }
 -- a state's array is its numbers and zeros behind them
 pub padded : (values : List ℕ) (len : ℕ) → len ≤ 32 → length values ≡ 32 → drop len values ≡ replicate (32 - len) 0
     → vector (take len values ++ replicate (32 - length (take len values)) 0) (length (take len values)) ≡ vector values len
-padded values len few full rest =
-    let count : length (take len values) ≡ len = length-take-le len values (omega arith) in
-    ap (λ n. vector (take len values ++ replicate (32 - n) 0) n) count ∙ ap (λ (xs : List ℕ). vector xs len) (filled values len rest)
+padded values len few full rest = filled vector 0 values len few full rest
 
 -- and so is that of a list of queues
 pub padded_queues : (items : List ℕ) (len : ℕ) → len ≤ 32 → length items ≡ 32 → drop len items ≡ replicate (32 - len) 0
     → numbers (take len items ++ replicate (32 - length (take len items)) 0) (length (take len items)) ≡ numbers items len
-padded_queues items len few full rest =
-    let count : length (take len items) ≡ len = length-take-le len items (omega arith) in
-    ap (λ n. numbers (take len items ++ replicate (32 - n) 0) n) count ∙ ap (λ (xs : List ℕ). numbers xs len) (filled items len rest)
+padded_queues items len few full rest = filled numbers 0 items len few full rest
