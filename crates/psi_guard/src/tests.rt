@@ -1,6 +1,6 @@
 //! Guarded events on small states, worked out by hand or by listing states.
 
-ghost use Rattle.std.specs.Prelude.{◌≡◌, ◌≤◌, ◌∷◌, [], length};
+ghost use Rattle.std.specs.Prelude.{◌≡◌, ◌≤◌, ◌∷◌, []};
 ghost use Rattle.psi_state.specs.State.{AreCapacities};
 
 use crate::{GuardRefusal, Guarded, Part, Parts};

@@ -1,6 +1,6 @@
 //! One level of a sparse table: the least value of each stretch of one length.
 
-ghost use Rattle.std.specs.Prelude.{◌≡◌, ℕ, ◌+◌, ◌^◌, ◌≤◌, length, IfOk};
+ghost use Rattle.std.specs.Prelude.{ℕ, ◌+◌, ◌^◌, ◌≤◌, length, IfOk};
 ghost use Rattle.psi_index.specs.Extremes.{AreLeast};
 ghost use Rattle.psi_index.specs.Levels.{AreLevels, IsJoined};
 

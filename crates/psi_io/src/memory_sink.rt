@@ -1,4 +1,4 @@
-ghost use Rattle.std.specs.Prelude.{◌≡◌, ℕ, ◌≤◌, ◌↔◌, ◌++◌, [], length, take, IfOk, OnOk, OnErr, IsErr};
+ghost use Rattle.std.specs.Prelude.{◌≡◌, ◌≤◌, ◌↔◌, ◌++◌, [], length, take, IfOk, OnOk, OnErr, IsErr};
 ghost use Rattle.psi_io.specs.Counts.{Rose};
 ghost use Rattle.psi_io.specs.MemorySink.{FailsToWrite, taken_count, after_write, after_failed_write};
 

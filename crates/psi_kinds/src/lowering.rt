@@ -1,6 +1,6 @@
 //! The event of a kind.
 
-ghost use Rattle.std.specs.Prelude.{◌≡◌, ◌<◌, ◌≤◌, ℕ, [], length, slice_index, slice_index_or, None, IfOk, IfErr, OnOk, IfSome};
+ghost use Rattle.std.specs.Prelude.{◌≡◌, ◌<◌, ◌≤◌, ℕ, [], length, slice_index_or, None, IfOk, IfErr, OnOk, IfSome};
 ghost use Rattle.std.specs.Option.{option_map};
 ghost use Rattle.psi_state.specs.State.{AreCapacities};
 ghost use Rattle.psi_guard.specs.Guarding.{guarded};

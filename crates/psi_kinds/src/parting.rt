@@ -1,6 +1,6 @@
 //! The parts of the guarded events that kinds are lowered to.
 
-ghost use Rattle.std.specs.Prelude.{◌≡◌, ◌<◌, ◌≤◌, ℕ, [], ◌++◌, map, length, slice_index, IfOk, IfErr, IfSome};
+ghost use Rattle.std.specs.Prelude.{◌≡◌, ◌<◌, ◌≤◌, length, slice_index, IfOk, IfErr, IfSome};
 ghost use Rattle.psi_state.specs.State.{AreCapacities};
 ghost use Rattle.psi_kinds.specs.Kinds.{AreQueues, IsSource};
 ghost use Rattle.psi_kinds.specs.Forms.{losing_part, gaining_part, source_parts, negative_parts, fork_parts, join_parts};

@@ -1,6 +1,6 @@
 //! Making the parts of a network from what its file says.
 
-ghost use Rattle.std.specs.Prelude.{◌≡◌, ◌≤◌, map, All, IfOk, IfErr, Some, None};
+ghost use Rattle.std.specs.Prelude.{◌≡◌, map, All, IfOk, IfErr};
 ghost use Rattle.psi_state.specs.State.{AreCapacities};
 ghost use Rattle.psi_rate.specs.Rates.{AreRates};
 ghost use Rattle.psi_kinds.specs.Kinds.{Does};

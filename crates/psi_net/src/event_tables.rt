@@ -1,11 +1,11 @@
 //! The array `event`.
 
-ghost use Rattle.std.specs.Prelude.{◌≡◌, ℕ, ◌≤◌, ◌<◌, ◌+◌, ◌++◌, ◌∷◌, [], length, map, codes, None, false, IfSome, IfOk, OnOk};
+ghost use Rattle.std.specs.Prelude.{◌≡◌, ◌≤◌, ◌<◌, ◌+◌, ◌++◌, ◌∷◌, [], length, map, codes, None, false, IfSome, IfOk, OnOk};
 ghost use Rattle.std.specs.List.{list_any};
 ghost use Rattle.std.specs.Str.{bytes_eq};
 ghost use Rattle.toml.specs.View.{view, table_view};
 ghost use Rattle.psi_rate.specs.Rates.{total};
-ghost use Rattle.psi_net.specs.Refusal.{Gives, event_place};
+ghost use Rattle.psi_net.specs.Refusal.{Gives};
 ghost use Rattle.psi_net.specs.Values.{seen, no_unknown, required, each};
 ghost use Rattle.psi_net.specs.Expansion.{source_of, servers_at, served_by};
 ghost use Rattle.psi_net.specs.EventTables.{kind_named, kind_in, event_keys, kind_of, event_of, are_within, event_step, events_of};

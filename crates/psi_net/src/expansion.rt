@@ -2,7 +2,7 @@
 
 ghost use Rattle.std.specs.Prelude.{◌≡◌, ◌≤◌, ◌<◌, ◌++◌, length, map, MatchOption, IfSome, IfOk, IfErr, OnOk, option_map};
 ghost use Rattle.psi_rate.specs.Rates.{total};
-ghost use Rattle.psi_net.specs.Expansion.{source_of, with_server, at_server, servers_at, served, served_by, values_in, most_index_values};
+ghost use Rattle.psi_net.specs.Expansion.{source_of, with_server, at_server, servers_at, served_by, values_in, most_index_values};
 
 use crate::entries::{NamedEvent, Queue};
 use crate::keys::read;

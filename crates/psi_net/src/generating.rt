@@ -1,6 +1,6 @@
 //! Large valid networks made from a number, for trials.
 
-ghost use Rattle.std.specs.Prelude.{◌≡◌, ◌+◌, ◌-◌, ◌≤◌, ◌<◌, ◌++◌, [], ◌∷◌, length, map, codes, decimal, replicate, pos, true, All, IfSome, IfOk, OnOk};
+ghost use Rattle.std.specs.Prelude.{◌≡◌, ◌+◌, ◌-◌, ◌≤◌, ◌<◌, ◌++◌, [], ◌∷◌, length, map, decimal, replicate, pos, true, All, IfSome, IfOk, OnOk};
 ghost use Rattle.std.specs.List.{flat_map};
 ghost use Rattle.psi_state.specs.State.{AreCapacities, numbers_from};
 ghost use Rattle.psi_net.specs.Name.{is_name};

@@ -10,7 +10,7 @@ ghost use Rattle.psi_net.specs.References.{queue_in, target_in, targets_in, some
 ghost use Rattle.psi_net.specs.Targets.{AreTargets, are_below};
 ghost use Rattle.psi_net.specs.KindTables.{source_in, queue_of_source, full_in, number_step, row_step, table_of, size_fits, arrival_of, service_of, index_of, batch_of, negative_of, fork_of, joined_in, join_of};
 
-use crate::keys::{array_in, find, number_in, number_or, present, read, required_number, text_in};
+use crate::keys::{array_in, find, number_in, number_or, present, read, required_number};
 use crate::known_queues::KnownQueues;
 use crate::references::{queue_in, some_targets_in, target_in, targets_in};
 use crate::refusals::{Cause, NetError, Place};

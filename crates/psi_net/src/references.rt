@@ -4,7 +4,7 @@ ghost use Rattle.std.specs.Prelude.{◌≡◌, ◌<◌, ℕ, [], length, map, If
 ghost use Rattle.toml.specs.View.{view};
 ghost use Rattle.psi_net.specs.Name.{name_of};
 ghost use Rattle.psi_net.specs.Refusal.{Gives};
-ghost use Rattle.psi_net.specs.Values.{seen, each, required};
+ghost use Rattle.psi_net.specs.Values.{each};
 ghost use Rattle.psi_net.specs.References.{number_of, queue_in, target_in, target_step, targets_in, some_targets_in};
 ghost use Rattle.psi_net.specs.Targets.{AreTargets};
 

@@ -1,6 +1,6 @@
 //! Sets worked by hand, a full set, and what a step gives back.
 
-ghost use Rattle.std.specs.Prelude.{◌≡◌, ◌≤◌, ◌<◌, ◌+◌, ◌∷◌, [], ℕ, List, IsTrue, IfOk, length};
+ghost use Rattle.std.specs.Prelude.{◌≡◌, ◌≤◌, ◌<◌, ◌∷◌, [], ℕ, List, IfOk};
 ghost use Rattle.psi_state.specs.State.{AreCapacities, IsBelow};
 ghost use Rattle.psi_state.specs.Members.{In};
 

@@ -2,7 +2,7 @@
 //!
 //! The loops go from the last queue to the first, since each of these is told of a first number and the rest.
 
-ghost use Rattle.std.specs.Prelude.{◌≡◌, ℕ, pos, ◌<◌, ◌≤◌, length, map, count_by, nat_lt, All};
+ghost use Rattle.std.specs.Prelude.{◌≡◌, pos, ◌<◌, length, map, count_by, nat_lt, All};
 ghost use Rattle.psi_reward.specs.Held.{held};
 ghost use Rattle.psi_reward.specs.Ranges.{least, greatest};
 

@@ -2,8 +2,7 @@
 //!
 //! The loops go from the last queue to the first, since a sum is its first term and the sum of the rest.
 
-ghost use Rattle.std.specs.Prelude.{◌≡◌, ℕ, ℤ, pos, ◌+◌, ◌*◌, ◌<◌, ◌≤◌, ◌*ℤ◌, unsigned_abs, length, map, slice_index, slice_index_or, All};
-ghost use Rattle.std.specs.Int.{int_min, int_max};
+ghost use Rattle.std.specs.Prelude.{◌≡◌, ◌+◌, ◌*◌, ◌<◌, ◌≤◌, unsigned_abs, length, map, All};
 ghost use Rattle.psi_state.specs.State.{IsBelow};
 ghost use Rattle.psi_reward.specs.Held.{held};
 ghost use Rattle.psi_reward.specs.Sums.{weighted, entry, added};

@@ -1,8 +1,8 @@
 //! A reward of one of the five kinds.
 
-ghost use Rattle.std.specs.Prelude.{◌≡◌, ℕ, ℤ, ◌<◌, length, All, IfOk, IfErr, Some, None, List, map};
-ghost use Rattle.psi_state.specs.State.{AreCapacities, IsBelow, box};
-ghost use Rattle.psi_reward.specs.Ranges.{least, greatest, IsReached};
+ghost use Rattle.std.specs.Prelude.{◌≡◌, ◌<◌, length, All, IfOk, IfErr, Some, None};
+ghost use Rattle.psi_state.specs.State.{AreCapacities};
+ghost use Rattle.psi_reward.specs.Ranges.{least, greatest};
 ghost use Rattle.psi_reward.specs.Refusing.{queues_of, numbers_of, IsSmall, refusal_of, has_lengths};
 ghost use Rattle.psi_reward.specs.Worth.{worth_of};
 

@@ -1,7 +1,7 @@
 //! The route.
 
-ghost use Rattle.std.specs.Prelude.{◌≡◌, ◌+◌, ◌<◌, ◌≤◌, ◌↔◌, ℕ, IsTrue, length, slice_index, get_or, OnOk, IfOk, IfErr, IfSome, EachIndex, Some, None};
-ghost use Rattle.psi_state.specs.State.{AreCapacities, IsBelow};
+ghost use Rattle.std.specs.Prelude.{◌≡◌, ◌+◌, ◌<◌, ◌≤◌, ◌↔◌, IsTrue, length, slice_index, OnOk, IfOk, IfErr, IfSome, EachIndex, Some, None};
+ghost use Rattle.psi_state.specs.State.{AreCapacities};
 ghost use Rattle.psi_route.specs.Routing.{routed, upset_of, weight};
 ghost use Rattle.psi_route.specs.Refusals.{refusal_of};
 ghost use Rattle.psi_route.specs.Accepted.{shape, IsSource, IsRouteShape};

@@ -1,6 +1,6 @@
 //! The envelope of a route, in place.
 
-ghost use Rattle.std.specs.Prelude.{◌≡◌, ◌<◌, ◌≤◌, true, length, slice_index, IfSome, if◌then◌else◌};
+ghost use Rattle.std.specs.Prelude.{◌≡◌, ◌≤◌, true, length, slice_index, IfSome, if◌then◌else◌};
 ghost use Rattle.std.specs.Bool.{MatchBool};
 ghost use Rattle.psi_state.specs.State.{IsBelow, box};
 ghost use Rattle.psi_state.specs.Sets.{image};

@@ -1,7 +1,6 @@
 //! Envelopes of small routes, worked out by hand over all states of the box.
 
-ghost use Rattle.std.specs.Prelude.{◌≡◌, ℕ, ◌<◌, ◌≤◌, length, slice_index, EachIndex};
-ghost use Rattle.psi_state.specs.State.{AreCapacities};
+ghost use Rattle.std.specs.Prelude.{◌≡◌, ◌<◌, ◌≤◌, length, slice_index, EachIndex};
 
 use crate::tests::{one, pair};
 use crate::{Full, Route, Source};

@@ -1,6 +1,6 @@
 //! The places at which the values of a table pass a bound.
 
-ghost use Rattle.std.specs.Prelude.{◌≡◌, ℕ, ◌<◌, ◌≤◌, length, slice_index};
+ghost use Rattle.std.specs.Prelude.{ℕ, ◌<◌, ◌≤◌, length, slice_index};
 
 use psi_index::IndexTable;
 

@@ -1,6 +1,6 @@
 //! The envelope of a route without tables, by one pass over its list.
 
-ghost use Rattle.std.specs.Prelude.{◌≡◌, ◌+◌, ◌<◌, ◌≤◌, true, false, length, slice_index, min};
+ghost use Rattle.std.specs.Prelude.{◌≡◌, ◌+◌, ◌<◌, ◌≤◌, true, false, length, min};
 ghost use Rattle.std.specs.Bool.{MatchBool};
 ghost use Rattle.psi_state.specs.State.{IsBelow};
 

@@ -1,12 +1,12 @@
 //! Routes of two queues and of one, worked out by hand.
 
 ghost use Rattle.std.specs.Prelude.{◌≡◌, ◌∷◌, [], ◌<◌, ◌≤◌, length, slice_index, EachIndex, IfSome};
-ghost use Rattle.psi_state.specs.State.{AreCapacities, IsBelow};
+ghost use Rattle.psi_state.specs.State.{AreCapacities};
 
 use crate::{Full, Route, RouteRefusal, Source};
 use psi_event::EventLaw;
 use psi_index::{IndexTable, OutOfMemory};
-use psi_state::{Bounds, Queues, State};
+use psi_state::{Queues, State};
 use std::alloc::Global;
 use std::process::Abort;
 use std::test::Fail;

@@ -15,7 +15,7 @@ impl Route {
     ghost use Rattle.psi_route.specs.Route.{shape_of};
     ghost use Rattle.psi_route.specs.Ends.{IsLeastAfter, AreTargetEnds};
     ghost use Rattle.psi_route.specs.Coming.{Comes, Misses, AreComing};
-    ghost use Rattle.psi_route.specs.Offers.{IsRival, IsBar, AreLeastTwo, MayStay, MustRise};
+    ghost use Rattle.psi_route.specs.Offers.{IsRival, AreLeastTwo, MayStay, MustRise};
 
     /// Lets each target have its ends after the route, and tells how far the customers come past all of
     /// them; `always` says whether the source serves at the lower corner.

@@ -1,6 +1,6 @@
 //! The command of the program's words.
 
-ghost use Rattle.std.specs.Prelude.{◌≡◌, map, codes, string_bytes, Option};
+ghost use Rattle.std.specs.Prelude.{◌≡◌, map, string_bytes, Option};
 ghost use Rattle.std.specs.List.{list_all};
 ghost use Rattle.psi_run.specs.Command.{is_digit, is_numeral, greatest_number, number_up_to, sample_of_words, check_of_words, command_of};
 ghost use Rattle.psi_run.specs.Words.{GivesCommand};

@@ -1,7 +1,7 @@
 //! Values worked by hand, and callers that use the contracts.
 
 ghost use Rattle.std.specs.Prelude.{◌≡◌, ◌∷◌, [], ◌↔◌, ◌≤◌, IsTrue, IfOk, map, length};
-ghost use Rattle.psi_state.specs.State.{IsBelow, box};
+ghost use Rattle.psi_state.specs.State.{box};
 
 use super::*;
 use std::alloc::{AllocError, Global};

@@ -1,6 +1,6 @@
 //! Tests whether capacities and kinds are such as `lower` takes, and calls of events that ask for them.
 
-ghost use Rattle.std.specs.Prelude.{◌≡◌, ◌≤◌, ◌<◌, length, slice_index, IsTrue, IfSome};
+ghost use Rattle.std.specs.Prelude.{◌<◌, length, IsTrue, IfSome};
 ghost use Rattle.psi_state.specs.State.{AreCapacities};
 ghost use Rattle.psi_kinds.specs.Kinds.{AreQueues, IsSource, IsKindOf};
 

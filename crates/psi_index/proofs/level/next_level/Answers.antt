@@ -4,7 +4,6 @@ use Rattle.psi_index.specs.Extremes.{AreLeast}
 use Rattle.psi_index.proofs.Joining.{level-joined}
 use Rattle.psi_index.proofs.Widths.{exponent-greatest, level-is}
 use Rattle.psi_index.proofs.level.next_level.Goals as goal
-use Rattle.psi_index.proofs.level.next_level.Goals.{After-joined, After-joined-in-Some}
 
 pub overflow_shl-half : goal.overflow_shl-half
 overflow_shl-half c = (let most = exponent-greatest 65535 15 (length c.args.levels.now + 1) (omega arith) (omega arith) in omega arith)
