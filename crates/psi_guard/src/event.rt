@@ -28,7 +28,7 @@ impl EventLaw for Guarded {
     }
 
     fn apply(&self, x: &mut State) {
-        if self.count() == 1 {
+        if self.count() <= 1 {
             self.apply_one(x);
         } else if self.allows(x) {
             self.move_each(x);
@@ -75,13 +75,16 @@ impl Guarded {
         self.parts.get(i)
     }
 
-    // Moves the queue of the only part where it holds a number from its least to its most. Most guarded events
-    // name one queue, and it is looked at once here.
+    // Moves the queue of the only part, if there is one, where it holds a number from its least to its most. Most
+    // guarded events name one queue, and it is looked at once here.
     fn apply_one(&self, x: &mut State)
-        requires one { length self.now.parts ≡ 1 }
+        requires few { length self.now.parts ≤ 1 }
         requires below { IsBelow x.old self.now.caps }
         ensures { x.new ≡ guarded self.now.parts x.old }
     {
+        if self.count() == 0 {
+            return;
+        }
         let part = self.part(0);
         let held = x.get(part.queue);
         if part.least <= held && held <= part.most {

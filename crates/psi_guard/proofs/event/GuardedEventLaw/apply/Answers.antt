@@ -12,8 +12,8 @@ returns-then-allows-clause-within c =
 pub returns-else-allows-clause-value : goal.returns-else-allows-clause-value
 returns-else-allows-clause-value c = sym (guarded-keeps c.args.self.now.parts c.args.x.now (sym c.allows.ensures ∙ c.if-allows.false))
 
-pub returns-then-count-eq1-clause-within : goal.returns-then-count-eq1-clause-within
-returns-then-count-eq1-clause-within c =
+pub returns-then-count-le1-clause-within : goal.returns-then-count-le1-clause-within
+returns-then-count-le1-clause-within c =
     let event = c.args.self.now in
     subst (λ (y : List ℕ). IsBelow y event.caps) (sym c.apply_one.ensures)
     ((guarded-closed event.caps event.parts event.guards).each c.args.x.now c.requires)
