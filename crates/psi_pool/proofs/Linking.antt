@@ -1,10 +1,12 @@
 -- How a node is linked, and what leaves the links as they are.
-use Rattle.std.proofs.Common.{◌≡◌, ℕ, ◌+◌, ◌<◌, ◌≤◌, List, [], ◌++◌, length, take, slice_set, slice_index, inl, inr, ap, sym, ◌∙◌, subst, arith, get_or-set_same, get_or-set_other}
+use Rattle.std.proofs.Common.{◌≡◌, ℕ, ◌+◌, ◌<◌, ◌≤◌, List, [], ◌++◌, length, take, slice_set, slice_index, inl, inr, ap, sym, ◌∙◌, subst, arith, get_or-set_same, get_or-set_other, length-append}
 use Rattle.std.proofs.lemmas.Bool.{cases_eq, cases_lt}
 use Rattle.std.proofs.lemmas.List.{get_or_append_left, get_or-take, length-take-le}
 use Rattle.psi_pool.specs.declared.nodes.Node.{Node}
 use Rattle.psi_pool.specs.Buckets.{bucket}
-use Rattle.psi_pool.specs.Nodes.{node_at, bucket_at, IsLast, IsLinked, HoldSet}
+use Rattle.psi_state.specs.Ascending.{IsDistinct, HaveSame}
+use Rattle.psi_pool.specs.Nodes.{node_at, bucket_at, states, IsLast, IsLinked, HoldSet}
+use Rattle.psi_pool.proofs.Places.{states-same}
 
 last-same : (used : ℕ) (old now : List Node) (n b link : ℕ) → ((i : ℕ) → i < n → node_at now i ≡ node_at old i) → IsLast used old n b link
     → IsLast used now n b link
@@ -89,3 +91,18 @@ hold-front used nodes tops rest n xs all holds =
       distinct = holds.distinct;
       members = holds.members;
     })
+
+-- nodes that are linked, with others behind them
+pub hold-start : (used : ℕ) (nodes rest : List Node) (heads : List ℕ) (n : ℕ) (xs : List (List ℕ)) → n ≤ length nodes → HoldSet used nodes heads n xs
+    → HoldSet used (nodes ++ rest) heads n xs
+hold-start used nodes rest heads n xs within holds =
+    let long = length-append nodes rest in
+    let each : (i : ℕ) → i < n → node_at (nodes ++ rest) i ≡ node_at nodes i =
+    λ i small. get_or_append_left nodes rest (record { state = []; next = 4096 }) i (omega arith) in
+    let same : states (nodes ++ rest) n ≡ states nodes n =
+    states-same nodes (nodes ++ rest) n within (omega arith) (λ i small. ap (λ (m : Node). m.state) (each i small)) in
+    record {
+      linked = linked-same used nodes (nodes ++ rest) heads n each holds.linked;
+      distinct = subst (λ (ys : List (List ℕ)). IsDistinct ys) (sym same) holds.distinct;
+      members = subst (λ (ys : List (List ℕ)). HaveSame ys xs) (sym same) holds.members;
+    }

@@ -139,9 +139,10 @@ pub(crate) fn relink<E: EventLaw>(
     ensures holds { HoldSet used nodes.new heads.new result (map (E.function e.now) (states nodes.old len)) }
     ensures fewer { result ≤ len }
 {
+    let held = &mut nodes[..len];
+    move_on(held, e);
     empty(&mut heads[..used]);
-    move_on(&mut nodes[..len], e);
-    link_all(nodes, &mut heads[..used], len)
+    link_all(held, &mut heads[..used])
 }
 
 // Moves the state of each node on by the event. It is a pass of its own, since hashing reads in eights what
@@ -155,19 +156,19 @@ fn move_on<E: EventLaw>(nodes: &mut [Node], e: &E)
     }
 }
 
-// Links the first `len` nodes, where all buckets are in use and empty. A node whose state is there already is
-// free again: the last node that waits comes to its place.
-fn link_all(nodes: &mut [Node], heads: &mut [u16], len: usize) -> usize
+// Links the nodes, where all buckets are in use and empty. A node whose state is there already is free again: the
+// last node that waits comes to its place. It is one for all events, and has the registers to itself.
+#[inline(never)]
+fn link_all(nodes: &mut [Node], heads: &mut [u16]) -> usize
     requires some { 1 ≤ length heads.old }
     requires few { length heads.old ≤ 16385 }
     requires none { (b : ℕ) → b < length heads.old → slice_index heads.old b ≡ 4096 }
-    requires small { len ≤ 4096 }
-    requires len { len ≤ length nodes.old }
-    ensures holds { HoldSet (length heads.new) nodes.new heads.new result (states nodes.old len) }
-    ensures fewer { result ≤ len }
+    requires small { length nodes.old ≤ 4096 }
+    ensures holds { HoldSet (length heads.new) nodes.new heads.new result (states nodes.old (length nodes.old)) }
+    ensures fewer { result ≤ length nodes.old }
 {
     let mut place = 0;
-    let mut left = len;
+    let mut left = nodes.len();
     while place < left {
         if link(nodes, heads, place) {
             place += 1;
