@@ -1,3 +1,4 @@
 pub mod Law
 pub mod Choice
 pub mod Idle
+pub mod IdleLaws

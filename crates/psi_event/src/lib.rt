@@ -5,10 +5,10 @@
 //! Bušić, Gaujal and Vincent (2008).
 #![tactic(auto)]
 
-mod idleness;
+mod idle;
 mod law;
 #[cfg(test)]
 mod tests;
 
-pub use idleness::Idle;
+pub use idle::Idle;
 pub use law::EventLaw;

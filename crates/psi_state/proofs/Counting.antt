@@ -6,8 +6,10 @@ use Rattle.std.proofs.lemmas.Bool.{cases_eq}
 use Rattle.std.proofs.lemmas.List.{drop-set-lt, get_or-set_same}
 use Rattle.psi_state.specs.State.{IsBelow, box}
 use Rattle.psi_state.specs.Members.{In}
-use Rattle.psi_state.specs.Boxes.{IsBetween, set-between, In-of_box}
-use Rattle.psi_state.specs.Volume.{volume, volume-drop, volume-drop-some, volume-drop-all, place_in, place_in-drop, place_in-drop-all, place_in-small, length-box, slice_get-box}
+use Rattle.psi_state.specs.Boxes.{IsBetween}
+use Rattle.psi_state.proofs.BoxesLemmas.{set-between, In-of_box}
+use Rattle.psi_state.specs.Volume.{volume, place_in}
+use Rattle.psi_state.proofs.VolumeLemmas.{volume-drop, volume-drop-some, volume-drop-all, place_in-drop, place_in-drop-all, place_in-small, length-box, slice_get-box}
 
 -- so many states in what was passed, times those in what is left, are all
 pub record IsCounting (l h : List ℕ) (i count : ℕ) : Type 0 where

@@ -3,7 +3,7 @@ use Rattle.std.specs.Prelude.{◌≡◌, ◌↔◌, ℕ, List, Bool, false, IsTr
 use Rattle.std.proofs.Common.{subst}
 use Rattle.psi_state.specs.State.{Corners, IsBelow, box}
 use Rattle.psi_state.specs.Members.{In, AreAmong}
-use Rattle.psi_state.specs.Boxes.{In-box, In-of_box, AreAmong-box, below-low, below-high}
+use Rattle.psi_state.proofs.BoxesLemmas.{In-box, In-of_box, AreAmong-box, below-low, below-high}
 
 abbrev pub corners_of : List ℕ → List ℕ → Corners
 corners_of l h = record { lo = l; hi = h }

@@ -1,3 +1,12 @@
+pub mod AscendingLemmas
+pub mod BoxesLemmas
+pub mod HullLemmas
+pub mod ListingLemmas
+pub mod MembersLemmas
+pub mod RepeatsLemmas
+pub mod SetsLemmas
+pub mod StatesLemmas
+pub mod VolumeLemmas
 mod Arrays
 mod Quads
 mod Counting

@@ -4,9 +4,11 @@ use Rattle.std.specs.Prelude.{◌≡◌, ℕ, zero, suc, ◌-◌, ◌<◌, ◌�
 use Rattle.std.proofs.Common.{ap, sym, ◌∙◌, subst, arith}
 use Rattle.std.proofs.lemmas.List.{ext_get_or, get_or-set_same, get_or-set_other, length-set}
 use Rattle.psi_state.specs.State.{IsBelow, box}
-use Rattle.psi_state.specs.Boxes.{IsBetween, below-tail}
+use Rattle.psi_state.specs.Boxes.{IsBetween}
+use Rattle.psi_state.proofs.BoxesLemmas.{below-tail}
 use Rattle.psi_state.specs.Volume.{layers}
-use Rattle.psi_state.specs.Listing.{onward, onward-low, onward-high}
+use Rattle.psi_state.specs.Listing.{onward}
+use Rattle.psi_state.proofs.ListingLemmas.{onward-low, onward-high}
 
 -- the places from n on are at their greatest numbers in x, and back at their least in y; the others are the same in both
 pub record IsTurned (l h x y : List ℕ) (n : ℕ) : Type 0 where

@@ -5,7 +5,7 @@ use Rattle.std.proofs.Common.{ap, sym, subst, arith}
 use Rattle.std.proofs.lemmas.Grind.{same_number_lists}
 use Rattle.psi_state.specs.State.{IsVector}
 use Rattle.psi_state.specs.Hashing.{quad}
-use Rattle.psi_state.specs.States.{same-from_eq, apart-from_eq}
+use Rattle.psi_state.proofs.StatesLemmas.{same-from_eq, apart-from_eq}
 
 -- two numbers of 16 bits beside higher ones
 low-same : (a b c d : ℕ) → a < 65536 → c < 65536 → a + 65536 * b ≡ c + 65536 * d → a ≡ c

@@ -2,8 +2,8 @@
 use Rattle.std.specs.Prelude.{◌≡◌, ℕ, ◌-◌, ◌≤◌, List, length, take, drop, replicate, ◌++◌}
 use Rattle.std.proofs.Common.{ap, sym, ◌∙◌, arith}
 use Rattle.std.proofs.lemmas.List.{take-append-drop, length-take-le}
-use Rattle.psi_state.specs.declared.vector.State.TheInside.{Inside as Vector}
-use Rattle.psi_state.specs.declared.numbers.Queues.TheInside.{Inside as Numbers}
+use Rattle.psi_state.specs.declared.state.State.TheInside.{Inside as Vector}
+use Rattle.psi_state.specs.declared.queues.Queues.TheInside.{Inside as Numbers}
 
 -- an array and its front with fillers behind it are one, where the fillers stand in the array, and so is all that is made of them
 pub filled : {A B : Type 0} (made : List A → ℕ → B) (filler : A) (items : List A) (len : ℕ) → len ≤ 32 → length items ≡ 32

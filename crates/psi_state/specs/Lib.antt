@@ -6,7 +6,6 @@ pub mod Hull
 pub mod Volume
 pub mod Listing
 pub mod Ascending
-pub mod States
 pub mod Inverse
 pub mod Hashing
 pub mod Repeats

@@ -5,17 +5,17 @@
 //! componentwise order (Propp and Wilson 1996; Bušić, Gaujal and Vincent 2008 for boxes of states).
 #![tactic(auto)]
 
-mod ending;
-mod interval;
-mod listing;
-mod numbers;
-mod vector;
+mod bounds;
+mod outcome;
+mod queues;
+mod state;
+mod states;
 
-pub use ending::{Outcome, Step};
-pub use interval::Bounds;
-pub use listing::States;
-pub use numbers::Queues;
-pub use vector::State;
+pub use bounds::Bounds;
+pub use outcome::{Outcome, Step};
+pub use queues::Queues;
+pub use state::State;
+pub use states::States;
 
 #[cfg(test)]
 mod tests;

@@ -1,0 +1,146 @@
+-- Lemmas. Which states a box lists: those between its two corners.
+use Rattle.std.specs.Prelude.{◌≡◌, ℕ, zero, suc, ◌+◌, ◌-◌, ◌<◌, ◌≤◌, List, [], ◌∷◌, length, map, slice_index, slice_set, refl}
+use Rattle.std.proofs.Common.{inl, inr, ap, sym, ◌∙◌, subst, arith, length-set, get_or-set_same, get_or-set_other}
+use Rattle.std.proofs.lemmas.Bool.{cases_lt, cases_eq}
+use Rattle.std.proofs.lemmas.List.{length-replicate, get_or-replicate, set_past}
+use Rattle.psi_state.specs.State.{IsBelow, numbers_from, box, zeros, all_states}
+use Rattle.psi_state.specs.Members.{In, AreAmong}
+use Rattle.psi_state.proofs.MembersLemmas.{In-map, In-of_map, In-flat_map, In-of_flat_map, In-numbers_from, In-of_numbers_from}
+use Rattle.psi_state.specs.Boxes.{IsBetween}
+
+pub below-head : (x : ℕ) (xs : List ℕ) (y : ℕ) (ys : List ℕ) → IsBelow (x ∷ xs) (y ∷ ys) → x ≤ y
+below-head x xs y ys h = h.each 0 (omega arith)
+
+pub below-tail : (x : ℕ) (xs : List ℕ) (y : ℕ) (ys : List ℕ) → IsBelow (x ∷ xs) (y ∷ ys) → IsBelow xs ys
+below-tail x xs y ys h = record {
+  same_length = (let e : suc (length xs) ≡ suc (length ys) = h.same_length in omega arith);
+  each = λ i small. h.each (suc i) (omega arith);
+}
+
+pub below-cons : (x : ℕ) (xs : List ℕ) (y : ℕ) (ys : List ℕ) → x ≤ y → IsBelow xs ys → IsBelow (x ∷ xs) (y ∷ ys)
+below-cons x xs y ys first rest = record { same_length = ap suc rest.same_length; each = each }
+  where
+    each : (i : ℕ) → i < suc (length xs) → slice_index (x ∷ xs) i ≤ slice_index (y ∷ ys) i
+    each zero small = first
+    each (suc i) small = rest.each i (omega arith)
+
+pub below-itself : (x : List ℕ) → IsBelow x x
+below-itself x = record { same_length = refl; each = λ i small. omega arith }
+
+pub below-through : (x y z : List ℕ) → IsBelow x y → IsBelow y z → IsBelow x z
+below-through x y z low high = record {
+  same_length = low.same_length ∙ high.same_length;
+  each = λ i small. (let first : slice_index x i ≤ slice_index y i = low.each i small in
+      let within : i < length y = omega (arith, low.same_length) in
+      let second : slice_index y i ≤ slice_index z i = high.each i within in omega arith);
+}
+
+-- a state with another number at one place is below another where it was and that number is
+pub set-below : (x y : List ℕ) (q v : ℕ) → IsBelow x y → v ≤ slice_index y q → IsBelow (slice_set x q v) y
+set-below x y q v below small =
+    elim (cases_lt q (length x)) [
+      | inr past ↦ subst (λ (z : List ℕ). IsBelow z y) (sym (set_past {X = ℕ} x q v past)) below
+      | inl place ↦ record {
+        same_length = length-set {A = ℕ} x q v ∙ below.same_length;
+        each = λ i within. (let count : length (slice_set x q v) ≡ length x = length-set {A = ℕ} x q v in
+            let old : slice_index x i ≤ slice_index y i = below.each i (omega arith) in
+            elim (cases_eq i q) [
+              | inl e ↦ (let is : slice_index (slice_set x q v) q ≡ v = get_or-set_same {A = ℕ} x q v 0 place in
+                  let moved : slice_index (slice_set x q v) i ≡ slice_index (slice_set x q v) q = ap (λ j. slice_index (slice_set x q v) j) e in
+                  let there : slice_index y i ≡ slice_index y q = ap (λ j. slice_index y j) e in omega arith)
+              | inr ne ↦ (let is : slice_index (slice_set x q v) i ≡ slice_index x i = get_or-set_other {A = ℕ} x q i v 0 ne in omega arith)
+            ]);
+      }
+    ]
+
+pub same-from_below : (x y : List ℕ) → IsBelow x y → IsBelow y x → x ≡ y
+same-from_below [] [] low high = refl
+same-from_below [] (y ∷ ys) low high = absurd (let e : 0 ≡ suc (length ys) = low.same_length in omega arith)
+same-from_below (x ∷ xs) [] low high = absurd (let e : suc (length xs) ≡ 0 = low.same_length in omega arith)
+same-from_below (x ∷ xs) (y ∷ ys) low high =
+    let first : x ≤ y = below-head x xs y ys low in
+    let back : y ≤ x = below-head y ys x xs high in
+    let e : x ≡ y = omega arith in
+    let rest = same-from_below xs ys (below-tail x xs y ys low) (below-tail y ys x xs high) in
+    cc
+
+pub In-box : (l h x : List ℕ) → IsBelow l x → IsBelow x h → In x (box l h)
+In-box [] [] [] low high = inl refl
+In-box [] [] (v ∷ x) low high = absurd (let e : 0 ≡ suc (length x) = low.same_length in omega arith)
+In-box [] (k ∷ h) [] low high = absurd (let e : 0 ≡ suc (length h) = high.same_length in omega arith)
+In-box [] (k ∷ h) (v ∷ x) low high = absurd (let e : 0 ≡ suc (length x) = low.same_length in omega arith)
+In-box (j ∷ l) [] [] low high = absurd (let e : suc (length l) ≡ 0 = low.same_length in omega arith)
+In-box (j ∷ l) [] (v ∷ x) low high = absurd (let e : suc (length x) ≡ 0 = high.same_length in omega arith)
+In-box (j ∷ l) (k ∷ h) [] low high = absurd (let e : suc (length l) ≡ 0 = low.same_length in omega arith)
+In-box (j ∷ l) (k ∷ h) (v ∷ x) low high =
+    let first : j ≤ v = below-head j l v x low in
+    let last : v ≤ k = below-head v x k h high in
+    let rest = In-box l h x (below-tail j l v x low) (below-tail v x k h high) in
+    In-flat_map (λ w. map (λ (y : List ℕ). w ∷ y) (box l h)) v (v ∷ x) (numbers_from j (suc k - j))
+    (In-numbers_from v j (suc k - j) first (omega arith)) (In-map (λ (y : List ℕ). v ∷ y) x (box l h) rest)
+
+-- a state between the corners stays between them where one place is given a number that is between theirs
+pub set-between : (l h x : List ℕ) (q v : ℕ) → IsBetween l h x → q < length l → slice_index l q ≤ v → v ≤ slice_index h q
+    → IsBetween l h (slice_set x q v)
+set-between l h x q v between small low high = record {
+  low = record {
+    same_length = between.low.same_length ∙ sym (length-set {A = ℕ} x q v);
+    each = λ i within. elim (cases_eq i q) [
+      | inl e ↦ (let is : slice_index (slice_set x q v) q ≡ v = get_or-set_same {A = ℕ} x q v 0 (omega (arith, between.low.same_length)) in
+          subst (λ k. slice_index l k ≤ slice_index (slice_set x q v) k) (sym e) (omega arith))
+      | inr ne ↦ (let is : slice_index (slice_set x q v) i ≡ slice_index x i = get_or-set_other {A = ℕ} x q i v 0 ne in
+          omega (arith, between.low.each i within))
+    ];
+  };
+  high = set-below x h q v between.high high;
+}
+
+pub In-of_box : (l h x : List ℕ) → In x (box l h) → IsBetween l h x
+In-of_box [] [] x member = elim member [ inl e ↦ subst (λ (y : List ℕ). IsBetween [] [] y) (sym e) (record { low = below-itself []; high = below-itself [] }) | inr none ↦ absurd none ]
+In-of_box [] (k ∷ h) x member = absurd member
+In-of_box (j ∷ l) [] x member = absurd member
+In-of_box (j ∷ l) (k ∷ h) x member =
+    let found = In-of_flat_map (λ w. map (λ (y : List ℕ). w ∷ y) (box l h)) x (numbers_from j (suc k - j)) member in
+    let number = In-of_numbers_from found.0 j (suc k - j) found.1 in
+    let tail = In-of_map (λ (y : List ℕ). found.0 ∷ y) x (box l h) found.2 in
+    let rest = In-of_box l h tail.0 tail.1 in
+    let first : j ≤ found.0 = number.0 in
+    let above : found.0 < j + (suc k - j) = number.1 in
+    let last : found.0 ≤ k = omega arith in
+    subst (λ (y : List ℕ). IsBetween (j ∷ l) (k ∷ h) y) (sym tail.2)
+    (record { low = below-cons j l found.0 tail.0 first rest.low; high = below-cons found.0 tail.0 k h last rest.high })
+
+pub zeros-below : (caps x : List ℕ) → length x ≡ length caps → IsBelow (zeros caps) x
+zeros-below caps x same = record {
+  same_length = length-replicate {A = ℕ} (length caps) 0 ∙ sym same;
+  each = λ i small. (let count : length (zeros caps) ≡ length caps = length-replicate {A = ℕ} (length caps) 0 in
+      let within : i < length caps = omega arith in
+      let e : slice_index (zeros caps) i ≡ 0 = get_or-replicate {A = ℕ} (length caps) i 0 0 within in omega arith);
+}
+
+pub In-all_states : (caps x : List ℕ) → IsBelow x caps → In x (all_states caps)
+In-all_states caps x within = In-box (zeros caps) caps x (zeros-below caps x within.same_length) within
+
+pub In-of_all_states : (caps x : List ℕ) → In x (all_states caps) → IsBelow x caps
+In-of_all_states caps x member = (In-of_box (zeros caps) caps x member).high
+
+-- both corners of a box are in it
+pub In-low : (l h : List ℕ) → IsBelow l h → In l (box l h)
+In-low l h ordered = In-box l h l (below-itself l) ordered
+
+pub In-high : (l h : List ℕ) → IsBelow l h → In h (box l h)
+In-high l h ordered = In-box l h h ordered (below-itself h)
+
+-- a box lies in another where its corners do
+pub AreAmong-box : (l h m k : List ℕ) → IsBelow m l → IsBelow h k → AreAmong (box l h) (box m k)
+AreAmong-box l h m k low high = record {
+  each = λ x member. (let between = In-of_box l h x member in
+      In-box m k x (below-through m l x low between.low) (below-through x h k between.high high));
+}
+
+-- and only there
+pub below-low : (l h m k : List ℕ) → IsBelow l h → AreAmong (box l h) (box m k) → IsBelow m l
+below-low l h m k ordered among = (In-of_box m k l (among.each l (In-low l h ordered))).low
+
+pub below-high : (l h m k : List ℕ) → IsBelow l h → AreAmong (box l h) (box m k) → IsBelow h k
+below-high l h m k ordered among = (In-of_box m k h (among.each h (In-high l h ordered))).high

@@ -1,0 +1,5 @@
+use Rattle.psi_state.proofs.Counting.{IsRanking}
+use Rattle.psi_state.proofs.bounds.Bounds.rank.Given as goal
+
+abbrev pub invariant-loop-place : goal.invariant-loop-place
+invariant-loop-place l = record { ranking : IsRanking l.self.lo l.self.hi l.x l.place l.rank }

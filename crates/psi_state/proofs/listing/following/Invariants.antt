@@ -1,5 +1,0 @@
-use Rattle.psi_state.proofs.Odometer.{IsTurned}
-use Rattle.psi_state.proofs.listing.following.Given as goal
-
-abbrev pub invariant-loop-place : goal.invariant-loop-place
-invariant-loop-place l = record { turned : IsTurned l.bounds.lo l.bounds.hi l.x l.next l.place }

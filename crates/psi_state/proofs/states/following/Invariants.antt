@@ -1,0 +1,5 @@
+use Rattle.psi_state.proofs.Odometer.{IsTurned}
+use Rattle.psi_state.proofs.states.following.Given as goal
+
+abbrev pub invariant-loop-place : goal.invariant-loop-place
+invariant-loop-place l = record { turned : IsTurned l.bounds.lo l.bounds.hi l.x l.next l.place }
