@@ -43,10 +43,12 @@ impl EventLaw for Idle {
     }
 
     fn apply(&self, x: &mut State) {
+        // It is as it was.
         let _state = x;
     }
 
     fn envelope(&self, b: &mut Bounds) {
+        // Called for its clause: the corners are in order.
         let _queues = b.len();
     }
 
