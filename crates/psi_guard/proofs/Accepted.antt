@@ -1,16 +1,16 @@
 -- Parts that are accepted one after another.
-use Rattle.std.specs.Prelude.{◌≡◌, ℕ, zero, suc, ◌+◌, ◌<◌, ◌≤◌, false, ◌||◌, cond, nat_eq, nat_lt, nat_le, unsigned_abs, List, [], ◌∷◌, ◌++◌, length, drop, slice_index, Option, Some, None}
-use Rattle.std.proofs.Common.{inl, inr, ap, sym, ◌∙◌, subst, arith, length-append}
+use Rattle.std.specs.Prelude.{◌≡◌, ℕ, zero, suc, ◌+◌, ◌<◌, ◌≤◌, false, ◌||◌, cond, nat_eq, nat_lt, nat_le, unsigned_abs, List, [], ◌∷◌, ◌++◌, length, drop, slice_index, Option, Some, None, refl}
+use Rattle.std.proofs.Common.{inl, inr, ap, sym, ◌∙◌, subst, arith, length-append, append_assoc}
 use Rattle.std.proofs.lemmas.Bool.{cases_lt, cases_eq, cases_Bool, eq-eqb, ne_eqb, or_parts, ltb-false, leb-false, both_ways}
-use Rattle.std.proofs.lemmas.List.{at_drop_more}
+use Rattle.std.proofs.lemmas.List.{append-nil, at_drop_more}
 use Rattle.std.proofs.Math.ListN.{get_or-append}
 use Rattle.std.proofs.Math.Seq.{get_or-append_seam}
 use Rattle.psi_event.specs.Choice.{first_or}
-use Rattle.psi_guard.specs.declared.named.Part.{Part}
-use Rattle.psi_guard.specs.declared.shape.GuardRefusal.{GuardRefusal}
-use Rattle.psi_guard.specs.declared.shape.GuardRefusal.TheVariants.{Empty, Repeated, OutOfRange}
+use Rattle.psi_guard.specs.declared.parts.Part.{Part}
+use Rattle.psi_guard.specs.declared.guarded.GuardRefusal.{GuardRefusal}
+use Rattle.psi_guard.specs.declared.guarded.GuardRefusal.TheVariants.{Empty, Repeated, OutOfRange}
 use Rattle.psi_guard.specs.Inverse.{no_part}
-use Rattle.psi_guard.specs.Refusals.{is_out, names, is_empty, refusal_at, refusal_after, FitsQueue, AreGuards, at}
+use Rattle.psi_guard.specs.Refusals.{is_out, names, is_empty, refusal_at, refusal_after, refusal_of, FitsQueue, AreGuards, at}
 use Rattle.psi_guard.proofs.Steps.{names-at}
 
 -- so many different numbers below n are at most n
@@ -145,6 +145,23 @@ kept-room caps kept part guards none few =
     let more : length (kept ++ part ∷ []) ≡ length kept + 1 = length-append kept (part ∷ []) in
     let all : length (kept ++ part ∷ []) ≤ length caps = guards-few caps (kept ++ part ∷ []) (guards-push caps kept part guards none) in
     omega arith
+
+-- where neither of two causes is there, each is absent
+pub first_or-none : {A : Type 0} (a b : Option A) → first_or a b ≡ None → (a ≡ None) × (b ≡ None)
+first_or-none None b is = (refl, is)
+first_or-none (Some a) b is = absurd cc
+
+-- parts that follow those of a guarded event and aren't refused are one's with them
+guards-after : (caps : List ℕ) (kept parts : List Part) → AreGuards caps kept → refusal_after caps kept parts ≡ None → AreGuards caps (kept ++ parts)
+guards-after caps kept [] guards is = subst (λ (p : List Part). AreGuards caps p) (sym (append-nil kept)) guards
+guards-after caps kept (part ∷ parts) guards is =
+    let both = first_or-none (refusal_at caps kept part) (refusal_after caps (kept ++ part ∷ []) parts) is in
+    subst (λ (p : List Part). AreGuards caps p) (append_assoc kept (part ∷ []) parts)
+    (guards-after caps (kept ++ part ∷ []) parts (guards-push caps kept part guards both.0) both.1)
+
+-- parts that aren't refused are those of a guarded event
+pub guards-accepted : (caps : List ℕ) (parts : List Part) → refusal_of caps parts ≡ None → AreGuards caps parts
+guards-accepted caps parts is = guards-after caps [] parts (guards-empty caps) is
 
 -- the refusal of what is left, one part on
 pub refusal-step : (caps : List ℕ) (kept parts : List Part) (i : ℕ) → i < length parts

@@ -3,11 +3,12 @@ use Rattle.std.specs.Prelude.{◌≡◌, ℕ, ◌<◌, ◌≤◌, min, max, ◌�
 use Rattle.std.proofs.Common.{inl, inr, ap, sym, ◌∙◌, subst, arith}
 use Rattle.std.proofs.lemmas.Bool.{cases_eq}
 use Rattle.psi_state.specs.State.{IsBelow, box}
-use Rattle.psi_state.specs.Boxes.{IsBetween, below-through}
+use Rattle.psi_state.specs.Boxes.{IsBetween}
+use Rattle.psi_state.proofs.BoxesLemmas.{below-through}
 use Rattle.psi_state.specs.Sets.{image}
 use Rattle.psi_state.specs.Hull.{IsTight}
-use Rattle.psi_event.specs.Choice.{choose_each}
-use Rattle.psi_event.specs.Law.{tight-by}
+use Rattle.psi_event.proofs.ChoiceLemmas.{choose_each}
+use Rattle.psi_event.proofs.LawLemmas.{tight-by}
 use Rattle.psi_guard.specs.Rule.{Rule, AllowsAll, RefusesSome}
 use Rattle.psi_guard.specs.Envelope.{Leaves, CanMoveAll, CanKeep, IsLow, IsHigh}
 use Rattle.psi_guard.proofs.Order.{IsRuleOf, rises_to, allowed_moves, refused_stays}

@@ -5,13 +5,15 @@ use Rattle.std.proofs.lemmas.Bool.{cases_lt, cases_eq, cases_Bool, eqb-false, no
 use Rattle.psi_state.specs.State.{IsBelow, box}
 use Rattle.psi_state.specs.Sets.{image}
 use Rattle.psi_state.specs.Hull.{IsTight}
-use Rattle.psi_guard.specs.declared.named.Part.{Part}
-use Rattle.psi_guard.specs.declared.ends.Leaving.{Leaving}
-use Rattle.psi_guard.specs.declared.ends.Leaving.TheVariants.{Nowhere, One, Several}
+use Rattle.psi_guard.specs.declared.parts.Part.{Part}
+use Rattle.psi_guard.specs.declared.envelope.Leaving.{Leaving}
+use Rattle.psi_guard.specs.declared.envelope.Leaving.TheVariants.{Nowhere, One, Several}
 use Rattle.psi_guard.specs.Guarding.{moved, free_part, part_of, guarded}
 use Rattle.psi_guard.specs.Refusals.{AreGuards, at}
-use Rattle.psi_guard.specs.Places.{IsFree, named_or_free, part_of-at}
-use Rattle.psi_guard.specs.Rule.{Rule, rule, moved-rises}
+use Rattle.psi_guard.specs.Places.{IsFree}
+use Rattle.psi_guard.specs.PlacesLaws.{named_or_free, part_of-at}
+use Rattle.psi_guard.specs.Rule.{Rule, rule}
+use Rattle.psi_guard.specs.RuleLaws.{moved-rises}
 use Rattle.psi_guard.specs.Envelope.{Leaves, CanMoveAll, MissesSome, OtherLeaves, CanKeep, IsLow, IsHigh, Knows, others, MayKeep, IsLeastOf, IsGreatestOf, CanTurn}
 use Rattle.psi_guard.proofs.Order.{is_rule_of}
 use Rattle.psi_guard.proofs.Hulls.{IsBoxOf, AreEnds, ends-tight}

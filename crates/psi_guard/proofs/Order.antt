@@ -3,12 +3,13 @@ use Rattle.std.specs.Prelude.{◌≡◌, ℕ, ◌+◌, ◌-◌, ◌<◌, ◌≤�
 use Rattle.std.proofs.Common.{inl, inr, ap, sym, ◌∙◌, subst, arith}
 use Rattle.std.proofs.lemmas.Bool.{cases_lt, cases_eq}
 use Rattle.psi_state.specs.State.{IsBelow}
-use Rattle.psi_state.specs.Boxes.{below-through}
+use Rattle.psi_state.proofs.BoxesLemmas.{below-through}
 use Rattle.psi_event.specs.Law.{IsMonotone, IsUpset}
-use Rattle.psi_guard.specs.declared.named.Part.{Part}
+use Rattle.psi_guard.specs.declared.parts.Part.{Part}
 use Rattle.psi_guard.specs.Guarding.{guarded}
 use Rattle.psi_guard.specs.Refusals.{AreGuards}
-use Rattle.psi_guard.specs.Rule.{Rule, IsRule, rule, AllowsAll, RefusesSome, Makes, is_rule, makes}
+use Rattle.psi_guard.specs.Rule.{Rule, IsRule, rule, AllowsAll, RefusesSome, Makes}
+use Rattle.psi_guard.specs.RuleLaws.{is_rule, makes}
 
 -- f is what the rule makes of the states of these capacities
 pub record IsRuleOf (r : Rule) (caps : List ℕ) (f : List ℕ → List ℕ) : Type 0 where

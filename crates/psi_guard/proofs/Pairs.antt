@@ -3,12 +3,14 @@ use Rattle.std.specs.Prelude.{◌≡◌, ℕ, ◌+◌, ◌-◌, ◌<◌, ◌≤�
 use Rattle.std.proofs.Common.{inl, inr, ap, sym, ◌∙◌, subst, arith, length-set, get_or-set_same, get_or-set_other}
 use Rattle.std.proofs.lemmas.Bool.{cases_eq, cases_Bool, and_parts, and_from, ltb-true, lt-ltb, eqb-false, ne_eqb, not-true, not_from_false}
 use Rattle.psi_state.specs.State.{IsBelow}
-use Rattle.psi_event.specs.Choice.{first_or, first_some-of_none, first_some-of_found}
+use Rattle.psi_event.specs.Choice.{first_or}
+use Rattle.psi_event.proofs.ChoiceLemmas.{first_some-of_none, first_some-of_found}
 use Rattle.psi_event.specs.Law.{IsMonotone, IsUpset, ShowsUpset}
-use Rattle.psi_guard.specs.declared.named.Part.{Part}
+use Rattle.psi_guard.specs.declared.parts.Part.{Part}
 use Rattle.psi_guard.specs.Guarding.{moved, guarded, part_of, leasts, around_most, around_least, both_with, exceeds, falls_short, leap, rise, plunge, fall, over_queues, over_pairs, upset_of}
 use Rattle.psi_guard.specs.Refusals.{AreGuards}
-use Rattle.psi_guard.specs.Rule.{Rule, rule, AllowsAll, fits_guard}
+use Rattle.psi_guard.specs.Rule.{Rule, rule, AllowsAll}
+use Rattle.psi_guard.specs.RuleLaws.{fits_guard}
 use Rattle.psi_guard.proofs.Steps.{length-leasts, slice_index-leasts}
 use Rattle.psi_guard.proofs.Order.{IsRuleOf, is_rule_of, PassesNone, monotone_without, upset_up, upset_down}
 

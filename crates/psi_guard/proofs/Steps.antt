@@ -4,12 +4,13 @@ use Rattle.std.proofs.Common.{inl, inr, ap, sym, ◌∙◌, arith, length-set, g
 use Rattle.std.proofs.lemmas.Bool.{cases_eq, eq-eqb, and_from, and_left, and_right, or_left, or_right, le-leb, lt-leb}
 use Rattle.std.proofs.lemmas.List.{ext_get_or}
 use Rattle.psi_state.specs.State.{IsBelow, numbers_from}
-use Rattle.psi_event.specs.Choice.{first_some-found, first_some-none}
-use Rattle.psi_guard.specs.declared.named.Part.{Part}
+use Rattle.psi_event.proofs.ChoiceLemmas.{first_some-found, first_some-none}
+use Rattle.psi_guard.specs.declared.parts.Part.{Part}
 use Rattle.psi_guard.specs.Guarding.{moved, allows, all_allow, guarded, free_part, part_of, leasts, over_queues}
 use Rattle.psi_guard.specs.Refusals.{AreGuards, at, names}
-use Rattle.psi_guard.specs.Places.{named_or_free, part_of-at}
-use Rattle.psi_guard.specs.Rule.{RefusesSome, rule, makes, allowed_place}
+use Rattle.psi_guard.specs.PlacesLaws.{named_or_free, part_of-at}
+use Rattle.psi_guard.specs.Rule.{RefusesSome, rule}
+use Rattle.psi_guard.specs.RuleLaws.{makes, allowed_place}
 
 pub names-at : (parts : List Part) (q i : ℕ) → i < length parts → (at parts i).queue ≡ q → names parts q ≡ true
 names-at [] q i small same = absurd (omega arith)

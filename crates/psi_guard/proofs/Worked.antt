@@ -1,8 +1,11 @@
 -- Guarded events on small states, worked out by hand and computed by the checker.
 use Rattle.std.proofs.Common.{◌≡◌, ℕ, List, [], ◌∷◌, map, pos, negsuc, ℤ, Some, None, refl}
+use Rattle.psi_state.specs.State.{box}
+use Rattle.psi_state.specs.Sets.{image}
+use Rattle.psi_state.specs.Hull.{corners}
 use Rattle.psi_event.specs.Choice.{first_some}
-use Rattle.psi_guard.specs.declared.named.Part.{Part}
-use Rattle.psi_guard.specs.declared.shape.GuardRefusal.TheVariants.{Empty, Repeated, OutOfRange}
+use Rattle.psi_guard.specs.declared.parts.Part.{Part}
+use Rattle.psi_guard.specs.declared.guarded.GuardRefusal.TheVariants.{Empty, Repeated, OutOfRange}
 use Rattle.psi_guard.specs.Guarding.{guarded, upset_of}
 use Rattle.psi_guard.specs.Refusals.{refusal_of}
 
@@ -26,13 +29,33 @@ drop-upset : upset_of (5 ∷ []) (part 0 3 5 (pos 0) 0 1 ∷ []) ≡ Some (2 ∷
 unfolding upset_of first_some
 drop-upset = refl
 
+drops : map (guarded (part 0 3 5 (pos 0) 0 1 ∷ [])) ((2 ∷ []) ∷ (3 ∷ []) ∷ []) ≡ (2 ∷ []) ∷ (1 ∷ []) ∷ []
+unfolding guarded
+drops = refl
+
 -- a reset keeps the order
 reset-upset : upset_of (5 ∷ []) (part 0 0 5 (pos 0) 0 0 ∷ []) ≡ None
 unfolding upset_of first_some
 reset-upset = refl
 
+resets : map (guarded (part 0 0 5 (pos 0) 0 0 ∷ [])) ((0 ∷ []) ∷ (4 ∷ []) ∷ []) ≡ (0 ∷ []) ∷ (0 ∷ []) ∷ []
+unfolding guarded
+resets = refl
+
+-- no part changes nothing
+idle : map (guarded []) ((1 ∷ 2 ∷ []) ∷ []) ≡ (1 ∷ 2 ∷ []) ∷ []
+unfolding guarded
+idle = refl
+
 -- a customer of the first queue takes one from the second
-negative-upset : upset_of (1 ∷ 1 ∷ []) (part 0 1 1 (negsuc 0) 0 1 ∷ part 1 0 1 (negsuc 0) 0 1 ∷ []) ≡ Some (0 ∷ 1 ∷ [], 1 ∷ 1 ∷ [])
+abbrev negative : List Part
+negative = part 0 1 1 (negsuc 0) 0 1 ∷ part 1 0 1 (negsuc 0) 0 1 ∷ []
+
+negative-box : corners (image (guarded negative) (box (0 ∷ 0 ∷ []) (1 ∷ 1 ∷ []))) ≡ record { lo = 0 ∷ 0 ∷ []; hi = 0 ∷ 1 ∷ [] }
+unfolding guarded
+negative-box = refl
+
+negative-upset : upset_of (1 ∷ 1 ∷ []) negative ≡ Some (0 ∷ 1 ∷ [], 1 ∷ 1 ∷ [])
 unfolding upset_of first_some
 negative-upset = refl
 
@@ -41,12 +64,23 @@ fork-upset : upset_of (1 ∷ 1 ∷ []) (part 0 0 0 (pos 1) 0 1 ∷ part 1 0 0 (p
 unfolding upset_of first_some
 fork-upset = refl
 
--- what is refused
-empty-refused : refusal_of (3 ∷ []) (part 0 2 1 (pos 1) 0 3 ∷ []) ≡ Some Empty
-empty-refused = refl
+-- what is refused: each by the first cause
+abbrev good : Part
+good = part 0 0 3 (pos 1) 0 3
 
-out-refused : refusal_of (3 ∷ []) (part 0 0 4 (pos 1) 0 3 ∷ []) ≡ Some OutOfRange
+hollow-refused : map (λ p. refusal_of (3 ∷ []) (p ∷ good ∷ []))
+    (part 0 2 1 (pos 1) 0 3 ∷ part 0 4 3 (pos 1) 0 3 ∷ part 0 0 3 (pos 1) 4 3 ∷ part 0 0 3 (pos 1) 2 1 ∷ [])
+    ≡ Some Empty ∷ Some Empty ∷ Some Empty ∷ Some Empty ∷ []
+hollow-refused = refl
+
+out-refused : map (λ p. refusal_of (3 ∷ []) (p ∷ good ∷ []))
+    (part 0 0 4 (pos 1) 0 3 ∷ part 0 0 3 (pos 1) 0 4 ∷ part 1 2 1 (pos 1) 0 3 ∷ part 0 0 3 (pos 65536) 0 3 ∷ part 0 0 3 (negsuc 65535) 0 3 ∷ [])
+    ≡ Some OutOfRange ∷ Some OutOfRange ∷ Some OutOfRange ∷ Some OutOfRange ∷ Some OutOfRange ∷ []
 out-refused = refl
 
-repeated-refused : refusal_of (3 ∷ []) (part 0 0 3 (pos 1) 0 3 ∷ part 0 2 1 (pos 1) 0 3 ∷ []) ≡ Some Repeated
+repeated-refused : map (λ p. refusal_of (3 ∷ []) (good ∷ p ∷ [])) (good ∷ part 0 2 1 (pos 1) 0 3 ∷ part 0 0 4 (pos 1) 0 3 ∷ [])
+    ≡ Some Repeated ∷ Some Repeated ∷ Some OutOfRange ∷ []
 repeated-refused = refl
+
+far-accepted : refusal_of (3 ∷ []) (part 0 0 3 (negsuc 65534) 0 3 ∷ []) ≡ None
+far-accepted = refl

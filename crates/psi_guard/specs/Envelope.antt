@@ -1,8 +1,8 @@
 -- The ends of what a guarded event makes of a box, queue by queue.
 use Rattle.std.specs.Prelude.{◌≡◌, ℕ, ◌<◌, ◌≤◌, min, max, Bool, true, false, not, nat_eq, ◌⊎◌, List, slice_index}
-use Rattle.psi_guard.specs.declared.named.Part.{Part}
-use Rattle.psi_guard.specs.declared.ends.Leaving.{Leaving}
-use Rattle.psi_guard.specs.declared.ends.Leaving.TheVariants.{Nowhere, One, Several}
+use Rattle.psi_guard.specs.declared.parts.Part.{Part}
+use Rattle.psi_guard.specs.declared.envelope.Leaving.{Leaving}
+use Rattle.psi_guard.specs.declared.envelope.Leaving.TheVariants.{Nowhere, One, Several}
 use Rattle.psi_guard.specs.Guarding.{moved}
 use Rattle.psi_guard.specs.Rule.{Rule}
 

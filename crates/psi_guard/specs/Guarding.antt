@@ -3,7 +3,7 @@ use Rattle.std.specs.Prelude.{◌≡◌, ℕ, suc, ◌+◌, ◌-◌, ◌<◌, mi
 use Rattle.std.specs.List.{list_all}
 use Rattle.psi_state.specs.State.{numbers_from}
 use Rattle.psi_event.specs.Choice.{first_or, first_some}
-use Rattle.psi_guard.specs.declared.named.Part.{Part}
+use Rattle.psi_guard.specs.declared.parts.Part.{Part}
 
 -- a number of customers with a shift added, and 0 where that is below 0
 abbrev pub shifted : ℤ → ℕ → ℕ

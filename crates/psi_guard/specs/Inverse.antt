@@ -1,17 +1,7 @@
 -- A list of parts in an array is told by its front, where all behind the front is one part that says nothing.
-use Rattle.std.specs.Prelude.{◌≡◌, ℕ, ◌-◌, ◌≤◌, pos, List, length, take, drop, replicate, ◌++◌}
-use Rattle.psi_state.specs.Inverse.{filled}
-use Rattle.psi_guard.specs.declared.named.Part.{Part}
-use Rattle.psi_guard.specs.declared.named.Parts.TheInside.{Inside as Array}
+use Rattle.std.specs.Prelude.{pos}
+use Rattle.psi_guard.specs.declared.parts.Part.{Part}
 
 -- what stands in a place that holds no part
 abbrev pub no_part : Part
 no_part = record { queue = 0; least = 0; most = 0; shift = pos 0; floor = 0; ceiling = 0 }
-
-abbrev array : List Part → ℕ → Array
-array items len = record { items = items; len = len }
-
--- the array of a list is its parts and those behind them
-pub padded : (items : List Part) (len : ℕ) → len ≤ 32 → length items ≡ 32 → drop len items ≡ replicate (32 - len) no_part
-    → array (take len items ++ replicate (32 - length (take len items)) no_part) (length (take len items)) ≡ array items len
-padded items len few full rest = filled array no_part items len few full rest

@@ -1,6 +1,9 @@
 pub mod Guarding
 pub mod Inverse
+pub mod InverseLaws
 pub mod Refusals
 pub mod Places
+pub mod PlacesLaws
 pub mod Rule
+pub mod RuleLaws
 pub mod Envelope

@@ -3,9 +3,9 @@ use Rattle.std.specs.Prelude.{◌≡◌, ℕ, ◌≤◌, ◌<◌, Bool, ◌||◌
 use Rattle.std.specs.List.{list_any}
 use Rattle.psi_event.specs.Choice.{first_or}
 use Rattle.psi_guard.specs.Inverse.{no_part}
-use Rattle.psi_guard.specs.declared.named.Part.{Part}
-use Rattle.psi_guard.specs.declared.shape.GuardRefusal.{GuardRefusal}
-use Rattle.psi_guard.specs.declared.shape.GuardRefusal.TheVariants.{Empty, Repeated, OutOfRange}
+use Rattle.psi_guard.specs.declared.parts.Part.{Part}
+use Rattle.psi_guard.specs.declared.guarded.GuardRefusal.{GuardRefusal}
+use Rattle.psi_guard.specs.declared.guarded.GuardRefusal.TheVariants.{Empty, Repeated, OutOfRange}
 
 -- whether a part's queue isn't one of the network, its most or ceiling is above the capacity, or its shift is beyond 65,535 either way
 abbrev pub is_out : List ℕ → Part → Bool

@@ -7,10 +7,10 @@ ghost use Rattle.psi_state.specs.Hull.{corners, IsTight};
 ghost use Rattle.psi_event.specs.Law.{IsClosed, IsMonotone, ShowsUpset};
 ghost use Rattle.psi_guard.specs.Guarding.{all_allow, guarded, moved, upset_of};
 ghost use Rattle.psi_guard.specs.Refusals.{FitsQueue, at};
-ghost use Rattle.psi_guard.specs.Rule.{guarded-closed};
+ghost use Rattle.psi_guard.specs.RuleLaws.{guarded-closed};
 
-use crate::named::Part;
-use crate::shape::Guarded;
+use crate::guarded::Guarded;
+use crate::parts::Part;
 use psi_event::EventLaw;
 use psi_state::{Bounds, State};
 
@@ -75,8 +75,8 @@ impl Guarded {
         self.parts.get(i)
     }
 
-    // Moves the queue of the only part, if there is one, where it holds a number from its least to its most. Most
-    // guarded events name one queue, and it is looked at once here.
+    // Moves the queue of the only part, if there is one, where it holds a number from its least to its most. An
+    // event that names one queue looks at it once.
     fn apply_one(&self, x: &mut State)
         requires few { length self.now.parts ≤ 1 }
         requires below { IsBelow x.old self.now.caps }

@@ -7,13 +7,13 @@
 //! (Bušić, Gaujal and Vincent 2008).
 #![tactic(auto)]
 
-mod ends;
+mod envelope;
 mod event;
-mod marks;
-mod named;
-mod shape;
+mod guarded;
+mod monotonicity;
+mod parts;
 #[cfg(test)]
 mod tests;
 
-pub use named::{Part, Parts};
-pub use shape::{GuardRefusal, Guarded};
+pub use guarded::{GuardRefusal, Guarded};
+pub use parts::{Part, Parts};

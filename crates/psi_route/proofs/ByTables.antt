@@ -3,7 +3,8 @@ use Rattle.std.proofs.Common.{◌≡◌, ◌+◌, ◌<◌, ◌≤◌, ℕ, List,
 use Rattle.std.specs.Bool.{MatchBool}
 use Rattle.psi_state.specs.State.{IsBelow}
 use Rattle.psi_route.specs.Routing.{Shape, routing, routed}
-use Rattle.psi_route.specs.Accepted.{IsRouteShape, routing-is}
+use Rattle.psi_route.specs.Accepted.{IsRouteShape}
+use Rattle.psi_route.proofs.AcceptedLemmas.{routing-is}
 use Rattle.psi_route.specs.Ends.{IsLeastAfter, IsGreatestAfter, IsLowEnd, IsHighEnd, AreTargetEnds}
 use Rattle.psi_route.specs.Offers.{IsRival, IsBar, IsLeastOffer, AreLeastTwo, beside, MayStay, MustRise, MayRise, MustStay}
 use Rattle.psi_route.specs.Coming.{Comes, Misses, AreComing}

@@ -2,7 +2,9 @@
 use Rattle.std.proofs.Common.{◌≡◌, ◌≢◌, ℕ, suc, ◌+◌, ◌<◌, ◌≤◌, List, length, slice_index, slice_set, Option, Some, None, IfSome, nat_le, Bool, true, false, inl, inr, ap, sym, ◌∙◌, subst, arith}
 use Rattle.std.proofs.lemmas.Bool.{cases_lt, leb-true, leb-false}
 use Rattle.psi_route.specs.Routing.{Shape, Routing, IsRouting, routing, best, taken, moved, routed, HasRoom}
-use Rattle.psi_route.specs.Acting.{Leads, NoRoom, leads-first, leads-still, leads-anew, best-from_leads, best-is, best-none, best-place, act-serves, act-idle}
+use Rattle.psi_route.specs.Acting.{Leads, NoRoom}
+use Rattle.psi_route.proofs.ActingLemmas.{leads-first, leads-still, leads-anew, best-from_leads, best-is, best-none}
+use Rattle.psi_route.specs.ActingLaws.{best-place, act-serves, act-idle}
 use Rattle.psi_route.proofs.Plain.{first_best}
 use Rattle.psi_route.specs.Keys.{key_of, IsLesser}
 use Rattle.psi_route.specs.Leader.{IsLeading, IsLeader}

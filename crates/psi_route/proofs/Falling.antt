@@ -1,9 +1,9 @@
 -- The least fall of a key past another one, and the pair that is made of it.
 use Rattle.std.proofs.Common.{◌≡◌, ℕ, ◌+◌, ◌<◌, ◌≤◌, length, slice_index, Option, Some, None, false, inl, inr, sym, subst, arith}
 use Rattle.std.proofs.lemmas.Bool.{cases_lt}
-use Rattle.psi_event.specs.Choice.{first_some-none, first_some-found}
+use Rattle.psi_event.proofs.ChoiceLemmas.{first_some-none, first_some-found}
 use Rattle.psi_route.specs.Routing.{Shape, routing, crosses, pair_of, pair_at, pair_from, pair_between}
-use Rattle.psi_route.specs.Acting.{then_some-true, then_some-false}
+use Rattle.psi_route.proofs.ActingLemmas.{then_some-true, then_some-false}
 use Rattle.psi_route.proofs.Upset.{is-crosses}
 use Rattle.psi_route.specs.Falls.{NoFall, NoFalls, IsLeastFall, AreFalls}
 

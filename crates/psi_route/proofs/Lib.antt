@@ -1,4 +1,8 @@
+pub mod AcceptedLemmas
+pub mod ActingLemmas
+pub mod TablesLemmas
 mod Setting
+mod Witnesses
 mod Tightness
 mod Offering
 mod Judged

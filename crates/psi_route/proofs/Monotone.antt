@@ -3,9 +3,9 @@ use Rattle.std.specs.Prelude.{◌≡◌, ◌≢◌, ◌⊎◌, ℕ, zero, suc, �
 use Rattle.std.proofs.Common.{inl, inr, ap, sym, ◌∙◌, subst, arith}
 use Rattle.std.proofs.lemmas.Bool.{cases_lt, cases_eq, cases_order}
 use Rattle.psi_state.specs.State.{IsBelow}
-use Rattle.psi_event.specs.Choice.{all_or_some}
+use Rattle.psi_event.proofs.ChoiceLemmas.{all_or_some}
 use Rattle.psi_route.specs.Routing.{Routing, act, IsRouting, IsBest, IsPassed, Leaves, Routed, Crosses}
-use Rattle.psi_route.specs.Acting.{act-routed, best_or_passed, leaves_or_remains}
+use Rattle.psi_route.proofs.ActingLemmas.{act-routed, best_or_passed, leaves_or_remains}
 
 -- a key that goes from above c to below it takes a step over it; no key of this function is c
 pub step_past : (k : ℕ → ℕ) (c v d : ℕ) → ((u : ℕ) → k u ≢ c) → c < k v → k (v + d) < c

@@ -7,7 +7,8 @@ use Rattle.psi_route.specs.Routing.{Shape, Routing, IsRouting, routing, HasRoom,
 use Rattle.psi_route.proofs.Plain.{weight-none}
 use Rattle.psi_route.specs.Ends.{CanChoose, CanPass, IsLowEnd, IsHighEnd, AreSet, AreTargetEnds}
 use Rattle.psi_route.specs.Coming.{Comes, Misses}
-use Rattle.psi_route.specs.Accepted.{IsRouteShape, routing-is}
+use Rattle.psi_route.specs.Accepted.{IsRouteShape}
+use Rattle.psi_route.proofs.AcceptedLemmas.{routing-is}
 use Rattle.psi_route.proofs.Setting.{set-more, targets-ordered}
 
 -- an earlier place has the lesser key

@@ -1,10 +1,11 @@
 -- Searching for keys that cross.
 use Rattle.std.proofs.Common.{◌≡◌, ℕ, ◌+◌, ◌*◌, ◌<◌, ◌≤◌, List, [], length, get_or, slice_index, Option, Some, None, is_some, is_none, Bool, true, false, not, if◌then◌else◌, inl, inr, refl, ap, sym, ◌∙◌, subst, arith}
 use Rattle.std.proofs.lemmas.Bool.{cases_lt, cases_Bool, lt-leb}
-use Rattle.psi_event.specs.Choice.{first_some, first_some-none, first_some-found}
+use Rattle.psi_event.specs.Choice.{first_some}
+use Rattle.psi_event.proofs.ChoiceLemmas.{first_some-none, first_some-found}
 use Rattle.psi_index.specs.Extremes.{IsRising}
 use Rattle.psi_route.specs.Routing.{Shape, routing, weight, crosses, pair_of, pair_at, pair_from, pair_between, pair_behind, first_pair, batch_pair, upset_of}
-use Rattle.psi_route.specs.Acting.{then_some-false}
+use Rattle.psi_route.proofs.ActingLemmas.{then_some-false}
 use Rattle.psi_route.specs.Accepted.{IsRouteShape}
 use Rattle.psi_route.proofs.Upset.{is-crosses}
 use Rattle.psi_route.proofs.Plain.{weight-none}

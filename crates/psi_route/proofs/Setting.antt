@@ -5,9 +5,10 @@ use Rattle.psi_route.specs.Routing.{Shape, routing, routed}
 use Rattle.psi_state.specs.State.{Corners, IsBelow, box}
 use Rattle.psi_state.specs.Sets.{image}
 use Rattle.psi_state.specs.Hull.{corners, IsTight}
-use Rattle.psi_event.specs.Law.{tight-corners}
-use Rattle.psi_route.specs.Acting.{act-routed}
-use Rattle.psi_route.specs.Accepted.{IsRouteShape, routing-is}
+use Rattle.psi_event.proofs.LawLemmas.{tight-corners}
+use Rattle.psi_route.proofs.ActingLemmas.{act-routed}
+use Rattle.psi_route.specs.Accepted.{IsRouteShape}
+use Rattle.psi_route.proofs.AcceptedLemmas.{routing-is}
 use Rattle.psi_route.proofs.Tightness.{Routes, IsBoxOf, ends-tight, ends-below}
 use Rattle.psi_route.specs.Ends.{AreEnds, AreSet}
 

@@ -3,12 +3,14 @@ use Rattle.std.specs.Prelude.{◌≡◌, ◌≢◌, ◌↔◌, ℕ, ◌+◌, ◌
 use Rattle.std.proofs.Common.{inl, inr, ap, sym, ◌∙◌, subst, arith, length-set, get_or-set_same, get_or-set_other}
 use Rattle.std.proofs.lemmas.Bool.{cases_lt, cases_eq, not-true, eqb-false, ne_eqb, ltb-true, lt-ltb, le-leb, lt-leb}
 use Rattle.psi_state.specs.State.{IsBelow}
-use Rattle.psi_state.specs.Boxes.{below-itself, set-below}
+use Rattle.psi_state.proofs.BoxesLemmas.{below-itself, set-below}
 use Rattle.psi_event.specs.Law.{IsMonotone, IsUpset, ShowsUpset}
-use Rattle.psi_event.specs.Choice.{first_some-of_none, first_some-of_found}
+use Rattle.psi_event.proofs.ChoiceLemmas.{first_some-of_none, first_some-of_found}
 use Rattle.psi_route.specs.Routing.{Shape, Routing, routing, routed, act, Lacks, IsBest, IsPassed, crosses, Crosses, full_but, pair_of, pair_at, pair_from, pair_between, pair_behind, first_pair, batch_pair, upset_of}
-use Rattle.psi_route.specs.Acting.{act-routed, true-then_some, false-then_some}
-use Rattle.psi_route.specs.Accepted.{IsRouteShape, routing-is, source-most}
+use Rattle.psi_route.proofs.ActingLemmas.{act-routed, false-then_some}
+use Rattle.psi_route.specs.ActingLaws.{true-then_some}
+use Rattle.psi_route.specs.Accepted.{IsRouteShape}
+use Rattle.psi_route.proofs.AcceptedLemmas.{routing-is, source-most}
 use Rattle.psi_route.proofs.Monotone.{ordered-without}
 
 -- ---- the test for crossing keys

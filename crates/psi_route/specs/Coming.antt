@@ -2,7 +2,7 @@
 use Rattle.std.specs.Prelude.{◌⊎◌, ℕ, ◌-◌, ◌<◌, ◌≤◌, List, slice_index, slice_set, Bool, not, ◌&&◌, ◌||◌, nat_eq, if◌then◌else◌}
 use Rattle.std.specs.Bool.{MatchBool}
 use Rattle.psi_route.specs.Routing.{Routing, HasRoom, Lacks}
-use Rattle.psi_route.specs.declared.coming.Coming.{Coming}
+use Rattle.psi_route.specs.declared.envelope.Coming.{Coming}
 
 -- in the state x the customers come as far as place n: the source serves, and each earlier place lacks room
 pub record Comes (r : Routing) (x : List ℕ) (n : ℕ) : Type 0 where

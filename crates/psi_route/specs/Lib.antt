@@ -1,7 +1,7 @@
 pub mod Routing
 pub mod Refusals
-pub mod Tables
 pub mod Acting
+pub mod ActingLaws
 pub mod Accepted
 pub mod Closed
 pub mod Route

@@ -6,10 +6,19 @@ ghost use Rattle.psi_state.specs.State.{IsBelow, box};
 ghost use Rattle.psi_state.specs.Sets.{image};
 ghost use Rattle.psi_state.specs.Hull.{corners, IsTight};
 
-use crate::built::Route;
-use crate::coming::Coming;
 use crate::parts::Full;
+use crate::route::Route;
 use psi_state::Bounds;
+
+/// Whether the customers come as far as a place of the list: the source serves, and no earlier target has
+/// room for them.
+#[derive(Clone, Copy)]
+pub(crate) struct Coming {
+    /// Whether they do at the lower corner of the box, and so in each of its states.
+    pub always: bool,
+    /// Whether they do at the upper corner, and so in some state.
+    pub sometimes: bool,
+}
 
 impl Route {
     ghost use Rattle.psi_route.specs.Routing.{routing, routed};

@@ -6,27 +6,22 @@
 //! whether it keeps the componentwise order of states (Propp and Wilson 1996).
 #![tactic(auto)]
 
-mod built;
-mod coming;
-mod ends;
 mod envelope;
-#[cfg(test)]
-mod envelope_tests;
+mod event;
+mod index_envelope;
 mod judging;
 mod keys;
-mod law;
-mod marks;
-mod moving;
+mod list_envelope;
+mod monotonicity;
 mod offers;
 mod parts;
-mod passing;
-#[cfg(test)]
-mod sweep_tests;
-mod sweeping;
+mod route;
+mod routing;
+mod table_search;
+mod target_ends;
 #[cfg(test)]
 mod tests;
-mod weighing;
 
-pub use built::Route;
 pub use judging::{is_self_target, is_size_off};
 pub use parts::{Full, RouteRefusal, Source};
+pub use route::Route;

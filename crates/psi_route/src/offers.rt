@@ -3,8 +3,8 @@
 ghost use Rattle.std.specs.Prelude.{◌≡◌, ℕ, ◌<◌, ◌≤◌, Some, None, length, slice_index};
 ghost use Rattle.psi_state.specs.State.{IsBelow};
 
-use crate::built::Route;
 use crate::keys::Key;
+use crate::route::Route;
 use psi_state::Bounds;
 
 /// The least of the keys that are offered, and the least of those of the other places.

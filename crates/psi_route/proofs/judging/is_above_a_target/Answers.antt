@@ -1,5 +1,5 @@
 use Rattle.std.proofs.Common.{slice_index, nat_lt, sym, arith}
-use Rattle.psi_state.specs.Repeats.{any-none}
+use Rattle.psi_state.proofs.RepeatsLemmas.{any-none}
 use Rattle.psi_route.proofs.judging.is_above_a_target.Goals as goal
 
 pub returns : goal.returns

@@ -1,7 +1,7 @@
 use Rattle.std.proofs.Common.{◌∙◌}
-use Rattle.psi_event.specs.Law.{monotone-corners, tight-within}
+use Rattle.psi_event.proofs.LawLemmas.{monotone-corners, tight-within}
 use Rattle.psi_guard.specs.Guarding.{guarded}
-use Rattle.psi_guard.specs.Rule.{guarded-closed}
+use Rattle.psi_guard.specs.RuleLaws.{guarded-closed}
 use Rattle.psi_guard.proofs.event.GuardedEventLaw.envelope.Goals as goal
 
 pub returns-clause-within : goal.returns-clause-within

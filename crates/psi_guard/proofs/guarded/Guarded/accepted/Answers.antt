@@ -1,0 +1,8 @@
+use Rattle.psi_guard.proofs.Accepted.{guards-accepted}
+use Rattle.psi_guard.proofs.guarded.Guarded.accepted.Goals as goal
+
+pub invariant_of-result : goal.invariant_of-result
+invariant_of-result c = record {
+  valid = c.requires.caps;
+  guards = guards-accepted c.args.caps c.args.parts c.requires.accepted;
+}

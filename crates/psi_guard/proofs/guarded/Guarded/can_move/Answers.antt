@@ -1,0 +1,18 @@
+use Rattle.std.proofs.Common.{◌<◌, inl, inr, length, subst, arith}
+use Rattle.psi_guard.specs.declared.parts.Part.{Part}
+use Rattle.psi_guard.proofs.Intervals.{PartMisses, meets-all, misses-one}
+use Rattle.psi_guard.proofs.guarded.Guarded.can_move.Goals as goal
+
+pub returns-then-misses : goal.returns-then-misses
+returns-then-misses c =
+    let event = c.args.self.now in
+    let small : c.loop-i.i < length event.parts = omega arith in
+    let out : PartMisses c.args.b.now.lo c.args.b.now.hi c.part-part.result =
+    elim c.if-misses.ensures [ inl low ↦ inl (omega (arith, c.greatest.ensures.value)) | inr high ↦ inr (omega (arith, c.least.ensures.value)) ] in
+    misses-one event.caps event.parts c.args.b.now.lo c.args.b.now.hi c.loop-i.i event.guards small
+    (subst (λ (p : Part). PartMisses c.args.b.now.lo c.args.b.now.hi p) c.part-part.ensures.value out)
+
+pub returns : goal.returns
+returns c =
+    let event = c.args.self.now in
+    meets-all event.caps event.parts c.args.b.now.lo c.args.b.now.hi c.requires.ordered c.requires.below (λ i small. c.loop-i.invariant i (omega arith))

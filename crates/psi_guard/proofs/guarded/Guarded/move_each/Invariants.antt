@@ -1,0 +1,5 @@
+use Rattle.psi_guard.proofs.Steps.{IsMoving}
+use Rattle.psi_guard.proofs.guarded.Guarded.move_each.Given as goal
+
+abbrev pub invariant-loop-i : goal.invariant-loop-i
+invariant-loop-i l = IsMoving l.self.caps l.self.parts l.initial.x l.i l.x

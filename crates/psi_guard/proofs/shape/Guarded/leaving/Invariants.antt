@@ -1,5 +1,0 @@
-use Rattle.psi_guard.proofs.Intervals.{KnowsParts}
-use Rattle.psi_guard.proofs.shape.Guarded.leaving.Given as goal
-
-abbrev pub invariant-loop-i : goal.invariant-loop-i
-invariant-loop-i l = KnowsParts l.self.parts l.b.lo l.b.hi l.i l.leaving

@@ -1,5 +1,0 @@
-use Rattle.psi_guard.proofs.Steps.{IsMoving}
-use Rattle.psi_guard.proofs.shape.Guarded.move_each.Given as goal
-
-abbrev pub invariant-loop-i : goal.invariant-loop-i
-invariant-loop-i l = IsMoving l.self.caps l.self.parts l.initial.x l.i l.x

@@ -1,0 +1,10 @@
+use Rattle.psi_route.specs.Accepted.{shape}
+use Rattle.psi_route.proofs.AcceptedLemmas.{accepted}
+use Rattle.psi_route.proofs.route.Route.accepted.Goals as goal
+
+pub invariant_of-result : goal.invariant_of-result
+invariant_of-result c = record {
+  valid =
+      accepted (shape c.args.caps c.args.source c.args.size c.args.targets c.args.tables.items c.args.full) c.requires.caps
+      c.requires.source c.len-few.ensures.numbers.few c.requires.targets c.requires.accepted;
+}

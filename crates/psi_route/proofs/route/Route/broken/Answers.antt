@@ -1,0 +1,16 @@
+use Rattle.std.proofs.Common.{ℕ, List, Some, None, sym, ◌∙◌, ap}
+use Rattle.psi_route.proofs.Upset.{upset-several}
+use Rattle.psi_route.specs.Route.{shape_of}
+use Rattle.psi_route.proofs.Searching.{single-is, plain-none}
+use Rattle.psi_route.proofs.route.Route.broken.Goals as goal
+
+pub returns-then-self-ge2 : goal.returns-then-self-ge2
+returns-then-self-ge2 c =
+    ap (λ (p : List ℕ × List ℕ). Some p) c.batch_pair.ensures ∙ sym (upset-several (shape_of c.args.self.now) c.if-self-ge2.true)
+
+pub returns-then-is_plain : goal.returns-then-is_plain
+returns-then-is_plain c =
+    single-is (shape_of c.args.self.now) None c.if-self-ge2.false (sym (plain-none (shape_of c.args.self.now) (c.is_plain.ensures.0 c.if-is_plain.true)))
+
+pub returns : goal.returns
+returns c = single-is (shape_of c.args.self.now) c.first_pair.result c.if-self-ge2.false c.first_pair.ensures

@@ -1,0 +1,15 @@
+use Rattle.std.proofs.Common.{◌<◌, ◌≤◌, ◌-◌, ℕ, length, slice_index}
+use Rattle.psi_route.proofs.table_search.first_below.Given as goal
+
+abbrev pub invariant-loop-low : goal.invariant-loop-low
+invariant-loop-low l =
+    record {
+      from : l.first ≤ l.low;
+      ordered : l.low ≤ l.high;
+      within : l.high ≤ length l.table;
+      before : (k : ℕ) → l.first ≤ k → k < l.low → l.bound ≤ slice_index l.table k;
+      reached : l.high < length l.table → (k : ℕ) × (l.first ≤ k) × (k ≤ l.high) × (slice_index l.table k < l.bound);
+    }
+
+abbrev pub decreases-loop-low : goal.decreases-loop-low
+decreases-loop-low l = l.high - l.low

@@ -1,0 +1,162 @@
+//! Whether a route keeps the order of states, and two states whose order it breaks.
+
+use crate::route::Route;
+use crate::table_search::{first_at_least, first_below};
+use psi_state::State;
+
+impl Route {
+    ghost use Rattle.std.specs.Prelude.{◌≡◌, ◌+◌, ◌<◌, ◌≤◌, length, slice_index, MatchOption, IsTrue};
+    ghost use Rattle.psi_route.specs.Routing.{full_but, pair_of, pair_between, pair_behind, first_pair, batch_pair, upset_of};
+    ghost use Rattle.psi_route.specs.Falls.{NoFall, NoFalls, IsFall, AreFalls};
+    ghost use Rattle.psi_route.specs.Route.{shape_of};
+
+    // The two states whose order the route breaks, if there are any.
+    pub(crate) fn broken(&self) -> Option<(State, State)>
+        ensures { result ≡ upset_of (shape_of self.now) }
+    {
+        if self.size >= 2 {
+            return Some(self.batch_pair());
+        }
+        if self.is_plain() {
+            return None;
+        }
+        self.first_pair()
+    }
+
+    // The pair of a route of several customers: they just have room in the first target, or lack one place.
+    fn batch_pair(&self) -> (State, State)
+        requires { 2 ≤ self.now.size }
+        ensures { result ≡ batch_pair (shape_of self.now) }
+    {
+        let mut x = self.caps;
+        let mut y = self.caps;
+        let number = self.cap(0) - self.size;
+        x.set(self.target(0), number);
+        y.set(self.target(0), number + 1);
+        (x, y)
+    }
+
+    // The first pair over the places whose keys fall.
+    fn first_pair(&self) -> Option<(State, State)>
+        requires { 0 < length self.now.tables.items }
+        ensures { result ≡ first_pair (shape_of self.now) }
+    {
+        for a in 0..self.places() {
+            if !self.tables[a as usize].rises() {
+                let pair = self.pair_behind(a);
+                if pair.is_some() {
+                    return pair;
+                }
+            }
+        }
+        None
+    }
+
+    // The first pair over the places whose keys those of place `a` cross.
+    fn pair_behind(&self, a: u8) -> Option<(State, State)>
+        requires place { a < length self.now.targets }
+        requires tables { 0 < length self.now.tables.items }
+        ensures { result ≡ pair_behind (shape_of self.now) a }
+    {
+        for b in 0..self.places() {
+            let pair = self.pair_between(a, b);
+            if pair.is_some() {
+                return pair;
+            }
+        }
+        None
+    }
+
+    // The first pair over the numbers of customers at place `a`, then at place `b`.
+    fn pair_between(&self, a: u8, b: u8) -> Option<(State, State)>
+        requires first { a < length self.now.targets }
+        requires second { b < length self.now.targets }
+        requires tables { 0 < length self.now.tables.items }
+        ensures { result ≡ pair_between (shape_of self.now) a b }
+    {
+        if self.lie_apart(a, b) {
+            return None;
+        }
+        let mut found = None;
+        for w in 0..self.cap(b) {
+            found = self.earlier(a, b, w, found);
+        }
+        match found {
+            None => None,
+            Some((v, w)) => Some(self.pair_of(a, b, v, w)),
+        }
+    }
+
+    // Whether the values of places `a` and `b` lie wholly beside one another: then no key falls past another.
+    fn lie_apart(&self, a: u8, b: u8) -> bool
+        requires first { a < length self.now.targets }
+        requires second { b < length self.now.targets }
+        requires tables { 0 < length self.now.tables.items }
+        ensures { IsTrue result → NoFalls (shape_of self.now) a b (slice_index self.now.caps (slice_index self.now.targets b)) }
+    {
+        let own = &self.tables[a as usize];
+        let other = &self.tables[b as usize];
+        let last = own.len() - 1;
+        let end = other.len() - 1;
+        own.greatest(0, last) < other.least(0, end) || other.greatest(0, end) < own.least(0, last)
+    }
+
+    // The least fall of place `a` past place `b` with up to `w` customers, from the least with fewer.
+    fn earlier(&self, a: u8, b: u8, w: u16, found: Option<(u16, u16)>) -> Option<(u16, u16)>
+        requires first { a < length self.now.targets }
+        requires second { b < length self.now.targets }
+        requires number { w < slice_index self.now.caps (slice_index self.now.targets b) }
+        requires tables { 0 < length self.now.tables.items }
+        requires found { AreFalls (shape_of self.now) a b w found }
+        ensures { AreFalls (shape_of self.now) a b (w + 1) result }
+    {
+        match (self.first_fall(a, b, w), found) {
+            (None, _) => found,
+            (Some(v), Some((least, _))) if v >= least => found,
+            (Some(v), _) => Some((v, w)),
+        }
+    }
+
+    // The least number of customers at place `a` at which one more takes its key from above that of place
+    // `b` with `w` to below it.
+    fn first_fall(&self, a: u8, b: u8, w: u16) -> Option<u16>
+        requires first { a < length self.now.targets }
+        requires second { b < length self.now.targets }
+        requires number { w < slice_index self.now.caps (slice_index self.now.targets b) }
+        requires tables { 0 < length self.now.tables.items }
+        ensures { MatchOption result (NoFall (shape_of self.now) a b w) (λ v. IsFall (shape_of self.now) a b w v) }
+    {
+        if a == b {
+            return None;
+        }
+        let table = &self.tables[a as usize];
+        let bound = self.weight(b, w) as u64 + (a < b) as u64;
+        let below = first_below(table, first_at_least(table, bound), bound);
+        if below == table.len() {
+            return None;
+        }
+        Some(below - 1)
+    }
+
+    // The pair made of the two places and their numbers of customers.
+    fn pair_of(&self, a: u8, b: u8, v: u16, w: u16) -> (State, State)
+        requires first { a < length self.now.targets }
+        requires second { b < length self.now.targets }
+        requires number { v < slice_index self.now.caps (slice_index self.now.targets a) }
+        ensures { result ≡ pair_of (shape_of self.now) a b v w }
+    {
+        (self.full_but(a, b, v, w), self.full_but(a, b, v + 1, w))
+    }
+
+    // The state in which places `a` and `b` hold `v` and `w` customers, and every other queue is full.
+    fn full_but(&self, a: u8, b: u8, v: u16, w: u16) -> State
+        requires first { a < length self.now.targets }
+        requires second { b < length self.now.targets }
+        ensures { result ≡ full_but (shape_of self.now) a b v w }
+    {
+        let mut x = self.caps;
+        x.set(self.target(b), w);
+        x.set(self.target(a), v);
+        x
+    }
+}

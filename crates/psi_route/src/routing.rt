@@ -1,0 +1,142 @@
+//! What a route does to a state.
+
+use crate::keys::Key;
+use crate::parts::Full;
+use crate::route::Route;
+use psi_state::State;
+
+impl Route {
+    ghost use Rattle.std.specs.Prelude.{◌≡◌, ◌+◌, ◌<◌, ◌≤◌, length, slice_index, nat_le, IfSome, None};
+    ghost use Rattle.psi_route.specs.Routing.{routing, has_room, best, taken, moved, routed, HasRoom};
+    ghost use Rattle.psi_route.specs.Route.{shape_of};
+    ghost use Rattle.psi_route.specs.Leader.{IsLeader};
+
+    // Moves the customers, in place.
+    pub(crate) fn pass(&self, x: &mut State)
+        requires { length x.old ≡ length self.now.caps }
+        ensures { x.new ≡ routed (shape_of self.now) x.old }
+    {
+        if !self.serves(x) {
+            return;
+        }
+        if self.is_plain() {
+            self.join_first(x);
+        } else {
+            let chosen = self.least_key(x);
+            self.join(x, chosen);
+        }
+    }
+
+    // Whether the source serves; without one, customers come each time.
+    pub(crate) fn serves(&self, x: &State) -> bool
+        requires { length x.now ≡ length self.now.caps }
+        ensures { let r = routing (shape_of self.now) in result ≡ nat_le r.least (slice_index x.now r.source) }
+    {
+        match self.source {
+            None => true,
+            Some(source) => x.get(source.queue) >= source.k,
+        }
+    }
+
+    // Whether the target at place `i` has room for the customers who come.
+    pub(crate) fn has_room(&self, x: &State, i: u8) -> bool
+        requires place { i < length self.now.targets }
+        requires length { length x.now ≡ length self.now.caps }
+        ensures { result ≡ has_room (routing (shape_of self.now)) x.now i }
+    {
+        self.held(x, i) <= self.most_with_room(i)
+    }
+
+    // Lets the customers join the first target with room, where the source serves and there are no tables.
+    fn join_first(&self, x: &mut State)
+        requires length { length x.old ≡ length self.now.caps }
+        requires plain { length self.now.tables.items ≡ 0 }
+        requires serve { let r = routing (shape_of self.now) in r.least ≤ slice_index x.old r.source }
+        ensures { x.new ≡ moved (routing (shape_of self.now)) x.old (best (routing (shape_of self.now)) x.old) }
+    {
+        for i in 0..self.places() {
+            let queue = self.target(i);
+            let held = x.get(queue);
+            if held <= self.most_with_room(i) {
+                self.take_one(x);
+                x.set(queue, held + self.size);
+                return;
+            }
+        }
+        self.turn_away(x);
+    }
+
+    // The place of the chosen target by the keys, if any has room. It stays out of line: inlined, it would spill
+    // the registers of every event's loop over the states of a set.
+    #[inline(never)]
+    fn least_key(&self, x: &State) -> Option<u8>
+        requires tables { 0 < length self.now.tables.items }
+        requires length { length x.now ≡ length self.now.caps }
+        ensures { result ≡ best (routing (shape_of self.now)) x.now }
+    {
+        let mut found = None;
+        for i in 0..self.places() {
+            found = self.better(x, i, found);
+        }
+        match found {
+            None => None,
+            Some(key) => Some(key.place),
+        }
+    }
+
+    // The least key of the places up to `i` that have room, from the least of those before it.
+    fn better(&self, x: &State, i: u8, found: Option<Key>) -> Option<Key>
+        requires tables { 0 < length self.now.tables.items }
+        requires place { i < length self.now.targets }
+        requires length { length x.now ≡ length self.now.caps }
+        requires found { IsLeader (routing (shape_of self.now)) x.now i found }
+        ensures { IsLeader (routing (shape_of self.now)) x.now (i + 1) result }
+    {
+        if !self.has_room(x, i) {
+            return found;
+        }
+        let key = self.key(i, self.held(x, i));
+        Key::lesser(found, Some(key))
+    }
+
+    // Lets the customers join the target at the chosen place, if there is one, where the source serves.
+    fn join(&self, x: &mut State, chosen: Option<u8>)
+        requires length { length x.old ≡ length self.now.caps }
+        requires serve { let r = routing (shape_of self.now) in r.least ≤ slice_index x.old r.source }
+        requires place { IfSome chosen (λ j. j < length self.now.targets) }
+        requires room { IfSome chosen (λ j. HasRoom (routing (shape_of self.now)) j (slice_index x.old (slice_index self.now.targets j))) }
+        ensures { x.new ≡ moved (routing (shape_of self.now)) x.old chosen }
+    {
+        match chosen {
+            Some(place) => {
+                let queue = self.target(place);
+                let number = x.get(queue) + self.size;
+                self.take_one(x);
+                x.set(queue, number);
+            }
+            None => self.turn_away(x),
+        }
+    }
+
+    // Lets a customer leave the source for whom no target has room, if it is lost or has nowhere to go.
+    fn turn_away(&self, x: &mut State)
+        requires length { length x.old ≡ length self.now.caps }
+        requires serve { let r = routing (shape_of self.now) in r.least ≤ slice_index x.old r.source }
+        ensures { x.new ≡ moved (routing (shape_of self.now)) x.old None }
+    {
+        if self.full == Full::Lost || self.places() == 0 {
+            self.take_one(x);
+        }
+    }
+
+    // Lets one customer leave the source, if there is one; it serves.
+    fn take_one(&self, x: &mut State)
+        requires length { length x.old ≡ length self.now.caps }
+        requires serve { let r = routing (shape_of self.now) in r.least ≤ slice_index x.old r.source }
+        ensures { x.new ≡ taken (routing (shape_of self.now)) x.old }
+    {
+        if let Some(source) = self.source {
+            x.set(source.queue, x.get(source.queue) - 1);
+        }
+    }
+}
