@@ -1,23 +1,27 @@
 -- What isn't refused of a kind isn't refused of its form.
 use Rattle.std.specs.Prelude.{◌≡◌, ℕ, suc, ◌<◌, ◌≤◌, List, [], ◌∷◌, length, Bool, true, false, cond, not, ◌&&◌, ◌||◌, nat_eq, nat_le, nat_lt, get_or, is_some, Option, Some, None, slice_index, refl}
 use Rattle.std.specs.List.{list_any}
+use Rattle.std.specs.Option.{option_map}
 use Rattle.std.proofs.Common.{ap, sym, arith}
-use Rattle.std.proofs.lemmas.Bool.{le-ltb, or_from, not-false}
+use Rattle.std.proofs.lemmas.Bool.{le-ltb, or_parts, or_from, not-false}
 use Rattle.psi_state.specs.State.{AreCapacities}
 use Rattle.psi_state.specs.Repeats.{repeats}
 use Rattle.psi_event.specs.Choice.{first_or}
+use Rattle.psi_guard.specs.declared.Part.{Part}
+use Rattle.psi_guard.specs.Refusals as guard
+use Rattle.psi_guard.proofs.Accepted.{first_or-none, guards-accepted, guards-few}
 use Rattle.psi_route.specs.declared.Source.{Source}
 use Rattle.psi_route.specs.declared.Full.{Full}
 use Rattle.psi_route.specs.declared.RouteRefusal.TheVariants as route
 use Rattle.psi_route.specs.Accepted.{shape}
-use Rattle.psi_route.specs.Tables.{are_tables-true}
+use Rattle.psi_route.proofs.TablesLemmas.{are_tables-true}
 use Rattle.psi_route.specs.Refusals as shapes
 use Rattle.psi_route.specs.Refusals.{is_self_target, are_tables, fit_tables, is_size_off}
 use Rattle.psi_kinds.specs.declared.kinds.Kind.{Kind}
 use Rattle.psi_kinds.specs.declared.refusals.KindRefusal.{KindRefusal}
 use Rattle.psi_kinds.specs.declared.refusals.KindRefusal.TheVariants.{SelfTarget, Repeated, TableLength, SizeRange, Empty, PartRange, EmptyGuard, OutOfMemory}
 use Rattle.psi_kinds.specs.Kinds.{AreQueues}
-use Rattle.psi_kinds.specs.Refusals.{IsKindRefusal, listed_refusal, refusal_of_parts, refusal_of}
+use Rattle.psi_kinds.specs.Refusals.{IsKindRefusal, has_given, of_parts, listed_refusal, refusal_of_guards, refusal_of_parts, refusal_of}
 
 -- ---- routes
 
@@ -98,3 +102,26 @@ refused-listed caps kind refusal is =
 pub refusal-parts : (caps : List ℕ) (kind : Kind) → listed_refusal caps kind ≡ None → refusal_of_parts caps kind ≡ refusal_of caps kind
 unfolding refusal_of
 refusal-parts caps kind is = sym (ap (λ o. first_or o (refusal_of_parts caps kind)) is)
+
+-- where a kind isn't refused, neither its lists and numbers nor its parts are a cause
+pub accepted-parts : (caps : List ℕ) (kind : Kind) → refusal_of caps kind ≡ None → (listed_refusal caps kind ≡ None) × (refusal_of_parts caps kind ≡ None)
+unfolding refusal_of
+accepted-parts caps kind is = first_or-none (listed_refusal caps kind) (refusal_of_parts caps kind) is
+
+-- parts of a guarded kind that isn't refused are none of those that make no guarded event
+pub guards-unrefused : (caps : List ℕ) (parts : List Part) → refusal_of_guards caps parts ≡ None → guard.refusal_of caps parts ≡ None
+guards-unrefused caps [] is = absurd cc
+guards-unrefused caps (part ∷ parts) is = map-none of_parts (guard.refusal_of caps (part ∷ parts)) is
+  where
+    map-none : {A B : Type 0} (f : A → B) (o : Option A) → option_map f o ≡ None → o ≡ None
+    map-none f None is = refl
+    map-none f (Some a) is = absurd cc
+
+-- the queue that a join leads to is not in its list
+pub other-away : (from : List ℕ) (to : Option ℕ) → (has_given from to || is_self_target None from) ≡ false → has_given from to ≡ false
+other-away from to is = (or_parts (has_given from to) false is).0
+
+-- parts that aren't refused are at most 32
+pub parts-few : (caps : List ℕ) (parts : List Part) → length caps ≤ 32 → guard.refusal_of caps parts ≡ None → length parts ≤ 32
+parts-few caps parts few is =
+    let fewer : length parts ≤ length caps = guards-few caps parts (guards-accepted caps parts is) in omega arith

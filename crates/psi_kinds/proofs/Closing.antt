@@ -1,47 +1,22 @@
 -- What an accepted kind of event does makes states of states.
 use Rattle.std.specs.Prelude.{◌≡◌, ℕ, ◌-◌, ◌≤◌, List, [], ◌∷◌, ◌++◌, length, Bool, true, false, if◌then◌else◌, Option, Some, None, slice_index, refl}
-use Rattle.std.specs.Option.{option_map}
-use Rattle.std.proofs.Common.{sym, ◌∙◌, subst, arith, append_assoc, length-set}
-use Rattle.std.proofs.lemmas.List.{append-nil}
+use Rattle.std.proofs.Common.{sym, ◌∙◌, subst, arith, length-set}
 use Rattle.psi_state.specs.State.{IsBelow, AreCapacities}
 use Rattle.psi_event.specs.Law.{IsClosed}
-use Rattle.psi_event.specs.Choice.{first_or}
-use Rattle.psi_guard.specs.declared.Part.{Part}
-use Rattle.psi_guard.specs.Refusals.{AreGuards, refusal_at, refusal_after}
-use Rattle.psi_guard.specs.Refusals as guard
-use Rattle.psi_guard.specs.Rule.{guarded-closed}
-use Rattle.psi_guard.proofs.Accepted.{guards-empty, guards-push}
+use Rattle.psi_guard.specs.RuleLaws.{guarded-closed}
+use Rattle.psi_guard.proofs.Accepted.{guards-accepted}
 use Rattle.psi_route.specs.declared.Source.{Source}
 use Rattle.psi_route.specs.declared.Full.TheVariants.{Lost}
 use Rattle.psi_route.specs.Closed.{routed-closed}
 use Rattle.psi_kinds.specs.declared.kinds.Kind.{Kind}
 use Rattle.psi_kinds.specs.declared.kinds.Kind.TheVariants.{Arrival, Service, Index, Batch, Negative, Fork, Join, Guarded}
 use Rattle.psi_kinds.specs.Kinds.{lose, leave, may_serve, do_kind, IsKindOf, Does}
-use Rattle.psi_kinds.specs.Refusals.{refusal_of, refusal_of_parts, listed_refusal, of_parts, IsUnrefused}
+use Rattle.psi_kinds.specs.Refusals.{refusal_of, refusal_of_parts, IsUnrefused}
 use Rattle.psi_kinds.specs.Forms.{fork_parts, join_parts, form_of, function_of}
+use Rattle.psi_kinds.proofs.Accepting.{accepted-parts, guards-unrefused, other-away}
 use Rattle.psi_kinds.proofs.Does.{unrefused, form-does}
 use Rattle.psi_kinds.proofs.Fitting.{fork-fits, join-fits}
 use Rattle.psi_kinds.proofs.Guards.{lose-less}
-
--- where neither of two causes is there, each is absent
-first_or-none : {A : Type 0} (a b : Option A) → first_or a b ≡ None → (a ≡ None) × (b ≡ None)
-first_or-none None b is = (refl, is)
-first_or-none (Some a) b is = absurd cc
-
-map-none : {A B : Type 0} (f : A → B) (o : Option A) → option_map f o ≡ None → o ≡ None
-map-none f None is = refl
-map-none f (Some a) is = absurd cc
-
--- parts that aren't refused are those of a guarded event
-guards-after : (caps : List ℕ) (kept parts : List Part) → AreGuards caps kept → refusal_after caps kept parts ≡ None → AreGuards caps (kept ++ parts)
-guards-after caps kept [] guards is = subst (λ (p : List Part). AreGuards caps p) (sym (append-nil kept)) guards
-guards-after caps kept (part ∷ parts) guards is =
-    let both = first_or-none (refusal_at caps kept part) (refusal_after caps (kept ++ part ∷ []) parts) is in
-    subst (λ (p : List Part). AreGuards caps p) (append_assoc kept (part ∷ []) parts)
-    (guards-after caps (kept ++ part ∷ []) parts (guards-push caps kept part guards both.0) both.1)
-
-guards-accepted : (caps : List ℕ) (parts : List Part) → guard.refusal_of caps parts ≡ None → AreGuards caps parts
-guards-accepted caps parts is = guards-after caps [] parts (guards-empty caps) is
 
 lose-closed : (caps : List ℕ) (q b : ℕ) (x : List ℕ) → IsBelow x caps → IsBelow (lose q b x) caps
 lose-closed caps q b x below = record {
@@ -82,13 +57,12 @@ closed-cases caps (Negative from on amount) valid named free parts does =
 closed-cases caps (Fork from to) valid named free parts does =
     by-form caps (Fork from to) does (guarded-closed caps (fork_parts caps from to) (guards-accepted caps (fork_parts caps from to) (fork-fits caps from to named.0 named.1 free.once free.away)))
 closed-cases caps (Join from to) valid named free parts does =
-    by-form caps (Join from to) does (guarded-closed caps (join_parts caps from to) (guards-accepted caps (join_parts caps from to) (join-fits caps from to valid named.0 named.1 free.once free.away)))
+    by-form caps (Join from to) does (guarded-closed caps (join_parts caps from to) (guards-accepted caps (join_parts caps from to) (join-fits caps from to valid named.0 named.1 free.once (other-away from to free.away))))
 closed-cases caps (Guarded parts) valid named free refused does =
-    by-form caps (Guarded parts) does (guarded-closed caps parts (guards-accepted caps parts (map-none of_parts (guard.refusal_of caps parts) refused)))
+    by-form caps (Guarded parts) does (guarded-closed caps parts (guards-accepted caps parts (guards-unrefused caps parts refused)))
 
 pub kind-closed : (caps : List ℕ) (kind : Kind) → AreCapacities caps → IsKindOf caps kind → refusal_of caps kind ≡ None → IsClosed caps (do_kind caps kind)
-unfolding refusal_of
 kind-closed caps kind valid named is =
-    let both = first_or-none (listed_refusal caps kind) (refusal_of_parts caps kind) is in
+    let both = accepted-parts caps kind is in
     let free = unrefused caps kind both.0 in
     closed-cases caps kind valid named free both.1 (form-does caps kind valid named free)

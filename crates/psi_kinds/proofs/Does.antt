@@ -4,7 +4,8 @@ use Rattle.std.specs.List.{list_any, list_all}
 use Rattle.std.proofs.Common.{ap, ◌∙◌, arith}
 use Rattle.std.proofs.lemmas.Bool.{le-leb, leb-true, and_parts}
 use Rattle.psi_state.specs.State.{IsBelow, AreCapacities}
-use Rattle.psi_state.specs.Repeats.{repeats, apart-from_repeats}
+use Rattle.psi_state.specs.Repeats.{repeats}
+use Rattle.psi_state.proofs.RepeatsLemmas.{apart-from_repeats}
 use Rattle.psi_guard.specs.declared.Part.{Part}
 use Rattle.psi_guard.specs.Guarding.{moved, allows, all_allow, guarded}
 use Rattle.psi_guard.proofs.Accepted.{few_places}
@@ -15,12 +16,14 @@ use Rattle.psi_route.specs.Routing.{routed}
 use Rattle.psi_route.specs.Refusals.{is_self_target}
 use Rattle.psi_kinds.specs.declared.kinds.Kind.{Kind}
 use Rattle.psi_kinds.specs.declared.kinds.Kind.TheVariants.{Arrival, Service, Index, Batch, Negative, Fork, Join, Guarded}
-use Rattle.psi_kinds.specs.Kinds.{has_room, is_held, serves, first_with_room, best, gain, lose, gain_each, lose_each, do_kind, IsSource, AreQueues, IsKindOf, Does}
+use Rattle.psi_kinds.specs.Kinds.{has_room, is_held, serves, first_with_room, best, gain, lose, gain_each, lose_each, do_kind, AreQueues, IsKindOf, Does}
+use Rattle.psi_route.specs.Accepted.{IsSource}
 use Rattle.std.specs.Bool.{then_some}
 use Rattle.psi_event.specs.Choice.{first_or}
 use Rattle.psi_kinds.specs.declared.refusals.KindRefusal.TheVariants.{SelfTarget, Repeated, TableLength, SizeRange, Empty}
 use Rattle.psi_kinds.specs.Refusals.{IsUnrefused, listed_refusal, lacks_queues, repeats_queue, targets_itself, lacks_tables, is_out_of_size, has_given}
 use Rattle.psi_kinds.specs.Forms.{losing_part, gaining_part, source_parts, joined_parts, form_of, function_of}
+use Rattle.psi_kinds.proofs.Accepting.{other-away}
 use Rattle.psi_kinds.proofs.Routes.{first-choice, best-choice, without, with, routed-without, routed-with, absent}
 use Rattle.psi_kinds.proofs.Guards.{move_each, AreApart, guarded-by, allows-losing, allows-gaining, moved-losing, moved-gaining, all_allow-append, move_each-append, all_allow-gaining, all_allow-losing, HoldAtMost, HaveCaps, lose-less, lose_each-less, move_each-losing, move_each-gaining, room-all, names-map, single-map, single-append, apart-map}
 
@@ -220,5 +223,5 @@ form-does caps (Negative from on amount) valid named free =
 form-does caps (Fork from to) valid named free =
     record { each = λ x below. fork-does caps from to x valid below (source_queue caps from named.0) named.1 free.once free.away }
 form-does caps (Join from to) valid named free =
-    record { each = λ x below. join-does caps from to x valid below named.0 named.1 free.once (given_away from to free.away) }
+    record { each = λ x below. join-does caps from to x valid below named.0 named.1 free.once (given_away from to (other-away from to free.away)) }
 form-does caps (Guarded parts) valid named free = record { each = λ x below. guarded-does caps parts x }

@@ -11,7 +11,8 @@ use Rattle.psi_guard.specs.Refusals as guard
 use Rattle.psi_guard.specs.Refusals.{is_out, names, is_empty, refusal_at, refusal_after, FitsQueue}
 use Rattle.psi_route.specs.declared.Source.{Source}
 use Rattle.psi_route.specs.Refusals.{is_self_target}
-use Rattle.psi_kinds.specs.Kinds.{IsSource, AreQueues}
+use Rattle.psi_route.specs.Accepted.{IsSource}
+use Rattle.psi_kinds.specs.Kinds.{AreQueues}
 use Rattle.psi_kinds.specs.Refusals.{has_given}
 use Rattle.psi_kinds.specs.Forms.{losing_part, gaining_part, source_parts, fork_parts, join_parts}
 use Rattle.psi_kinds.proofs.Guards.{AreSingle, AreApart, names-map, names-append, single-map, single-append, apart-map}

@@ -4,13 +4,13 @@ use Rattle.std.specs.List.{list_any, list_all}
 use Rattle.std.proofs.Common.{inl, inr, ap, sym, ◌∙◌, subst, arith, length-set, get_or-set_same, get_or-set_other}
 use Rattle.std.proofs.lemmas.List.{set_past}
 use Rattle.std.proofs.lemmas.Bool.{cases_lt, cases_eq, le-leb, lt-leb, leb-true, eq-eqb, ne_eqb, eqb-false, or_parts, or_from, and_parts}
-use Rattle.psi_state.specs.Boxes.{same-from_below}
+use Rattle.psi_state.proofs.BoxesLemmas.{same-from_below}
 use Rattle.psi_state.specs.Repeats.{repeats}
 use Rattle.psi_guard.specs.declared.Part.{Part}
 use Rattle.psi_guard.specs.Guarding.{moved, allows, all_allow, next, map_places, guarded}
 use Rattle.psi_guard.specs.Refusals.{names}
-use Rattle.psi_guard.specs.Places.{length-map_places, slice_index-map_places}
-use Rattle.psi_guard.specs.Rule.{guarded-moves, guarded-keeps}
+use Rattle.psi_guard.specs.PlacesLaws.{length-map_places, slice_index-map_places}
+use Rattle.psi_guard.specs.RuleLaws.{guarded-moves, guarded-keeps}
 use Rattle.psi_kinds.specs.Kinds.{has_room, is_held, gain, lose, gain_each, lose_each}
 use Rattle.psi_kinds.specs.Forms.{losing_part, gaining_part}
 use Rattle.psi_kinds.proofs.Routes.{absent}

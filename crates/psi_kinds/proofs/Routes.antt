@@ -4,12 +4,14 @@ use Rattle.std.specs.List.{list_any}
 use Rattle.std.specs.Option.{option_map}
 use Rattle.std.proofs.Common.{inl, inr, ap, sym, ◌∙◌, subst, arith, get_or-set_other}
 use Rattle.std.proofs.lemmas.Bool.{cases_lt, cases_eq, le-leb, lt-leb, eqb-false}
-use Rattle.psi_state.specs.Repeats.{any-false}
+use Rattle.psi_state.proofs.RepeatsLemmas.{any-false}
 use Rattle.psi_route.specs.declared.Source.{Source}
 use Rattle.psi_route.specs.declared.Full.{Full}
 use Rattle.psi_route.specs.declared.Full.TheVariants.{Lost, Stay}
 use Rattle.psi_route.specs.Routing.{Shape, routing, routed, IsBest}
-use Rattle.psi_route.specs.Acting.{NoRoom, act-idle, act-some, act-lost, act-stay, taken-past}
+use Rattle.psi_route.specs.Acting.{NoRoom}
+use Rattle.psi_route.specs.ActingLaws.{act-idle}
+use Rattle.psi_route.proofs.ActingLemmas.{act-some, act-lost, act-stay, taken-past}
 use Rattle.psi_kinds.specs.Kinds.{first_with_room, best, Offer, serves, gain, lose, gain_chosen, go_on}
 use Rattle.psi_kinds.proofs.Chosen.{IsFirst, first_cases, value_at, IsLeast, least_cases}
 

@@ -2,3 +2,4 @@ pub mod Kinds
 pub mod Refusals
 pub mod Forms
 pub mod Events
+pub mod EventsLaws

@@ -1,26 +1,112 @@
-//! Which kinds are refused for their lists and numbers.
+//! Which kinds are refused, and why.
 
-ghost use Rattle.std.specs.Prelude.{◌≡◌};
-ghost use Rattle.psi_route.specs.Refusals.{are_tables};
+ghost use Rattle.std.specs.Prelude.{◌≡◌, ◌∷◌, [], ◌&&◌, ◌||◌, not, false, None};
+ghost use Rattle.psi_state.specs.State.{AreCapacities};
+ghost use Rattle.psi_route.specs.Refusals.{is_self_target, are_tables};
 ghost use Rattle.psi_kinds.specs.Kinds.{IsKindOf, AreQueues};
-ghost use Rattle.psi_kinds.specs.Refusals.{is_empty, lacks_queues, repeats_queue, targets_itself, lacks_tables, is_out_of_size, listed_refusal};
+ghost use Rattle.psi_kinds.specs.Refusals.{is_empty, has_given, queues_of, lacks_tables, is_out_of_size, listed_refusal, refusal_of_guards, refusal_of_parts, refusal_of};
 
 use crate::{Kind, KindRefusal, Tables};
-use psi_route::{is_self_target, is_size_off};
+use psi_guard::{Guarded, Parts};
+use psi_route::{Source, is_self_target, is_size_off};
 use psi_state::{Queues, State};
 
+/// Why a kind makes no event in a network of these capacities, if it makes none: the refusal of
+/// [`lower`](crate::lower), of which none is want of memory.
+///
+/// `caps` and the kind are such as `lower` takes.
+pub fn refusal_of(caps: &State, kind: &Kind) -> Option<KindRefusal>
+    requires caps { AreCapacities caps.now }
+    requires named { IsKindOf caps.now kind.now }
+    ensures { result ≡ refusal_of caps.now kind.now }
+{
+    match listed_refusal(caps, kind) {
+        Some(refusal) => Some(refusal),
+        None => refusal_of_parts(caps, kind),
+    }
+}
+
+// The queues that a kind names.
+#[derive(Clone, Copy)]
+pub(crate) struct KindQueues {
+    // The queue that is served, if there is one.
+    pub source: Option<Source>,
+    // The queues that customers join, or leave.
+    pub list: Queues,
+    // Whether the list may be empty.
+    pub may_be_empty: bool,
+    // The queue that customers of the list join, if there is one.
+    pub other: Option<u8>,
+}
+
+// The queues that a kind names; parts are judged by themselves.
+fn queues_of(kind: &Kind) -> KindQueues
+    ensures { result ≡ queues_of kind.now }
+{
+    match kind {
+        Kind::Arrival { to } => joined(None, *to),
+        Kind::Service { from, to, .. } => KindQueues {
+            source: Some(*from),
+            list: *to,
+            may_be_empty: true,
+            other: None,
+        },
+        Kind::Index { from, to, .. } => joined(*from, *to),
+        Kind::Batch { to, .. } => joined(None, *to),
+        Kind::Negative { from, on, .. } => joined(*from, only(*on)),
+        Kind::Fork { from, to } => joined(*from, *to),
+        Kind::Join { from, to } => KindQueues {
+            source: None,
+            list: *from,
+            may_be_empty: false,
+            other: *to,
+        },
+        Kind::Guarded { .. } => KindQueues {
+            source: None,
+            list: Queues::empty(),
+            may_be_empty: true,
+            other: None,
+        },
+    }
+}
+
+// A source and a list that may not be empty.
+fn joined(source: Option<Source>, list: Queues) -> KindQueues
+    ensures source { result.source ≡ source }
+    ensures list { result.list ≡ list }
+    ensures some { result.may_be_empty ≡ false }
+    ensures alone { result.other ≡ None }
+{
+    KindQueues {
+        source,
+        list,
+        may_be_empty: false,
+        other: None,
+    }
+}
+
+// The list of one queue.
+fn only(queue: u8) -> Queues
+    ensures { result ≡ queue ∷ [] }
+{
+    let mut queues = Queues::empty();
+    queues.push(queue);
+    queues
+}
+
 // The first cause for which the lists and numbers of a kind are refused.
-pub(crate) fn listed_refusal(caps: &State, kind: &Kind) -> Option<KindRefusal>
+fn listed_refusal(caps: &State, kind: &Kind) -> Option<KindRefusal>
     requires { IsKindOf caps.now kind.now }
     ensures { result ≡ listed_refusal caps.now kind.now }
 {
-    if lacks_queues(kind) {
+    let queues = queues_of(kind);
+    if lacks_queues(&queues) {
         return Some(KindRefusal::Empty);
     }
-    if repeats_queue(kind) {
+    if queues.list.repeats() {
         return Some(KindRefusal::Repeated);
     }
-    if targets_itself(kind) {
+    if targets_itself(&queues) {
         return Some(KindRefusal::SelfTarget);
     }
     if lacks_tables(caps, kind) {
@@ -33,63 +119,26 @@ pub(crate) fn listed_refusal(caps: &State, kind: &Kind) -> Option<KindRefusal>
 }
 
 // Whether a list that may not be empty is.
-fn lacks_queues(kind: &Kind) -> bool
-    ensures { result ≡ lacks_queues kind.now }
+fn lacks_queues(queues: &KindQueues) -> bool
+    ensures { result ≡ (not queues.now.may_be_empty && is_empty queues.now.list) }
 {
-    match kind {
-        Kind::Arrival { to } => is_empty(to),
-        Kind::Service { .. } => false,
-        Kind::Index { to, .. } => is_empty(to),
-        Kind::Batch { to, .. } => is_empty(to),
-        Kind::Negative { .. } => false,
-        Kind::Fork { to, .. } => is_empty(to),
-        Kind::Join { from, .. } => is_empty(from),
-        Kind::Guarded { parts } => parts.len() == 0,
-    }
-}
-
-// Whether the list has no queue.
-fn is_empty(queues: &Queues) -> bool
-    ensures { result ≡ is_empty queues.now }
-{
-    queues.len() == 0
-}
-
-// Whether a queue stands twice in the list of the kind.
-fn repeats_queue(kind: &Kind) -> bool
-    ensures { result ≡ repeats_queue kind.now }
-{
-    match kind {
-        Kind::Arrival { to } => to.repeats(),
-        Kind::Service { to, .. } => to.repeats(),
-        Kind::Index { to, .. } => to.repeats(),
-        Kind::Batch { to, .. } => to.repeats(),
-        Kind::Negative { .. } => false,
-        Kind::Fork { to, .. } => to.repeats(),
-        Kind::Join { from, .. } => from.repeats(),
-        Kind::Guarded { .. } => false,
-    }
+    !queues.may_be_empty && queues.list.len() == 0
 }
 
 // Whether customers would leave and join one queue.
-fn targets_itself(kind: &Kind) -> bool
-    ensures { result ≡ targets_itself kind.now }
+fn targets_itself(queues: &KindQueues) -> bool
+    ensures { result ≡ (has_given queues.now.list queues.now.other || is_self_target queues.now.source queues.now.list) }
 {
-    match kind {
-        Kind::Arrival { .. } => false,
-        Kind::Service { from, to, .. } => to.contains(from.queue),
-        Kind::Index { from, to, .. } => is_self_target(*from, to),
-        Kind::Batch { .. } => false,
-        Kind::Negative { from, on, .. } => match from {
-            None => false,
-            Some(source) => *on == source.queue,
-        },
-        Kind::Fork { from, to } => is_self_target(*from, to),
-        Kind::Join { from, to } => match to {
-            None => false,
-            Some(queue) => from.contains(*queue),
-        },
-        Kind::Guarded { .. } => false,
+    has_given(&queues.list, queues.other) || is_self_target(queues.source, &queues.list)
+}
+
+// Whether the list has this queue, if there is one.
+fn has_given(list: &Queues, queue: Option<u8>) -> bool
+    ensures { result ≡ has_given list.now queue }
+{
+    match queue {
+        None => false,
+        Some(queue) => list.contains(queue),
     }
 }
 
@@ -131,4 +180,29 @@ fn are_tables(caps: &State, queues: &Queues, tables: &Tables) -> bool
         }
     }
     true
+}
+
+// Why the parts of a kind are refused, if they are.
+fn refusal_of_parts(caps: &State, kind: &Kind) -> Option<KindRefusal>
+    requires { AreCapacities caps.now }
+    ensures { result ≡ refusal_of_parts caps.now kind.now }
+{
+    match kind {
+        Kind::Guarded { parts } => refusal_of_guards(caps, parts),
+        _ => None,
+    }
+}
+
+// Why these parts of a guarded kind are refused, if they are.
+fn refusal_of_guards(caps: &State, parts: &Parts) -> Option<KindRefusal>
+    requires { AreCapacities caps.now }
+    ensures { result ≡ refusal_of_guards caps.now parts.now }
+{
+    if parts.len() == 0 {
+        return Some(KindRefusal::Empty);
+    }
+    match Guarded::new(*caps, parts.as_slice()) {
+        Ok(_) => None,
+        Err(refusal) => Some(KindRefusal::of_parts(refusal)),
+    }
 }

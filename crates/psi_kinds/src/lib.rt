@@ -14,8 +14,9 @@ mod refusals;
 mod tables;
 
 pub use event::Event;
+pub use judging::refusal_of;
 pub use kinds::Kind;
-pub use lowering::lower;
+pub use lowering::{lower, lower_accepted};
 pub use refusals::{KindRefusal, OutOfMemory};
 pub use tables::Tables;
 

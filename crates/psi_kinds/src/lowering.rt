@@ -1,24 +1,21 @@
 //! The event of a kind.
 
 ghost use Rattle.std.specs.Prelude.{◌≡◌, ◌<◌, ◌≤◌, ℕ, [], length, slice_index_or, None, IfOk, IfErr, OnOk, IfSome};
-ghost use Rattle.std.specs.Option.{option_map};
 ghost use Rattle.psi_state.specs.State.{AreCapacities};
-ghost use Rattle.psi_guard.specs.Guarding.{guarded};
-ghost use Rattle.psi_guard.specs.Guarding.{upset_of as upset_of_parts};
-ghost use Rattle.psi_guard.specs.Refusals.{refusal_of as parts_refusal};
 ghost use Rattle.psi_route.specs.Accepted.{shape};
 ghost use Rattle.psi_route.specs.Routing.{routed};
 ghost use Rattle.psi_route.specs.Routing.{upset_of as upset_of_shape};
 ghost use Rattle.psi_route.specs.Refusals.{refusal_of as shape_refusal};
-ghost use Rattle.psi_kinds.specs.Kinds.{AreQueues, IsSource, IsKindOf, Does};
+ghost use Rattle.psi_kinds.specs.Kinds.{AreQueues, IsKindOf, Does};
+ghost use Rattle.psi_route.specs.Accepted.{IsSource};
 ghost use Rattle.psi_kinds.specs.Forms.{form_of, function_of, pair_of, upset_of};
-ghost use Rattle.psi_kinds.specs.Refusals.{IsKindRefusal, IsUnrefused, of_parts, refusal_of, refusal_of_parts};
+ghost use Rattle.psi_kinds.specs.Refusals.{IsKindRefusal, IsUnrefused, refusal_of, refusal_of_parts};
 
-use crate::judging::listed_refusal;
+use crate::judging::refusal_of;
 use crate::parting::{fork_parts, join_parts, negative_parts};
-use crate::{Event, Kind, KindRefusal, Tables};
+use crate::{Event, Kind, KindRefusal, OutOfMemory, Tables};
 use psi_event::EventLaw;
-use psi_guard::{Guarded, Part, Parts};
+use psi_guard::Guarded;
 use psi_index::IndexTable;
 use psi_route::{Full, Route, Source};
 use psi_state::{Queues, State};
@@ -42,22 +39,40 @@ pub fn lower(alloc: Global, caps: State, kind: &Kind) -> Result<Event, KindRefus
     ensures accepted { OnOk result (refusal_of caps kind.now ≡ None) }
     ensures refused { IfErr result (λ refusal. IsKindRefusal refusal (refusal_of caps kind.now)) }
 {
-    match listed_refusal(&caps, kind) {
+    match refusal_of(&caps, kind) {
         Some(refusal) => Err(refusal),
-        None => event_of(alloc, caps, kind),
+        None => Ok(lower_accepted(alloc, caps, kind)?),
     }
 }
 
-// The event of a kind whose lists and numbers aren't refused.
-fn event_of(alloc: Global, caps: State, kind: &Kind) -> Result<Event, KindRefusal>
+/// The event of a kind that isn't refused in a network of these capacities: what [`lower`] answers for it.
+///
+/// `caps` and the kind are such as `lower` takes, and [`refusal_of`](crate::refusal_of) gives no refusal.
+///
+/// # Errors
+///
+/// [`OutOfMemory`] where there is no memory for the event; no clause says when that is. The kinds without
+/// tables take none.
+pub fn lower_accepted(alloc: Global, caps: State, kind: &Kind) -> Result<Event, OutOfMemory>
+    requires caps { AreCapacities caps }
+    requires named { IsKindOf caps kind.now }
+    requires accepted { refusal_of caps kind.now ≡ None }
+    ensures caps { IfOk result (λ event. ⟦<Event as EventLaw>⟧.capacities event ≡ caps) }
+    ensures does { IfOk result (λ event. Does caps (⟦<Event as EventLaw>⟧.function event) kind.now) }
+    ensures upset { IfOk result (λ event. ⟦<Event as EventLaw>⟧.upset_pair event ≡ upset_of caps kind.now) }
+{
+    event_of(alloc, caps, kind)
+}
+
+// The event of a kind whose lists, numbers and parts aren't refused.
+fn event_of(alloc: Global, caps: State, kind: &Kind) -> Result<Event, OutOfMemory>
     requires caps { AreCapacities caps }
     requires named { IsKindOf caps kind.now }
     requires unrefused { IsUnrefused caps kind.now }
+    requires parts { refusal_of_parts caps kind.now ≡ None }
     ensures caps { IfOk result (λ event. ⟦<Event as EventLaw>⟧.capacities event ≡ caps) }
     ensures function { IfOk result (λ event. ⟦<Event as EventLaw>⟧.function event ≡ function_of (form_of caps kind.now)) }
     ensures upset { IfOk result (λ event. ⟦<Event as EventLaw>⟧.upset_pair event ≡ pair_of caps (form_of caps kind.now)) }
-    ensures accepted { OnOk result (refusal_of_parts caps kind.now ≡ None) }
-    ensures refused { IfErr result (λ refusal. IsKindRefusal refusal (refusal_of_parts caps kind.now)) }
 {
     match kind {
         Kind::Arrival { to } => Ok(listed_route(alloc, caps, None, 1, *to, Full::Lost)),
@@ -72,22 +87,23 @@ fn event_of(alloc: Global, caps: State, kind: &Kind) -> Result<Event, KindRefusa
             size,
         } => {
             let tables = index_tables(alloc, table)?;
-            Ok(route(caps, *from, *size, *to, tables, *full))
+            let route = Route::accepted(caps, *from, *size, *to, tables, *full);
+            Ok(Event::Route(route))
         }
         Kind::Batch { to, size } => Ok(listed_route(alloc, caps, None, *size, *to, Full::Lost)),
         Kind::Negative { from, on, amount } => {
-            let parts = negative_parts(alloc, &caps, *from, *on, *amount)?;
-            Ok(guarded(caps, parts.as_slice()))
+            let parts = negative_parts(&caps, *from, *on, *amount);
+            Ok(Event::Guarded(Guarded::accepted(caps, parts)))
         }
         Kind::Fork { from, to } => {
-            let parts = fork_parts(alloc, &caps, *from, to)?;
-            Ok(guarded(caps, parts.as_slice()))
+            let parts = fork_parts(&caps, *from, to);
+            Ok(Event::Guarded(Guarded::accepted(caps, parts)))
         }
         Kind::Join { from, to } => {
-            let parts = join_parts(alloc, &caps, from, *to)?;
-            Ok(guarded(caps, parts.as_slice()))
+            let parts = join_parts(&caps, from, *to);
+            Ok(Event::Guarded(Guarded::accepted(caps, parts)))
         }
-        Kind::Guarded { parts } => judged(caps, parts),
+        Kind::Guarded { parts } => Ok(Event::Guarded(Guarded::accepted(caps, *parts))),
     }
 }
 
@@ -108,38 +124,14 @@ fn listed_route(
     ensures function { ⟦<Event as EventLaw>⟧.function result ≡ routed (shape caps source size targets [] full) }
     ensures upset { ⟦<Event as EventLaw>⟧.upset_pair result ≡ upset_of_shape (shape caps source size targets [] full) }
 {
-    route(caps, source, size, targets, Vec::new(alloc), full)
-}
-
-// The route of these parts.
-fn route(
-    caps: State,
-    source: Option<Source>,
-    size: u16,
-    targets: Queues,
-    tables: Vec<IndexTable>,
-    full: Full,
-) -> Event
-    requires caps { AreCapacities caps }
-    requires source { IfSome source (λ source. IsSource caps source) }
-    requires queues { AreQueues caps targets }
-    requires accepted { shape_refusal (shape caps source size targets tables.items full) ≡ None }
-    ensures caps { ⟦<Event as EventLaw>⟧.capacities result ≡ caps }
-    ensures function { ⟦<Event as EventLaw>⟧.function result ≡ routed (shape caps source size targets tables.items full) }
-    ensures upset { ⟦<Event as EventLaw>⟧.upset_pair result ≡ upset_of_shape (shape caps source size targets tables.items full) }
-{
-    match Route::new(caps, source, size, targets, tables, full) {
-        Ok(route) => Event::Route(route),
-        Err(_) => unreachable!(),
-    }
+    Event::Route(Route::accepted(caps, source, size, targets, Vec::new(alloc), full))
 }
 
 // The tables of an index event, each with its least and greatest values at hand.
-fn index_tables(alloc: Global, tables: &Tables) -> Result<Vec<IndexTable>, KindRefusal>
+fn index_tables(alloc: Global, tables: &Tables) -> Result<Vec<IndexTable>, OutOfMemory>
     requires some { (i : ℕ) → i < length tables.now → 1 ≤ length (slice_index_or tables.now i []) }
     requires few { (i : ℕ) → i < length tables.now → length (slice_index_or tables.now i []) ≤ 65535 }
-    ensures tables { IfOk result (λ list. list.items ≡ tables.now) }
-    ensures memory { IfErr result (λ refusal. refusal ≡ KindRefusal.OutOfMemory) }
+    ensures { IfOk result (λ list. list.items ≡ tables.now) }
 {
     let mut list = Vec::new(alloc);
     for i in 0..tables.len() {
@@ -147,33 +139,4 @@ fn index_tables(alloc: Global, tables: &Tables) -> Result<Vec<IndexTable>, KindR
         list.push(IndexTable::new(alloc, values)?)?;
     }
     Ok(list)
-}
-
-// The guarded event of parts that aren't refused.
-fn guarded(caps: State, parts: &[Part]) -> Event
-    requires caps { AreCapacities caps }
-    requires accepted { parts_refusal caps parts.now ≡ None }
-    ensures caps { ⟦<Event as EventLaw>⟧.capacities result ≡ caps }
-    ensures function { ⟦<Event as EventLaw>⟧.function result ≡ guarded parts.now }
-    ensures upset { ⟦<Event as EventLaw>⟧.upset_pair result ≡ upset_of_parts caps parts.now }
-{
-    match Guarded::new(caps, parts) {
-        Ok(event) => Event::Guarded(event),
-        Err(_) => unreachable!(),
-    }
-}
-
-// The guarded event of parts that may be refused.
-fn judged(caps: State, parts: &Parts) -> Result<Event, KindRefusal>
-    requires { AreCapacities caps }
-    ensures caps { IfOk result (λ event. ⟦<Event as EventLaw>⟧.capacities event ≡ caps) }
-    ensures function { IfOk result (λ event. ⟦<Event as EventLaw>⟧.function event ≡ guarded parts.now) }
-    ensures upset { IfOk result (λ event. ⟦<Event as EventLaw>⟧.upset_pair event ≡ upset_of_parts caps parts.now) }
-    ensures accepted { OnOk result (parts_refusal caps parts.now ≡ None) }
-    ensures refused { IfErr result (λ refusal. IsKindRefusal refusal (option_map of_parts (parts_refusal caps parts.now))) }
-{
-    match Guarded::new(caps, parts.as_slice()) {
-        Ok(event) => Ok(Event::Guarded(event)),
-        Err(refusal) => Err(KindRefusal::of_parts(refusal)),
-    }
 }

@@ -1,15 +1,14 @@
 //! The parts of the guarded events that kinds are lowered to.
 
-ghost use Rattle.std.specs.Prelude.{◌≡◌, ◌<◌, ◌≤◌, length, slice_index, IfOk, IfErr, IfSome};
+ghost use Rattle.std.specs.Prelude.{◌≡◌, ◌<◌, ◌≤◌, length, slice_index, IfSome};
 ghost use Rattle.psi_state.specs.State.{AreCapacities};
-ghost use Rattle.psi_kinds.specs.Kinds.{AreQueues, IsSource};
+ghost use Rattle.psi_kinds.specs.Kinds.{AreQueues};
+ghost use Rattle.psi_route.specs.Accepted.{IsSource};
 ghost use Rattle.psi_kinds.specs.Forms.{losing_part, gaining_part, source_parts, negative_parts, fork_parts, join_parts};
 
-use crate::KindRefusal;
-use psi_guard::Part;
+use psi_guard::{Part, Parts};
 use psi_route::Source;
 use psi_state::{Queues, State};
-use std::alloc::Global;
 
 // A queue that loses customers, or all where it holds fewer, from some number on.
 fn losing(caps: &State, least: u16, queue: u8, amount: u16) -> Part
@@ -45,75 +44,58 @@ fn gaining(caps: &State, queue: u8) -> Part
 }
 
 // The source, if there is one, loses a customer.
-fn source_parts(alloc: Global, caps: &State, from: Option<Source>) -> Result<Vec<Part>, KindRefusal>
+fn source_parts(caps: &State, from: Option<Source>) -> Parts
     requires { IfSome from (λ source. IsSource caps.now source) }
-    ensures parts { IfOk result (λ parts. parts.items ≡ source_parts caps.now from) }
-    ensures memory { IfErr result (λ refusal. refusal ≡ KindRefusal.OutOfMemory) }
+    ensures parts { result ≡ source_parts caps.now from }
+    ensures few { length result ≤ 1 }
 {
-    let mut parts = Vec::new(alloc);
+    let mut parts = Parts::empty();
     if let Some(source) = from {
-        parts.push(losing(caps, source.k, source.queue, 1))?;
+        parts.push(losing(caps, source.k, source.queue, 1));
     }
-    Ok(parts)
+    parts
 }
 
 // The parts of a negative customer.
-pub(crate) fn negative_parts(
-    alloc: Global,
-    caps: &State,
-    from: Option<Source>,
-    on: u8,
-    amount: u16,
-) -> Result<Vec<Part>, KindRefusal>
+pub(crate) fn negative_parts(caps: &State, from: Option<Source>, on: u8, amount: u16) -> Parts
     requires source { IfSome from (λ source. IsSource caps.now source) }
     requires queue { on < length caps.now }
-    ensures parts { IfOk result (λ parts. parts.items ≡ negative_parts caps.now from on amount) }
-    ensures memory { IfErr result (λ refusal. refusal ≡ KindRefusal.OutOfMemory) }
+    ensures { result ≡ negative_parts caps.now from on amount }
 {
-    let mut parts = source_parts(alloc, caps, from)?;
-    parts.push(losing(caps, 0, on, amount))?;
-    Ok(parts)
+    let mut parts = source_parts(caps, from);
+    parts.push(losing(caps, 0, on, amount));
+    parts
 }
 
-// The parts of a fork.
-pub(crate) fn fork_parts(
-    alloc: Global,
-    caps: &State,
-    from: Option<Source>,
-    to: &Queues,
-) -> Result<Vec<Part>, KindRefusal>
+// The parts of a fork: as many as a list of parts takes.
+pub(crate) fn fork_parts(caps: &State, from: Option<Source>, to: &Queues) -> Parts
     requires valid { AreCapacities caps.now }
     requires source { IfSome from (λ source. IsSource caps.now source) }
     requires queues { AreQueues caps.now to.now }
-    ensures parts { IfOk result (λ parts. parts.items ≡ fork_parts caps.now from to.now) }
-    ensures memory { IfErr result (λ refusal. refusal ≡ KindRefusal.OutOfMemory) }
+    requires few { length (fork_parts caps.now from to.now) ≤ 32 }
+    ensures { result ≡ fork_parts caps.now from to.now }
 {
-    let mut parts = source_parts(alloc, caps, from)?;
+    let mut parts = source_parts(caps, from);
     for i in 0..to.len() {
-        parts.push(gaining(caps, to.get(i)))?;
+        parts.push(gaining(caps, to.get(i)));
     }
-    Ok(parts)
+    parts
 }
 
-// The parts of a join.
-pub(crate) fn join_parts(
-    alloc: Global,
-    caps: &State,
-    from: &Queues,
-    to: Option<u8>,
-) -> Result<Vec<Part>, KindRefusal>
+// The parts of a join: as many as a list of parts takes.
+pub(crate) fn join_parts(caps: &State, from: &Queues, to: Option<u8>) -> Parts
     requires valid { AreCapacities caps.now }
     requires queues { AreQueues caps.now from.now }
     requires target { IfSome to (λ queue. queue < length caps.now) }
-    ensures parts { IfOk result (λ parts. parts.items ≡ join_parts caps.now from.now to) }
-    ensures memory { IfErr result (λ refusal. refusal ≡ KindRefusal.OutOfMemory) }
+    requires few { length (join_parts caps.now from.now to) ≤ 32 }
+    ensures { result ≡ join_parts caps.now from.now to }
 {
-    let mut parts = Vec::new(alloc);
+    let mut parts = Parts::empty();
     for i in 0..from.len() {
-        parts.push(losing(caps, 1, from.get(i), 1))?;
+        parts.push(losing(caps, 1, from.get(i), 1));
     }
     if let Some(queue) = to {
-        parts.push(gaining(caps, queue))?;
+        parts.push(gaining(caps, queue));
     }
-    Ok(parts)
+    parts
 }

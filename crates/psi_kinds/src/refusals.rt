@@ -49,23 +49,19 @@ impl KindRefusal {
     }
 }
 
-impl From<AllocError> for KindRefusal {
+impl From<OutOfMemory> for KindRefusal {
     ghost use Rattle.psi_kinds.specs.declared.refusals.KindRefusal.TheVariants.{OutOfMemory};
 
     ghost from_gives = { λ _ refusal. refusal ≡ OutOfMemory };
 
-    fn from(_error: AllocError) -> KindRefusal {
+    fn from(_error: OutOfMemory) -> KindRefusal {
         KindRefusal::OutOfMemory
     }
 }
 
-impl<T: Drop> From<AllocFailed<T>> for KindRefusal {
-    ghost use Rattle.psi_kinds.specs.declared.refusals.KindRefusal.TheVariants.{OutOfMemory};
-
-    ghost from_gives = { λ _ refusal. refusal ≡ OutOfMemory };
-
-    fn from(_error: AllocFailed<T>) -> KindRefusal {
-        KindRefusal::OutOfMemory
+impl From<AllocError> for OutOfMemory {
+    fn from(_error: AllocError) -> OutOfMemory {
+        OutOfMemory
     }
 }
 
@@ -75,12 +71,8 @@ impl<T: Drop> From<AllocFailed<T>> for OutOfMemory {
     }
 }
 
-impl From<psi_index::OutOfMemory> for KindRefusal {
-    ghost use Rattle.psi_kinds.specs.declared.refusals.KindRefusal.TheVariants.{OutOfMemory};
-
-    ghost from_gives = { λ _ refusal. refusal ≡ OutOfMemory };
-
-    fn from(_error: psi_index::OutOfMemory) -> KindRefusal {
-        KindRefusal::OutOfMemory
+impl From<psi_index::OutOfMemory> for OutOfMemory {
+    fn from(_error: psi_index::OutOfMemory) -> OutOfMemory {
+        OutOfMemory
     }
 }

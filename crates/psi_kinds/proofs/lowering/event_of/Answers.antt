@@ -6,7 +6,8 @@ use Rattle.psi_route.specs.declared.Full.TheVariants.{Lost}
 use Rattle.psi_kinds.specs.declared.kinds.Kind.{Kind}
 use Rattle.psi_kinds.specs.Kinds.{IsKindOf}
 use Rattle.psi_kinds.specs.Refusals.{IsUnrefused}
-use Rattle.psi_kinds.proofs.Accepting.{shape-accepted, listed-accepted, tables-fit, table-some, table-few}
+use Rattle.psi_kinds.specs.Forms.{fork_parts, join_parts}
+use Rattle.psi_kinds.proofs.Accepting.{shape-accepted, listed-accepted, tables-fit, table-some, table-few, other-away, parts-few}
 use Rattle.psi_kinds.proofs.Fitting.{fork-fits, join-fits}
 use Rattle.psi_kinds.proofs.lowering.event_of.Goals as goal
 
@@ -35,10 +36,10 @@ index_tables-requires-clause-few c =
     let free = subst (λ (k : Kind). IsUnrefused c.args.caps k) c.in-Index.is c.requires.unrefused in
     λ i small. table-few c.args.caps c.in-Index.to c.in-Index.table i c.requires.caps named.1 free.tables small
 
-pub route-requires-clause-accepted : goal.route-requires-clause-accepted
-route-requires-clause-accepted c =
+pub accepted-route-requires-clause-accepted : goal.accepted-route-requires-clause-accepted
+accepted-route-requires-clause-accepted c =
     let free = subst (λ (k : Kind). IsUnrefused c.args.caps k) c.in-Index.is c.requires.unrefused in
-    ap (λ (t : List (List ℕ)). shapes.refusal_of (shape c.args.caps c.in-Index.from c.in-Index.size c.in-Index.to t c.in-Index.full)) c.in_ok-tables-in-Index.ensures.tables
+    ap (λ (t : List (List ℕ)). shapes.refusal_of (shape c.args.caps c.in-Index.from c.in-Index.size c.in-Index.to t c.in-Index.full)) c.in_ok-tables-in-Index.ensures
     ∙ shape-accepted c.args.caps c.in-Index.from c.in-Index.size c.in-Index.to c.in-Index.table c.in-Index.full
     free.away free.once (tables-fit c.args.caps c.in-Index.to c.in-Index.table free.tables) free.size
 
@@ -48,16 +49,30 @@ listed_route-requires-in-Batch-clause-accepted c =
     let free = subst (λ (k : Kind). IsUnrefused c.args.caps k) c.in-Batch.is c.requires.unrefused in
     shape-accepted c.args.caps None c.in-Batch.size c.in-Batch.to [] Lost refl free.once refl free.size
 
-pub guarded-requires-in-Fork-clause-accepted : goal.guarded-requires-in-Fork-clause-accepted
-guarded-requires-in-Fork-clause-accepted c =
+pub fork_parts-parts-requires-clause-few : goal.fork_parts-parts-requires-clause-few
+fork_parts-parts-requires-clause-few c =
     let named = subst (λ (k : Kind). IsKindOf c.args.caps k) c.in-Fork.is c.requires.named in
     let free = subst (λ (k : Kind). IsUnrefused c.args.caps k) c.in-Fork.is c.requires.unrefused in
-    ap (λ parts. guard.refusal_of c.args.caps parts) (c.as_slice-in-Fork.ensures.value ∙ c.in_ok-parts-in-Fork.ensures.parts)
+    parts-few c.args.caps (fork_parts c.args.caps c.in-Fork.from c.in-Fork.to) c.requires.caps.few
+    (fork-fits c.args.caps c.in-Fork.from c.in-Fork.to named.0 named.1 free.once free.away)
+
+pub accepted-requires-in-Fork-clause-accepted : goal.accepted-requires-in-Fork-clause-accepted
+accepted-requires-in-Fork-clause-accepted c =
+    let named = subst (λ (k : Kind). IsKindOf c.args.caps k) c.in-Fork.is c.requires.named in
+    let free = subst (λ (k : Kind). IsUnrefused c.args.caps k) c.in-Fork.is c.requires.unrefused in
+    ap (λ parts. guard.refusal_of c.args.caps parts) c.fork_parts-parts.ensures
     ∙ fork-fits c.args.caps c.in-Fork.from c.in-Fork.to named.0 named.1 free.once free.away
 
-pub guarded-requires-in-Join-clause-accepted : goal.guarded-requires-in-Join-clause-accepted
-guarded-requires-in-Join-clause-accepted c =
+pub join_parts-parts-requires-clause-few : goal.join_parts-parts-requires-clause-few
+join_parts-parts-requires-clause-few c =
     let named = subst (λ (k : Kind). IsKindOf c.args.caps k) c.in-Join.is c.requires.named in
     let free = subst (λ (k : Kind). IsUnrefused c.args.caps k) c.in-Join.is c.requires.unrefused in
-    ap (λ parts. guard.refusal_of c.args.caps parts) (c.as_slice-in-Join.ensures.value ∙ c.in_ok-parts-in-Join.ensures.parts)
-    ∙ join-fits c.args.caps c.in-Join.from c.in-Join.to c.requires.caps named.0 named.1 free.once free.away
+    parts-few c.args.caps (join_parts c.args.caps c.in-Join.from c.in-Join.to) c.requires.caps.few
+    (join-fits c.args.caps c.in-Join.from c.in-Join.to c.requires.caps named.0 named.1 free.once (other-away c.in-Join.from c.in-Join.to free.away))
+
+pub accepted-requires-in-Join-clause-accepted : goal.accepted-requires-in-Join-clause-accepted
+accepted-requires-in-Join-clause-accepted c =
+    let named = subst (λ (k : Kind). IsKindOf c.args.caps k) c.in-Join.is c.requires.named in
+    let free = subst (λ (k : Kind). IsUnrefused c.args.caps k) c.in-Join.is c.requires.unrefused in
+    ap (λ parts. guard.refusal_of c.args.caps parts) c.join_parts-parts.ensures
+    ∙ join-fits c.args.caps c.in-Join.from c.in-Join.to c.requires.caps named.0 named.1 free.once (other-away c.in-Join.from c.in-Join.to free.away)
