@@ -1,3 +1,4 @@
+-- What is kept of a past, and a list that has its words.
 use Rattle.std.specs.Prelude.{◌≡◌, ℕ, ◌<◌, List, length, slice_index}
 
 -- what a list of kept words is: the past that it is drawn from, how many of its words are kept,

@@ -2,16 +2,20 @@
 use Rattle.std.proofs.Common.{◌≡◌, ◌≢◌, ◌⊎◌, ◌↔◌, ℕ, suc, ◌+◌, ◌*◌, ◌<◌, ◌≤◌, Bool, List, [], ◌∷◌, ◌++◌, None, IsTrue, length, map, get_or, take, drop, slice_set, true, false, inl, inr, ap, sym, ◌∙◌, subst, arith, refl, length-set, get_or-set_same, get_or-set_other}
 use Rattle.std.proofs.lemmas.List.{get_or_default, take_more_set, map-append}
 use Rattle.std.proofs.Math.Seq.{take-append_seam}
-use Rattle.psi_state.specs.Members.{In, In-append, In-append_left, In-append_right}
-use Rattle.psi_state.specs.Sets.{insert_state, ascending, image, single, In-ascending, In-of_ascending}
-use Rattle.psi_state.specs.Ascending.{IsDistinct, HaveSame, ascending-members, ascending-rising, length-ascending, image-ascending}
+use Rattle.psi_state.specs.Members.{In}
+use Rattle.psi_state.proofs.MembersLemmas.{In-append, In-append_left, In-append_right}
+use Rattle.psi_state.specs.Sets.{insert_state, ascending, image, single}
+use Rattle.psi_state.proofs.SetsLemmas.{In-ascending, In-of_ascending}
+use Rattle.psi_state.specs.Ascending.{IsDistinct, HaveSame}
+use Rattle.psi_state.proofs.AscendingLemmas.{ascending-members, ascending-rising, length-ascending, image-ascending}
 use Rattle.psi_pool.specs.declared.nodes.Node.{Node}
 use Rattle.psi_pool.specs.Buckets.{bucket}
 use Rattle.psi_pool.specs.Pooled.{Pooled}
 use Rattle.psi_pool.specs.Nodes.{node_at, states, IsLinked, HoldSet, IsPool}
 use Rattle.psi_pool.proofs.Sorting.{insert_state-there}
 use Rattle.psi_pool.proofs.Places.{states-take, states-same, distinct-more, length-states}
-use Rattle.psi_pool.proofs.Linking.{linked-more}
+use Rattle.psi_pool.proofs.Linking.{linked-none, linked-more}
+use Rattle.psi_pool.proofs.Chains.{chained-linked}
 
 module _ (nodes : List Node) (heads : List ℕ) (used len most room : ℕ) (pool : IsPool nodes heads used len most room) where
   -- the count of the nodes in use is that of the set
@@ -85,6 +89,9 @@ module _ (nodes : List Node) (heads : List ℕ) (used len most room : ℕ) (pool
           few = pool.few;
           fits = (let whole = pool.count in omega arith);
           linked = linked-inserted;
+          chained = (let limit = pool.small in
+              let whole = pool.count in
+              chained-linked used more (slice_set heads home len) (len + 1) pool.some (omega arith) linked-inserted);
           distinct = subst (λ k. IsDistinct (states more k)) next_place
               (distinct-more more len (omega arith) (subst (λ (xs : List (List ℕ)). IsDistinct xs) (sym same) pool.distinct) new);
           listed = pool.listed;
@@ -94,6 +101,28 @@ module _ (nodes : List Node) (heads : List ℕ) (used len most room : ℕ) (pool
     pub pool-inserted : IsPool (slice_set nodes len (record { state = x; next = next })) (slice_set heads home len) used (len + 1) most room
     unfolding more
     pool-inserted = keeps-inserted
+
+-- a pool whose nodes are all free, and whose buckets are empty
+pub pool-empty : (nodes : List Node) (heads : List ℕ) (used most room : ℕ) → length nodes ≡ most → length heads ≡ 4 * most + 1 → most ≤ 4096 → 1 ≤ used
+    → used ≤ 4 * most + 1 → ((b : ℕ) → b < used → get_or heads b 0 ≡ 4096) → most ≤ room → IsPool nodes heads used 0 most room
+pool-empty nodes heads used most room count buckets small some few none listed =
+    let linked = linked-none used nodes heads none in
+    record {
+      count = count;
+      buckets = buckets;
+      small = small;
+      some = some;
+      few = few;
+      fits = omega arith;
+      linked = linked;
+      chained = chained-linked used nodes heads 0 some (omega arith) linked;
+      distinct = distinct nodes;
+      listed = listed;
+    }
+  where
+    distinct : (ns : List Node) → IsDistinct (states ns 0)
+    distinct [] = tt
+    distinct (m ∷ ns) = tt
 
 -- the nodes are linked anew
 pub pool-stepped : (nodes now : List Node) (heads tops : List ℕ) (used len most room used_now count : ℕ) (xs : List (List ℕ)) → IsPool nodes heads used len most room
@@ -109,6 +138,7 @@ pool-stepped nodes now heads tops used len most room used_now count xs pool node
       few = omega arith;
       fits = omega arith;
       linked = holds.linked;
+      chained = (let limit = pool.small in chained-linked used_now now tops count (omega arith) (omega arith) holds.linked);
       distinct = holds.distinct;
       listed = pool.listed;
     }

@@ -1,6 +1,7 @@
 pub mod Sorting
 pub mod Places
 pub mod Linking
+pub mod Chains
 pub mod Seeking
 pub mod Relinking
 pub mod Keeping

@@ -2,9 +2,9 @@
 use Rattle.std.proofs.Common.{◌≡◌, ℕ, ◌+◌, ◌<◌, ◌≤◌, List, [], ◌++◌, length, take, slice_set, slice_index, inl, inr, ap, sym, ◌∙◌, subst, arith, get_or-set_same, get_or-set_other, length-append}
 use Rattle.std.proofs.lemmas.Bool.{cases_eq, cases_lt}
 use Rattle.std.proofs.lemmas.List.{get_or_append_left, get_or-take, length-take-le}
+use Rattle.psi_state.specs.Ascending.{IsDistinct, HaveSame}
 use Rattle.psi_pool.specs.declared.nodes.Node.{Node}
 use Rattle.psi_pool.specs.Buckets.{bucket}
-use Rattle.psi_state.specs.Ascending.{IsDistinct, HaveSame}
 use Rattle.psi_pool.specs.Nodes.{node_at, bucket_at, states, IsLast, IsLinked, HoldSet}
 use Rattle.psi_pool.proofs.Places.{states-same}
 

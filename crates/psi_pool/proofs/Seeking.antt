@@ -2,7 +2,7 @@
 use Rattle.std.proofs.Common.{◌≡◌, ◌≢◌, ℕ, ◌<◌, ◌≤◌, List, length, get_or, nat_eq, true, ap, sym, ◌∙◌, arith}
 use Rattle.std.specs.Cmp.Lexicographic.{pointwise}
 use Rattle.psi_state.specs.Members.{In}
-use Rattle.psi_state.specs.States.{same-from_eq}
+use Rattle.psi_state.proofs.StatesLemmas.{same-from_eq}
 use Rattle.psi_pool.specs.declared.nodes.Node.{Node}
 use Rattle.psi_pool.specs.Buckets.{bucket}
 use Rattle.psi_pool.specs.Nodes.{node_at, bucket_at, states}

@@ -12,8 +12,10 @@ use Rattle.std.proofs.lemmas.List.{get_or_default}
 use Rattle.std.proofs.lemmas.List.Sorted.{sorted_far, length_permutation, IsPermutation-sym, Contains-permutation}
 use Rattle.std.proofs.lemmas.List.MinMax.{ranks_by}
 use Rattle.psi_state.specs.Members.{In}
-use Rattle.psi_state.specs.Sets.{state_cmp, insert_state, ascending, same-from_cmp, In-insert_state, In-of_insert_state, In-ascending}
-use Rattle.psi_state.specs.Ascending.{IsRising, IsDistinct, HaveSame, cmp-back, rising-same, insert_state-rising, ascending-rising, ascending-own, ascending-members, length-ascending}
+use Rattle.psi_state.specs.Sets.{state_cmp, insert_state, ascending}
+use Rattle.psi_state.proofs.SetsLemmas.{same-from_cmp, In-insert_state, In-of_insert_state, In-ascending}
+use Rattle.psi_state.specs.Ascending.{IsRising, IsDistinct, HaveSame}
+use Rattle.psi_state.proofs.AscendingLemmas.{cmp-back, rising-same, insert_state-rising, ascending-rising, ascending-own, ascending-members, length-ascending}
 
 -- a state that is there already changes nothing
 pub insert_state-there : (x : List ℕ) (xs : List (List ℕ)) → IsRising xs → In x xs → insert_state x xs ≡ xs

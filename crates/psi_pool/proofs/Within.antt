@@ -2,8 +2,9 @@
 use Rattle.std.proofs.Common.{◌≡◌, ℕ, List, ◌∷◌, inl, inr, ap, sym, ◌∙◌, subst, refl}
 use Rattle.psi_state.specs.State.{IsBelow, box, zeros, Corners}
 use Rattle.psi_state.specs.Members.{In}
-use Rattle.psi_state.specs.Boxes.{In-of_all_states}
-use Rattle.psi_state.specs.Sets.{insert_state, image, In-of_insert_state, In-of_image}
+use Rattle.psi_state.proofs.BoxesLemmas.{In-of_all_states}
+use Rattle.psi_state.specs.Sets.{insert_state, image}
+use Rattle.psi_state.proofs.SetsLemmas.{In-of_insert_state, In-of_image}
 use Rattle.psi_event.specs.Law.{IsClosed}
 
 pub within-inserted : (caps x : List ℕ) (old new : List (List ℕ)) → new ≡ insert_state x old → IsBelow x caps

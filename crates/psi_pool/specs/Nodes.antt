@@ -1,5 +1,5 @@
 -- Nodes that are linked by index into the buckets of a hash table.
-use Rattle.std.specs.Prelude.{◌≡◌, ◌≢◌, ℕ, ◌+◌, ◌*◌, ◌<◌, ◌≤◌, List, [], length, map, take, slice_index, get_or}
+use Rattle.std.specs.Prelude.{◌≡◌, ◌≢◌, ℕ, ◌+◌, ◌*◌, ◌<◌, ◌≤◌, List, [], ◌∷◌, length, map, take, slice_index, get_or}
 use Rattle.psi_state.specs.Members.{In}
 use Rattle.psi_state.specs.Ascending.{IsDistinct, HaveSame}
 use Rattle.psi_pool.specs.declared.nodes.Node.{Node}
@@ -39,7 +39,22 @@ pub record HoldSet (used : ℕ) (nodes : List Node) (heads : List ℕ) (n : ℕ)
   pub distinct : IsDistinct (states nodes n)
   pub members : HaveSame (states nodes n) xs
 
--- what a pool keeps: the nodes in use are its first, they are linked, no state stands twice, and there is room to list them all
+-- the links lead from this one over these places, in this order, and then end: the last one leads to no node
+abbrev pub LeadsOver : List Node → ℕ → List ℕ → Type 0
+LeadsOver nodes link [] = link ≡ 4096
+LeadsOver nodes link (place ∷ places) = (link ≡ place) × LeadsOver nodes (node_at nodes place).next places
+
+-- the first n nodes stand in chains, one for each bucket: each chain ends, meets no place twice and only places in use, and each place in
+-- use stands in one chain and in no other
+pub record AreChained (used : ℕ) (nodes : List Node) (heads : List ℕ) (n : ℕ) : Type 0 where
+  pub chain : ℕ → List ℕ
+  pub ends : (b : ℕ) → b < used → LeadsOver nodes (slice_index heads b) (chain b)
+  pub once : (b : ℕ) → b < used → IsDistinct (chain b)
+  pub inside : (b i : ℕ) → b < used → In i (chain b) → i < n
+  pub some : (i : ℕ) → i < n → (b : ℕ) × (b < used) × In i (chain b)
+  pub one : (i b c : ℕ) → b < used → c < used → In i (chain b) → In i (chain c) → b ≡ c
+
+-- what a pool keeps: the nodes in use are its first, they are linked into chains, no state stands twice, and there is room to list them all
 pub record IsPool (nodes : List Node) (heads : List ℕ) (used len most room : ℕ) : Type 0 where
   pub count : length nodes ≡ most
   pub buckets : length heads ≡ 4 * most + 1
@@ -48,5 +63,6 @@ pub record IsPool (nodes : List Node) (heads : List ℕ) (used len most room : �
   pub few : used ≤ 4 * most + 1
   pub fits : len ≤ most
   pub linked : IsLinked used nodes heads len
+  pub chained : AreChained used nodes heads len
   pub distinct : IsDistinct (states nodes len)
   pub listed : most ≤ room

@@ -6,9 +6,7 @@
 #![tactic(auto)]
 
 mod hashing;
-mod linked_set;
 mod nodes;
-#[cfg(test)]
-mod tests;
+mod pool;
 
-pub use linked_set::{OutOfMemory, Pool};
+pub use pool::{OutOfMemory, Pool};

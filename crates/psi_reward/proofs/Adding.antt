@@ -4,7 +4,8 @@ use Rattle.std.specs.Int.{int_min, int_max}
 use Rattle.std.proofs.Common.{inl, inr, ap, sym, ◌∙◌, subst, arith}
 use Rattle.std.proofs.lemmas.Bool.{cases_eq}
 use Rattle.std.proofs.lemmas.Int.{ints}
-use Rattle.psi_state.specs.Boxes.{IsBetween, below-head, below-tail, below-cons, below-itself}
+use Rattle.psi_state.specs.Boxes.{IsBetween}
+use Rattle.psi_state.proofs.BoxesLemmas.{below-head, below-tail, below-cons, below-itself}
 use Rattle.psi_reward.specs.Held.{held}
 use Rattle.psi_reward.specs.Sums.{weighted, added}
 use Rattle.psi_reward.specs.Spans.{IsSpan, IsSpread}

@@ -7,7 +7,8 @@ use Rattle.std.proofs.lemmas.List.{get_or-set_same, get_or-set_other}
 use Rattle.psi_state.specs.State.{IsBelow, box}
 use Rattle.psi_state.specs.Members.{In}
 use Rattle.psi_state.specs.Repeats.{repeats}
-use Rattle.psi_state.specs.Boxes.{IsBetween, set-between, In-box, In-of_box, below-head, below-tail, below-cons, below-itself}
+use Rattle.psi_state.specs.Boxes.{IsBetween}
+use Rattle.psi_state.proofs.BoxesLemmas.{set-between, In-box, In-of_box, below-head, below-tail, below-cons, below-itself}
 use Rattle.psi_reward.specs.Held.{held}
 use Rattle.psi_reward.specs.Ranges.{IsReached}
 use Rattle.psi_reward.specs.Spans.{IsSpread, IsRange}

@@ -5,7 +5,7 @@ use Rattle.std.proofs.lemmas.Bool.{cases_lt}
 use Rattle.std.proofs.lemmas.Int.{ints}
 use Rattle.std.proofs.lemmas.List.Sums.{sum_by-cons}
 use Rattle.psi_state.specs.State.{IsBelow}
-use Rattle.psi_state.specs.Boxes.{below-head, below-tail, below-itself}
+use Rattle.psi_state.proofs.BoxesLemmas.{below-head, below-tail, below-itself}
 use Rattle.psi_reward.specs.Ranges.{least, greatest}
 use Rattle.psi_reward.specs.Spans.{IsSpread}
 use Rattle.psi_reward.proofs.Whole.{int_min-monotone, int_max-monotone}

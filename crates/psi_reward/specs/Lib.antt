@@ -4,3 +4,4 @@ pub mod Ranges
 pub mod Spans
 pub mod Worth
 pub mod Refusing
+pub mod Rewards

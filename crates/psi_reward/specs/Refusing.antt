@@ -65,11 +65,6 @@ refusal_of caps kind = first_refusal (is_none_listed (queues_of kind)) (repeats 
 abbrev pub ReachRows : List ℕ → List ℕ → List (List ℤ) → Type 0
 ReachRows queues x rows = (i : ℕ) → i < length queues → slice_index x (slice_index queues i) < length (slice_index_or rows i [])
 
--- a reward of given capacities, by its kind
-pub record Valuation : Type 0 where
-  pub caps : List ℕ
-  pub kind : RewardKind
-
 -- what a reward keeps: its capacities are valid, it isn't refused, its queues are among theirs, and its numbers are small
 pub record IsValid (caps : List ℕ) (kind : RewardKind) : Type 0 where
   pub capacities : AreCapacities caps

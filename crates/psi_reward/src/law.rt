@@ -1,7 +1,7 @@
 //! The contract of a reward.
 
 ghost use Rattle.std.specs.Prelude.{◌≡◌, ℕ, ℤ, List, map};
-ghost use Rattle.psi_state.specs.State.{IsBelow, box};
+ghost use Rattle.psi_state.specs.State.{AreCapacities, IsBelow, box};
 ghost use Rattle.psi_reward.specs.Ranges.{least, greatest, IsReached};
 
 use psi_state::{Bounds, State};
@@ -31,4 +31,7 @@ pub trait RewardLaw {
         ensures greatest { result.1 ≡ greatest (map (worth self.now) (box b.now.lo b.now.hi)) }
         ensures least_reached { IsReached (worth self.now) (box b.now.lo b.now.hi) result.0 }
         ensures greatest_reached { IsReached (worth self.now) (box b.now.lo b.now.hi) result.1 };
+
+    // Each value of the type stands for capacities: 1 to 32 queues with room for 1 to 65,535 customers each.
+    ghost are_capacities: { (reward : Self) → AreCapacities (capacities reward) };
 }

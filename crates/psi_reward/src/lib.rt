@@ -10,15 +10,15 @@ mod integers;
 mod kinds;
 mod law;
 mod out_of_memory;
+mod reward;
 mod rows;
 mod sums;
 #[cfg(test)]
 mod tests;
-mod valuation;
 
 pub use integers::Numbers;
 pub use kinds::{RewardKind, RewardRefusal};
 pub use law::RewardLaw;
 pub use out_of_memory::OutOfMemory;
+pub use reward::Reward;
 pub use rows::Grid;
-pub use valuation::Reward;
