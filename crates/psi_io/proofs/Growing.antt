@@ -1,8 +1,9 @@
 -- How what a sink holds grows while a piece is written in parts.
-use Rattle.std.proofs.Common.{◌≡◌, ℕ, ◌+◌, ◌-◌, List, ◌++◌, length, take, drop, Option, sym, ◌∙◌, ap}
+use Rattle.std.proofs.Common.{◌≡◌, ℕ, ◌+◌, ◌-◌, ◌≤◌, arith, List, ◌++◌, length, take, drop, Option, sym, ◌∙◌, ap}
 use Rattle.std.proofs.Math.Seq.{take-add}
-use Rattle.std.proofs.lemmas.List.{take-append-drop, take_rest}
-use Rattle.psi_io.specs.Sink.{appended, appended-after, GrewByPrefix}
+use Rattle.std.proofs.lemmas.List.{take-append-drop, take_rest, length-take, length-drop}
+use Rattle.psi_io.specs.Sink.{appended, GrewByPrefix}
+use Rattle.psi_io.proofs.SinkLemmas.{appended-after}
 
 -- a write of the rest of a piece makes the front that was taken longer
 pub grown_more :
@@ -21,3 +22,11 @@ pub grown_front :
     → middle ≡ appended before (take at piece) → after ≡ middle → GrewByPrefix before after piece
 grown_front before middle after piece at grown kept =
     record { front = take at piece; back = drop at piece; whole = take-append-drop at piece; grew = kept ∙ grown }
+
+-- what is left of a piece is within what is left of a number that the whole piece is within
+pub length-rest : (piece : List ℕ) (at n : ℕ) → length piece ≤ n → length (take (length piece - at) (drop at piece)) ≤ n - at
+length-rest piece at n within = omega (arith, length-take {A = ℕ}, length-drop {A = ℕ})
+
+-- what is left after one count and another is what is left after both
+pub sub-sub : (n at count : ℕ) → n - at - count ≡ n - (at + count)
+sub-sub n at count = omega arith

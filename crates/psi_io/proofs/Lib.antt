@@ -1,2 +1,5 @@
+pub mod CountsLemmas
+pub mod SinkLemmas
 pub mod Files
+pub mod Giving
 pub mod Growing

@@ -1,5 +1,5 @@
 -- What a shelf in memory is: its files with their counts, and which reads fail.
-use Rattle.std.specs.Prelude.{◌≡◌, ℕ, ◌⊎◌, Bool, if◌then◌else◌, List, [], ◌∷◌, ◌++◌, Option, None, find, option_map, Contains}
+use Rattle.std.specs.Prelude.{◌≡◌, ◌≢◌, ℕ, ◌⊎◌, Bool, if◌then◌else◌, List, [], ◌∷◌, ◌++◌, Option, None, find, option_map, Contains}
 use Rattle.std.specs.Option.{option_map_or}
 use Rattle.std.specs.Str.{bytes_eq}
 use Rattle.psi_io.specs.Counts.{counted}
@@ -37,6 +37,11 @@ faults_of shelf name = option_map_or (λ file. file.count) (file_of shelf name) 
 -- a read of a name fails: its number is to fail, or the name isn't there
 abbrev pub FailsToRead : ShelfContents → List ℕ → Type 0
 FailsToRead shelf name = Contains shelf.fails (counted shelf.reads) ⊎ (told_of shelf name ≡ None)
+
+-- no read of a name is to fail: it is there, and no number of a read is to fail
+pub record Gives (shelf : ShelfContents) (name : List ℕ) : Type 0 where
+  pub there : told_of shelf name ≢ None
+  pub no_fails : shelf.fails ≡ []
 
 -- the first file of a name, changed
 abbrev pub changed : (ShelfFile → ShelfFile) → List ℕ → List ShelfFile → List ShelfFile

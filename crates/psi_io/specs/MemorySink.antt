@@ -1,5 +1,5 @@
 -- What a sink in memory is: its bytes, its room, and when it fails.
-use Rattle.std.specs.Prelude.{◌≡◌, ℕ, ◌≤◌, ◌-◌, ◌++◌, ◌⊎◌, List, length, take, min, Contains}
+use Rattle.std.specs.Prelude.{◌≡◌, ℕ, ◌≤◌, ◌-◌, ◌++◌, ◌⊎◌, List, [], length, take, min, Contains}
 use Rattle.psi_io.specs.Counts.{counted}
 
 -- a sink in memory: what it holds, the bytes that it has room left for, the most that one write
@@ -15,6 +15,11 @@ pub record SinkContents : Type 0 where
 -- a write of a piece fails: its number is to fail, or there is no room for a piece that isn't empty
 abbrev pub FailsToWrite : SinkContents → List ℕ → Type 0
 FailsToWrite sink piece = Contains sink.fails (counted sink.writes) ⊎ ((1 ≤ length piece) × (sink.room ≡ 0))
+
+-- so many bytes are taken: there is room for them, and no number of a write is to fail
+pub record Takes (sink : SinkContents) (n : ℕ) : Type 0 where
+  pub room : n ≤ sink.room
+  pub no_fails : sink.fails ≡ []
 
 -- how many bytes of a piece are taken: the least of its length, the most of one write and the room
 abbrev pub taken_count : SinkContents → List ℕ → ℕ

@@ -1,10 +1,10 @@
-#![tactic(auto)]
 //! Where the files that the program reads come from, and where the texts that it writes go to.
 //!
 //! A [`Shelf`] gives the bytes of a name, a [`Sink`] takes bytes. Each counts its faults, so that
 //! a caller can say of every refusal that it came from outside. [`MemoryShelf`] and
 //! [`MemorySink`] keep everything in memory and fail where they are told to; [`DiskShelf`] and
 //! [`StdSink`] are thin adapters to the files and the output of the system.
+#![tactic(auto)]
 
 mod disk_shelf;
 mod memory_file;

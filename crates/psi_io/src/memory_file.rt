@@ -1,3 +1,5 @@
+//! A file of a shelf in memory.
+
 ghost use Rattle.std.specs.Prelude.{◌≡◌, ◌+◌, ◌<◌, ◌≤◌, ◌^◌, take, string_bytes, IfOk, IfErr};
 ghost use Rattle.psi_io.specs.MemoryShelf.{has_name, with_bytes, with_fault};
 

@@ -1,3 +1,5 @@
+//! A shelf of files in memory.
+
 ghost use Rattle.std.specs.Prelude.{◌≡◌, ◌≢◌, ℕ, ◌+◌, ◌≤◌, ◌^◌, ◌↔◌, List, [], Some, length, take, position, IfOk, IfSome, OnOk, OnErr, IsErrOf};
 ghost use Rattle.psi_io.specs.Counts.{counted, Rose};
 ghost use Rattle.psi_io.specs.MemoryShelf.{has_name, told_of, faults_of, FailsToRead, after_read, after_failed_read, after_put};
@@ -86,9 +88,13 @@ fn place_of(files: &[MemoryFile], name: &str) -> Option<usize>
 }
 
 impl Shelf for MemoryShelf {
+    ghost use Rattle.psi_io.specs.MemoryShelf.{Gives};
+
     ghost told = { told_of };
 
     ghost faults = { faults_of };
+
+    ghost gives = { Gives };
 
     /// Reads the bytes that were last put under the name, cut at `most + 1`.
     ///

@@ -1,3 +1,5 @@
+//! A sink in memory.
+
 ghost use Rattle.std.specs.Prelude.{◌≡◌, ◌≤◌, ◌↔◌, ◌++◌, [], length, take, IfOk, OnOk, OnErr, IsErr};
 ghost use Rattle.psi_io.specs.Counts.{Rose};
 ghost use Rattle.psi_io.specs.MemorySink.{FailsToWrite, taken_count, after_write, after_failed_write};
@@ -89,10 +91,13 @@ impl MemorySink {
 
 impl Sink for MemorySink {
     ghost use Rattle.std.specs.Prelude.{Some};
+    ghost use Rattle.psi_io.specs.MemorySink.{Takes};
 
     ghost held = { λ sink. Some sink.bytes };
 
     ghost faults = { λ sink. sink.count };
+
+    ghost takes = { Takes };
 
     /// Takes the least of the piece's length, `most` and the room that is left.
     ///

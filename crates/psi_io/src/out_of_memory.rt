@@ -1,3 +1,5 @@
+//! Want of memory.
+
 use std::alloc::{AllocError, AllocFailed};
 
 /// There was not enough memory: the only way in which a call with this error can fail.

@@ -1,3 +1,5 @@
+//! The contract of a shelf.
+
 ghost use Rattle.std.specs.Prelude.{◌≡◌, ℕ, ◌+◌, ◌≤◌, ◌^◌, List, Option, length, take, IfOk, IfSome, IsErrOf};
 ghost use Rattle.psi_io.specs.Counts.{Rose};
 ghost use Rattle.psi_io.specs.declared.shelf.ShelfFault.TheVariants.{OutOfMemory};
@@ -24,13 +26,16 @@ impl From<AllocError> for ShelfFault {
 
 /// Files, each under a name.
 ///
-/// Two meanings belong to a shelf. `told` gives the bytes under a name, where the shelf tells
+/// Three meanings belong to a shelf. `told` gives the bytes under a name, where the shelf tells
 /// them: a shelf over real files tells none, and no call changes what a shelf tells. `faults` is
-/// the count of faults of a name, which never falls.
+/// the count of faults of a name, which never falls. `gives` says of a name that no read of it is
+/// to fail, now or later: no count rises there. A shelf over real files says it of no name.
 pub trait Shelf {
     ghost told: { Self → List ℕ → Option (List ℕ) };
 
     ghost faults: { Self → List ℕ → ℕ };
+
+    ghost gives: { Self → List ℕ → Type 0 } = { λ _ _. ⊥ };
 
     /// Reads the file of this name up to its end, but at most `most + 1` bytes of it, so that the
     /// caller sees from the length alone whether the file has more than `most` bytes.
@@ -45,5 +50,8 @@ pub trait Shelf {
         ensures bound { IfOk result (λ read. length read.items ≤ most + 1) }
         ensures failed { IsErrOf result ShelfFault.Failed → Rose (faults self.old name.now) (faults self.new name.now) }
         ensures counts { (other : List ℕ) → faults self.old other ≤ faults self.new other }
-        ensures same { told self.new ≡ told self.old };
+        ensures same { told self.new ≡ told self.old }
+        ensures given { gives self.old name.now → IsErrOf result ShelfFault.Failed → ⊥ }
+        ensures spared { gives self.old name.now → faults self.new ≡ faults self.old }
+        ensures gives_on { (other : List ℕ) → gives self.old other → gives self.new other };
 }

@@ -1,4 +1,6 @@
-ghost use Rattle.std.specs.Prelude.{◌≡◌, ℕ, ◌≤◌, List, Option, length, take, IfOk, OnOk, OnErr};
+//! The contract of a sink, and the writing of a whole piece.
+
+ghost use Rattle.std.specs.Prelude.{◌≡◌, ℕ, ◌-◌, ◌≤◌, List, Option, length, take, IsOk, IfOk, OnOk, OnErr};
 ghost use Rattle.psi_io.specs.Counts.{Rose};
 ghost use Rattle.psi_io.specs.Sink.{appended, GrewByPrefix};
 
@@ -12,12 +14,16 @@ pub enum SinkFault {
 
 /// What takes bytes, some of a piece at a time.
 ///
-/// Two meanings belong to a sink. `held` is what it holds, where it tells it: a sink over a
-/// terminal tells nothing. `faults` is its count of faults, which never falls.
+/// Three meanings belong to a sink. `held` is what it holds, where it tells it: a sink over a
+/// terminal tells nothing. `faults` is its count of faults, which never falls. `takes` says of a
+/// number that so many bytes are taken, in however many writes, and none fails: the count doesn't
+/// rise there. A sink over a writer says it of no number.
 pub trait Sink {
     ghost held: { Self → Option (List ℕ) };
 
     ghost faults: { Self → ℕ };
+
+    ghost takes: { Self → ℕ → Type 0 } = { λ _ _. ⊥ };
 
     /// Takes the first bytes of a piece, at least one of a piece that isn't empty, and answers how
     /// many.
@@ -32,7 +38,10 @@ pub trait Sink {
         ensures grew { IfOk result (λ count. held self.new ≡ appended (held self.old) (take count piece.now)) }
         ensures failed { OnErr result (Rose (faults self.old) (faults self.new)) }
         ensures kept { OnErr result (held self.new ≡ held self.old) }
-        ensures counts { faults self.old ≤ faults self.new };
+        ensures counts { faults self.old ≤ faults self.new }
+        ensures taken { (n : ℕ) → takes self.old n → length piece.now ≤ n → IsOk result }
+        ensures spared { (n : ℕ) → takes self.old n → length piece.now ≤ n → faults self.new ≡ faults self.old }
+        ensures takes_on { (n : ℕ) → takes self.old n → IfOk result (λ count. takes self.new (n - count)) };
 }
 
 /// Writes a whole piece, in as many writes as the sink asks for.
@@ -46,6 +55,9 @@ pub fn write_all<K: Sink>(sink: &mut K, piece: &[u8]) -> Result<(), SinkFault>
     ensures prefix { OnErr result (GrewByPrefix (K.held sink.old) (K.held sink.new) piece.now) }
     ensures failed { OnErr result (Rose (K.faults sink.old) (K.faults sink.new)) }
     ensures counts { K.faults sink.old ≤ K.faults sink.new }
+    ensures taken { (n : ℕ) → K.takes sink.old n → length piece.now ≤ n → IsOk result }
+    ensures spared { (n : ℕ) → K.takes sink.old n → length piece.now ≤ n → K.faults sink.new ≡ K.faults sink.old }
+    ensures takes_on { (n : ℕ) → K.takes sink.old n → OnOk result (K.takes sink.new (n - length piece.now)) }
 {
     let mut at = 0;
     while at < piece.len() {

@@ -1,13 +1,16 @@
+//! Shelves and sinks with ample memory, over real files and over narrow writers.
+
+ghost use Rattle.std.specs.Prelude.{◌≤◌, ◌^◌};
+
 use crate::{
     DiskShelf, MemoryShelf, MemorySink, Shelf, ShelfFault, Sink, SinkFault, StdSink, write_all,
 };
 use std::alloc::{AllocError, Global};
+use std::fs::Permissions;
 use std::io::Write;
+use std::os::unix::fs::PermissionsExt;
 use std::test::Fail;
 use std::{fs, io};
-
-/// A file of the system that a test has written, longer than one turn of a read.
-const LETTERS: &str = "psi_io_letters.txt";
 
 /// A writer that takes at most `most` bytes in a write, into a text that it borrows, and may fail
 /// when it is flushed.
@@ -83,38 +86,76 @@ fn a_piece_is_written_in_short_writes_up_to_a_fault(rt: HostRuntime) -> Result<(
     Ok(())
 }
 
-fn letters(alloc: Global, count: usize) -> Result<Vec<u8>, AllocError> {
-    vec![in alloc; b'a'; count]
+// Letters, of which no two chunks of a read have the same: they come round after 8,209.
+fn letters(alloc: Global, count: u32) -> Result<Vec<u8>, AllocError> {
+    let mut text = Vec::with_capacity(alloc, count as usize)?;
+    for place in 0..count {
+        text.push(b'a' + (place % 8_209 % 26) as u8)?;
+    }
+    Ok(text)
 }
 
+// A read that may take so many bytes gives the front of the text that is in the file.
+fn gives_front(rt: &HostRuntime, alloc: Global, name: &str, most: u32, text: &[u8]) -> bool
+    requires { most ≤ 2 ^ 30 }
+{
+    let read = DiskShelf::new(rt).read(alloc, name, most);
+    read.is_ok_and(|read| {
+        read.len() == text.len().min(most as usize + 1) && text.starts_with(read.as_slice())
+    })
+}
+
+/// A file longer than a command reads of one, and than many chunks of a read.
 #[test]
 fn a_shelf_over_files_gives_their_bytes_up_to_a_bound(rt: HostRuntime) -> Result<(), Fail> {
     let alloc = rt.alloc();
-    let text = letters(alloc, 20_000)?;
-    fs::write(&rt, LETTERS, text.as_slice())?;
+    let name = "psi_io_letters.txt";
+    let text = letters(alloc, 1_200_000)?;
+    let text = text.as_slice();
+    fs::write(&rt, name, text)?;
+    assert!(rt; gives_front(&rt, alloc, name, 0, text));
+    assert!(rt; gives_front(&rt, alloc, name, 8_191, text));
+    assert!(rt; gives_front(&rt, alloc, name, 8_192, text));
+    assert!(rt; gives_front(&rt, alloc, name, 1_048_576, text));
+    assert!(rt; gives_front(&rt, alloc, name, 1_073_741_824, text));
+    fs::remove_file(&rt, name)?;
+    Ok(())
+}
+
+/// What can't be opened or read is a fault, and no empty file: a name that isn't there, one below a file, a folder,
+/// and a file without permission, where the system refuses this to whom the test runs as. An empty file is empty.
+#[test]
+fn what_the_system_refuses_is_no_empty_file(rt: HostRuntime) -> Result<(), Fail> {
+    let alloc = rt.alloc();
+    fs::write(&rt, "psi_io_empty.txt", b"")?;
+    fs::write(&rt, "psi_io_locked.txt", b"locked")?;
+    fs::set_permissions(&rt, "psi_io_locked.txt", Permissions::from_mode(0))?;
+    let opens = fs::open(&rt, "psi_io_locked.txt").is_ok();
     let mut shelf = DiskShelf::new(&rt);
-    for (most, wanted) in [
-        (0, 1),
-        (99, 100),
-        (8_191, 8_192),
-        (19_998, 19_999),
-        (30_000, 20_000),
+    for (name, gives) in [
+        ("psi_io_empty.txt", true),
+        ("psi_io_absent.txt", false),
+        ("psi_io_empty.txt/below", false),
+        (".", false),
+        ("", false),
+        ("psi_io_locked.txt", opens),
     ] {
-        let read = shelf
-            .read(alloc, LETTERS, most)
-            .ok()
-            .ok_or("a file that is there")?;
-        assert_eq!(rt; read.len(), wanted, "at most {most} and one more");
-        assert!(rt; read.iter().all(|byte| *byte == b'a'));
+        let fault = shelf.read(alloc, name, 9).err();
+        let wanted = if gives {
+            None
+        } else {
+            Some(ShelfFault::Failed)
+        };
+        assert_eq!(rt; fault, wanted, "{name}");
     }
-    let absent = shelf.read(alloc, "no such file", 9).err();
-    assert_eq!(rt; absent, Some(ShelfFault::Failed));
-    fs::remove_file(&rt, LETTERS)?;
+    fs::remove_file(&rt, "psi_io_empty.txt")?;
+    fs::remove_file(&rt, "psi_io_locked.txt")?;
     Ok(())
 }
 
 #[test]
 fn a_sink_over_a_writer_writes_and_flushes(rt: HostRuntime) -> Result<(), Fail> {
+    // A writer that takes four bytes in a write, one that takes none, and one that can't be flushed.
     let cases = [
         (4, true, Ok(()), "state 3,1\n"),
         (0, true, Err(SinkFault::Failed), ""),

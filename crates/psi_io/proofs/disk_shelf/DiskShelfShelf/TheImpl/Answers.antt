@@ -14,4 +14,7 @@ read-tells g c = record {
   failed = c.ensures.failed;
   counts = λ other. c.ensures.counts;
   same = refl;
+  given = λ gives. absurd gives;
+  spared = λ gives. absurd gives;
+  gives_on = λ other gives. gives;
 }

@@ -1,7 +1,8 @@
 use Rattle.std.proofs.Common.{◌≡◌, ◌+◌, ◌^◌, ◌<◌, ◌≤◌, false, List, ℕ, Option, None, Some, get_or, take, refl, sym, ◌∙◌, ap, subst, inr, arith}
 use Rattle.std.specs.Prelude.{nat_eq, position, IfOk, IfSome}
 use Rattle.std.specs.List.{list_any}
-use Rattle.psi_io.specs.Counts.{counted, rose-counted}
+use Rattle.psi_io.specs.Counts.{counted}
+use Rattle.psi_io.proofs.CountsLemmas.{rose-counted}
 use Rattle.psi_io.specs.MemoryShelf.{ShelfContents, has_name, told_of, faults_of}
 use Rattle.psi_io.proofs.Files.{fail-place, fail-absent, faults-after_failed, told-after_failed, counts-after_failed, faults-at, told-at, told-none, reads-at, no-fault}
 use Rattle.psi_io.proofs.memory_shelf.MemoryShelfShelf.read.Goals as goal

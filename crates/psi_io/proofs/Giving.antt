@@ -1,0 +1,46 @@
+-- A name that a shelf in memory gives: no read of it fails, and no count rises.
+use Rattle.std.proofs.Common.{◌≡◌, ℕ, List, length, Result, Ok, Err, Option, None, Some, [], inl, inr, refl, sym, ◌∙◌, ap, arith}
+use Rattle.std.specs.Prelude.{◌↔◌, OnOk, IsErrOf}
+use Rattle.psi_io.specs.MemoryShelf.{ShelfContents, told_of, faults_of, FailsToRead, Gives, after_read, after_failed_read}
+use Rattle.psi_io.specs.declared.shelf.ShelfFault.{ShelfFault}
+use Rattle.psi_io.specs.declared.shelf.ShelfFault.TheVariants.{Failed, OutOfMemory}
+
+-- a shelf gives what it tells, where no number of a read is to fail
+pub gives-told : (shelf : ShelfContents) (name bytes : List ℕ) → told_of shelf name ≡ Some bytes → shelf.fails ≡ [] → Gives shelf name
+gives-told shelf name bytes told none = record {
+  there = λ absent. (let clash : ◌≡◌ {A = Option (List ℕ)} None (Some bytes) = sym absent ∙ told in absurd cc);
+  no_fails = none;
+}
+
+-- no read of such a name is to fail
+gives-no_fault : (shelf : ShelfContents) (name : List ℕ) → Gives shelf name → FailsToRead shelf name → ⊥
+gives-no_fault shelf name gives (inl (place, within, is)) =
+    let none : length shelf.fails ≡ 0 = ap (λ (xs : List ℕ). length xs) gives.no_fails in absurd (omega arith)
+gives-no_fault shelf name gives (inr absent) = gives.there absent
+
+pub no-fault-given : {T : Type 0} (shelf : ShelfContents) (name : List ℕ) (r : Result T ShelfFault) → Gives shelf name
+    → IsErrOf r Failed ↔ FailsToRead shelf name → IsErrOf r Failed → ⊥
+no-fault-given shelf name r gives fails is = gives-no_fault shelf name gives (fails.0 is)
+
+-- so the read is one read more, and no count rises
+pub spared-given : {T : Type 0} (old new : ShelfContents) (name : List ℕ) (r : Result T ShelfFault) → Gives old name → IsErrOf r Failed ↔ FailsToRead old name
+    → OnOk r (new ≡ after_read old) → (IsErrOf r OutOfMemory → new ≡ after_read old) → faults_of new ≡ faults_of old
+spared-given old new name (Ok read) gives fails after refused = ap faults_of after
+spared-given old new name (Err OutOfMemory) gives fails after refused = ap faults_of (refused refl)
+spared-given old new name (Err Failed) gives fails after refused = absurd (gives-no_fault old name gives (fails.0 refl))
+
+-- each read leaves the numbers of those that are to fail
+fails-read : {T : Type 0} (old new : ShelfContents) (name : List ℕ) (r : Result T ShelfFault) → OnOk r (new ≡ after_read old)
+    → (IsErrOf r Failed → new ≡ after_failed_read old name) → (IsErrOf r OutOfMemory → new ≡ after_read old) → new.fails ≡ old.fails
+fails-read old new name (Ok read) after failed refused = ap (λ (shelf : ShelfContents). shelf.fails) after
+fails-read old new name (Err OutOfMemory) after failed refused = ap (λ (shelf : ShelfContents). shelf.fails) (refused refl)
+fails-read old new name (Err Failed) after failed refused = ap (λ (shelf : ShelfContents). shelf.fails) (failed refl)
+
+-- and so what the shelf gives
+pub gives-read : {T : Type 0} (old new : ShelfContents) (name other : List ℕ) (r : Result T ShelfFault) → OnOk r (new ≡ after_read old)
+    → (IsErrOf r Failed → new ≡ after_failed_read old name) → (IsErrOf r OutOfMemory → new ≡ after_read old) → told_of new ≡ told_of old
+    → Gives old other → Gives new other
+gives-read old new name other r after failed refused same gives = record {
+  there = λ none. gives.there (sym (ap (λ (told : List ℕ → Option (List ℕ)). told other) same) ∙ none);
+  no_fails = fails-read old new name r after failed refused ∙ gives.no_fails;
+}

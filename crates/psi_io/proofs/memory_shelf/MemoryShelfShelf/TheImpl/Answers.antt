@@ -1,0 +1,14 @@
+use Rattle.psi_io.proofs.Giving.{no-fault-given, spared-given, gives-read}
+use Rattle.psi_io.proofs.memory_shelf.MemoryShelfShelf.TheImpl.Goals as goal
+
+pub read-tells : goal.read-tells
+read-tells c = record {
+  bytes = c.ensures.bytes;
+  bound = c.ensures.bound;
+  failed = c.ensures.failed;
+  counts = c.ensures.counts;
+  same = c.ensures.same;
+  given = λ gives. no-fault-given c.args.self.now c.args.name.now c.result gives c.ensures.fails;
+  spared = λ gives. spared-given c.args.self.now c.new.self.now c.args.name.now c.result gives c.ensures.fails c.ensures.after c.ensures.after_refused;
+  gives_on = λ other gives. gives-read c.args.self.now c.new.self.now c.args.name.now other c.result c.ensures.after c.ensures.after_failed c.ensures.after_refused c.ensures.same gives;
+}
