@@ -1,1 +1,4 @@
+pub mod RunsLemmas
+pub mod AgreeingLemmas
+pub mod SampleLemmas
 mod Running

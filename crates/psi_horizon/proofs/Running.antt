@@ -1,17 +1,19 @@
--- How the region of a run goes on, and what the doubling of horizons finds.
-use Rattle.std.proofs.Common.{◌≡◌, ℕ, zero, suc, ◌+◌, ◌-◌, ◌*◌, ◌%◌, ◌^◌, ◌<◌, ◌≤◌, List, Option, Some, None, IsSome, IfSome, sym, ◌∙◌, ap, subst, arith}
-use Rattle.std.proofs.Math.Pow.{pow-lt}
+-- How the region of a run goes on, and what the region of a plan is.
+use Rattle.std.proofs.Common.{◌≡◌, ℕ, zero, suc, ◌-◌, ◌≤◌, List, Option, Some, None, IsSome, IfSome, sym, ◌∙◌, ap, subst, arith}
 use Rattle.std.proofs.lemmas.Bool.{false≢true}
+use Rattle.psi_state.specs.State.{Corners, IsBelow}
+use Rattle.psi_state.specs.Members.{In}
+use Rattle.psi_state.proofs.BoxesLemmas.{In-high}
 use Rattle.psi_state.specs.Sets.{single}
-use Rattle.psi_rate.specs.Powers.{pow-order}
-use Rattle.psi_rate.specs.Doubling.{HasNone, IsFirst, has_none-next}
 use Rattle.psi_past.specs.Keeping.{Keeping}
 use Rattle.psi_rate.specs.Composition.{Parts, AreClosed}
-use Rattle.psi_region.specs.Region.{Area, Regional, step, IsArea}
-use Rattle.psi_horizon.specs.declared.coupling.Progress.{Progress}
+use Rattle.psi_region.specs.Region.{Area, Regional, step, ShowsBox, IsArea}
+use Rattle.psi_horizon.specs.declared.plan.Progress.{Progress}
 use Rattle.psi_horizon.specs.Planned.{Planned}
-use Rattle.psi_horizon.specs.Kept.{running_of, IsUnderway, IsPlan}
-use Rattle.psi_horizon.specs.Runs.{follow, run, ending_at, region_after, region_after-area}
+use Rattle.psi_horizon.specs.Invariant.{running_of, IsUnderway, IsPlan}
+use Rattle.psi_horizon.specs.Runs.{follow, region_at, ending_at, region_after}
+use Rattle.psi_horizon.proofs.RunsLemmas.{region_after-area}
+use Rattle.psi_horizon.proofs.SampleLemmas.{single-within}
 
 -- a step takes the oldest function off the run
 pub follow-step : (most : ℕ) (f : ℕ → List ℕ → List ℕ) (t : ℕ) (a b end : Area) → 1 ≤ t → follow most f t a ≡ end → b ≡ step most (f t) a → follow most f (t - 1) b ≡ end
@@ -21,35 +23,9 @@ follow-step most f (suc t) a b end some is stepped =
 
 -- with no step left, the region is the one with which the run ends
 pub follow-ends : (most : ℕ) (f : ℕ → List ℕ → List ℕ) (caps : List ℕ) (t horizon : ℕ) (a : Area) (o : Option (List ℕ)) → t ≡ 0
-    → follow most f t a ≡ run most f caps horizon → o ≡ single a.states → o ≡ ending_at most f caps horizon
+    → follow most f t a ≡ region_at most f caps horizon → o ≡ single a.states → o ≡ ending_at most f caps horizon
 follow-ends most f caps t horizon a o none is one =
     one ∙ ap (λ (b : Area). single b.states) (ap (λ n. follow most f n a) (sym none) ∙ is)
-
--- a shift of 1 within the greatest limit is a power of two
-pub shift-power : (exponent : ℕ) → exponent ≤ 22 → 1 * 2 ^ exponent % 4294967296 ≡ 2 ^ exponent
-shift-power exponent small = (let less : 2 ^ exponent < 2 ^ 32 = pow-lt {i = exponent} {j = 32} (omega arith) in omega arith)
-
-pub shift-room : (exponent limit room : ℕ) → exponent ≤ limit → limit ≤ 22 → 2 ^ limit ≤ room → 1 * 2 ^ exponent % 4294967296 ≤ room
-shift-room exponent limit room order small enough =
-    (let is = shift-power exponent (omega arith) in let most = pow-order exponent limit order in omega arith)
-
--- the first horizon whose run ends with one state
-pub first-found : (run : ℕ → Option (List ℕ)) (limit exponent : ℕ) (s : List ℕ) → exponent ≤ limit → limit ≤ 22 → HasNone run exponent
-    → Some s ≡ run (1 * 2 ^ exponent % 4294967296) → IsFirst run limit (1 * 2 ^ exponent % 4294967296) s
-first-found run limit exponent s order small earlier found = record {
-  exponent = exponent;
-  within = order;
-  power = shift-power exponent (omega arith);
-  answer = sym found;
-  earlier = earlier;
-}
-
--- and the run of this one doesn't either
-pub none-next : (run : ℕ → Option (List ℕ)) (exponent : ℕ) → exponent ≤ 22 → HasNone run exponent
-    → None ≡ run (1 * 2 ^ exponent % 4294967296) → HasNone run (exponent + 1)
-none-next run exponent small earlier none =
-    (let e : suc exponent ≡ exponent + 1 = omega arith in
-    subst (λ n. HasNone run n) e (has_none-next run exponent (1 * 2 ^ exponent % 4294967296) (shift-power exponent small) (sym none) earlier))
 
 -- what holds of a run that was begun
 pub if_some-map : {A : Type 0} (P Q : A → Type 0) (o : Option A) → ((a : A) → P a → Q a) → IfSome o P → IfSome o Q
@@ -80,3 +56,30 @@ pub underway-area : (f : ℕ → List ℕ → List ℕ) (split : ℕ) (caps : Li
 underway-area f split caps count region progress r closed is underway =
     let own : IsUnderway f split caps count region r = subst (λ o. IfSome o (λ q. IsUnderway f split caps count region q)) is underway in
     subst (λ (a : Area). IsArea caps a) (sym own.area) (region_after-area split caps f r.horizon r.done closed)
+
+-- as a plan is seen, where a run was begun
+pub seen-area : {E P : Type 0} (f : ℕ → List ℕ → List ℕ) (now : Planned E P) (region : Regional) → AreClosed now.system.caps f → IsSome now.run
+    → IfSome now.run (λ r. region.area ≡ region_after now.system.split f now.system.caps r.horizon r.done) → IsArea now.system.caps region.area
+seen-area f now region closed some seen =
+    if_some-both (λ r. region.area ≡ region_after now.system.split f now.system.caps r.horizon r.done) (λ r. Unit {0}) (IsArea now.system.caps region.area) now.run
+    (λ r is none. subst (λ (a : Area). IsArea now.system.caps a) (sym is) (region_after-area now.system.split now.system.caps f r.horizon r.done closed))
+    some seen (if_some-map (λ r. region.area ≡ region_after now.system.split f now.system.caps r.horizon r.done) (λ r. Unit {0}) now.run (λ r is. tt) seen)
+
+-- as a plan keeps it
+pub plan-area : {E P : Type 0} (functions : Parts E → P → ℕ → List ℕ → List ℕ) (system : Parts E) (words : Keeping P) (region : Regional) (progress : Option Progress)
+    (now : Planned E P) → record { system = system; past = words.past; run = running_of progress } ≡ now → IsPlan (functions system words.past) system words region progress
+    → AreClosed now.system.caps (functions now.system now.past) → IsSome now.run → IsArea now.system.caps region.area
+plan-area functions system words region progress now seen is closed some =
+    seen-area (functions now.system now.past) now region closed some (region-seen functions system words region progress now seen is)
+
+-- the upper corner of a region's box is within the capacities
+pub shown-within : (caps : List ℕ) (a : Area) (o : Option Corners) → IsArea caps a → ShowsBox a o → IfSome o (λ b. IsBelow b.lo b.hi)
+    → IfSome o (λ b. IsBelow b.hi caps)
+shown-within caps a None is shows ordered = tt
+shown-within caps a (Some b) is shows ordered =
+    is.within b.hi (subst (λ (xs : List (List ℕ)). In b.hi xs) (sym shows.1) (In-high b.lo b.hi ordered))
+
+-- so is its one state
+pub one-within : (caps : List ℕ) (a : Area) (o : Option (List ℕ)) → IsArea caps a → o ≡ single a.states → IfSome o (λ s. IsBelow s caps)
+one-within caps a None is one = tt
+one-within caps a (Some s) is one = single-within caps a s is (sym one)

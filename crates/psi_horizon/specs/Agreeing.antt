@@ -1,19 +1,6 @@
--- Events whose functions agree on the states of the capacities have the same runs and the same outcomes.
-use Rattle.std.specs.Prelude.{◌≡◌, ℕ, zero, suc, ◌-◌, ◌<◌, List, length, slice_index_or, Bool, true, false, refl}
-use Rattle.std.proofs.Common.{inl, inr, ap, sym, ◌∙◌, subst, arith}
-use Rattle.std.proofs.lemmas.Bool.{cases_lt}
-use Rattle.std.proofs.lemmas.List.{get_or_past}
-use Rattle.psi_state.specs.declared.Outcome.{Outcome}
+-- Functions that agree on the states of the capacities.
+use Rattle.std.specs.Prelude.{◌≡◌, ℕ, ◌<◌, List, length, slice_index_or}
 use Rattle.psi_state.specs.State.{IsBelow}
-use Rattle.psi_state.specs.Sets.{image, single}
-use Rattle.psi_state.specs.Ascending.{image-agree}
-use Rattle.psi_state.specs.Hull.{hull}
-use Rattle.psi_event.specs.Law.{IsClosed}
-use Rattle.psi_rate.specs.Rates.{event_of}
-use Rattle.psi_rate.specs.Composition.{picked, function_at, AreClosed}
-use Rattle.psi_rate.specs.Outcomes.{outcome_within, outcome_within-only, outcome-agree, IsOutcome}
-use Rattle.psi_region.specs.Region.{Area, start, splits, next, step, IsArea, start-area, step-area}
-use Rattle.psi_horizon.specs.Runs.{follow, ending_at}
 
 -- two functions agree on the states of the capacities
 pub record Agree (caps : List ℕ) (f g : List ℕ → List ℕ) : Type 0 where
@@ -23,59 +10,3 @@ pub record Agree (caps : List ℕ) (f g : List ℕ → List ℕ) : Type 0 where
 pub record AreAlike (caps : List ℕ) (fs gs : List (List ℕ → List ℕ)) : Type 0 where
   pub same_length : length fs ≡ length gs
   pub each : (k : ℕ) → k < length fs → Agree caps (slice_index_or fs k (λ x. x)) (slice_index_or gs k (λ x. x))
-
--- what agrees with a function that makes states of states does so too
-pub agree-closed : (caps : List ℕ) (f g : List ℕ → List ℕ) → Agree caps f g → IsClosed caps f → IsClosed caps g
-agree-closed caps f g agree closed = record {
-  each = λ x within. subst (λ (y : List ℕ). IsBelow y caps) (agree.each x within) (closed.each x within);
-}
-
--- the events of one word agree
-pub picked-agree : (caps : List ℕ) (fs gs : List (List ℕ → List ℕ)) (rates : List ℕ) (word : ℕ) → AreAlike caps fs gs
-    → Agree caps (picked fs rates word) (picked gs rates word)
-picked-agree caps fs gs rates word alike =
-    elim (cases_lt (event_of rates word) (length fs)) [
-      | inl small ↦ alike.each (event_of rates word) small
-      | inr past ↦ (let same = alike.same_length in
-          let first : slice_index_or fs (event_of rates word) (λ x. x) ≡ (λ x. x) = get_or_past fs (event_of rates word) (λ x. x) past in
-          let second : slice_index_or gs (event_of rates word) (λ x. x) ≡ (λ x. x) = get_or_past gs (event_of rates word) (λ x. x) (omega (arith, same, past)) in
-          record { each = λ x within. ap (λ (f : List ℕ → List ℕ). f x) (first ∙ sym second) })
-    ]
-
-pub function_at-agree : (caps : List ℕ) (fs gs : List (List ℕ → List ℕ)) (rates : List ℕ) (words : ℕ → ℕ) → AreAlike caps fs gs
-    → (t : ℕ) → Agree caps (function_at fs rates words t) (function_at gs rates words t)
-function_at-agree caps fs gs rates words alike t = picked-agree caps fs gs rates (words (t - 1)) alike
-
-abbrev area_by : Bool → List (List ℕ) → Area
-area_by true ys = record { is_split = true; states = ys }
-area_by false ys = record { is_split = false; states = hull ys }
-
-next-is : (b : Bool) (f : List ℕ → List ℕ) (xs : List (List ℕ)) → next b f xs ≡ area_by b (image f xs)
-next-is true f xs = refl
-next-is false f xs = refl
-
-pub step-agree : (most : ℕ) (caps : List ℕ) (f g : List ℕ → List ℕ) (a : Area) → Agree caps f g → IsArea caps a → step most f a ≡ step most g a
-unfolding step
-step-agree most caps f g a agree is =
-    next-is (splits most a) f a.states
-    ∙ ap (λ (ys : List (List ℕ)). area_by (splits most a) ys) (image-agree f g a.states (λ x member. agree.each x (is.within x member)))
-    ∙ sym (next-is (splits most a) g a.states)
-
-pub follow-agree : (most : ℕ) (caps : List ℕ) (f g : ℕ → List ℕ → List ℕ) (t : ℕ) (a : Area) → AreClosed caps f → ((k : ℕ) → Agree caps (f k) (g k)) → IsArea caps a
-    → follow most f t a ≡ follow most g t a
-follow-agree most caps f g zero a closed agree is = refl
-follow-agree most caps f g (suc t) a closed agree is =
-    follow-agree most caps f g t (step most (f (suc t)) a) closed agree (step-area most caps (f (suc t)) a (closed.each (suc t)) is)
-    ∙ ap (λ (b : Area). follow most g t b) (step-agree most caps (f (suc t)) (g (suc t)) a (agree (suc t)) is)
-
-pub ending_at-agree : (most : ℕ) (caps : List ℕ) (f g : ℕ → List ℕ → List ℕ) → AreClosed caps f → ((k : ℕ) → Agree caps (f k) (g k))
-    → (t : ℕ) → ending_at most f caps t ≡ ending_at most g caps t
-ending_at-agree most caps f g closed agree t =
-    ap (λ (a : Area). single a.states) (follow-agree most caps f g t (start caps) closed agree (start-area caps))
-
--- so they have the same outcome
-pub outcome_within-agree : (most : ℕ) (caps : List ℕ) (f g : ℕ → List ℕ → List ℕ) (limit : ℕ) (o : Outcome) → AreClosed caps f → ((k : ℕ) → Agree caps (f k) (g k))
-    → IsOutcome (ending_at most f caps) limit o → o ≡ outcome_within (ending_at most g caps) limit
-outcome_within-agree most caps f g limit o closed agree is =
-    outcome_within-only (ending_at most g caps) limit o
-    (outcome-agree (ending_at most f caps) (ending_at most g caps) limit o (λ t some. ending_at-agree most caps f g closed agree t) is)

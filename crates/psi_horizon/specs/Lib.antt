@@ -1,4 +1,5 @@
 pub mod Runs
 pub mod Agreeing
+pub mod Sample
 pub mod Planned
-pub mod Kept
+pub mod Invariant

@@ -1,8 +1,8 @@
 //! The doubling of horizons, and the run of each.
 
-ghost use Rattle.std.specs.Prelude.{◌≡◌, ◌^◌, ◌<◌, ◌≤◌, map};
+ghost use Rattle.std.specs.Prelude.{◌≡◌, ◌^◌, ◌≤◌, length, map};
 ghost use Rattle.psi_rate.specs.Rates.{event_of};
-ghost use Rattle.psi_rate.specs.Composition.{picked, functions_of};
+ghost use Rattle.psi_rate.specs.Composition.{picked, system_functions};
 ghost use Rattle.psi_rate.specs.Outcomes.{IsOutcome};
 ghost use Rattle.psi_region.specs.Region.{step, IsArea};
 ghost use Rattle.psi_horizon.specs.Runs.{ending_at};
@@ -21,7 +21,7 @@ pub(crate) fn first_ending<E: EventLaw, P: Past + Drop>(
 ) -> Outcome
     requires room { 2 ^ system.now.limit ≤ words.old.most }
     requires split { region.old.most ≡ system.now.split }
-    ensures least { let f = functions_of E.function system.now (P.words words.old.past) in
+    ensures least { let f = system_functions E.function system.now (P.words words.old.past) in
         IsOutcome (ending_at system.now.split f system.now.caps) system.now.limit result }
     ensures words { P.words words.new.past ≡ P.words words.old.past }
     ensures most { words.new.most ≡ words.old.most }
@@ -47,7 +47,7 @@ fn ending<E: EventLaw, P: Past + Drop>(
 ) -> Option<State>
     requires room { horizon ≤ words.old.most }
     requires split { region.old.most ≡ system.now.split }
-    ensures ending { result ≡ ending_at system.now.split (functions_of E.function system.now (P.words words.old.past)) system.now.caps horizon }
+    ensures ending { result ≡ ending_at system.now.split (system_functions E.function system.now (P.words words.old.past)) system.now.caps horizon }
     ensures words { P.words words.new.past ≡ P.words words.old.past }
     ensures most { words.new.most ≡ words.old.most }
     ensures split { region.new.most ≡ region.old.most }
@@ -69,16 +69,16 @@ pub(crate) fn follow_word<E: EventLaw>(
 ) -> u16
     requires { IsArea system.now.caps region.old.area }
     ensures event { result ≡ event_of system.now.rates word }
+    ensures number { result ≤ length system.now.events }
     ensures area { region.new.area ≡ step region.old.most (picked (map E.function system.now.events) system.now.rates word) region.old.area }
     ensures most { region.new.most ≡ region.old.most }
 {
-    // The events fit the capacities.
+    // Called for its clause: the events fit the capacities.
     let _caps = system.caps();
-    let number = system.wheel().pick(word);
-    if number < system.wheel().events() {
-        region.advance(system.event(number));
-    } else {
-        region.rest();
+    let (number, event) = system.pick(word);
+    match event {
+        Some(event) => region.advance(event),
+        None => region.rest(),
     }
     number
 }

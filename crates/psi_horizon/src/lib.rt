@@ -2,9 +2,7 @@
 //! followed through the events (Bušić, Gaujal and Vincent 2008).
 #![tactic(auto)]
 
-mod coupling;
 mod doubling;
-#[cfg(test)]
-mod tests;
+mod plan;
 
-pub use coupling::{OutOfMemory, Plan};
+pub use plan::{OutOfMemory, Plan};

@@ -7,9 +7,11 @@ use Rattle.std.proofs.lemmas.Bool.{eqb-false, leb-true, leb-false}
 use Rattle.std.proofs.lemmas.Nat.{and_mask, pow_pos}
 use Rattle.std.proofs.lemmas.List.{take_more, take_all}
 use Rattle.std.proofs.lemmas.List.Sorted.{IsPartitionedBy-leb, IsNonDecreasingBy-from_default}
-use Rattle.psi_rate.specs.Rates.{AreRates, total, least_power, event_of, HasNumber, PassesAt, IsLeastPower, has_number-event_at}
-use Rattle.psi_rate.specs.Powers.{least_power-is, least_power-only, least_power-next}
-use Rattle.psi_rate.specs.Totals.{IsDial, totals_from, totals_from-rise, totals_from-more, total-more, length-totals_from, has_number-point}
+use Rattle.psi_rate.specs.Rates.{AreRates, total, least_power, event_of, HasNumber, PassesAt, IsLeastPower}
+use Rattle.psi_rate.specs.Totals.{IsDial, totals_from}
+use Rattle.psi_rate.proofs.RatesLemmas.{has_number-event_at}
+use Rattle.psi_rate.proofs.PowersLemmas.{least_power-is, least_power-only, least_power-next}
+use Rattle.psi_rate.proofs.TotalsLemmas.{totals_from-rise, totals_from-more, total-more, length-totals_from, has_number-point}
 
 pub dial-least : (rates totals shown : List ℕ) (sum modulus : ℕ) → IsDial rates totals sum modulus → rates ≡ shown → IsLeastPower (total shown) modulus
 dial-least rates totals shown sum modulus dial is =

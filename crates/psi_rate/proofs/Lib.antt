@@ -1,2 +1,10 @@
+pub mod RatesLemmas
+pub mod PowersLemmas
+pub mod TotalsLemmas
+pub mod CompositionLemmas
+pub mod DoublingLemmas
+pub mod LeastLemmas
+pub mod FunctionsLemmas
+pub mod OutcomesLemmas
 mod Dealt
 mod Worked

@@ -4,6 +4,7 @@ use Rattle.psi_state.specs.declared.Outcome.TheVariants.{Met, NotMet}
 use Rattle.psi_rate.specs.Rates.{least_power, event_of}
 use Rattle.psi_rate.specs.Composition.{function_at, compose, image_at}
 use Rattle.psi_rate.specs.Doubling.{first_answer}
+use Rattle.psi_rate.specs.Least.{least_answer}
 use Rattle.psi_rate.specs.Outcomes.{meeting_at, outcome_within}
 
 least_powers : least_power 1 ∷ least_power 2 ∷ least_power 3 ∷ least_power 58 ∷ [] ≡ 1 ∷ 2 ∷ 4 ∷ 64 ∷ []
@@ -53,3 +54,12 @@ not_met_within_two = refl
 first_above : first_answer (λ t. if nat_lt 3 t then Some (10 * t) else None) 3 ≡ Some (4, 40)
 unfolding first_answer
 first_above = refl
+
+-- the first of 1, 2, 3, 4 and 5 that is above 2, and of 1 and 2 none
+least_above : least_answer (λ t. if nat_lt 2 t then Some (10 * t) else None) 5 ≡ Some (3, 30)
+unfolding least_answer
+least_above = refl
+
+none_above : least_answer (λ t. if nat_lt 2 t then Some (10 * t) else None) 2 ≡ None
+unfolding least_answer
+none_above = refl

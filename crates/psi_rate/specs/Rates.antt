@@ -1,7 +1,5 @@
 -- The event of a word: the numbers below a power of two, dealt out among the events by their rates.
-use Rattle.std.specs.Prelude.{◌≡◌, ℕ, zero, suc, ◌+◌, ◌-◌, ◌*◌, ◌%◌, ◌^◌, ◌<◌, ◌≤◌, List, [], ◌∷◌, length, take, slice_index, nat_lt, nat_le, if◌then◌else◌, refl}
-use Rattle.std.proofs.Common.{inl, inr, ap, subst, arith}
-use Rattle.std.proofs.lemmas.Bool.{cases_lt, lt-ltb, le-ltb}
+use Rattle.std.specs.Prelude.{◌≡◌, ℕ, zero, suc, ◌+◌, ◌-◌, ◌*◌, ◌%◌, ◌^◌, ◌<◌, ◌≤◌, List, [], ◌∷◌, length, take, slice_index, nat_lt, nat_le, if◌then◌else◌}
 
 -- the sum of the rates
 abbrev pub total : List ℕ → ℕ
@@ -56,42 +54,3 @@ pub record PassesAt (rates : List ℕ) (at : ℕ) : Type 0 where
   pub place : at < length rates
   pub before : total (take at rates) ≤ greatest_total
   pub past : greatest_total < total (take (suc at) rates)
-
-pub event_at-below : (rates : List ℕ) (r : ℕ) → event_at rates r ≤ length rates
-event_at-below [] r = omega arith
-event_at-below (rate ∷ rates) r =
-    elim (cases_lt r rate) [
-      | inl less ↦ (let e : event_at (rate ∷ rates) r ≡ 0 = rw (lt-ltb r rate less) refl in omega arith)
-      | inr more ↦ (let e : event_at (rate ∷ rates) r ≡ suc (event_at rates (r - rate)) = rw (le-ltb r rate more) refl in
-          let rest = event_at-below rates (r - rate) in omega arith)
-    ]
-
-pub event_at-has_number : (rates : List ℕ) (r : ℕ) → HasNumber rates r (event_at rates r)
-event_at-has_number [] r = record { place = omega arith; before = omega arith; own = λ small. absurd (omega arith) }
-event_at-has_number (rate ∷ rates) r =
-    elim (cases_lt r rate) [
-      | inl less ↦ (let e : 0 ≡ event_at (rate ∷ rates) r = rw (lt-ltb r rate less) refl in
-          subst (λ (n : ℕ). HasNumber (rate ∷ rates) r n) e (record { place = omega arith; before = omega arith; own = λ small. omega arith }))
-      | inr more ↦ (let e : suc (event_at rates (r - rate)) ≡ event_at (rate ∷ rates) r = rw (le-ltb r rate more) refl in
-          let rest = event_at-has_number rates (r - rate) in
-          subst (λ (n : ℕ). HasNumber (rate ∷ rates) r n) e (record {
-            place = (let p = rest.place in omega arith);
-            before = (let b : total (take (event_at rates (r - rate)) rates) ≤ r - rate = rest.before in omega arith);
-            own = λ small. (let o : r - rate < total (take (suc (event_at rates (r - rate))) rates) = rest.own (omega arith) in omega arith);
-          }))
-    ]
-
--- the numbers of two events are apart, so a number has one event
-pub has_number-event_at : (rates : List ℕ) (r e : ℕ) → HasNumber rates r e → e ≡ event_at rates r
-has_number-event_at [] r e has = (let p = has.place in omega arith)
-has_number-event_at (rate ∷ rates) r zero has =
-    let small : r < rate = (let o = has.own (omega arith) in omega arith) in rw (lt-ltb r rate small) refl
-has_number-event_at (rate ∷ rates) r (suc e) has =
-    let before : rate + total (take e rates) ≤ r = has.before in
-    let large : rate ≤ r = omega arith in
-    let rest : HasNumber rates (r - rate) e = record {
-      place = (let p = has.place in omega arith);
-      before = omega arith;
-      own = λ small. (let o : r < rate + total (take (suc e) rates) = has.own (omega arith) in omega arith);
-    } in
-    rw (le-ltb r rate large) (ap suc (has_number-event_at rates (r - rate) e rest))

@@ -1,8 +1,8 @@
 -- When rates make no wheel.
 use Rattle.std.specs.Prelude.{◌≡◌, ℕ, List, []}
 use Rattle.psi_rate.specs.Rates.{PassesAt}
-use Rattle.psi_rate.specs.declared.dial.RateRefusal.{RateRefusal}
-use Rattle.psi_rate.specs.declared.dial.RateRefusal.TheVariants.{NoEvents, TotalTooLarge, OutOfMemory}
+use Rattle.psi_rate.specs.declared.wheel.RateRefusal.{RateRefusal}
+use Rattle.psi_rate.specs.declared.wheel.RateRefusal.TheVariants.{NoEvents, TotalTooLarge, OutOfMemory}
 
 -- what each refusal says of the rates; want of memory says nothing
 abbrev pub IsRateRefusal : RateRefusal → List ℕ → Type 0

@@ -1,13 +1,15 @@
 //! Which event a word picks, and the network that a sample runs.
 //!
-//! The definitions of coupling from the past stand here too (`specs/Composition.antt`,
-//! `specs/Doubling.antt`), since each layer above cites them.
+//! The definitions of coupling from the past stand here too, since each layer above cites them:
+//! composition and image (`specs/Composition.antt`), the first horizon among the powers of two
+//! (`specs/Doubling.antt`), the least of any length (`specs/Least.antt`), and the outcome
+//! (`specs/Outcomes.antt`).
 #![tactic(auto)]
 
-mod dial;
-mod network;
+mod system;
 #[cfg(test)]
 mod tests;
+mod wheel;
 
-pub use dial::{RateRefusal, Wheel};
-pub use network::System;
+pub use system::System;
+pub use wheel::{RateRefusal, Wheel};

@@ -80,6 +80,11 @@ fn a_system_reads_its_parts_back(rt: HostRuntime) -> Result<(), Fail> {
     let shorter = system.with_limit(7);
     assert_eq!(rt; system.caps(), caps);
     assert_eq!(rt; system.event(0).caps(), caps);
+    // Modulo 8 the first five words have the event, and the others are idle.
+    let (number, event) = system.pick(12);
+    assert_eq!(rt; (number, event.map(|e| e.caps())), (0, Some(caps)));
+    let (number, event) = system.pick(13);
+    assert_eq!(rt; (number, event.is_none()), (1, true));
     assert_eq!(rt; system.wheel().modulus(), 8);
     assert_eq!(rt; system.limit(), 18);
     assert_eq!(rt; system.split(), 256);

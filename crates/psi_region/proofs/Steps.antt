@@ -6,15 +6,19 @@ use Rattle.std.specs.declared.cmp.Ordering.TheVariants.{Less, Greater}
 use Rattle.std.proofs.lemmas.Bool.{true≢false, or_parts}
 use Rattle.std.proofs.lemmas.Cmp.{nat_list_cmp_total}
 use Rattle.psi_state.specs.State.{Corners, IsBelow, box}
-use Rattle.psi_state.specs.Members.{In, In-append_right}
-use Rattle.psi_state.specs.Sets.{state_cmp, insert_state, single, image, In-image}
-use Rattle.psi_state.specs.Boxes.{In-low, In-high}
-use Rattle.psi_state.specs.States.{single-box, single-box_apart, hull-box, same-from_eq, apart-from_eq}
-use Rattle.psi_state.specs.Ascending.{IsRising, box-rising, image-identity}
+use Rattle.psi_state.specs.Members.{In}
+use Rattle.psi_state.proofs.MembersLemmas.{In-append_right}
+use Rattle.psi_state.specs.Sets.{state_cmp, insert_state, single, image}
+use Rattle.psi_state.proofs.SetsLemmas.{In-image}
+use Rattle.psi_state.proofs.BoxesLemmas.{In-low, In-high}
+use Rattle.psi_state.proofs.StatesLemmas.{single-box, single-box_apart, hull-box, same-from_eq, apart-from_eq}
+use Rattle.psi_state.specs.Ascending.{IsRising}
+use Rattle.psi_state.proofs.AscendingLemmas.{box-rising, image-identity}
 use Rattle.psi_state.specs.Hull.{corners, hull}
 use Rattle.psi_pool.specs.Pooled.{Pooled}
-use Rattle.psi_region.specs.Region.{Area, Regional, splits, settled, step, step-split, step-box}
+use Rattle.psi_region.specs.Region.{Area, Regional, splits, settled, step}
 use Rattle.psi_region.specs.Held.{area_of, IsHeld}
+use Rattle.psi_region.proofs.RegionLemmas.{step-split, step-box}
 
 -- the states of an unsplit region are those of its box
 pub states-unsplit : (most : ℕ) (split : Bool) (b : Corners) (xs : List (List ℕ)) (now : Regional) → record { most = most; area = area_of split b xs } ≡ now

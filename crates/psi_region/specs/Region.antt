@@ -1,16 +1,11 @@
 -- Regions of states: a box followed by its hulls (Bušić, Gaujal and Vincent 2008), and from few states on the set of
 -- the states themselves.
-use Rattle.std.specs.Prelude.{◌≡◌, ℕ, ◌≤◌, List, length, slice_index, Bool, true, false, nat_le, ◌||◌, Option, Some, None, refl}
-use Rattle.std.proofs.Common.{inl, inr, ap, sym, ◌∙◌, subst, arith}
-use Rattle.std.proofs.lemmas.Bool.{true≢false, or_cases, or_left, or_right, leb-true, le-leb}
-use Rattle.psi_state.specs.State.{Corners, IsBelow, box, zeros, all_states}
+use Rattle.std.specs.Prelude.{◌≡◌, ℕ, List, length, Bool, true, false, nat_le, ◌||◌, Option, Some, None}
+use Rattle.psi_state.specs.State.{Corners, IsBelow, box, all_states}
 use Rattle.psi_state.specs.Members.{In, AreAmong}
-use Rattle.psi_state.specs.Sets.{image, In-image, In-of_image}
-use Rattle.psi_state.specs.Boxes.{IsBetween, In-box, In-of_box, In-of_all_states, below-through, zeros-below}
-use Rattle.psi_state.specs.Hull.{lows, highs, hull, HaveLength, IsTight, corners-tight}
-use Rattle.psi_state.specs.States.{In-caps}
-use Rattle.psi_state.specs.Ascending.{IsRising, box-rising, image-rising, rising-distinct, length-among}
-use Rattle.psi_event.specs.Law.{IsClosed}
+use Rattle.psi_state.specs.Sets.{image}
+use Rattle.psi_state.specs.Hull.{hull}
+use Rattle.psi_state.specs.Ascending.{IsRising}
 
 -- a region: whether it is split, and the ascending list of its states
 pub record Area : Type 0 where
@@ -28,11 +23,11 @@ start caps = record { is_split = false; states = all_states caps }
 
 -- the states of a region are followed one by one in the next step: it is split, or has at most the split number of states
 abbrev pub splits : ℕ → Area → Bool
-splits most a = a.is_split || nat_le (length a.states) most
+splits split a = a.is_split || nat_le (length a.states) split
 
 -- an unsplit region of at most the split number of states becomes split, keeping its states
 abbrev pub settled : ℕ → Area → Area
-settled most a = record { is_split = splits most a; states = a.states }
+settled split a = record { is_split = splits split a; states = a.states }
 
 -- a split region becomes its image, and an unsplit one the hull of its image
 abbrev pub next : Bool → (List ℕ → List ℕ) → List (List ℕ) → Area
@@ -41,7 +36,7 @@ next false f xs = record { is_split = false; states = hull (image f xs) }
 
 -- one step: an unsplit region of few states becomes split first
 unfoldable pub step : ℕ → (List ℕ → List ℕ) → Area → Area
-step most f a = next (settled most a).is_split f (settled most a).states
+step split f a = next (settled split a).is_split f (settled split a).states
 
 -- what is told of a region's box: none where it is split, and its corners where it isn't
 abbrev pub ShowsBox : Area → Option Corners → Type 0
@@ -58,181 +53,3 @@ pub record IsArea (caps : List ℕ) (a : Area) : Type 0 where
 pub record IsWithin (a b : Area) : Type 0 where
   pub states : AreAmong a.states b.states
   pub split : b.is_split ≡ true → a.is_split ≡ true
-
--- a list's states are in its hull
-pub In-hull : (n : ℕ) (x : List ℕ) (xs : List (List ℕ)) → HaveLength n xs → In x xs → In x (hull xs)
-unfolding hull
-In-hull n x xs lengths member =
-    let between : IsBetween (lows xs) (highs xs) x = (corners-tight n x xs lengths member).inside x member in
-    In-box (lows xs) (highs xs) x between.low between.high
-
--- what lies between two corners has its tight box there
-pub tight-low : (z : List ℕ) (xs : List (List ℕ)) (l h u w : List ℕ) → IsTight xs u w → In z xs → ((x : List ℕ) → In x xs → IsBetween l h x) → IsBelow l u
-tight-low z xs l h u w tight member each =
-    let own : IsBetween l h z = each z member in
-    let inner : IsBetween u w z = tight.inside z member in
-    let count : length l ≡ length u = own.low.same_length ∙ sym inner.low.same_length in
-    record {
-      same_length = count;
-      each = λ i small.
-          (let at = tight.low i (omega arith) in
-          let is : slice_index at.0 i ≡ slice_index u i = at.2 in
-          let above : slice_index l i ≤ slice_index at.0 i = (each at.0 at.1).low.each i small in
-          omega arith);
-    }
-
-pub tight-high : (z : List ℕ) (xs : List (List ℕ)) (l h u w : List ℕ) → IsTight xs u w → In z xs → ((x : List ℕ) → In x xs → IsBetween l h x) → IsBelow w h
-tight-high z xs l h u w tight member each =
-    let own : IsBetween l h z = each z member in
-    let inner : IsBetween u w z = tight.inside z member in
-    let count : length w ≡ length h = sym inner.high.same_length ∙ own.high.same_length in
-    record {
-      same_length = count;
-      each = λ i small.
-          (let at = tight.high i small in
-          let is : slice_index at.0 i ≡ slice_index w i = at.2 in
-          let most = (each at.0 at.1).high in
-          let same : length at.0 ≡ length h = most.same_length in
-          let below : slice_index at.0 i ≤ slice_index h i = most.each i (omega arith) in
-          omega arith);
-    }
-
--- and its hull
-pub hull-between : (n : ℕ) (z : List ℕ) (xs : List (List ℕ)) (l h : List ℕ) → HaveLength n xs → In z xs → ((x : List ℕ) → In x xs → IsBetween l h x)
-    → (x : List ℕ) → In x (hull xs) → IsBetween l h x
-unfolding hull
-hull-between n z xs l h lengths member each x found =
-    let tight = corners-tight n z xs lengths member in
-    let between : IsBetween (lows xs) (highs xs) x = In-of_box (lows xs) (highs xs) x found in
-    record {
-      low = below-through l (lows xs) x (tight-low z xs l h (lows xs) (highs xs) tight member each) between.low;
-      high = below-through x (highs xs) h between.high (tight-high z xs l h (lows xs) (highs xs) tight member each);
-    }
-
--- the hull of fewer states is smaller
-pub hull-among : (n : ℕ) (z : List ℕ) (xs ys : List (List ℕ)) → HaveLength n xs → HaveLength n ys → In z xs → AreAmong xs ys → AreAmong (hull xs) (hull ys)
-unfolding hull
-hull-among n z xs ys lengths more member among = record {
-  each = λ x found.
-      (let tight = corners-tight n z ys more (among.each z member) in
-      let between = hull-between n z xs (lows ys) (highs ys) lengths member (λ y here. tight.inside y (among.each y here)) x found in
-      In-box (lows ys) (highs ys) x between.low between.high);
-}
-
--- the image of states of one length has states of one length, where the function makes states of states
-pub image-length : (caps : List ℕ) (f : List ℕ → List ℕ) (xs : List (List ℕ)) → IsClosed caps f → ((x : List ℕ) → In x xs → IsBelow x caps)
-    → HaveLength (length caps) (image f xs)
-image-length caps f xs closed within = record {
-  each = λ z member. (let found = In-of_image f z xs member in
-      let made : IsBelow (f found.0) caps = closed.each found.0 (within found.0 found.1) in
-      ap (λ (y : List ℕ). length y) found.2 ∙ made.same_length);
-}
-
-pub image-within : (caps : List ℕ) (f : List ℕ → List ℕ) (xs : List (List ℕ)) → IsClosed caps f → ((x : List ℕ) → In x xs → IsBelow x caps)
-    → (z : List ℕ) → In z (image f xs) → IsBelow z caps
-image-within caps f xs closed within z member =
-    let found = In-of_image f z xs member in
-    subst (λ (y : List ℕ). IsBelow y caps) (sym found.2) (closed.each found.0 (within found.0 found.1))
-
-pub image-among : (f : List ℕ → List ℕ) (xs ys : List (List ℕ)) → AreAmong xs ys → AreAmong (image f xs) (image f ys)
-image-among f xs ys among = record {
-  each = λ z member. (let found = In-of_image f z xs member in
-      subst (λ (y : List ℕ). In y (image f ys)) (sym found.2) (In-image f found.0 ys (among.each found.0 found.1)));
-}
-
--- the run begins with a region
-pub start-area : (caps : List ℕ) → IsArea caps (start caps)
-start-area caps = record {
-  some = (caps, In-caps caps);
-  rising = box-rising (zeros caps) caps;
-  within = λ x member. In-of_all_states caps x member;
-}
-
-pub hull-rising : (xs : List (List ℕ)) → IsRising (hull xs)
-unfolding hull
-hull-rising xs = box-rising (lows xs) (highs xs)
-
-next-area : (caps : List ℕ) (f : List ℕ → List ℕ) (xs : List (List ℕ)) (z : List ℕ) (b : Bool) → IsClosed caps f → In z xs
-    → ((x : List ℕ) → In x xs → IsBelow x caps) → IsArea caps (next b f xs)
-next-area caps f xs z true closed member within = record {
-  some = (f z, In-image f z xs member);
-  rising = image-rising f xs;
-  within = image-within caps f xs closed within;
-}
-next-area caps f xs z false closed member within = record {
-  some = (f z, In-hull (length caps) (f z) (image f xs) (image-length caps f xs closed within) (In-image f z xs member));
-  rising = hull-rising (image f xs);
-  within = λ x found. (hull-between (length caps) (f z) (image f xs) (zeros caps) caps (image-length caps f xs closed within) (In-image f z xs member)
-      (λ y here. (let below = image-within caps f xs closed within y here in record { low = zeros-below caps y below.same_length; high = below })) x found).high;
-}
-
--- and each step makes a region of a region
-pub step-area : (most : ℕ) (caps : List ℕ) (f : List ℕ → List ℕ) (a : Area) → IsClosed caps f → IsArea caps a → IsArea caps (step most f a)
-unfolding step
-step-area most caps f a closed is = next-area caps f a.states is.some.0 (splits most a) closed is.some.1 is.within
-
--- a smaller region splits no later: it has no more states
-pub splits-sooner : (most : ℕ) (a b : Area) → IsRising a.states → IsWithin a b → splits most b ≡ true → splits most a ≡ true
-splits-sooner most a b rising within is =
-    elim (or_cases b.is_split (nat_le (length b.states) most) is) [
-      | inl split ↦ or_left a.is_split (nat_le (length a.states) most) (within.split split)
-      | inr few ↦ (let more : length b.states ≤ most = leb-true (length b.states) most few in
-          let fewer : length a.states ≤ length b.states = length-among a.states b.states (rising-distinct a.states rising) within.states in
-          or_right a.is_split (nat_le (length a.states) most) (le-leb (length a.states) most (omega arith)))
-    ]
-
-next-within : (caps : List ℕ) (f : List ℕ → List ℕ) (a b : Area) (p q : Bool) → (q ≡ true → p ≡ true) → IsClosed caps f → IsArea caps a → IsArea caps b
-    → IsWithin a b → IsWithin (next p f a.states) (next q f b.states)
-next-within caps f a b true true sooner closed first second within = record {
-  states = image-among f a.states b.states within.states;
-  split = λ is. refl;
-}
-next-within caps f a b true false sooner closed first second within = record {
-  states = record {
-    each = λ x member. In-hull (length caps) x (image f b.states) (image-length caps f b.states closed second.within)
-        ((image-among f a.states b.states within.states).each x member);
-  };
-  split = λ is. refl;
-}
-next-within caps f a b false true sooner closed first second within = absurd (true≢false (sym (sooner refl)))
-next-within caps f a b false false sooner closed first second within = record {
-  states = hull-among (length caps) (f first.some.0) (image f a.states) (image f b.states) (image-length caps f a.states closed first.within)
-      (image-length caps f b.states closed second.within) (In-image f first.some.0 a.states first.some.1) (image-among f a.states b.states within.states);
-  split = λ is. is;
-}
-
--- a step keeps the order of regions
-pub step-within : (most : ℕ) (caps : List ℕ) (f : List ℕ → List ℕ) (a b : Area) → IsClosed caps f → IsArea caps a → IsArea caps b → IsWithin a b
-    → IsWithin (step most f a) (step most f b)
-unfolding step
-step-within most caps f a b closed first second within =
-    next-within caps f a b (splits most a) (splits most b) (splits-sooner most a b first.rising within) closed first second within
-
--- each region is within the one that the run begins with
-pub within-start : (caps : List ℕ) (a : Area) → IsArea caps a → IsWithin a (start caps)
-within-start caps a is = record {
-  states = record { each = λ x member. (let below = is.within x member in In-box (zeros caps) caps x (zeros-below caps x below.same_length) below) };
-  split = λ split. absurd (true≢false (sym split));
-}
-
--- a step's region has what the event makes of each state
-next-has : (caps : List ℕ) (f : List ℕ → List ℕ) (xs : List (List ℕ)) (b : Bool) (x : List ℕ) → IsClosed caps f → ((y : List ℕ) → In y xs → IsBelow y caps)
-    → In x xs → In (f x) (next b f xs).states
-next-has caps f xs true x closed within member = In-image f x xs member
-next-has caps f xs false x closed within member =
-    In-hull (length caps) (f x) (image f xs) (image-length caps f xs closed within) (In-image f x xs member)
-
-pub step-has : (most : ℕ) (caps : List ℕ) (f : List ℕ → List ℕ) (a : Area) (x : List ℕ) → IsClosed caps f → IsArea caps a → In x a.states
-    → In (f x) (step most f a).states
-unfolding step
-step-has most caps f a x closed is member = next-has caps f a.states (splits most a) x closed is.within member
-
--- a step of a region that is split, or has few states, is the image
-pub step-split : (most : ℕ) (f : List ℕ → List ℕ) (a : Area) → splits most a ≡ true → step most f a ≡ record { is_split = true; states = image f a.states }
-unfolding step
-step-split most f a is = ap (λ b. next b f a.states) is
-
--- and otherwise the hull of the image
-pub step-box : (most : ℕ) (f : List ℕ → List ℕ) (a : Area) → splits most a ≡ false → step most f a ≡ record { is_split = false; states = hull (image f a.states) }
-unfolding step
-step-box most f a is = ap (λ b. next b f a.states) is

@@ -16,7 +16,7 @@ pub fn covers_image<E: EventLaw>(e: &E, from: &Bounds, to: &Bounds) -> bool
     requires to { IsBelow to.now.hi (E.capacities e.now) }
     ensures { IsTrue result ↔ Covers (E.function e.now) (box from.now.lo from.now.hi) (box to.now.lo to.now.hi) }
 {
-    // The corners of both are in order.
+    // Called for its clause: the corners of both are in order.
     let _from = from.lo();
     let _to = to.lo();
     let mut envelope = *from;

@@ -6,9 +6,7 @@
 #![tactic(auto)]
 
 mod covering;
-mod following;
-#[cfg(test)]
-mod tests;
+mod region;
 
 pub use covering::covers_image;
-pub use following::{OutOfMemory, Region};
+pub use region::{OutOfMemory, Region};

@@ -1,8 +1,8 @@
 use Rattle.std.proofs.Common.{◌≡◌, ℕ, suc, ◌*◌, ◌^◌, ◌%◌, ap, sym, ◌∙◌, subst, arith}
-use Rattle.psi_rate.specs.Composition.{functions_of}
+use Rattle.psi_rate.specs.Composition.{system_functions}
 use Rattle.psi_rate.specs.Doubling.{HasNone}
+use Rattle.psi_rate.proofs.DoublingLemmas.{shift-room, first-found, none-next}
 use Rattle.psi_horizon.specs.Runs.{ending_at}
-use Rattle.psi_horizon.proofs.Running.{shift-room, first-found, none-next}
 use Rattle.psi_horizon.proofs.doubling.first_ending.Goals as goal
 
 pub ending-requires-clause-room : goal.ending-requires-clause-room
@@ -13,7 +13,7 @@ ending-requires-clause-room g c =
 pub returns-in-Some-clause-least : goal.returns-in-Some-clause-least
 returns-in-Some-clause-least g c =
     let system = c.args.system.now in
-    let run_of = λ (words : ℕ → ℕ). ending_at system.split (functions_of g.E.EventLaw.function system words) system.caps in
+    let run_of = λ (words : ℕ → ℕ). ending_at system.split (system_functions g.E.EventLaw.function system words) system.caps in
     let found = sym c.in-Some.is ∙ c.ending.ensures.ending ∙ ap (λ w. run_of w (1 * 2 ^ c.loop-exponent.exponent % 4294967296)) c.loop-exponent.invariant.words in
     first-found (run_of (g.P.Past.words c.args.words.now.past)) system.limit c.loop-exponent.exponent c.in-Some.state (omega arith) (omega arith)
     c.loop-exponent.invariant.earlier found
@@ -21,7 +21,7 @@ returns-in-Some-clause-least g c =
 pub loop-exponent-preserved : goal.loop-exponent-preserved
 loop-exponent-preserved g c =
     let system = c.args.system.now in
-    let run_of = λ (words : ℕ → ℕ). ending_at system.split (functions_of g.E.EventLaw.function system words) system.caps in
+    let run_of = λ (words : ℕ → ℕ). ending_at system.split (system_functions g.E.EventLaw.function system words) system.caps in
     let none = sym c.in_default.is ∙ c.ending.ensures.ending ∙ ap (λ w. run_of w (1 * 2 ^ c.loop-exponent.exponent % 4294967296)) c.loop-exponent.invariant.words in
     record {
       earlier = none-next (run_of (g.P.Past.words c.args.words.now.past)) c.loop-exponent.exponent (omega arith) c.loop-exponent.invariant.earlier none;
@@ -33,6 +33,6 @@ loop-exponent-preserved g c =
 pub returns-clause-least : goal.returns-clause-least
 returns-clause-least g c =
     let system = c.args.system.now in
-    let run = ending_at system.split (functions_of g.E.EventLaw.function system (g.P.Past.words c.args.words.now.past)) system.caps in
+    let run = ending_at system.split (system_functions g.E.EventLaw.function system (g.P.Past.words c.args.words.now.past)) system.caps in
     let e : c.loop-exponent.exponent ≡ suc system.limit = omega arith in
     (c.limit-limit.ensures.value, subst (λ n. HasNone run n) e c.loop-exponent.invariant.earlier)

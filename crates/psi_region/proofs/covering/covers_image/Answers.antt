@@ -1,7 +1,7 @@
 use Rattle.std.proofs.Common.{sym, ◌∙◌}
 use Rattle.psi_state.specs.State.{box}
-use Rattle.psi_state.specs.Boxes.{In-high}
-use Rattle.psi_region.specs.Covering.{covers-from_tight, tight-from_covers, length-tight}
+use Rattle.psi_state.proofs.BoxesLemmas.{In-high}
+use Rattle.psi_region.proofs.CoveringLemmas.{covers-from_tight, tight-from_covers, length-tight}
 use Rattle.psi_region.proofs.covering.covers_image.Goals as goal
 
 pub within-requires : goal.within-requires

@@ -1,0 +1,57 @@
+-- The outcome of the region runs has all facts of a sample, also of functions that agree on the states of the capacities.
+use Rattle.std.specs.Prelude.{◌≡◌, ℕ, List, Some}
+use Rattle.std.proofs.Common.{subst}
+use Rattle.psi_state.specs.declared.Outcome.{Outcome}
+use Rattle.psi_state.specs.declared.Outcome.TheVariants.{Met, NotMet}
+use Rattle.psi_state.specs.State.{IsBelow}
+use Rattle.psi_state.specs.Sets.{single}
+use Rattle.psi_state.proofs.SetsLemmas.{single-each}
+use Rattle.psi_rate.specs.Composition.{function_at, AreClosed}
+use Rattle.psi_rate.specs.Outcomes.{IsOutcome}
+use Rattle.psi_rate.proofs.OutcomesLemmas.{outcome-agree}
+use Rattle.psi_rate.proofs.FunctionsLemmas.{function_at-monotone}
+use Rattle.psi_region.specs.Region.{Area, IsArea}
+use Rattle.psi_horizon.specs.Runs.{region_at, ending_at}
+use Rattle.psi_horizon.specs.Agreeing.{AreAlike}
+use Rattle.psi_horizon.specs.Sample.{MeetsWithin, IsSample}
+use Rattle.psi_horizon.proofs.RunsLemmas.{run-area, outcome-reached, outcome-decides, outcome-monotone, outcome-exact}
+use Rattle.psi_horizon.proofs.AgreeingLemmas.{alike-closed_at, function_at-agree, ending_at-agree}
+
+-- the one state of a region is within the capacities
+pub single-within : (caps : List ℕ) (a : Area) (s : List ℕ) → IsArea caps a → single a.states ≡ Some s → IsBelow s caps
+single-within caps a s is one =
+    subst (λ (x : List ℕ). IsBelow x caps) (single-each a.states s is.some.0 one is.some.1) (is.within is.some.0 is.some.1)
+
+-- so is the one with which a run ends
+pub ending-within : (most : ℕ) (caps : List ℕ) (f : ℕ → List ℕ → List ℕ) (t : ℕ) (s : List ℕ) → AreClosed caps f → ending_at most f caps t ≡ Some s → IsBelow s caps
+ending-within most caps f t s closed met = single-within caps (region_at most f caps t) s (run-area most caps f t closed) met
+
+pub outcome-within : (most : ℕ) (caps : List ℕ) (f : ℕ → List ℕ → List ℕ) (limit : ℕ) (o : Outcome) → AreClosed caps f
+    → IsOutcome (ending_at most f caps) limit o → MeetsWithin caps o
+outcome-within most caps f limit (Met t s) closed is = ending-within most caps f t s closed is.answer
+outcome-within most caps f limit (NotMet l) closed is = tt
+
+-- the outcome of the region runs is a sample
+pub sample-is : (caps : List ℕ) (functions : List (List ℕ → List ℕ)) (rates : List ℕ) (limit split : ℕ) (words : ℕ → ℕ) (o : Outcome)
+    → AreClosed caps (function_at functions rates words) → IsOutcome (ending_at split (function_at functions rates words) caps) limit o
+    → IsSample caps functions rates limit split words o
+sample-is caps functions rates limit split words o closed least =
+    let f = function_at functions rates words in
+    record {
+      least = least;
+      reached = outcome-reached split caps f limit o closed least;
+      later = outcome-decides split caps f limit o closed least;
+      within = outcome-within split caps f limit o closed least;
+      monotone = λ monotone. outcome-monotone split caps f limit o closed (function_at-monotone caps functions rates words monotone) least;
+      small = λ few. outcome-exact split caps f limit o few least;
+    }
+
+-- a sample of functions is one of other functions that agree with them
+pub sample-agree : (caps : List ℕ) (fs gs : List (List ℕ → List ℕ)) (rates : List ℕ) (limit split : ℕ) (words : ℕ → ℕ) (o : Outcome)
+    → AreClosed caps (function_at fs rates words) → AreAlike caps fs gs → IsSample caps fs rates limit split words o → IsSample caps gs rates limit split words o
+sample-agree caps fs gs rates limit split words o closed alike sample =
+    let f = function_at fs rates words in
+    let g = function_at gs rates words in
+    sample-is caps gs rates limit split words o (alike-closed_at caps fs gs rates words closed alike)
+    (outcome-agree (ending_at split f caps) (ending_at split g caps) limit o
+    (λ t some. ending_at-agree split caps f g closed (function_at-agree caps fs gs rates words alike) t) sample.least)

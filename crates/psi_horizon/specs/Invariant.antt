@@ -1,0 +1,25 @@
+-- What every plan keeps.
+use Rattle.std.specs.Prelude.{◌≡◌, ℕ, ◌≤◌, ◌^◌, List, Option, IfSome, option_map}
+use Rattle.psi_past.specs.Keeping.{Keeping}
+use Rattle.psi_rate.specs.Composition.{Functions, Parts}
+use Rattle.psi_region.specs.Region.{Regional}
+use Rattle.psi_horizon.specs.declared.plan.Progress.{Progress}
+use Rattle.psi_horizon.specs.Runs.{region_after}
+use Rattle.psi_horizon.specs.Planned.{Running}
+
+-- the run that was begun, as its plan is seen
+abbrev pub running_of : Option Progress → Option Running
+running_of run = option_map (λ r. record { horizon = r.horizon; done = r.done }) run
+
+-- a run that was begun: its words are kept, and the region is that of the run after the steps that are done
+pub record IsUnderway (f : Functions) (split : ℕ) (caps : List ℕ) (count : ℕ) (region : Regional) (r : Progress) : Type 0 where
+  pub kept : r.horizon ≤ count
+  pub done : r.done ≤ r.horizon
+  pub area : region.area ≡ region_after split f caps r.horizon r.done
+
+-- there is room for the words of the greatest horizon, which no run passes, and for a split region
+pub record IsPlan {E P : Type 0} (f : Functions) (system : Parts E) (words : Keeping P) (region : Regional) (progress : Option Progress) : Type 0 where
+  pub room : 2 ^ system.limit ≤ words.most
+  pub split : region.most ≡ system.split
+  pub within : IfSome progress (λ r. r.horizon ≤ 2 ^ system.limit)
+  pub run : IfSome progress (λ r. IsUnderway f system.split system.caps words.count region r)

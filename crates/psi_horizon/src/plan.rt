@@ -1,0 +1,247 @@
+//! The plan to sample a network.
+
+ghost use Rattle.std.specs.Prelude.{◌≡◌, ◌-◌, ◌+◌, ◌^◌, ◌≤◌, ◌↔◌, ⊤, ℕ, List, true, Some, None, [], length, map, IfOk, IfSome, IsSome};
+ghost use Rattle.std.specs.Borrow.{sem, follows_so};
+ghost use mathlib.Core.Option.{none};
+ghost use Rattle.psi_state.specs.State.{IsBelow, all_states};
+ghost use Rattle.psi_state.specs.Members.{In};
+ghost use Rattle.psi_state.specs.Sets.{single};
+ghost use Rattle.psi_state.specs.Ascending.{IsRising};
+ghost use Rattle.psi_rate.specs.Rates.{event_of};
+ghost use Rattle.psi_rate.specs.Composition.{system_functions};
+ghost use Rattle.psi_rate.specs.Outcomes.{outcome_within};
+ghost use Rattle.psi_rate.specs.System.{IsSystem};
+ghost use Rattle.psi_region.specs.Region.{ShowsBox};
+ghost use Rattle.psi_horizon.specs.Runs.{region_at, ending_at, region_after, AreOrdered, AreExact};
+ghost use Rattle.psi_horizon.specs.Sample.{IsSample};
+ghost use Rattle.psi_horizon.specs.Planned.{IsOver, onward};
+ghost use Rattle.psi_horizon.specs.contracts.plan.Plan.{the_row};
+ghost use mir.Syntax.{named};
+
+use crate::doubling::{first_ending, follow_word};
+use psi_event::EventLaw;
+use psi_past::{Kept, Past};
+use psi_rate::System;
+use psi_region::Region;
+use psi_state::{Bounds, Outcome, State, Step};
+use std::alloc::Global;
+use std::marker::Model;
+
+/// Memory ran out.
+#[derive(Clone, Copy, Debug, PartialEq, Eq)]
+pub struct OutOfMemory;
+
+impl From<psi_past::OutOfMemory> for OutOfMemory {
+    fn from(_error: psi_past::OutOfMemory) -> OutOfMemory {
+        OutOfMemory
+    }
+}
+
+impl From<psi_region::OutOfMemory> for OutOfMemory {
+    fn from(_error: psi_region::OutOfMemory) -> OutOfMemory {
+        OutOfMemory
+    }
+}
+
+// A run that was begun: its horizon, and how many of its steps are done.
+#[derive(Clone, Copy, Debug)]
+struct Progress {
+    horizon: u32,
+    done: u32,
+}
+
+/// A network with the past that its samples are drawn from, the room for the words of the greatest
+/// horizon, and the room for a split region.
+///
+/// It is seen as the network, the past, and the run that was begun, if one was.
+#[derive(Drop)]
+pub struct Plan<'n, E: EventLaw, P: Past + Drop> {
+    system: System<'n, E>,
+    words: Kept<P>,
+    region: Region,
+    run: Option<Progress>,
+}
+
+impl<'n, E: EventLaw, P: Past + Drop> Model for Plan<'n, E, P> {
+    ghost use Rattle.psi_rate.specs.Composition.{system_functions};
+    ghost use Rattle.psi_horizon.specs.Planned.{Planned};
+    ghost use Rattle.psi_horizon.specs.Invariant.{running_of, IsPlan};
+
+    ghost Value = { Planned E P };
+
+    ghost view = { λ p. record { system = p.system; past = p.words.past; run = running_of p.run } };
+
+    ghost invariant = { λ p. IsPlan (system_functions E.function p.system (P.words p.words.past)) p.system p.words p.region p.run };
+}
+
+impl<'n, E: EventLaw, P: Past + Drop> Plan<'n, E, P> {
+    /// The plan to sample the network from this past. It takes the room for the 2 to the power `limit`
+    /// words of the greatest horizon, of 4 bytes each, and for a region of `split` states; no other call
+    /// takes memory.
+    ///
+    /// `OutOfMemory` is the answer where there is no memory for it; no clause says when that is.
+    pub fn new(alloc: Global, system: System<'n, E>, past: P) -> Result<Plan<'n, E, P>, OutOfMemory>
+        ensures { IfOk result (λ plan. plan ≡ record { system = system.entry; past = past; run = None }) }
+    {
+        let most = 1 << system.limit();
+        let words = Kept::reserve(alloc, past, most)?;
+        let region = Region::reserve(alloc, system.split())?;
+        Ok(Plan {
+            system,
+            words,
+            region,
+            run: None,
+        })
+    }
+
+    /// The sample: the least horizon among 1, 2, 4, .., 2 to the power `limit` whose region run ends with one
+    /// state, with that state, which is within the capacities. Every state that starts there or earlier is in
+    /// it at time zero. It isn't met exactly where none of these runs ends with one state.
+    ///
+    /// The run of a horizon begins with the box of all states that many steps before time zero. Before each
+    /// step a region of at most `split` states becomes split; then a split region becomes its image under
+    /// the event, and an unsplit one the hull of its image. The same words are used for the same time at
+    /// each horizon (Propp and Wilson 1996), so a longer run's region is within a shorter run's.
+    ///
+    /// Where every event is monotone, and also where there are at most `split` states, it is met exactly
+    /// where all states have met at one of these horizons, and at the least of them. Afterwards no run is
+    /// begun.
+    pub fn sample(&mut self) -> Outcome
+        ensures outcome { let f = system_functions E.function self.old.system (P.words self.old.past) in
+            result ≡ outcome_within (ending_at self.old.system.split f self.old.system.caps) self.old.system.limit }
+        ensures sample { IsSample self.old.system.caps (map E.function self.old.system.events) self.old.system.rates self.old.system.limit self.old.system.split
+            (P.words self.old.past) result }
+        ensures exact { let f = system_functions E.function self.old.system (P.words self.old.past) in
+            length (all_states self.old.system.caps) ≤ self.old.system.split
+            → AreExact self.old.system.split f self.old.system.caps }
+        ensures order { let f = system_functions E.function self.old.system (P.words self.old.past) in
+            AreOrdered self.old.system.split f self.old.system.caps }
+        ensures system { self.new.system ≡ self.old.system }
+        ensures words { P.words self.new.past ≡ P.words self.old.past }
+        ensures run { self.new.run ≡ None }
+    {
+        // Called for its clause: the events fit the capacities.
+        let _caps = self.system.caps();
+        self.run = None;
+        first_ending(&self.system, &mut self.words, &mut self.region)
+    }
+
+    /// The exponent of the greatest horizon, 0 to 22.
+    ///
+    /// Its last clause is how a caller learns what every plan keeps: its network's parts fit each other.
+    pub fn limit(&self) -> u8
+        ensures value { result ≡ self.now.system.limit }
+        ensures bound { result ≤ 22 }
+        ensures fit { IsSystem E.capacities self.now.system }
+    {
+        // Called for its clause: the parts fit each other.
+        let _caps = self.system.caps();
+        self.system.limit()
+    }
+
+    /// Takes other words for the next calls. The network stays, and no run is begun.
+    pub fn replace(&mut self, past: P)
+        ensures { self.new ≡ record { system = self.old.system; past = past; run = None } }
+    {
+        self.run = None;
+        self.words.replace(past);
+    }
+
+    /// Begins the region run of this horizon, 1 to 2 to the power `limit` steps: its region is the box of
+    /// all states.
+    ///
+    /// Once all its steps are done, its region is the one with which the run ends.
+    pub fn begin(&mut self, horizon: u32)
+        requires some { 1 ≤ horizon }
+        requires most { horizon ≤ 2 ^ self.old.system.limit }
+        ensures run { self.new.run ≡ Some (record { horizon = horizon; done = 0 }) }
+        ensures whole { let f = system_functions E.function self.old.system (P.words self.old.past) in
+            region_after self.old.system.split f self.old.system.caps horizon horizon ≡ region_at self.old.system.split f self.old.system.caps horizon }
+        ensures system { self.new.system ≡ self.old.system }
+        ensures words { P.words self.new.past ≡ P.words self.old.past }
+    {
+        self.words.extend_to(horizon);
+        self.region.start(&self.system.caps());
+        self.run = Some(Progress { horizon, done: 0 });
+    }
+
+    /// Does the next step of the run that was begun, and tells its time, 1 to 2 to the power `limit` steps
+    /// before time zero, and its event's number, which is the number of events where it is idle.
+    ///
+    /// `None` comes exactly where all steps of the run are done, or no run was begun since the plan was made,
+    /// a sample was drawn or the words were replaced; then nothing changes.
+    pub fn advance(&mut self) -> Option<Step>
+        ensures over { (result ≡ None) ↔ IsOver self.old.run }
+        ensures same { result ≡ None → self.new ≡ self.old }
+        ensures time { IfSome result (λ step. IfSome self.old.run (λ r. step.number ≡ r.horizon - r.done)) }
+        ensures event { IfSome result (λ step. step.event ≡ event_of self.old.system.rates (P.words self.old.past (step.number - 1))) }
+        ensures run { IsSome result → self.new ≡ record self.old { run = onward self.old.run } }
+        ensures begun { IsSome result → IsSome self.new.run }
+        ensures within { IfSome result (λ step. (1 ≤ step.number) × (step.number ≤ 2 ^ self.old.system.limit)) }
+        ensures number { IfSome result (λ step. step.event ≤ length self.old.system.events) }
+    {
+        let progress = self.run?;
+        if progress.done == progress.horizon {
+            return None;
+        }
+        // Called for its clause: the events fit the capacities.
+        let _caps = self.system.caps();
+        let number = progress.horizon - progress.done;
+        let word = self.words.at(number - 1);
+        let event = follow_word(&self.system, word, &mut self.region);
+        self.run = Some(Progress {
+            horizon: progress.horizon,
+            done: progress.done + 1,
+        });
+        Some(Step { number, event })
+    }
+
+    /// The state of the run's region after the steps that are done, where it has exactly one; `None`
+    /// exactly where it has more. A run was begun. The state is within the capacities.
+    pub fn single(&self) -> Option<State>
+        requires { IsSome self.now.run }
+        ensures value { let f = system_functions E.function self.now.system (P.words self.now.past) in
+            IfSome self.now.run (λ r. result ≡ single (region_after self.now.system.split f self.now.system.caps r.horizon r.done).states) }
+        ensures more { let f = system_functions E.function self.now.system (P.words self.now.past) in
+            result ≡ None → IfSome self.now.run (λ r. 2 ≤ length (region_after self.now.system.split f self.now.system.caps r.horizon r.done).states) }
+        ensures within { IfSome result (λ s. IsBelow s self.now.system.caps) }
+    {
+        // Called for its clause: the events fit the capacities.
+        let _caps = self.system.caps();
+        self.region.single()
+    }
+
+    /// The box of the run's region after the steps that are done, exactly where it isn't split. A run was
+    /// begun. The box is within the capacities.
+    pub fn bounds(&self) -> Option<Bounds>
+        requires { IsSome self.now.run }
+        ensures within { IfSome result (λ b. IsBelow b.hi self.now.system.caps) }
+        ensures ordered { IfSome result (λ b. IsBelow b.lo b.hi) }
+        ensures shown { let f = system_functions E.function self.now.system (P.words self.now.past) in
+            IfSome self.now.run (λ r. ShowsBox (region_after self.now.system.split f self.now.system.caps r.horizon r.done) result) }
+    {
+        // Called for its clause: the events fit the capacities.
+        let _caps = self.system.caps();
+        self.region.bounds()
+    }
+
+    /// The states of the run's region after the steps that are done, in ascending, that is lexicographic,
+    /// order: at least one, at most the split number, all within the capacities. A run was begun, and its
+    /// region is split. The run stays as it was.
+    pub fn states(&mut self) -> &[State]
+        requires begun { IsSome self.old.run }
+        requires split { let f = system_functions E.function self.old.system (P.words self.old.past) in
+            IfSome self.old.run (λ r. (region_after self.old.system.split f self.old.system.caps r.horizon r.done).is_split ≡ true) }
+        ensures states { let f = system_functions E.function self.old.system (P.words self.old.past) in
+            IfSome self.old.run (λ r. result.now ≡ (region_after self.old.system.split f self.old.system.caps r.horizon r.done).states) }
+        ensures within { (x : List ℕ) → In x result.now → IsBelow x self.old.system.caps }
+        ensures rising { IsRising result.now }
+        ensures some { 1 ≤ length result.now }
+        ensures few { length result.now ≤ self.old.system.split }
+        ensures* same { sem 𝓛 (follows_so (the_row (record { mir = named 0; lft = [] }) E.row P.row E.EventLaw P.Past) (the_row (record { mir = named 0; lft = [] }) E.row P.row E.EventLaw P.Past) self.entry.ghost_name none (λ _ _. ⊤) (λ v. v ≡ self.old)) }
+    {
+        // Called for its clause: the events fit the capacities.
+        let _caps = self.system.caps();
+        self.region.states()
+    }
+}

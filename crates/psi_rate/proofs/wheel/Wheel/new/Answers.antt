@@ -1,0 +1,28 @@
+use Rattle.std.proofs.Common.{◌≤◌, length, ◌∙◌, sym, arith}
+use Rattle.psi_rate.proofs.Dealt.{total-passes, total-take_more, totals_from-take_more, dial-whole, length-some}
+use Rattle.psi_rate.proofs.wheel.Wheel.new.Goals as goal
+
+pub returns-then-sum-gt-MOST_TOTAL-clause-refused : goal.returns-then-sum-gt-MOST_TOTAL-clause-refused
+returns-then-sum-gt-MOST_TOTAL-clause-refused c =
+    total-passes c.args.rates.now c.loop-at.at c.loop-at.sum c.loop-at-test.true c.loop-at.invariant.whole c.loop-at.invariant.bounded c.if-sum-gt-MOST_TOTAL.true
+
+pub loop-at-preserved : goal.loop-at-preserved
+loop-at-preserved c =
+    let rates = c.args.rates.now in
+    let at = c.loop-at.at in
+    let kept = c.loop-at.invariant in
+    record {
+      items = c.push_reserved.ensures.items ∙ totals_from-take_more rates c.loop-at.totals.items at c.loop-at.sum c.loop-at-test.true kept.items kept.whole;
+      len = (let l = c.push_reserved.ensures.len in let k = kept.len in omega arith);
+      room = (let l = c.push_reserved.ensures.capacity in let k = kept.room in omega arith);
+      whole = (let more = total-take_more rates at c.loop-at-test.true in let k = kept.whole in omega arith);
+      bounded = c.if-sum-gt-MOST_TOTAL.false;
+    }
+
+pub invariant_of-result : goal.invariant_of-result
+invariant_of-result c =
+    let kept = c.loop-at.invariant in
+    let some : 1 ≤ length c.args.rates.now = length-some c.args.rates.now (sym c.is_empty.ensures ∙ c.if-is_empty.false) in
+    dial-whole c.args.rates.now c.in_ok-from_slice.field-0.items c.loop-at.totals.items c.loop-at.sum c.next_power_of_two.result c.loop-at.at
+    c.requires.few c.requires.least c.requires.most some c.loop-at-test.false c.in_ok-from_slice.ensures.items kept.items kept.whole kept.bounded
+    c.next_power_of_two.ensures.power c.next_power_of_two.ensures.lower_bound c.next_power_of_two.ensures.upper_bound

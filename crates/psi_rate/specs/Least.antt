@@ -1,0 +1,29 @@
+-- The least horizon of any length: the first among 1, 2, 3, .. at which a run has an answer, for a run of any kind and an
+-- answer of any type.
+use Rattle.std.specs.Prelude.{◌≡◌, ℕ, zero, suc, ◌<◌, ◌≤◌, Option, Some, None}
+use Rattle.psi_rate.specs.Doubling.{answer_or}
+
+-- the first of t, t + 1, t + 2, .., so many, at which the run has an answer, with that answer
+abbrev pub least_from : {A : Type 0} → (ℕ → Option A) → ℕ → ℕ → Option (ℕ × A)
+least_from run zero t = None
+least_from run (suc more) t = answer_or (run t) t (least_from run more (suc t))
+
+-- the first among 1, 2, 3, .., most at which the run has an answer, with that answer
+unfoldable pub least_answer : {A : Type 0} → (ℕ → Option A) → ℕ → Option (ℕ × A)
+least_answer run most = least_from run most 1
+
+-- the run has no answer at the horizons from 1 on that are below this one
+pub record HasNoneBelow {A : Type 0} (run : ℕ → Option A) (t : ℕ) : Type 0 where
+  pub each : (k : ℕ) → 1 ≤ k → k < t → run k ≡ None
+
+-- t is the least horizon from 1 to most at which the run has an answer, and a is that answer
+pub record IsLeast {A : Type 0} (run : ℕ → Option A) (most t : ℕ) (a : A) : Type 0 where
+  pub some : 1 ≤ t
+  pub within : t ≤ most
+  pub answer : run t ≡ Some a
+  pub earlier : HasNoneBelow run t
+
+-- what is told of a run's least horizon: it with its answer, or that no horizon from 1 to most has one
+abbrev pub TellsLeast : {A : Type 0} → (ℕ → Option A) → ℕ → Option (ℕ × A) → Type 0
+TellsLeast run most None = HasNoneBelow run (suc most)
+TellsLeast run most (Some found) = IsLeast run most found.0 found.1

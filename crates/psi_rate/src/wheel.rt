@@ -1,0 +1,128 @@
+//! The wheel: the event of a word.
+
+ghost use Rattle.std.specs.Prelude.{◌≡◌, ℕ, ◌+◌, ◌%◌, ◌<◌, ◌≤◌, length, slice_index, IfOk, IfErr, OnOk, EachIndex};
+ghost use Rattle.psi_rate.specs.Rates.{AreRates, HasNumber, IsLeastPower, event_of, least_power, total};
+
+use std::alloc::{AllocError, Global};
+use std::marker::Model;
+
+// The greatest total of the rates of a network's events.
+const MOST_TOTAL: u32 = 16_777_216;
+
+/// Why rates make no wheel.
+#[derive(Clone, Copy, PartialEq, Eq, Debug)]
+pub enum RateRefusal {
+    /// There is no rate.
+    NoEvents,
+    /// The running total of the rates passes 16,777,216 at this place, and at none before.
+    TotalTooLarge {
+        /// The place, counted from 0.
+        at: u16,
+    },
+    /// There is no memory for the wheel.
+    OutOfMemory,
+}
+
+impl From<AllocError> for RateRefusal {
+    ghost use Rattle.psi_rate.specs.declared.wheel.RateRefusal.TheVariants.{OutOfMemory};
+
+    ghost from_gives = { λ _ refusal. refusal ≡ OutOfMemory };
+
+    fn from(_error: AllocError) -> RateRefusal {
+        RateRefusal::OutOfMemory
+    }
+}
+
+/// The rates of a network's events, dealt out over the numbers below a power of two.
+///
+/// Event 0 has the first `rate_0` numbers, event 1 the next `rate_1`, and so on; the numbers that are
+/// left are idle. It is seen as the list of the rates.
+#[derive(Drop, Debug)]
+pub struct Wheel {
+    rates: Vec<u32>,
+    totals: Vec<u32>,
+    sum: u32,
+    modulus: u32,
+}
+
+impl Model for Wheel {
+    ghost use Rattle.std.specs.Prelude.{ℕ, List, ◌≡◌};
+    ghost use Rattle.psi_rate.specs.Totals.{IsDial};
+
+    ghost Value = { List ℕ };
+
+    ghost view = { λ wheel. wheel.rates.items };
+
+    ghost invariant = { λ wheel. IsDial wheel.rates.items wheel.totals.items wheel.sum wheel.modulus };
+}
+
+impl Wheel {
+    ghost use Rattle.psi_rate.specs.Refusal.{IsRateRefusal};
+
+    /// The wheel of these rates: 1 to 1,024 rates, each from 1 to 1,048,576, with a total of at most
+    /// 16,777,216.
+    ///
+    /// The refusals are `NoEvents` where there is no rate, `TotalTooLarge` where the total is too large,
+    /// and `OutOfMemory`.
+    pub fn new(alloc: Global, rates: &[u32]) -> Result<Wheel, RateRefusal>
+        requires few { length rates.now ≤ 1024 }
+        requires least { EachIndex rates.now (λ i. 1 ≤ slice_index rates.now i) }
+        requires most { EachIndex rates.now (λ i. slice_index rates.now i ≤ 1048576) }
+        ensures rates { IfOk result (λ wheel. wheel ≡ rates.now) }
+        ensures accepted { OnOk result (AreRates rates.now) }
+        ensures refused { IfErr result (λ refusal. IsRateRefusal refusal rates.now) }
+    {
+        if rates.is_empty() {
+            return Err(RateRefusal::NoEvents);
+        }
+        let mut totals = Vec::with_capacity(alloc, rates.len())?;
+        let mut sum = 0;
+        for (at, rate) in rates.iter().enumerate() {
+            sum += *rate;
+            if sum > MOST_TOTAL {
+                return Err(RateRefusal::TotalTooLarge { at: at as u16 });
+            }
+            totals.push_reserved(sum);
+        }
+        Ok(Wheel {
+            rates: Vec::from_slice(alloc, rates)?,
+            totals,
+            sum,
+            modulus: sum.next_power_of_two(),
+        })
+    }
+
+    /// The event of a word: its number among the events, or the count of the events where the word is
+    /// idle.
+    #[inline]
+    pub fn pick(&self, word: u32) -> u16
+        ensures event { result ≡ event_of self.now word }
+        ensures number { HasNumber self.now (word % least_power (total self.now)) result }
+    {
+        let number = word & (self.modulus - 1);
+        self.totals.partition_point(|total| *total <= number) as u16
+    }
+
+    /// How many numbers there are, the idle ones included: the least power of two that isn't below the total rate.
+    pub fn modulus(&self) -> u32
+        ensures value { result ≡ least_power (total self.now) }
+        ensures least { IsLeastPower (total self.now) result }
+    {
+        self.modulus
+    }
+
+    /// The count of the numbers that no event has.
+    pub fn idle(&self) -> u32
+        ensures { result + total self.now ≡ least_power (total self.now) }
+    {
+        self.modulus - self.sum
+    }
+
+    /// The number of events, 1 to 1,024.
+    pub fn events(&self) -> u16
+        ensures count { result ≡ length self.now }
+        ensures valid { AreRates self.now }
+    {
+        self.rates.len() as u16
+    }
+}

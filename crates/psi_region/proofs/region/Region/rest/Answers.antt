@@ -1,0 +1,9 @@
+use Rattle.std.proofs.Common.{◌∙◌}
+use Rattle.psi_region.proofs.Steps.{rested-held}
+use Rattle.psi_region.proofs.region.Region.rest.Goals as goal
+
+pub returns-clause-area : goal.returns-clause-area
+returns-clause-area c =
+    let held = c.self.inside in
+    c.settle.ensures.area
+    ∙ rested-held c.args.self.now.most held.most held.is_split held.bounds held.pool.states c.args.self.now c.self.view_is c.len-count.ensures.rising c.len-queues.ensures.ordered

@@ -1,0 +1,7 @@
+use Rattle.psi_region.proofs.Steps.{held-split}
+use Rattle.psi_region.proofs.region.Region.settle.Goals as goal
+
+pub invariant_of-self : goal.invariant_of-self
+invariant_of-self c =
+    held-split c.self.inside.most c.self.inside.bounds c.fill.new.pool c.self.inside.pool.most c.fill.ensures.most c.self.invariant.room
+    c.len-queues.ensures.ordered c.fill.ensures.states
