@@ -14,37 +14,34 @@ use Rattle.psi_guard.specs.declared.Part.{Part}
 use Rattle.psi_route.specs.Refusals.{is_self_target, are_tables, is_size_off}
 use Rattle.psi_route.specs.declared.Source.{Source}
 use Rattle.psi_route.specs.declared.Full.TheVariants.{Lost}
-use Rattle.psi_kinds.specs.Kinds.{IsSource}
-use Rattle.psi_kinds.specs.Refusals.{is_empty, lacks_queues, repeats_queue, targets_itself, lacks_tables, is_out_of_size, refusal_of_parts, refusal_of}
+use Rattle.psi_route.specs.Accepted.{IsSource}
+use Rattle.psi_kinds.specs.Refusals.{is_empty}
 use Rattle.psi_kinds.specs.declared.Kind.{Kind}
 use Rattle.psi_kinds.specs.declared.Kind.TheVariants as kind
-use Rattle.psi_net.specs.Refusal.{holds_or}
-use Rattle.psi_net.specs.Values.{no_unknown, required, optional, number_in, integer_in, array_in, elements_in, each}
-use Rattle.psi_net.specs.References.{is_in, queue_in, targets_in, some_targets_in}
-use Rattle.psi_net.specs.Targets.{AreTargets}
+use Rattle.psi_document.specs.Refusal.{holds_or}
+use Rattle.psi_document.specs.Values.{no_unknown, required, optional, number_in, integer_in, array_in, elements_in, each}
+use Rattle.psi_document.specs.References.{is_in, queue_in, targets_in, some_targets_in}
+use Rattle.psi_document.specs.Targets.{AreTargets}
 use Rattle.psi_state.specs.Repeats.{repeats}
-use Rattle.psi_net.specs.KindTables.{first_server, source_in, queue_of_source, full_in, number_step, row_step, table_of, size_fits, arrival_of, service_of, index_of, batch_of, negative_of, fork_of, joined_in, join_of}
+use Rattle.psi_net.specs.KindTables.{source_in, queue_of_source, full_in, number_step, row_step, table_of, size_fits, arrival_of, service_of, index_of, batch_of, negative_of, fork_of, joined_in, join_of}
+use Rattle.psi_network.specs.Expansion.{first_server}
 use Rattle.psi_net.specs.PartTables.{part_keys, part_queue, part_of, part_step, parts_in, guarded_of}
 use Rattle.psi_net.specs.EventTables.{kind_of}
-use Rattle.psi_net.specs.Kept.{IsAccepted}
-use Rattle.psi_net.specs.declared.refusals.Cause.TheVariants.{OutOfRange}
-use Rattle.psi_net.specs.declared.refusals.Place.{Place}
-use Rattle.psi_net.specs.declared.refusals.NetRefusal.{NetRefusal}
+use Rattle.psi_network.specs.Valid.{IsAccepted}
+use Rattle.psi_document.specs.declared.refusals.Cause.TheVariants.{OutOfRange}
+use Rattle.psi_document.specs.declared.refusals.Place.{Place}
+use Rattle.psi_document.specs.declared.refusals.NetRefusal.{NetRefusal}
 use Rattle.psi_net.specs.declared.words.KindWord.{KindWord}
 use Rattle.psi_net.specs.declared.words.KindWord.TheVariants as word
-use Rattle.psi_net.proofs.Readings.{if_ok, bind_ok, ok_same, held, required_ok, optional_kept, number_range, integer_range, elements_count, each_kept, each_kept_below, queue_small}
-use Rattle.psi_net.proofs.Pigeons.{no_targets}
-use Rattle.psi_net.proofs.KeptTargets.{AreSomeTargets, targets_kept, some_targets_kept, target_small, target_apart, not_empty, away, among}
+use Rattle.psi_document.proofs.ReadingLemmas.{if_ok, bind_ok, ok_same, held, required_ok, optional_kept, number_range, integer_range, elements_count, each_kept, each_kept_below, queue_small}
+use Rattle.psi_document.proofs.PigeonLemmas.{no_targets}
+use Rattle.psi_document.proofs.TargetLemmas.{AreSomeTargets, targets_kept, some_targets_kept, target_small, target_apart, away, among}
+use Rattle.psi_network.proofs.KindLemmas.{accepted, first_source}
 
--- where no cause is there, nothing is refused
-pub accepted : (caps : List ℕ) (kind : Kind) → lacks_queues kind ≡ false → repeats_queue kind ≡ false → targets_itself kind ≡ false → lacks_tables caps kind ≡ false
-    → is_out_of_size caps kind ≡ false → refusal_of_parts caps kind ≡ None → refusal_of caps kind ≡ None
-unfolding refusal_of
-accepted caps kind queues once away tables size parts = rw (queues, once, away, tables, size, parts) refl
-
--- a source that is read, with its first server
-pub first_source : (caps : List ℕ) → AreCapacities caps → (q : ℕ) → q < length caps → IsSource caps (first_server q)
-first_source caps valid q small = record { queue = small; least = omega arith; most = valid.least q small }
+-- a list of at least one isn't empty
+pub not_empty : {A : Type 0} (xs : List A) → 0 < length xs → is_empty xs ≡ false
+not_empty [] some = absurd (omega arith)
+not_empty (x ∷ xs) some = refl
 
 -- no target is the source
 self_away : (s : Option Source) (qs : List ℕ) → list_all (λ q. not (is_in q (queue_of_source s))) qs ≡ true → is_self_target s qs ≡ false
@@ -60,7 +57,7 @@ module _ (caps : List ℕ) (names : List (List ℕ)) (sources : List ℕ) (same 
       subst (λ (n : ℕ). AreSomeTargets n sources qs) same (some_targets_kept place key names sources read.0 qs read.1)
 
   some_at : is_empty qs ≡ false
-  some_at = targets_at.some
+  some_at = not_empty qs targets_at.some
 
   distinct_at : repeats qs ≡ false
   distinct_at = targets_at.distinct
@@ -245,8 +242,8 @@ module _ (caps : List ℕ) (names : List (List ℕ)) (same : length names ≡ le
       (λ d r. (number_range place (codes "size") 1 65535 d size.0 r).0) size.1 in
       subst (λ (x : Kind). IsAccepted caps x) (ok_same (kind.Index from.0 to.0 table.0 full.0 fitting.0) k fitting.2) (record {
         named = (source_kept caps names same valid place (get_member (codes "from") ms) from.0 from.1, among (length caps) to.0 kept.within);
-        accepted = accepted caps (kind.Index from.0 to.0 table.0 full.0 fitting.0) kept.some kept.distinct (self_away from.0 to.0 kept.apart)
-            (ap not (table_kept place caps to.0 rows.0 table.0 rows.1)) (size_kept place caps from.0 to.0 size.0 fitting.0 least kept.some fitting.1) refl;
+        accepted = accepted caps (kind.Index from.0 to.0 table.0 full.0 fitting.0) (not_empty to.0 kept.some) kept.distinct (self_away from.0 to.0 kept.apart)
+            (ap not (table_kept place caps to.0 rows.0 table.0 rows.1)) (size_kept place caps from.0 to.0 size.0 fitting.0 least (not_empty to.0 kept.some) fitting.1) refl;
       })
 
   batch_kept : (ms : Members) → IfOk (batch_of place names caps ms) (IsAccepted caps)

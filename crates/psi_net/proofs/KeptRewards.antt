@@ -1,38 +1,33 @@
 -- Every reward that is read is accepted.
-use Rattle.std.specs.Prelude.{◌≡◌, ℕ, get_or, ◌+◌, ◌<◌, ℤ, List, [], ◌∷◌, ◌++◌, length, map, take, slice_index, codes, IfOk, All, true, false, ◌==◌, Option, Some, None, Ok, refl}
-use Rattle.std.proofs.Common.{sym, ◌∙◌, subst, arith, length-append}
+use Rattle.std.specs.Prelude.{◌≡◌, ℕ, get_or, ◌+◌, ◌<◌, ℤ, List, [], ◌∷◌, ◌++◌, length, map, take, slice_index, codes, IfOk, All, true, false, ◌==◌, Option, Ok, refl}
+use Rattle.std.proofs.Common.{subst, arith, length-append}
 use Rattle.std.specs.List.{flat_map}
 use Rattle.std.proofs.lemmas.Bool.{and_from, eqb-true, eq-eqb}
 use Rattle.std.proofs.lemmas.List.{map_push, take_more, take_all}
 use Rattle.std.proofs.lemmas.List.Elements.{All-nil, All-push, All-append, All-from_get_or}
 use Rattle.std.proofs.lemmas.List.Concat.{flat_map-append}
 use Rattle.toml.specs.Data.{Data, Members}
-use Rattle.psi_state.specs.Repeats.{repeats}
-use Rattle.psi_kinds.specs.Refusals.{is_empty}
 use Rattle.psi_reward.specs.Held.{held as held_by}
-use Rattle.psi_reward.specs.Refusing.{queues_of, IsSmall, is_none_listed, has_rows, has_lengths, refusal_of}
+use Rattle.psi_reward.specs.Refusing.{IsSmall, is_none_listed, has_rows}
 use Rattle.psi_reward.specs.declared.RewardKind.{RewardKind}
-use Rattle.psi_reward.specs.declared.RewardRefusal.{RewardRefusal}
-use Rattle.psi_net.specs.Refusal.{holds_or}
-use Rattle.psi_net.specs.Values.{required, array_in, each}
-use Rattle.psi_net.specs.References.{some_targets_in}
+use Rattle.psi_reward.specs.Rewards.{reward_caps}
+use Rattle.psi_document.specs.Refusal.{holds_or}
+use Rattle.psi_document.specs.Values.{required, array_in, each}
+use Rattle.psi_document.specs.References.{some_targets_in}
 use Rattle.psi_net.specs.RewardTables.{integer_step, weights_in, grid_step, grid_in, reward_kind_of}
-use Rattle.psi_net.specs.Draft.{named}
-use Rattle.psi_net.specs.Targets.{are_below}
-use Rattle.psi_net.specs.Kept.{IsReward}
-use Rattle.psi_net.specs.declared.entries.RewardEntry.{RewardEntry}
-use Rattle.psi_net.specs.declared.refusals.Place.{Place}
+use Rattle.psi_network.specs.Draft.{named}
+use Rattle.psi_document.specs.Targets.{are_below}
+use Rattle.psi_network.specs.Valid.{IsReward}
+use Rattle.psi_network.specs.declared.entries.RewardEntry.{RewardEntry}
+use Rattle.psi_document.specs.declared.refusals.Place.{Place}
 use Rattle.psi_net.specs.declared.words.RewardWord.{RewardWord}
-use Rattle.psi_net.proofs.Readings.{bind_ok, held, required_ok, integer_range, each_kept, each_kept_below}
-use Rattle.psi_net.proofs.Found.{below_at}
-use Rattle.psi_net.proofs.KeptTargets.{AreSomeTargets, some_targets_kept}
+use Rattle.psi_document.proofs.ReadingLemmas.{bind_ok, held, required_ok, integer_range, each_kept, each_kept_below}
+use Rattle.psi_document.proofs.FoundLemmas.{below_at}
+use Rattle.psi_document.proofs.TargetLemmas.{AreSomeTargets, some_targets_kept}
+use Rattle.psi_network.proofs.RewardLemmas.{reward_accepted}
 
--- what is accepted isn't refused
-pub not_refused : (caps : List ℕ) (kind : RewardKind) (refusal : RewardRefusal) → IsReward caps kind → refusal_of caps kind ≡ Some refusal → ⊥
-not_refused caps kind refusal kept h = (let e : ◌≡◌ {A = Option RewardRefusal} None (Some refusal) = sym kept.accepted ∙ h in absurd cc)
-
-listed_some : (qs : List ℕ) → is_empty qs ≡ false → is_none_listed qs ≡ false
-listed_some [] h = absurd cc
+listed_some : (qs : List ℕ) → 0 < length qs → is_none_listed qs ≡ false
+listed_some [] h = absurd (omega arith)
 listed_some (q ∷ qs) h = refl
 
 -- what is kept of the integers read so far
@@ -93,15 +88,12 @@ grid_kept place caps queues d rows h =
     let count = kept.count in
     record { fits = subst (λ (qs : List ℕ). has_rows (held_by qs caps) rows ≡ true) (take_all (length rows) queues (omega arith)) kept.fits; small = kept.small }
 
-pub accepted : (caps : List ℕ) (k : RewardKind) → is_none_listed (queues_of k) ≡ false → repeats (queues_of k) ≡ false → has_lengths caps k ≡ true → refusal_of caps k ≡ None
-accepted caps k some once fits = rw (some, once, fits) refl
-
 listed_below : (n : ℕ) (xs : List ℕ) (i d : ℕ) → are_below n xs ≡ true → i < length xs → get_or xs i d < n
 listed_below n xs i d below small = All-from_get_or (λ q. q < n) xs 0 (λ k less. below_at n xs k below less) i d small
 
 reward_kind_kept : (place : Place) (w : RewardWord) (caps queues : List ℕ) (ms : Members) → AreSomeTargets (length caps) [] queues → IfOk (reward_kind_of place w caps queues ms) (IsReward caps)
 unfolding reward_kind_of
-reward_kind_kept place w caps queues ms targets = grind (arith, accepted, listed_some, listed_below, weights_kept, grid_kept)
+reward_kind_kept place w caps queues ms targets = grind (arith, reward_accepted, listed_some, listed_below, weights_kept, grid_kept)
 
 pub reward_kept : (place : Place) (w : RewardWord) (names : List (List ℕ)) (caps queues : List ℕ) (found : Option Data) (ms : Members) (k : RewardKind) → length names ≡ length caps
     → required place (codes "queues") (some_targets_in place (codes "queues") names []) found ≡ Ok queues → reward_kind_of place w caps queues ms ≡ Ok k → IsReward caps k
@@ -113,9 +105,9 @@ reward_kept place w names caps queues found ms k same listed h =
 pub named_more : (values : List RewardEntry) (value : RewardEntry) → map named (values ++ value ∷ []) ≡ map named values ++ named value ∷ []
 named_more values value = map_push named values value
 
-pub no_caps : (caps : List ℕ) → All (λ (v : RewardEntry). v.reward.caps ≡ caps) []
-no_caps caps = All-nil (λ (v : RewardEntry). v.reward.caps ≡ caps)
+pub no_caps : (caps : List ℕ) → All (λ (v : RewardEntry). reward_caps v.reward ≡ caps) []
+no_caps caps = All-nil (λ (v : RewardEntry). reward_caps v.reward ≡ caps)
 
-pub caps_more : (caps : List ℕ) (values : List RewardEntry) (value : RewardEntry) → All (λ (v : RewardEntry). v.reward.caps ≡ caps) values → value.reward.caps ≡ caps
-    → All (λ (v : RewardEntry). v.reward.caps ≡ caps) (values ++ value ∷ [])
-caps_more caps values value all one = All-push (λ (v : RewardEntry). v.reward.caps ≡ caps) values value all one
+pub caps_more : (caps : List ℕ) (values : List RewardEntry) (value : RewardEntry) → All (λ (v : RewardEntry). reward_caps v.reward ≡ caps) values → reward_caps value.reward ≡ caps
+    → All (λ (v : RewardEntry). reward_caps v.reward ≡ caps) (values ++ value ∷ [])
+caps_more caps values value all one = All-push (λ (v : RewardEntry). reward_caps v.reward ≡ caps) values value all one

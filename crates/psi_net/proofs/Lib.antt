@@ -1,20 +1,7 @@
-pub mod Cells
-pub mod Lists
-pub mod UnknownKeys
-pub mod Turns
-pub mod Texts
-pub mod Found
-pub mod Pigeons
-pub mod Copies
-pub mod Servers
-pub mod Readings
-pub mod KeptTargets
-pub mod KeptKinds
-pub mod KeptQueues
-pub mod KeptEvents
-pub mod KeptRewards
-pub mod KeptNetwork
-pub mod Parts
-pub mod Lowered
-pub mod Making
-pub mod KeptGenerated
+pub mod FrontLemmas
+mod Texts
+mod KeptKinds
+mod KeptQueues
+mod KeptEvents
+mod KeptRewards
+pub mod NetworkLemmas

@@ -8,16 +8,13 @@ use Rattle.psi_route.specs.declared.Full.{Full}
 use Rattle.psi_route.specs.declared.Full.TheVariants.{Lost, Stay}
 use Rattle.psi_kinds.specs.declared.Kind.{Kind}
 use Rattle.psi_kinds.specs.declared.Kind.TheVariants as kind
-use Rattle.psi_net.specs.Refusal.{◌>>=◌, holds_or, at_key}
-use Rattle.psi_net.specs.Values.{required, optional, number_in, array_in, each}
-use Rattle.psi_net.specs.References.{queue_in, target_in, targets_in, some_targets_in}
-use Rattle.psi_net.specs.declared.refusals.Cause.TheVariants.{WrongType, OutOfRange, TableLength, BatchTooLarge}
-use Rattle.psi_net.specs.declared.refusals.Place.{Place}
-use Rattle.psi_net.specs.declared.refusals.NetRefusal.{NetRefusal}
-
--- a source with its first server
-abbrev pub first_server : ℕ → Source
-first_server queue = record { queue = queue; k = 1 }
+use Rattle.psi_document.specs.Refusal.{◌>>=◌, holds_or, at_key}
+use Rattle.psi_document.specs.Values.{required, optional, number_in, array_in, each}
+use Rattle.psi_document.specs.References.{queue_in, target_in, targets_in, some_targets_in}
+use Rattle.psi_document.specs.declared.refusals.Cause.TheVariants.{WrongType, OutOfRange, TableLength, BatchTooLarge}
+use Rattle.psi_document.specs.declared.refusals.Place.{Place}
+use Rattle.psi_document.specs.declared.refusals.NetRefusal.{NetRefusal}
+use Rattle.psi_network.specs.Expansion.{first_server}
 
 -- `from`, where it is optional
 unfoldable pub source_in : Place → List (List ℕ) → Data → Result (Option Source) NetRefusal

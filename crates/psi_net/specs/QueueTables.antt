@@ -1,18 +1,12 @@
 -- The array `queue`.
-use Rattle.std.specs.Prelude.{ℕ, List, [], ◌∷◌, ◌++◌, map, min, not, codes, Option, Result, Ok}
-use Rattle.std.specs.List.{list_any}
-use Rattle.std.specs.Str.{bytes_eq}
+use Rattle.std.specs.Prelude.{ℕ, List, [], ◌∷◌, ◌++◌, map, min, codes, Option, Result, Ok}
 use Rattle.toml.specs.Data.{Data, Members, get_member}
-use Rattle.psi_net.specs.Refusal.{◌>>=◌, holds_or, at_key, top, queue_place}
-use Rattle.psi_net.specs.Values.{no_unknown, required, optional, number_in, name_in, elements_in, table_in, each}
-use Rattle.psi_net.specs.declared.refusals.Cause.TheVariants.{MissingKey, DuplicateName}
-use Rattle.psi_net.specs.declared.refusals.Place.{Place}
-use Rattle.psi_net.specs.declared.refusals.NetRefusal.{NetRefusal}
-use Rattle.psi_net.specs.declared.entries.Queue.{Queue}
-
--- no earlier table of the section has the name
-unfoldable pub unless_taken : Place → List (List ℕ) → List ℕ → Result (Unit {0}) NetRefusal
-unless_taken place earlier name = holds_or (at_key DuplicateName place (codes "name")) (not (list_any (bytes_eq name) earlier))
+use Rattle.psi_document.specs.Refusal.{◌>>=◌, top, queue_place}
+use Rattle.psi_document.specs.Values.{no_unknown, required, optional, number_in, elements_in, table_in, each}
+use Rattle.psi_document.specs.Names.{name_in, unless_taken}
+use Rattle.psi_document.specs.declared.refusals.Cause.TheVariants.{MissingKey}
+use Rattle.psi_document.specs.declared.refusals.NetRefusal.{NetRefusal}
+use Rattle.psi_network.specs.declared.entries.Queue.{Queue}
 
 -- the keys of a queue's table
 abbrev pub queue_keys : List (List ℕ)

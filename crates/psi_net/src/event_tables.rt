@@ -5,27 +5,25 @@ ghost use Rattle.std.specs.List.{list_any};
 ghost use Rattle.std.specs.Str.{bytes_eq};
 ghost use Rattle.toml.specs.View.{view, table_view};
 ghost use Rattle.psi_rate.specs.Rates.{total};
-ghost use Rattle.psi_net.specs.Refusal.{Gives};
-ghost use Rattle.psi_net.specs.Values.{seen, no_unknown, required, each};
-ghost use Rattle.psi_net.specs.Expansion.{source_of, servers_at, served_by};
+ghost use Rattle.psi_document.specs.Refusal.{Gives};
+ghost use Rattle.psi_document.specs.Values.{seen, no_unknown, required, each};
+ghost use Rattle.psi_network.specs.Expansion.{source_of, servers_at, served_by};
 ghost use Rattle.psi_net.specs.EventTables.{kind_named, kind_in, event_keys, kind_of, event_of, are_within, event_step, events_of};
 ghost use Rattle.psi_net.specs.Counting.{IsCounted};
 ghost use Rattle.psi_net.specs.Listing.{listed};
 
-use crate::entries::NamedEvent;
-use crate::expansion::{MOST_INDEX_VALUES, index_values, push_expanded, servers_at, source_of};
-use crate::keys::{
-    elements_in, find, no_unknown, present, read, required_name, required_number, table_in, text_in,
-};
 use crate::kind_tables::{arrival, batch, fork, index, join, negative, service};
-use crate::known_queues::KnownQueues;
-use crate::naming::Name;
 use crate::part_tables::guarded;
-use crate::queue_tables::unless_taken;
-use crate::refusals::{Cause, NetError, Place, Section};
 use crate::words::KindWord;
 use indexmap::IndexSet;
+use psi_document::{
+    Cause, KnownQueues, NetError, Place, Section, elements_in, find, no_unknown, present, read,
+    required_name, required_number, table_in, text_in, unless_taken,
+};
 use psi_kinds::Kind;
+use psi_network::{
+    MOST_INDEX_VALUES, Name, NamedEvent, index_values, push_expanded, servers_at, source_of,
+};
 use std::alloc::Global;
 use toml::{Table, Value};
 
@@ -66,7 +64,7 @@ fn kind_word(place: Place, version: u32, value: Option<&Value>) -> Result<KindWo
     let text = read!(text_in(place, "kind", value));
     match kind_named(version, text) {
         Some(word) => Ok(word),
-        None => Err(NetError::at_key(Cause::UnknownKind, place, "kind")),
+        None => Err(Cause::UnknownKind.at_key(place, "kind")),
     }
 }
 
@@ -162,7 +160,7 @@ struct Counts {
 }
 
 // What the events so far and those of this one come to, which is within the limits.
-#[tactic(auto, using(crate::proofs::Copies::length_more, crate::proofs::Copies::values_more, crate::proofs::Copies::rates_more, crate::proofs::Copies::too_many), unfolding(crate::specs::EventTables::are_within, crate::specs::EventTables::within_limits))]
+#[tactic(auto, using(psi_network::proofs::CopyLemmas::length_more, psi_network::proofs::CopyLemmas::values_more, psi_network::proofs::CopyLemmas::rates_more, psi_network::proofs::CopyLemmas::too_many), unfolding(crate::specs::EventTables::are_within, crate::specs::EventTables::within_limits))]
 fn counted(
     place: Place,
     list: &EventList,
@@ -182,18 +180,18 @@ fn counted(
         } else {
             "kind"
         };
-        return Err(NetError::at_key(Cause::TooMany, place, key));
+        return Err(Cause::TooMany.at_key(place, key));
     }
     let Some(own) = index_values(&event.kind) else {
-        return Err(NetError::at_key(Cause::TooMany, place, "table"));
+        return Err(Cause::TooMany.at_key(place, "table"));
     };
     let values = list.values + servers as u32 * own;
     if values > MOST_INDEX_VALUES {
-        return Err(NetError::at_key(Cause::TooMany, place, "table"));
+        return Err(Cause::TooMany.at_key(place, "table"));
     }
     let rates = list.rates + servers as u32 * event.rate;
     if rates > MOST_TOTAL {
-        return Err(NetError::at_key(Cause::TotalTooLarge, place, "rate"));
+        return Err(Cause::TotalTooLarge.at_key(place, "rate"));
     }
     Ok(Counts { values, rates })
 }
@@ -230,7 +228,7 @@ fn push_event(
     let event = read!(event(alloc, place, version, &list.names, known, table));
     let servers = servers_of(known, &event.kind);
     let counts = read!(counted(place, list, &event, servers));
-    read!(push_expanded(alloc, &mut list.events, &event, servers));
+    push_expanded(alloc, &mut list.events, &event, servers)?;
     list.names.insert(event.name)?;
     list.values = counts.values;
     list.rates = counts.rates;
@@ -238,7 +236,7 @@ fn push_event(
 }
 
 // The events of the array's elements.
-#[tactic(auto, using(crate::proofs::Turns::turn, crate::proofs::Turns::turn_fails, crate::proofs::Turns::turn_ends))]
+#[tactic(auto, using(psi_document::proofs::TurnLemmas::turn, psi_document::proofs::TurnLemmas::turn_fails, psi_document::proofs::TurnLemmas::turn_ends))]
 fn all_events(
     alloc: Global,
     version: u32,
@@ -277,6 +275,6 @@ pub(crate) fn events(
             let list = read!(all_events(alloc, version, known, values));
             Ok(list.events)
         }
-        None => Err(NetError::at_key(Cause::NoEvents, Place::TOP, "event")),
+        None => Err(Cause::NoEvents.at_key(Place::TOP, "event")),
     }
 }

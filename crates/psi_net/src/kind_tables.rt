@@ -4,49 +4,22 @@ ghost use Rattle.std.specs.Prelude.{◌≡◌, ℕ, ◌≤◌, ◌<◌, ◌+◌,
 ghost use Rattle.std.specs.List.{list_all};
 ghost use Rattle.toml.specs.View.{view, table_view};
 ghost use Rattle.psi_route.specs.declared.Full.TheVariants.{Lost};
-ghost use Rattle.psi_net.specs.Refusal.{Gives};
-ghost use Rattle.psi_net.specs.Values.{seen, required, optional, each};
-ghost use Rattle.psi_net.specs.References.{queue_in, target_in, targets_in, some_targets_in};
-ghost use Rattle.psi_net.specs.Targets.{AreTargets, are_below};
+ghost use Rattle.psi_document.specs.Refusal.{Gives};
+ghost use Rattle.psi_document.specs.Values.{seen, required, optional, each};
+ghost use Rattle.psi_document.specs.References.{targets_in};
+ghost use Rattle.psi_document.specs.Targets.{are_below};
 ghost use Rattle.psi_net.specs.KindTables.{source_in, queue_of_source, full_in, number_step, row_step, table_of, size_fits, arrival_of, service_of, index_of, batch_of, negative_of, fork_of, joined_in, join_of};
 
-use crate::keys::{array_in, find, number_in, number_or, present, read, required_number};
-use crate::known_queues::KnownQueues;
-use crate::references::{queue_in, some_targets_in, target_in, targets_in};
-use crate::refusals::{Cause, NetError, Place};
+use psi_document::{
+    Cause, KnownQueues, NetError, Place, array_in, find, number_in, number_or, present, queue_in,
+    read, required_number, required_queue, required_target, required_targets, target_in,
+    targets_in,
+};
 use psi_kinds::{Kind, Tables};
 use psi_route::{Full, Source};
 use psi_state::{Queues, State};
 use std::alloc::Global;
 use toml::{Table, Value};
-
-// A required list of at least one name.
-fn required_targets(
-    place: Place,
-    key: &str,
-    known: &KnownQueues,
-    sources: &Queues,
-    value: Option<&Value>,
-) -> Result<Queues, NetError>
-    ensures value { Gives (λ qs. qs) result (required place key.now (some_targets_in place key.now known.now.names.keys sources.now) (seen value.entry)) }
-    ensures valid { IfOk result (AreTargets (length known.now.names.keys) sources.now) }
-{
-    let value = read!(present(place, key, value));
-    some_targets_in(place, key, known, sources, value)
-}
-
-// The name of a queue, which is required.
-fn required_queue(
-    place: Place,
-    key: &str,
-    known: &KnownQueues,
-    value: Option<&Value>,
-) -> Result<u8, NetError>
-    ensures { Gives (λ q. q) result (required place key.now (queue_in place key.now known.now.names.keys) (seen value.entry)) }
-{
-    let value = read!(present(place, key, value));
-    queue_in(place, key, known, value)
-}
 
 // `from`, where it is optional, with its first server.
 #[tactic(auto, unfolding(crate::specs::KindTables::source_in))]
@@ -90,10 +63,10 @@ fn full_in(place: Place, value: &Value) -> Result<Full, NetError>
             } else if text == "stay" {
                 Ok(Full::Stay)
             } else {
-                Err(NetError::at_key(Cause::OutOfRange, place, "full"))
+                Err(Cause::OutOfRange.at_key(place, "full"))
             }
         }
-        _ => Err(NetError::at_key(Cause::WrongType, place, "full")),
+        _ => Err(Cause::WrongType.at_key(place, "full")),
     }
 }
 
@@ -121,7 +94,7 @@ fn push_number(place: Place, numbers: &mut Vec<u32>, value: &Value) -> Result<()
 }
 
 // The integers of a row.
-#[tactic(auto, using(crate::proofs::Turns::turn, crate::proofs::Turns::turn_fails, crate::proofs::Turns::turn_ends))]
+#[tactic(auto, using(psi_document::proofs::TurnLemmas::turn, psi_document::proofs::TurnLemmas::turn_fails, psi_document::proofs::TurnLemmas::turn_ends))]
 fn all_numbers(alloc: Global, place: Place, values: &[Value]) -> Result<Vec<u32>, NetError>
     ensures { Gives (λ numbers. numbers.items) result (each (number_step place) 1 [] (map view values.now)) }
 {
@@ -133,7 +106,7 @@ fn all_numbers(alloc: Global, place: Place, values: &[Value]) -> Result<Vec<u32>
 }
 
 // The row of an index's table for the target at this place, counted from 0, with the rows before it.
-#[tactic(auto, using(crate::proofs::Found::below_at), unfolding(crate::specs::KindTables::row_step))]
+#[tactic(auto, using(psi_document::proofs::FoundLemmas::below_at), unfolding(crate::specs::KindTables::row_step))]
 fn push_row(
     alloc: Global,
     place: Place,
@@ -151,15 +124,17 @@ fn push_row(
 {
     let values = read!(array_in(place, "table", value));
     if values.len() != caps.get(to.get(number)) as usize {
-        return Err(NetError::at_key(Cause::TableLength, place, "table"));
+        return Err(Cause::TableLength.at_key(place, "table"));
     }
     let row = read!(all_numbers(alloc, place, values));
-    rows.push(row)?;
-    Ok(())
+    match rows.push(row) {
+        Ok(()) => Ok(()),
+        Err(_) => Err(NetError::OutOfMemory),
+    }
 }
 
 // The rows of an index's table.
-#[tactic(auto, using(crate::proofs::Turns::turn, crate::proofs::Turns::turn_fails, crate::proofs::Turns::turn_ends))]
+#[tactic(auto, using(psi_document::proofs::TurnLemmas::turn, psi_document::proofs::TurnLemmas::turn_fails, psi_document::proofs::TurnLemmas::turn_ends))]
 fn all_rows(
     alloc: Global,
     place: Place,
@@ -194,13 +169,13 @@ fn table_of(
     let value = read!(present(place, "table", value));
     let values = read!(array_in(place, "table", value));
     if values.len() != to.len() as usize {
-        return Err(NetError::at_key(Cause::TableLength, place, "table"));
+        return Err(Cause::TableLength.at_key(place, "table"));
     }
     all_rows(alloc, place, caps, to, values)
 }
 
 // Whether each target has a capacity of at least `size`.
-#[tactic(auto, using(crate::proofs::Found::below_at, crate::proofs::Found::all_turn, crate::proofs::Found::all_found, crate::proofs::Found::all_ends))]
+#[tactic(auto, using(psi_document::proofs::FoundLemmas::below_at, psi_document::proofs::FoundLemmas::all_turn, psi_document::proofs::FoundLemmas::all_found, psi_document::proofs::FoundLemmas::all_ends))]
 fn are_roomy(caps: &State, to: &Queues, size: u32) -> bool
     requires { are_below (length caps.now) to.now ≡ true }
     ensures { result ≡ list_all (λ q. nat_le size (slice_index caps.now q)) to.now }
@@ -227,10 +202,10 @@ fn size_fits(
     ensures { Gives (λ n. n) result (size_fits place caps.now has_source to.now size) }
 {
     if has_source && size != 1 {
-        return Err(NetError::at_key(Cause::OutOfRange, place, "size"));
+        return Err(Cause::OutOfRange.at_key(place, "size"));
     }
     if !are_roomy(caps, to, size) {
-        return Err(NetError::at_key(Cause::BatchTooLarge, place, "size"));
+        return Err(Cause::BatchTooLarge.at_key(place, "size"));
     }
     Ok(size as u16)
 }
@@ -307,20 +282,6 @@ pub(crate) fn batch(place: Place, known: &KnownQueues, table: &Table) -> Result<
     let size = read!(required_number(place, "size", 1, 65535, find(table, "size")));
     let size = read!(size_fits(place, &known.caps, false, &to, size));
     Ok(Kind::Batch { to, size })
-}
-
-// The name of a queue that is none of the event's sources, which is required.
-fn required_target(
-    place: Place,
-    key: &str,
-    known: &KnownQueues,
-    sources: &Queues,
-    value: Option<&Value>,
-) -> Result<u8, NetError>
-    ensures { Gives (λ q. q) result (required place key.now (target_in place key.now known.now.names.keys sources.now) (seen value.entry)) }
-{
-    let value = read!(present(place, key, value));
-    target_in(place, key, known, sources, value)
 }
 
 // A negative event's keys.

@@ -24,28 +24,16 @@
 //! ```
 #![tactic(auto)]
 
-mod building;
-mod entries;
 mod event_tables;
-mod expansion;
-mod generating;
-mod keys;
 mod kind_tables;
-mod known_queues;
-mod naming;
-mod network;
 mod part_tables;
 mod queue_tables;
 mod reading;
-mod references;
-mod refusals;
 mod reward_tables;
 #[cfg(test)]
 mod tests;
 mod words;
 
-pub use generating::{OutOfMemory, generated};
-pub use naming::Name;
-pub use network::Net;
+pub use psi_document::{NetError, NetRefusal, Section};
+pub use psi_network::{Name, Net, OutOfMemory, generated};
 pub use reading::net_of;
-pub use refusals::{NetError, NetRefusal, Section};

@@ -2,14 +2,14 @@
 
 ghost use Rattle.std.specs.Prelude.{◌≡◌, ℕ, ◌≤◌, ◌<◌, ◌+◌, [], length, map, codes, IfOk, OnOk};
 ghost use Rattle.toml.specs.View.{view, table_view};
-ghost use Rattle.psi_net.specs.Refusal.{Gives};
-ghost use Rattle.psi_net.specs.Values.{seen, required, each};
+ghost use Rattle.psi_document.specs.Refusal.{Gives};
+ghost use Rattle.psi_document.specs.Values.{seen, required, each};
 ghost use Rattle.psi_net.specs.PartTables.{part_table, part_queue, part_of, part_step, parts_in, guarded_of};
 
-use crate::keys::{elements_in, find, integer_or_zero, no_unknown, number_or, present, read};
-use crate::known_queues::KnownQueues;
-use crate::references::queue_in;
-use crate::refusals::{Cause, NetError, Place};
+use psi_document::{
+    Cause, KnownQueues, NetError, Place, elements_in, find, integer_or_zero, no_unknown, number_or,
+    present, queue_in, read,
+};
 use psi_guard::{Part, Parts};
 use psi_kinds::Kind;
 use toml::{Table, Value};
@@ -21,7 +21,7 @@ fn part_table(place: Place, value: &Value) -> Result<&Table, NetError>
 {
     match value {
         Value::Table(table) => Ok(table),
-        _ => Err(NetError::at_key(Cause::WrongType, place, "part")),
+        _ => Err(Cause::WrongType.at_key(place, "part")),
     }
 }
 
@@ -39,7 +39,7 @@ fn part_queue(
     let value = read!(present(place, "queue", value));
     let queue = read!(queue_in(place, "queue", known, value));
     if earlier.names(queue) {
-        return Err(NetError::at_key(Cause::RepeatedTarget, place, "queue"));
+        return Err(Cause::RepeatedTarget.at_key(place, "queue"));
     }
     Ok(queue)
 }
@@ -59,10 +59,10 @@ fn part(place: Place, known: &KnownQueues, earlier: &Parts, table: &Table) -> Re
     let floor = read!(number_or(place, "floor", 0, 0, cap, find(table, "floor")));
     let ceiling = read!(number_or(place, "ceiling", cap, 0, cap, find(table, "ceiling")));
     if least > most {
-        return Err(NetError::at_key(Cause::EmptyGuard, place, "least"));
+        return Err(Cause::EmptyGuard.at_key(place, "least"));
     }
     if floor > ceiling {
-        return Err(NetError::at_key(Cause::EmptyGuard, place, "floor"));
+        return Err(Cause::EmptyGuard.at_key(place, "floor"));
     }
     Ok(Part {
         queue,
@@ -93,7 +93,7 @@ fn push_part(
 }
 
 // The parts of the array's elements.
-#[tactic(auto, using(crate::proofs::Turns::turn, crate::proofs::Turns::turn_fails, crate::proofs::Turns::turn_ends))]
+#[tactic(auto, using(psi_document::proofs::TurnLemmas::turn, psi_document::proofs::TurnLemmas::turn_fails, psi_document::proofs::TurnLemmas::turn_ends))]
 fn all_parts(place: Place, known: &KnownQueues, values: &[Value]) -> Result<Parts, NetError>
     requires { length values.now ≤ 32 }
     ensures { Gives (λ parts. parts) result (each (part_step place known.now.names.keys known.now.caps) 1 [] (map view values.now)) }

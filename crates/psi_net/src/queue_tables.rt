@@ -4,20 +4,16 @@ ghost use Rattle.std.specs.Prelude.{◌≡◌, ◌≤◌, [], length, map, false
 ghost use Rattle.std.specs.List.{list_any};
 ghost use Rattle.std.specs.Str.{bytes_eq};
 ghost use Rattle.toml.specs.View.{view, table_view};
-ghost use Rattle.psi_net.specs.Refusal.{Gives};
-ghost use Rattle.psi_net.specs.Values.{seen, each};
-ghost use Rattle.psi_net.specs.QueueTables.{unless_taken, queue_of, queue_step, queues_in, queues_of};
+ghost use Rattle.psi_document.specs.Refusal.{Gives};
+ghost use Rattle.psi_document.specs.Values.{seen, each};
+ghost use Rattle.psi_net.specs.QueueTables.{queue_of, queue_step, queues_in, queues_of};
 
-use crate::building::capacities;
-use crate::entries::Queue;
-use crate::keys::{
-    elements_in, find, no_unknown, number_or, present, read, required_name, required_number,
-    table_in,
-};
-use crate::known_queues::KnownQueues;
-use crate::naming::Name;
-use crate::refusals::{Cause, NetError, Place, Section};
 use indexmap::IndexSet;
+use psi_document::{
+    Cause, KnownQueues, NetError, Place, Section, elements_in, find, no_unknown, number_or,
+    present, read, required_name, required_number, table_in, unless_taken,
+};
+use psi_network::{Name, Queue, capacities};
 use std::alloc::Global;
 use toml::{Table, Value};
 
@@ -26,23 +22,6 @@ use toml::{Table, Value};
 struct QueueList {
     names: IndexSet<Name>,
     queues: Vec<Queue>,
-}
-
-// No earlier table of the section has the name.
-#[tactic(auto, unfolding(crate::specs::QueueTables::unless_taken))]
-pub(crate) fn unless_taken(
-    place: Place,
-    earlier: &IndexSet<Name>,
-    name: Name,
-) -> Result<(), NetError>
-    ensures value { Gives (λ _. tt) result (unless_taken place earlier.now.keys name) }
-    ensures fresh { OnOk result (list_any (bytes_eq name) earlier.now.keys ≡ false) }
-{
-    if earlier.contains(&name) {
-        Err(NetError::at_key(Cause::DuplicateName, place, "name"))
-    } else {
-        Ok(())
-    }
 }
 
 // A queue's table, with its number and the names of the queues before it.
@@ -98,7 +77,7 @@ fn push_queue(
 }
 
 // The queues of the array's elements.
-#[tactic(auto, using(crate::proofs::Turns::turn, crate::proofs::Turns::turn_fails, crate::proofs::Turns::turn_ends))]
+#[tactic(auto, using(psi_document::proofs::TurnLemmas::turn, psi_document::proofs::TurnLemmas::turn_fails, psi_document::proofs::TurnLemmas::turn_ends))]
 fn all_queues(alloc: Global, values: &[Value]) -> Result<QueueList, NetError>
     requires { length values.now ≤ 32 }
     ensures value { Gives (λ list. list.queues.items) result (each queue_step 1 [] (map view values.now)) }

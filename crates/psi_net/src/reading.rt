@@ -1,19 +1,17 @@
 //! Reading a file.
 
 ghost use Rattle.std.specs.Prelude.{◌≡◌, ◌≤◌, take, codes, Ok, IfOk, IfErr};
-ghost use Rattle.psi_net.specs.Refusal.{Gives, IsNetError, top};
+ghost use Rattle.psi_document.specs.Refusal.{Gives, IsNetError, top};
 ghost use Rattle.toml.specs.View.{view, table_view};
-ghost use Rattle.psi_net.specs.Values.{seen, required};
-ghost use Rattle.psi_net.specs.Draft.{drafted, IsWhole};
+ghost use Rattle.psi_document.specs.Values.{seen, required};
+ghost use Rattle.psi_network.specs.Draft.{drafted, IsWhole};
 ghost use Rattle.psi_net.specs.Reading.{version_in, most_limit, document_network, file_text, text_network, network_of};
 
-use crate::entries::Draft;
 use crate::event_tables::events;
-use crate::keys::{find, no_unknown, number_or, present, read};
-use crate::network::Net;
 use crate::queue_tables::queues;
-use crate::refusals::{Cause, NetError, Place};
 use crate::reward_tables::rewards;
+use psi_document::{Cause, NetError, Place, find, no_unknown, number_or, present, read};
+use psi_network::{Draft, Net};
 use std::alloc::Global;
 use toml::{Table, Value};
 
@@ -28,10 +26,10 @@ fn version_in(value: &Value) -> Result<u32, NetError>
             if *number == 1 || *number == 2 {
                 Ok(*number as u32)
             } else {
-                Err(NetError::at_key(Cause::Version, Place::TOP, "version"))
+                Err(Cause::Version.at_key(Place::TOP, "version"))
             }
         }
-        _ => Err(NetError::at_key(Cause::WrongType, Place::TOP, "version")),
+        _ => Err(Cause::WrongType.at_key(Place::TOP, "version")),
     }
 }
 
@@ -84,11 +82,11 @@ fn file_text(bytes: &[u8]) -> Result<&str, NetError>
     ensures { Gives (λ text. text.now) result (file_text bytes.now) }
 {
     if bytes.len() > 1048576 {
-        return Err(NetError::at_place(Cause::TooLong, Place::TOP));
+        return Err(Cause::TooLong.at_place(Place::TOP));
     }
     match std::str::from_utf8(bytes) {
         Ok(text) => Ok(text),
-        Err(_) => Err(NetError::at_place(Cause::NotToml, Place::TOP)),
+        Err(_) => Err(Cause::NotToml.at_place(Place::TOP)),
     }
 }
 
@@ -104,7 +102,7 @@ fn text_draft(alloc: Global, text: &str) -> Result<Draft, NetError>
             if error.is_memory() {
                 Err(NetError::OutOfMemory)
             } else {
-                Err(NetError::at_place(Cause::NotToml, Place::TOP))
+                Err(Cause::NotToml.at_place(Place::TOP))
             }
         }
     }
@@ -165,5 +163,5 @@ pub fn net_of(alloc: Global, bytes: &[u8]) -> Result<Net, NetError>
 {
     let text = read!(file_text(bytes));
     let draft = read!(text_draft(alloc, text));
-    Net::made(alloc, draft)
+    Ok(Net::made(alloc, draft)?)
 }

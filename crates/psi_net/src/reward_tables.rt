@@ -3,29 +3,23 @@
 ghost use Rattle.std.specs.Prelude.{◌≡◌, ℕ, ◌≤◌, ◌<◌, ◌+◌, ◌∷◌, [], true, false, length, map, codes, IfOk, OnOk, All};
 ghost use Rattle.std.specs.List.{list_any};
 ghost use Rattle.std.specs.Str.{bytes_eq};
+ghost use Rattle.psi_reward.specs.Rewards.{reward_caps};
 ghost use Rattle.toml.specs.View.{view, table_view};
-ghost use Rattle.psi_state.specs.State.{AreCapacities};
-ghost use Rattle.psi_net.specs.Refusal.{Gives};
-ghost use Rattle.psi_net.specs.Values.{seen, no_unknown, required, each};
-ghost use Rattle.psi_net.specs.Targets.{AreTargets, are_below};
-ghost use Rattle.psi_net.specs.Draft.{named};
-ghost use Rattle.psi_net.specs.Kept.{IsReward};
-ghost use Rattle.psi_net.specs.References.{some_targets_in};
+ghost use Rattle.psi_document.specs.Refusal.{Gives};
+ghost use Rattle.psi_document.specs.Values.{seen, no_unknown, required, each};
+ghost use Rattle.psi_document.specs.Targets.{AreTargets, are_below};
+ghost use Rattle.psi_network.specs.Draft.{named};
+ghost use Rattle.psi_document.specs.References.{some_targets_in};
 ghost use Rattle.psi_net.specs.RewardTables.{reward_named, reward_kind_in, reward_keys, integer_step, weights_in, grid_step, grid_in, reward_kind_of, reward_of, reward_step, rewards_in, rewards_of};
 
-use crate::entries::RewardEntry;
-use crate::keys::{
-    array_in, find, integer_in, no_unknown, present, read, required_name, required_number,
-    table_in, text_in,
-};
-use crate::known_queues::KnownQueues;
-use crate::naming::Name;
-use crate::queue_tables::unless_taken;
-use crate::references::some_targets_in;
-use crate::refusals::{Cause, NetError, Place, Section};
 use crate::words::RewardWord;
 use indexmap::IndexSet;
-use psi_reward::{Grid, Numbers, Reward, RewardKind};
+use psi_document::{
+    Cause, KnownQueues, NetError, Place, Section, array_in, find, integer_in, no_unknown, present,
+    read, required_name, required_number, some_targets_in, table_in, text_in, unless_taken,
+};
+use psi_network::{Name, RewardEntry, accepted_reward};
+use psi_reward::{Grid, Numbers, RewardKind};
 use psi_state::{Queues, State};
 use std::alloc::Global;
 use toml::{Table, Value};
@@ -58,7 +52,7 @@ fn reward_word(place: Place, value: Option<&Value>) -> Result<RewardWord, NetErr
     let text = read!(text_in(place, "kind", value));
     match reward_named(text) {
         Some(word) => Ok(word),
-        None => Err(NetError::at_key(Cause::UnknownKind, place, "kind")),
+        None => Err(Cause::UnknownKind.at_key(place, "kind")),
     }
 }
 
@@ -96,12 +90,14 @@ fn push_integer(
     ensures { (n : ℕ) → Gives (λ _. numbers.new) result (integer_step place key.now n numbers.old (view value.now)) }
 {
     let number = read!(integer_in(place, key, MOST_NUMBER, value));
-    numbers.push(number)?;
-    Ok(())
+    match numbers.push(number) {
+        Ok(()) => Ok(()),
+        Err(_) => Err(NetError::OutOfMemory),
+    }
 }
 
 // The integers of an array.
-#[tactic(auto, using(crate::proofs::Turns::turn, crate::proofs::Turns::turn_fails, crate::proofs::Turns::turn_ends))]
+#[tactic(auto, using(psi_document::proofs::TurnLemmas::turn, psi_document::proofs::TurnLemmas::turn_fails, psi_document::proofs::TurnLemmas::turn_ends))]
 fn all_integers(
     alloc: Global,
     place: Place,
@@ -130,13 +126,13 @@ fn weights(
     let value = read!(present(place, "weights", value));
     let values = read!(array_in(place, "weights", value));
     if values.len() != queues.len() as usize {
-        return Err(NetError::at_key(Cause::TableLength, place, "weights"));
+        return Err(Cause::TableLength.at_key(place, "weights"));
     }
     all_integers(alloc, place, "weights", values)
 }
 
 // The row of `table` for the queue at this place, counted from 0, with the rows before it.
-#[tactic(auto, using(crate::proofs::Found::below_at), unfolding(crate::specs::RewardTables::grid_step))]
+#[tactic(auto, using(psi_document::proofs::FoundLemmas::below_at), unfolding(crate::specs::RewardTables::grid_step))]
 fn push_grid_row(
     alloc: Global,
     place: Place,
@@ -154,15 +150,17 @@ fn push_grid_row(
 {
     let values = read!(array_in(place, "table", value));
     if values.len() != caps.get(queues.get(number)) as usize + 1 {
-        return Err(NetError::at_key(Cause::TableLength, place, "table"));
+        return Err(Cause::TableLength.at_key(place, "table"));
     }
     let row = read!(all_integers(alloc, place, "table", values));
-    rows.push(row)?;
-    Ok(())
+    match rows.push(row) {
+        Ok(()) => Ok(()),
+        Err(_) => Err(NetError::OutOfMemory),
+    }
 }
 
 // The rows of `table`.
-#[tactic(auto, using(crate::proofs::Turns::turn, crate::proofs::Turns::turn_fails, crate::proofs::Turns::turn_ends))]
+#[tactic(auto, using(psi_document::proofs::TurnLemmas::turn, psi_document::proofs::TurnLemmas::turn_fails, psi_document::proofs::TurnLemmas::turn_ends))]
 fn all_grid_rows(
     alloc: Global,
     place: Place,
@@ -197,7 +195,7 @@ fn grid(
     let value = read!(present(place, "table", value));
     let values = read!(array_in(place, "table", value));
     if values.len() != queues.len() as usize {
-        return Err(NetError::at_key(Cause::TableLength, place, "table"));
+        return Err(Cause::TableLength.at_key(place, "table"));
     }
     all_grid_rows(alloc, place, caps, queues, values)
 }
@@ -249,19 +247,6 @@ fn reward_queues(
     some_targets_in(place, "queues", known, &Queues::empty(), value)
 }
 
-// The reward of a kind that isn't refused.
-#[tactic(auto, using(crate::proofs::KeptRewards::not_refused))]
-pub(crate) fn accepted_reward(caps: State, kind: RewardKind) -> Reward
-    requires valid { AreCapacities caps }
-    requires kind { IsReward caps kind }
-    ensures { result ≡ record { caps = caps; kind = kind } }
-{
-    match Reward::new(caps, kind) {
-        Ok(reward) => reward,
-        Err(_) => unreachable!(),
-    }
-}
-
 // A reward's table, with its place and the names of the rewards before it.
 #[tactic(auto, using(crate::proofs::KeptRewards::reward_kept), unfolding(crate::specs::RewardTables::reward_of))]
 fn reward(
@@ -273,7 +258,7 @@ fn reward(
 ) -> Result<RewardEntry, NetError>
     ensures value { Gives named result (reward_of place earlier.now.keys known.now.names.keys known.now.caps (table_view table.now)) }
     ensures fresh { IfOk result (λ value. list_any (bytes_eq value.name) earlier.now.keys ≡ false) }
-    ensures caps { IfOk result (λ value. value.reward.caps ≡ known.now.caps) }
+    ensures caps { IfOk result (λ value. reward_caps value.reward ≡ known.now.caps) }
 {
     let word = read!(reward_word(place, find(table, "kind")));
     read!(no_unknown_reward_key(place, word, table));
@@ -298,10 +283,10 @@ fn push_reward(
     value: &Value,
 ) -> Result<(), NetError>
     requires names { earlier.old.keys ≡ map (λ r. r.name) (map named rewards.old.items) }
-    requires caps { All (λ v. v.reward.caps ≡ known.now.caps) rewards.old.items }
+    requires caps { All (λ v. reward_caps v.reward ≡ known.now.caps) rewards.old.items }
     ensures value { Gives (λ _. map named rewards.new.items) result (reward_step known.now.names.keys known.now.caps number (map named rewards.old.items) (view value.now)) }
     ensures names { OnOk result (earlier.new.keys ≡ map (λ r. r.name) (map named rewards.new.items)) }
-    ensures caps { OnOk result (All (λ v. v.reward.caps ≡ known.now.caps) rewards.new.items) }
+    ensures caps { OnOk result (All (λ v. reward_caps v.reward ≡ known.now.caps) rewards.new.items) }
 {
     let place = Place {
         section: Section::Reward,
@@ -315,7 +300,7 @@ fn push_reward(
 }
 
 // The rewards of the array's elements.
-#[tactic(auto, using(crate::proofs::Turns::turn, crate::proofs::Turns::turn_fails, crate::proofs::Turns::turn_ends, crate::proofs::KeptRewards::no_caps))]
+#[tactic(auto, using(psi_document::proofs::TurnLemmas::turn, psi_document::proofs::TurnLemmas::turn_fails, psi_document::proofs::TurnLemmas::turn_ends, crate::proofs::KeptRewards::no_caps))]
 fn all_rewards(
     alloc: Global,
     known: &KnownQueues,
@@ -323,7 +308,7 @@ fn all_rewards(
 ) -> Result<Vec<RewardEntry>, NetError>
     requires { length values.now ≤ 64 }
     ensures value { Gives (λ rewards. map named rewards.items) result (each (reward_step known.now.names.keys known.now.caps) 1 [] (map view values.now)) }
-    ensures caps { IfOk result (λ rewards. All (λ v. v.reward.caps ≡ known.now.caps) rewards.items) }
+    ensures caps { IfOk result (λ rewards. All (λ v. reward_caps v.reward ≡ known.now.caps) rewards.items) }
 {
     let mut earlier = IndexSet::new(alloc);
     let mut rewards = Vec::with_capacity(alloc, values.len())?;
@@ -342,13 +327,13 @@ pub(crate) fn rewards(
     value: Option<&Value>,
 ) -> Result<Vec<RewardEntry>, NetError>
     ensures value { Gives (λ rewards. map named rewards.items) result (rewards_of known.now.names.keys known.now.caps (seen value.entry)) }
-    ensures caps { IfOk result (λ rewards. All (λ v. v.reward.caps ≡ known.now.caps) rewards.items) }
+    ensures caps { IfOk result (λ rewards. All (λ v. reward_caps v.reward ≡ known.now.caps) rewards.items) }
 {
     match value {
         Some(value) => {
             let values = read!(array_in(Place::TOP, "reward", value));
             if values.len() > 64 {
-                return Err(NetError::at_key(Cause::TooMany, Place::TOP, "reward"));
+                return Err(Cause::TooMany.at_key(Place::TOP, "reward"));
             }
             all_rewards(alloc, known, values)
         }

@@ -1,6 +1,6 @@
 use Rattle.std.proofs.Common.{ℕ, ◌≤◌, ◌≡◌, refl, sym, ◌∙◌, subst}
-use Rattle.psi_net.specs.Expansion.{source_of, servers_at}
-use Rattle.psi_net.proofs.KeptQueues.{servers_most}
+use Rattle.psi_network.specs.Expansion.{source_of, servers_at}
+use Rattle.psi_network.proofs.QueueLemmas.{servers_most}
 use Rattle.psi_net.proofs.event_tables.servers_of.Goals as goal
 
 pub returns-clause-some : goal.returns-clause-some

@@ -1,6 +1,6 @@
 use Rattle.std.proofs.Common.{◌≡◌, ◌+◌, [], length, map, drop}
 use Rattle.toml.specs.View.{view}
-use Rattle.psi_net.specs.Values.{each}
+use Rattle.psi_document.specs.Values.{each}
 use Rattle.psi_net.specs.PartTables.{part_step}
 use Rattle.psi_net.proofs.part_tables.all_parts.Given as goal
 

@@ -1,6 +1,6 @@
 use Rattle.std.proofs.Common.{◌≡◌, ◌+◌, [], map, drop}
 use Rattle.toml.specs.View.{view}
-use Rattle.psi_net.specs.Values.{each}
+use Rattle.psi_document.specs.Values.{each}
 use Rattle.psi_net.specs.QueueTables.{queue_step}
 use Rattle.psi_net.proofs.queue_tables.all_queues.Given as goal
 

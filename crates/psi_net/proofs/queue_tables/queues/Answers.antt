@@ -1,21 +1,22 @@
 use Rattle.std.proofs.Common.{List, map, ap, sym, ◌∙◌, subst}
-use Rattle.psi_net.specs.Kept.{AreListed}
-use Rattle.psi_net.specs.declared.entries.Queue.{Queue}
-use Rattle.psi_net.proofs.KeptQueues.{queues_kept, names_few, names_same}
+use Rattle.psi_network.specs.Valid.{AreListed}
+use Rattle.psi_network.specs.declared.entries.Queue.{Queue}
+use Rattle.psi_net.proofs.KeptQueues.{queues_kept}
+use Rattle.psi_network.proofs.QueueLemmas.{names_few, names_same}
 use Rattle.psi_net.proofs.queue_tables.queues.Goals as goal
 
 pub capacities-caps-requires : goal.capacities-caps-requires
-capacities-caps-requires c = subst (λ (qs : List Queue). AreListed qs) (sym c.as_slice.ensures.value) (queues_kept _ _ c.in-Ok.ensures.value)
+capacities-caps-requires c = subst (λ (qs : List Queue). AreListed qs) (sym c.as_slice.ensures.value) (queues_kept _ _ c.in-Ok-read.ensures.value)
 
 pub invariant_of-result : goal.invariant_of-result
 invariant_of-result c =
-    let listed = queues_kept _ _ c.in-Ok.ensures.value in
+    let listed = queues_kept _ _ c.in-Ok-read.ensures.value in
     let held = c.capacities-caps.ensures.value ∙ ap (λ (qs : List Queue). map (λ (q : Queue). q.capacity) qs) c.as_slice.ensures.value in
     record {
       listed = listed;
-      named = c.in-Ok.ensures.names;
+      named = c.in-Ok-read.ensures.names;
       held = held;
-      few = names_few _ _ listed c.in-Ok.ensures.names;
-      same = names_same _ _ _ c.in-Ok.ensures.names held;
+      few = names_few _ _ listed c.in-Ok-read.ensures.names;
+      same = names_same _ _ _ c.in-Ok-read.ensures.names held;
       valid = c.capacities-caps.ensures.valid;
     }

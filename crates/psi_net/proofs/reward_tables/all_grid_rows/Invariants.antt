@@ -1,6 +1,6 @@
 use Rattle.std.proofs.Common.{◌≡◌, ◌+◌, [], length, map, drop}
 use Rattle.toml.specs.View.{view}
-use Rattle.psi_net.specs.Values.{each}
+use Rattle.psi_document.specs.Values.{each}
 use Rattle.psi_net.specs.RewardTables.{grid_step}
 use Rattle.psi_net.proofs.reward_tables.all_grid_rows.Given as goal
 

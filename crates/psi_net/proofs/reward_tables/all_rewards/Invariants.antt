@@ -1,7 +1,8 @@
 use Rattle.std.proofs.Common.{◌≡◌, ◌+◌, [], All, map, drop}
+use Rattle.psi_reward.specs.Rewards.{reward_caps}
 use Rattle.toml.specs.View.{view}
-use Rattle.psi_net.specs.Values.{each}
-use Rattle.psi_net.specs.Draft.{named}
+use Rattle.psi_document.specs.Values.{each}
+use Rattle.psi_network.specs.Draft.{named}
 use Rattle.psi_net.specs.RewardTables.{reward_step}
 use Rattle.psi_net.proofs.reward_tables.all_rewards.Given as goal
 
@@ -9,4 +10,4 @@ abbrev pub invariant-loop-index : goal.invariant-loop-index
 invariant-loop-index l =
     (each (reward_step l.known.names.keys l.known.caps) (l.index + 1) (map named l.rewards.items) (map view (drop l.index l.values)) ≡ each (reward_step l.known.names.keys l.known.caps) 1 [] (map view l.values))
     × (l.earlier.keys ≡ map (λ r. r.name) (map named l.rewards.items))
-    × All (λ v. v.reward.caps ≡ l.known.caps) l.rewards.items
+    × All (λ v. reward_caps v.reward ≡ l.known.caps) l.rewards.items

@@ -1,0 +1,7 @@
+pub mod TurnLemmas
+pub mod ReadingLemmas
+pub mod FoundLemmas
+pub mod PigeonLemmas
+pub mod TargetLemmas
+mod Lists
+mod UnknownKeys

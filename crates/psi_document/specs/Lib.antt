@@ -1,0 +1,5 @@
+pub mod Refusal
+pub mod Values
+pub mod Names
+pub mod References
+pub mod Targets

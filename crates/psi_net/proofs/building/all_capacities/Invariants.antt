@@ -1,5 +1,0 @@
-use Rattle.psi_net.proofs.Parts.{AreSet}
-use Rattle.psi_net.proofs.building.all_capacities.Given as goal
-
-abbrev pub invariant-loop-place : goal.invariant-loop-place
-invariant-loop-place l = AreSet l.caps l.queues l.place

@@ -1,6 +1,0 @@
-use Rattle.std.proofs.Common.{◌≡◌, ◌++◌}
-use Rattle.psi_net.specs.Expansion.{served_by}
-use Rattle.psi_net.proofs.expansion.push_expanded.Given as goal
-
-abbrev pub invariant-loop-place : goal.invariant-loop-place
-invariant-loop-place l = l.events.items ≡ l.fn.events.items ++ served_by l.place l.event

@@ -1,7 +1,0 @@
-use Rattle.std.proofs.Common.{◌≡◌, map}
-use Rattle.psi_state.specs.State.{numbers_from}
-use Rattle.psi_net.specs.Generated.{nth_queue}
-use Rattle.psi_net.proofs.generating.all_queues.Given as goal
-
-abbrev pub invariant-loop-place : goal.invariant-loop-place
-invariant-loop-place l = l.queues.items ≡ map (nth_queue l.number) (numbers_from 1 l.place)

@@ -1,0 +1,11 @@
+pub mod QueueLemmas
+pub mod CopyLemmas
+pub mod KindLemmas
+pub mod RewardLemmas
+pub mod EventLemmas
+mod Cells
+mod Servers
+mod Parts
+mod Lowered
+mod Making
+mod KeptGenerated

@@ -1,0 +1,5 @@
+use Rattle.psi_network.proofs.Parts.{AreSet}
+use Rattle.psi_network.proofs.building.all_capacities.Given as goal
+
+abbrev pub invariant-loop-place : goal.invariant-loop-place
+invariant-loop-place l = AreSet l.caps l.queues l.place

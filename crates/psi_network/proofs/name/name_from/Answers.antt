@@ -1,0 +1,9 @@
+use Rattle.std.proofs.Common.{sym}
+use Rattle.psi_network.proofs.Cells.{few, covered}
+use Rattle.psi_network.proofs.name.name_from.Goals as goal
+
+pub slice_bounds-copy_from_slice-end : goal.slice_bounds-copy_from_slice-end
+slice_bounds-copy_from_slice-end c = sym (covered c.args.bytes.now (few c.args.bytes.now c.requires))
+
+pub copy_from_slice-requires : goal.copy_from_slice-requires
+copy_from_slice-requires c = covered c.args.bytes.now (few c.args.bytes.now c.requires)

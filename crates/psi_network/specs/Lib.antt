@@ -1,0 +1,8 @@
+pub mod Name
+pub mod NameLaws
+pub mod Network
+pub mod Draft
+pub mod Expansion
+pub mod Valid
+pub mod Made
+pub mod Generated
