@@ -1,9 +1,11 @@
 pub mod Numerals
+pub mod Asking
 pub mod Listing
-pub mod Pieces
+pub mod Endings
 pub mod Sampling
-pub mod Replies
+pub mod Checking
 pub mod Written
 pub mod Running
+pub mod Sparing
 pub mod Entries
 pub mod Marks

@@ -3,14 +3,14 @@ use Rattle.std.specs.Prelude.{◌≡◌, ℕ, zero, suc, ◌<◌, List, [], ◌�
 use Rattle.std.proofs.Common.{ap, sym, ◌∙◌, subst}
 use Rattle.std.proofs.lemmas.Option.{slice_get_within, get_or_from_slice_get}
 use Rattle.psi_state.specs.State.{IsBelow}
-use Rattle.psi_state.specs.Boxes.{below-through}
+use Rattle.psi_state.proofs.BoxesLemmas.{below-through}
 use Rattle.psi_event.specs.Law.{ShowsUpset}
 use Rattle.psi_rate.specs.Composition.{Parts}
 use Rattle.psi_rate.specs.System.{IsSystem}
 use Rattle.psi_kinds.specs.Kinds.{do_kind, Does}
 use Rattle.psi_kinds.specs.Forms.{upset_of}
-use Rattle.psi_net.specs.Made.{EachDoes}
-use Rattle.psi_net.specs.declared.entries.NamedEvent.{NamedEvent}
+use Rattle.psi_network.specs.Made.{EachDoes}
+use Rattle.psi_network.specs.declared.entries.NamedEvent.{NamedEvent}
 use Rattle.psi_kinds.specs.declared.Kind.{Kind}
 
 -- one after the other, each does what its kind does: so at a place

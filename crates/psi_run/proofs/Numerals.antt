@@ -1,12 +1,14 @@
 -- Numbers as words.
-use Rattle.std.specs.Prelude.{◌≡◌, ◌⊎◌, ℕ, ◌<◌, ◌≤◌, ◌^◌, List, length, slice_index, true, false, not, ◌&&◌, ◌||◌, ◌==◌, nat_lt, nat_le, Some, None, Result, Ok, Err, refl}
+use Rattle.std.specs.Prelude.{◌≡◌, ◌⊎◌, ℕ, zero, suc, ◌<◌, ◌≤◌, ◌^◌, List, length, slice_index, true, false, not, ◌&&◌, ◌||◌, ◌==◌, nat_lt, nat_le, Some, None, Result, Ok, Err, refl}
 use Rattle.std.specs.List.{list_all}
 use Rattle.std.specs.Result.{result_ok, OkIff}
+use Rattle.std.specs.Fmt.{decimal}
 use Rattle.std.specs.Str.Parse.{ParsesUnsigned, digits_value}
 use Rattle.std.proofs.Common.{rules, arith, ap, ◌∙◌, inl, inr}
 use Rattle.std.proofs.lemmas.Bool.{and_parts, cases_lt, le-leb, lt-leb, lt-ltb, ltb-true, ne_eqb}
+use Rattle.std.proofs.lemmas.Fmt.{decimal_nonempty, first_decimal, length-decimal-le, digits_decimal, digits_value-decimal}
 use Rattle.std.proofs.lemmas.Str.Parse.{IsNumeralModel, numerals_by_value, parse_digits}
-use Rattle.psi_run.specs.Command.{is_digit, is_numeral, greatest_number, number_up_to}
+use Rattle.psi_run.specs.Words.{is_digit, is_numeral, greatest_number, number_up_to}
 
 own : IsNumeralModel (λ word. list_all is_digit word ≡ true) (digits_value 10)
 own = numerals_by_value _ (search rules)
@@ -24,9 +26,9 @@ numeral_empty word none = rw none refl
 
 -- nor are several digits with a 0 in front
 pub numeral_zero : (word : List ℕ) → 1 < length word → slice_index word 0 ≡ 48 → is_numeral word ≡ false
-numeral_zero word several zero =
+numeral_zero word several none =
     let some : 0 < length word = omega arith in
-    rw (lt-ltb 0 (length word) some, lt-leb (length word) 1 several, zero) refl
+    rw (lt-ltb 0 (length word) some, lt-leb (length word) 1 several, none) refl
 
 -- one byte is a numeral where it is a digit
 pub numeral_one : (word : List ℕ) → 0 < length word → length word ≤ 1 → is_numeral word ≡ list_all is_digit word
@@ -65,3 +67,18 @@ number_parsed word read parses is =
 pub number_none : (word : List ℕ) → is_numeral word ≡ false → number_up_to greatest_number word ≡ None
 unfolding number_up_to
 number_none word is = rw is refl
+
+-- the decimal digits of a number are a numeral
+decimal-numeral : (n : ℕ) → n < 2 ^ 64 → is_numeral (decimal n) ≡ true
+decimal-numeral zero small =
+    numeral_one (decimal zero) (decimal_nonempty zero small) (length-decimal-le 1 zero (omega arith) (omega arith) small) ∙ digits_decimal own zero small
+decimal-numeral (suc n) small =
+    let first : 48 < slice_index (decimal (suc n)) 0 = first_decimal (suc n) (omega arith) small in
+    numeral_more (decimal (suc n)) (decimal_nonempty (suc n) small) (λ is. omega arith) ∙ digits_decimal own (suc n) small
+
+-- and are read as that number
+pub number_written : (n : ℕ) → n < 2 ^ 64 → number_up_to greatest_number (decimal n) ≡ Some n
+unfolding number_up_to
+number_written n small =
+    let value : digits_value 10 (decimal n) ≡ n = digits_value-decimal own n small in
+    rw (decimal-numeral n small, value, le-leb n greatest_number (omega arith)) refl

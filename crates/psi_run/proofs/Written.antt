@@ -2,10 +2,11 @@
 use Rattle.std.specs.Prelude.{◌≡◌, [], Result, Ok, Err, OnOk, OnErr}
 use Rattle.std.proofs.Common.{sym, ◌∙◌, ap, inr}
 use Rattle.psi_io.specs.declared.sink.SinkFault.{SinkFault}
-use Rattle.psi_io.specs.Sink.{appended, appended-nothing}
+use Rattle.psi_io.specs.Sink.{appended}
+use Rattle.psi_io.proofs.SinkLemmas.{appended-nothing}
 use Rattle.psi_run.specs.Reply.{Reply}
-use Rattle.psi_run.specs.Call.{SinkSeen, Grew, GrewByPart, IsUnchanged, HasFailed}
-use Rattle.psi_run.specs.Writing.{IsWritten}
+use Rattle.psi_run.specs.Seen.{SinkSeen, Grew, GrewByPart, IsUnchanged, HasFailed}
+use Rattle.psi_run.specs.Written.{IsWritten}
 
 -- a reply whose text is a line of err alone is written once its line is
 pub line_written : (reply : Reply) (out err : SinkSeen) (result : Result (Unit {0}) SinkFault) → reply.out ≡ [] → IsUnchanged out

@@ -1,21 +1,12 @@
 -- What a call of the program is seen to do.
 use Rattle.std.specs.Prelude.{◌≡◌, ◌≢◌, ℕ, List, Option, IsOk, IsErr, IfSome, ◌⊎◌}
-use Rattle.psi_io.specs.Counts.{Rose}
-use Rattle.psi_io.specs.Sink.{appended, GrewByPrefix}
 use Rattle.psi_run.specs.declared.status.Status.{Status}
-use Rattle.psi_run.specs.declared.status.Status.TheVariants.{Done, NotCoupled, Usage, NetRefused, LogRefused, LogTooLong, ReadFault, WriteFault, OutOfMemory}
-use Rattle.psi_run.specs.Status.{IsPrinted}
-use Rattle.psi_run.specs.Command.{command_of}
+use Rattle.psi_run.specs.declared.status.Status.TheVariants.{Usage, LogRefused, LogTooLong, ReadFault, WriteFault, OutOfMemory}
+use Rattle.psi_run.specs.Status.{IsPrinted, IsReported, IsReplied}
+use Rattle.psi_run.specs.Words.{command_of}
 use Rattle.psi_run.specs.Texts.{unread_line, memory_line}
 use Rattle.psi_run.specs.Reply.{Reply, reply_to}
-use Rattle.psi_run.specs.Answer.{ShelfSeen, IsNetUnread}
-
--- what is seen of a sink over a call: what it holds, where it tells it, and its count of faults, before and after
-pub record SinkSeen : Type 0 where
-  pub before : Option (List ℕ)
-  pub after : Option (List ℕ)
-  pub faults_before : ℕ
-  pub faults_after : ℕ
+use Rattle.psi_run.specs.Seen.{ShelfSeen, HasUnread, SinkSeen, Grew, GrewByPart, IsUnchanged, HasFailed}
 
 -- a call: its words, the shelf that it reads and the two sinks that it writes
 pub record Call : Type 0 where
@@ -24,76 +15,41 @@ pub record Call : Type 0 where
   pub out : SinkSeen
   pub err : SinkSeen
 
--- the sink grew by the text
-abbrev pub Grew : SinkSeen → List ℕ → Type 0
-Grew sink text = sink.after ≡ appended sink.before text
-
--- the sink grew by a prefix of the text
-abbrev pub GrewByPart : SinkSeen → List ℕ → Type 0
-GrewByPart sink text = GrewByPrefix sink.before sink.after text
-
--- the sink holds what it held
-abbrev pub IsUnchanged : SinkSeen → Type 0
-IsUnchanged sink = sink.after ≡ sink.before
-
--- a write to the sink failed in the call
-abbrev pub HasFailed : SinkSeen → Type 0
-HasFailed sink = Rose sink.faults_before sink.faults_after
-
--- the reply to a call, where its shelf tells the names needed
-abbrev pub reply_of : Call → Option Reply
-reply_of call = reply_to (command_of call.words) call.shelf.told
+-- the reply to a call, where its shelf tells the file needed
+abbrev pub reply_to_call : Call → Option Reply
+reply_to_call call = reply_to (command_of call.words) call.shelf.told
 
 -- the words are a command
 abbrev pub IsCommand : Call → Type 0
 IsCommand call = IsOk (command_of call.words)
 
--- the network file that the words name couldn't be read
-abbrev pub NetFailed : Call → Type 0
-NetFailed call = IsNetUnread call.shelf (command_of call.words)
+-- a read failed of a file that the words name
+abbrev pub ReadFailed : Call → Type 0
+ReadFailed call = HasUnread call.shelf (command_of call.words)
 
--- the statuses of a reply
-abbrev pub IsReplied : Status → Type 0
-IsReplied Done = Unit {0}
-IsReplied NotCoupled = Unit {0}
-IsReplied Usage = Unit {0}
-IsReplied NetRefused = Unit {0}
-IsReplied LogRefused = Unit {0}
-IsReplied LogTooLong = Unit {0}
-IsReplied ReadFault = ⊥
-IsReplied WriteFault = ⊥
-IsReplied OutOfMemory = ⊥
-
--- the statuses that come with a line in err
-abbrev pub IsReported : Status → Type 0
-IsReported Done = ⊥
-IsReported NotCoupled = ⊥
-IsReported WriteFault = ⊥
-IsReported status = Unit {0}
-
--- the network file couldn't be read, and err tells it
+-- a file couldn't be read, and err tells which
 pub record ReadFaulted (call : Call) : Type 0 where
-  pub cause : NetFailed call
+  pub cause : ReadFailed call
   pub out : IsUnchanged call.out
-  pub err : Grew call.err unread_line
+  pub err : Grew call.err (unread_line cause.file)
 
 -- out failed within the reply's text
 pub record OutFaulted (call : Call) : Type 0 where
   pub cause : HasFailed call.out
-  pub out : IfSome (reply_of call) (λ reply. GrewByPart call.out reply.out)
+  pub out : IfSome (reply_to_call call) (λ reply. GrewByPart call.out reply.out)
   pub err : IsUnchanged call.err
 
 -- what err holds where it failed: a prefix of the reply's text, of the line on a failed read, or of the line on want of memory
 abbrev pub EndsWithin : Call → Reply → Type 0
 EndsWithin call reply =
     GrewByPart call.err reply.err
-    ⊎ ((NetFailed call × GrewByPart call.err unread_line) ⊎ (IsCommand call × GrewByPart call.err memory_line))
+    ⊎ (((cause : ReadFailed call) × GrewByPart call.err (unread_line cause.file)) ⊎ (IsCommand call × GrewByPart call.err memory_line))
 
 -- err failed within its text
 pub record ErrFaulted (call : Call) : Type 0 where
   pub cause : HasFailed call.err
   pub out : IsUnchanged call.out
-  pub err : IfSome (reply_of call) (EndsWithin call)
+  pub err : IfSome (reply_to_call call) (EndsWithin call)
 
 -- memory ran out before anything was written, and err tells it
 pub record MemoryLacked (call : Call) : Type 0 where
@@ -103,13 +59,13 @@ pub record MemoryLacked (call : Call) : Type 0 where
 
 -- what the status of a call says of it
 pub record IsRun (call : Call) (result : Status) : Type 0 where
-  -- where the shelf tells the names needed, a status from 0 to 5 is the reply's, whatever counts rose
-  pub status : IfSome (reply_of call) (λ reply. IsReplied result → result ≡ reply.status)
+  -- where the shelf tells the file needed, a status from 0 to 5 is the reply's, whatever counts rose
+  pub status : IfSome (reply_to_call call) (λ reply. IsReplied result → result ≡ reply.status)
   -- and with such a status each sink that tells what it holds grew by exactly the reply's text
-  pub out : IfSome (reply_of call) (λ reply. IsReplied result → Grew call.out reply.out)
-  pub err : IfSome (reply_of call) (λ reply. IsReplied result → Grew call.err reply.err)
-  -- where no count of out, of err or of the network file rose in the call, the status is one from 0 to 5, or 8
-  pub complete : ¬ (HasFailed call.out) → ¬ (HasFailed call.err) → ¬ (NetFailed call) → IsReplied result ⊎ (result ≡ OutOfMemory)
+  pub out : IfSome (reply_to_call call) (λ reply. IsReplied result → Grew call.out reply.out)
+  pub err : IfSome (reply_to_call call) (λ reply. IsReplied result → Grew call.err reply.err)
+  -- where no count of out, of err or of a file of the command rose in the call, the status is one from 0 to 5, or 8
+  pub complete : ¬ (HasFailed call.out) → ¬ (HasFailed call.err) → ¬ (ReadFailed call) → IsReplied result ⊎ (result ≡ OutOfMemory)
   -- status 2 comes only where the words aren't a command, and where they aren't, it comes unless err fails
   pub usage : result ≡ Usage → IsErr (command_of call.words)
   pub no_command : IsErr (command_of call.words) → (result ≡ Usage) ⊎ (result ≡ WriteFault)

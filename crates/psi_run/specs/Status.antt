@@ -1,4 +1,4 @@
--- The exit status of each ending, and the statuses with which a text is printed.
+-- The exit status of each ending, and what a status says of the two texts.
 use Rattle.std.specs.Prelude.{ℕ}
 use Rattle.psi_run.specs.declared.status.Status.{Status}
 use Rattle.psi_run.specs.declared.status.Status.TheVariants.{Done, NotCoupled, Usage, NetRefused, LogRefused, LogTooLong, ReadFault, WriteFault, OutOfMemory}
@@ -20,3 +20,29 @@ abbrev pub IsPrinted : Status → Type 0
 IsPrinted Done = Unit {0}
 IsPrinted NotCoupled = Unit {0}
 IsPrinted status = ⊥
+
+-- the statuses that come with a line in err
+abbrev pub IsReported : Status → Type 0
+IsReported Done = ⊥
+IsReported NotCoupled = ⊥
+IsReported WriteFault = ⊥
+IsReported status = Unit {0}
+
+-- the statuses of a reply
+abbrev pub IsReplied : Status → Type 0
+IsReplied Done = Unit {0}
+IsReplied NotCoupled = Unit {0}
+IsReplied Usage = Unit {0}
+IsReplied NetRefused = Unit {0}
+IsReplied LogRefused = Unit {0}
+IsReplied LogTooLong = Unit {0}
+IsReplied ReadFault = ⊥
+IsReplied WriteFault = ⊥
+IsReplied OutOfMemory = ⊥
+
+-- the statuses of a reply to a command; no command gives a log's yet
+abbrev pub IsOfCommand : Status → Type 0
+IsOfCommand Done = Unit {0}
+IsOfCommand NotCoupled = Unit {0}
+IsOfCommand NetRefused = Unit {0}
+IsOfCommand status = ⊥

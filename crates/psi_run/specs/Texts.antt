@@ -4,9 +4,14 @@ use Rattle.std.specs.List.{join_with_byte}
 use Rattle.std.specs.Fmt.{decimal}
 use Rattle.psi_state.specs.declared.Outcome.{Outcome}
 use Rattle.psi_state.specs.declared.Outcome.TheVariants.{Met, NotMet}
-use Rattle.psi_net.specs.declared.NetRefusal.{NetRefusal}
-use Rattle.psi_net.specs.declared.Section.{Section}
-use Rattle.psi_net.specs.declared.Section.TheVariants.{Top, Queue, Event, Reward}
+use Rattle.psi_document.specs.declared.refusals.NetRefusal.{NetRefusal}
+use Rattle.psi_document.specs.declared.refusals.Section.{Section}
+use Rattle.psi_document.specs.declared.refusals.Section.TheVariants.{Top, Queue, Event, Reward}
+use Rattle.psi_run.specs.Command.{File, net_file}
+
+-- a word and a number
+unfoldable pub number_line : List ℕ → ℕ → List ℕ
+number_line word n = word ++ decimal n ++ codes "\n"
 
 -- a state's numbers in the queues' order, joined by commas
 unfoldable pub state_text : List ℕ → List ℕ
@@ -71,9 +76,9 @@ unfoldable pub refused_line : NetRefusal → List ℕ
 refused_line refusal =
     refused_words (decimal refusal.code) (refusal_name refusal.code) (section_name refusal.section) (decimal refusal.number) (key_text refusal.key)
 
--- the network file can't be read
-abbrev pub unread_line : List ℕ
-unread_line = codes "psi: cannot read network\n"
+-- a file can't be read
+abbrev pub unread_line : File → List ℕ
+unread_line (net_file name) = codes "psi: cannot read network\n"
 
 -- there is no memory
 abbrev pub memory_line : List ℕ

@@ -1,17 +1,22 @@
 //! The call that does all that the program does.
 
-ghost use Rattle.std.specs.Prelude.{◌≡◌, ℕ, List, Some, Ok, map, string_bytes};
-ghost use Rattle.psi_net.specs.Network.{Network};
+ghost use Rattle.std.specs.Prelude.{◌≡◌, ◌≢◌, ℕ, ◌^◌, ◌<◌, ◌⊎◌, List, [], ◌∷◌, Some, Ok, map, codes, string_bytes};
+ghost use Rattle.std.specs.Fmt.{decimal};
+ghost use Rattle.psi_io.specs.Counts.{Rose};
+ghost use Rattle.psi_network.specs.Network.{Network};
 ghost use Rattle.psi_net.specs.Reading.{network_of};
-ghost use Rattle.psi_run.specs.Command.{command_of, sample, check};
-ghost use Rattle.psi_run.specs.Status.{IsPrinted};
+ghost use Rattle.psi_run.specs.Status.{IsReplied};
+ghost use Rattle.psi_run.specs.Command.{Command};
+ghost use Rattle.psi_run.specs.Words.{command_of};
+ghost use Rattle.psi_run.specs.Sample.{IsSampled};
+ghost use Rattle.psi_run.specs.Reply.{Reply, reply_to};
+ghost use Rattle.psi_run.specs.Means.{Means};
+ghost use Rattle.psi_run.specs.Spared.{AreGiven, AreTaken};
 ghost use Rattle.psi_run.specs.Call.{IsRun};
-ghost use Rattle.psi_run.specs.Headline.{IsSampled};
-ghost use Rattle.psi_run.specs.Checked.{IsChecked};
 
-use crate::answering::answer_to;
+use crate::commands::work;
 use crate::status::Status;
-use crate::writing::write_answer;
+use crate::writing::write_ending;
 use psi_io::{Shelf, Sink};
 use std::alloc::Global;
 
@@ -54,6 +59,9 @@ use std::alloc::Global;
 /// states.
 ///
 /// All memory is taken before the first byte is written. Words that aren't a command take none.
+///
+/// Where the shelf gives NET, and out and err take their texts, no count rises, and the status is
+/// neither `ReadFault` nor `WriteFault`.
 pub fn run<F: Shelf, O: Sink, E: Sink>(
     alloc: Global,
     words: &[String],
@@ -69,21 +77,31 @@ pub fn run<F: Shelf, O: Sink, E: Sink>(
       err = record { before = E.held err.old; after = E.held err.new; faults_before = E.faults err.old; faults_after = E.faults err.new };
     }) result }
 
-    // What is printed of a network that the shelf tells is a sample of it.
-    ensures sampled { (name : List ℕ) (seed stream : ℕ) (bytes : List ℕ) (net : Network)
-        → command_of (map string_bytes words.now) ≡ Ok (sample name seed stream) → F.told shelf.old name ≡ Some bytes
-        → network_of bytes ≡ Ok net → IsPrinted result
+    // The headline: where the words are those of a sample, the shelf tells a file that reads as a network, no count of faults rose
+    // in this call and memory didn't run out, what is printed is a sample of the network.
+    ensures headline { (name : List ℕ) (seed stream : ℕ) (bytes : List ℕ) (net : Network)
+        → map string_bytes words.now ≡ codes "sample" ∷ name ∷ decimal seed ∷ decimal stream ∷ [] → seed < 2 ^ 64 → stream < 2 ^ 64
+        → F.told shelf.old name ≡ Some bytes → network_of bytes ≡ Ok net
+        → ¬ (Rose (F.faults shelf.old name) (F.faults shelf.new name))
+        → ¬ (Rose (O.faults out.old) (O.faults out.new)) → ¬ (Rose (E.faults err.old) (E.faults err.new))
+        → result ≢ Status.OutOfMemory
         → IsSampled (O.held out.old) (O.held out.new) result net seed stream }
 
-    // And where a description is asked for, it is the network's.
-    ensures checked { (name : List ℕ) (bytes : List ℕ) (net : Network)
-        → command_of (map string_bytes words.now) ≡ Ok (check name) → F.told shelf.old name ≡ Some bytes
-        → network_of bytes ≡ Ok net → IsPrinted result
-        → IsChecked (O.held out.old) (O.held out.new) result net }
+    // What a status of a reply means for the command, whatever counts rose.
+    ensures means { (command : Command) → command_of (map string_bytes words.now) ≡ Ok command → IsReplied result
+        → Means command (F.told shelf.old) (O.held out.old) (O.held out.new) result }
+
+    // Where the shelf gives each file that the words name, and out and err take the reply's texts and the line on want of memory,
+    // no count of faults rises in this call, and the status is the reply's or tells want of memory.
+    ensures spared { (reply : Reply) → reply_to (command_of (map string_bytes words.now)) (F.told shelf.old) ≡ Some reply
+        → AreGiven (F.gives shelf.old) (command_of (map string_bytes words.now))
+        → AreTaken (O.takes out.old) (E.takes err.old) (command_of (map string_bytes words.now)) reply
+        → (F.faults shelf.new ≡ F.faults shelf.old) × (O.faults out.new ≡ O.faults out.old) × (E.faults err.new ≡ E.faults err.old)
+        × ((result ≡ reply.status) ⊎ (result ≡ Status.OutOfMemory)) }
 {
-    let answer = answer_to(alloc, words, shelf);
-    match write_answer(&answer, out, err) {
-        Ok(()) => answer.status(),
+    let ending = work(alloc, words, shelf);
+    match write_ending(&ending, out, err) {
+        Ok(()) => ending.status(),
         Err(_) => Status::WriteFault,
     }
 }

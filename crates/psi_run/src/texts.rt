@@ -2,8 +2,7 @@
 
 ghost use Rattle.std.specs.Prelude.{◌≡◌, ◌++◌, decimal, IfOk, OnOk};
 ghost use Rattle.std.specs.List.{flat_map};
-ghost use Rattle.psi_run.specs.Texts.{state_text, outcome_text, IsWithinLimit};
-ghost use Rattle.psi_run.specs.Describing.{number_line};
+ghost use Rattle.psi_run.specs.Texts.{number_line, state_text, outcome_text, IsWithinLimit};
 
 use itoa::Buffer;
 use psi_state::{Outcome, State};
@@ -20,7 +19,7 @@ pub(crate) fn push_pieces(text: &mut Vec<u8>, pieces: &[&[u8]]) -> Result<(), Al
 }
 
 /// Appends a word, a number and a line feed.
-#[tactic(auto, unfolding(crate::specs::Describing::number_line))]
+#[tactic(auto, unfolding(crate::specs::Texts::number_line))]
 pub(crate) fn push_number_line(text: &mut Vec<u8>, word: &[u8], n: u32) -> Result<(), AllocError>
     ensures { OnOk result (text.new.items ≡ text.old.items ++ number_line word.now n) }
 {
@@ -52,7 +51,7 @@ pub(crate) fn push_state(text: &mut Vec<u8>, state: &State) -> Result<(), AllocE
 
 /// What is printed of a sample: where it is met, a line with the horizon and a line with the state; where
 /// it isn't, a line with the greatest horizon.
-#[tactic(auto, unfolding(crate::specs::Texts::outcome_text, crate::specs::Describing::number_line))]
+#[tactic(auto, unfolding(crate::specs::Texts::outcome_text, crate::specs::Texts::number_line))]
 pub(crate) fn outcome_text(alloc: Global, outcome: &Outcome) -> Result<Vec<u8>, AllocError>
     requires { IsWithinLimit outcome.now }
     ensures { IfOk result (λ text. text.items ≡ outcome_text outcome.now) }

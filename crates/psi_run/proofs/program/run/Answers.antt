@@ -1,61 +1,32 @@
-use Rattle.std.proofs.Common.{map, string_bytes}
-use Rattle.psi_run.specs.Call.{Call}
-use Rattle.psi_run.proofs.Running.{run_whole, run_cut, run_sampled, run_checked}
+use Rattle.psi_run.proofs.Asking.{sample_asked}
+use Rattle.psi_run.proofs.Running.{run_whole, run_cut, run_means, run_headline}
+use Rattle.psi_run.proofs.Sparing.{where-taken, spared-status}
 use Rattle.psi_run.proofs.program.run.Goals as goal
 
 pub returns-in-Ok-clause-call : goal.returns-in-Ok-clause-call
-returns-in-Ok-clause-call g c =
-    run_whole _ c.answer_to-answer.result c.status.result c.answer_to-answer.ensures c.in-Ok.ensures c.status.ensures
+returns-in-Ok-clause-call g c = run_whole _ _ c.status.result c.work-ending.ensures.ending c.in-Ok.ensures.written c.status.ensures
 
-pub returns-in-Ok-clause-sampled : goal.returns-in-Ok-clause-sampled
-returns-in-Ok-clause-sampled g c =
-    let call : Call = record {
-      words = map string_bytes c.args.words.now;
-      shelf = record {
-        told = g.F.Shelf.told c.args.shelf.now;
-        faults_before = g.F.Shelf.faults c.args.shelf.now;
-        faults_after = g.F.Shelf.faults c.answer_to-answer.new.shelf;
-      };
-      out = record {
-        before = g.O.Sink.held c.args.out.now;
-        after = g.O.Sink.held c.write_answer.new.out;
-        faults_before = g.O.Sink.faults c.args.out.now;
-        faults_after = g.O.Sink.faults c.write_answer.new.out;
-      };
-      err = record {
-        before = g.E.Sink.held c.args.err.now;
-        after = g.E.Sink.held c.write_answer.new.err;
-        faults_before = g.E.Sink.faults c.args.err.now;
-        faults_after = g.E.Sink.faults c.write_answer.new.err;
-      };
-    } in
-    run_sampled call c.status.result
-    (run_whole call c.answer_to-answer.result c.status.result c.answer_to-answer.ensures c.in-Ok.ensures c.status.ensures)
+pub returns-in-Ok-clause-headline : goal.returns-in-Ok-clause-headline
+returns-in-Ok-clause-headline g c name seed stream bytes net are small less there accepted read out err memory =
+    run_headline _ _ _ _ _ c.status.result c.work-ending.ensures.ending c.in-Ok.ensures.written.printed c.status.ensures name seed stream bytes net
+    (sample_asked _ name seed stream are small less) there accepted read memory
 
-pub returns-in-Ok-clause-checked : goal.returns-in-Ok-clause-checked
-returns-in-Ok-clause-checked g c =
-    let call : Call = record {
-      words = map string_bytes c.args.words.now;
-      shelf = record {
-        told = g.F.Shelf.told c.args.shelf.now;
-        faults_before = g.F.Shelf.faults c.args.shelf.now;
-        faults_after = g.F.Shelf.faults c.answer_to-answer.new.shelf;
-      };
-      out = record {
-        before = g.O.Sink.held c.args.out.now;
-        after = g.O.Sink.held c.write_answer.new.out;
-        faults_before = g.O.Sink.faults c.args.out.now;
-        faults_after = g.O.Sink.faults c.write_answer.new.out;
-      };
-      err = record {
-        before = g.E.Sink.held c.args.err.now;
-        after = g.E.Sink.held c.write_answer.new.err;
-        faults_before = g.E.Sink.faults c.args.err.now;
-        faults_after = g.E.Sink.faults c.write_answer.new.err;
-      };
-    } in
-    run_checked call c.answer_to-answer.result c.status.result c.answer_to-answer.ensures c.status.ensures
-    (run_whole call c.answer_to-answer.result c.status.result c.answer_to-answer.ensures c.in-Ok.ensures c.status.ensures)
+pub returns-in-Ok-clause-means : goal.returns-in-Ok-clause-means
+returns-in-Ok-clause-means g c command asked kind =
+    run_means _ _ _ _ _ c.status.result command c.work-ending.ensures.ending c.in-Ok.ensures.written.printed c.status.ensures asked kind
 
 pub returns-clause-call : goal.returns-clause-call
-returns-clause-call g c = run_cut _ c.answer_to-answer.result c.answer_to-answer.ensures c.in-Err.ensures
+returns-clause-call g c = run_cut _ _ c.work-ending.ensures.ending c.in-Err.ensures.written
+
+pub returns-in-Ok-clause-spared : goal.returns-in-Ok-clause-spared
+returns-in-Ok-clause-spared g c reply there given taken =
+    let worked = c.work-ending.ensures in
+    let read = worked.read given in
+    let written = where-taken _ _ reply _ _ _ worked.ending read there taken c.in-Ok.ensures.taken in
+    (worked.spared given, written.1, written.2, spared-status _ _ reply _ c.status.result worked.ending read there c.status.ensures)
+
+pub returns-clause-spared : goal.returns-clause-spared
+returns-clause-spared g c reply there given taken =
+    let worked = c.work-ending.ensures in
+    let written = where-taken _ _ reply _ _ _ worked.ending (worked.read given) there taken c.in-Err.ensures.taken in
+    let whole = written.0 in absurd cc

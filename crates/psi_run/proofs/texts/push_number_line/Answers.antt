@@ -1,5 +1,5 @@
 use Rattle.std.proofs.Common.{append_assoc}
-use Rattle.psi_run.specs.Describing.{number_line}
+use Rattle.psi_run.specs.Texts.{number_line}
 use Rattle.psi_run.proofs.texts.push_number_line.Goals as goal
 
 pub returns : goal.returns

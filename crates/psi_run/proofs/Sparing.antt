@@ -1,0 +1,59 @@
+-- A call whose reads and writes are not to fail ends with its reply, or for want of memory.
+use Rattle.std.specs.Prelude.{◌≡◌, ℕ, zero, List, [], Option, Some, Result, Ok, IfSome, ◌⊎◌, refl}
+use Rattle.std.proofs.Common.{sym, ap, ◌∙◌, subst, arith, inl, inr}
+use Rattle.psi_run.specs.declared.status.Status.{Status}
+use Rattle.psi_run.specs.declared.status.Status.TheVariants.{OutOfMemory}
+use Rattle.psi_run.specs.Command.{Command, sample, check, net_file}
+use Rattle.psi_run.specs.Reply.{Reply, reply_to}
+use Rattle.psi_run.specs.Seen.{ShelfSeen}
+use Rattle.psi_run.specs.Ending.{Ending, replied, unread, no_memory, ending_reply, MayReply, EndsWith, IsEnding}
+use Rattle.psi_run.specs.Spared.{AreGiven, IsTaken, AreTaken, HasRead}
+
+-- work that ends with its reply, unless memory ran out, had no failed read
+pub ends-read : (ending : Ending) (reply : Reply) → EndsWith ending reply → HasRead ending
+ends-read (replied given) reply ends = tt
+ends-read (unread file) reply ends = ends
+ends-read no_memory reply ends = tt
+
+-- the file of a command about one network is given
+pub sample-given : (gives : List ℕ → Type 0) (words : Result Command ℕ) (name : List ℕ) (seed stream : ℕ) → words ≡ Ok (sample name seed stream)
+    → AreGiven gives words → gives name
+sample-given gives words name seed stream asked given =
+    subst (λ w. AreGiven gives w) asked given (net_file name) (zero, omega arith, refl)
+
+pub check-given : (gives : List ℕ → Type 0) (words : Result Command ℕ) (name : List ℕ) → words ≡ Ok (check name) → AreGiven gives words → gives name
+check-given gives words name asked given = subst (λ w. AreGiven gives w) asked given (net_file name) (zero, omega arith, refl)
+
+-- a sink that takes a text takes none
+nothing-taken : (takes : ℕ → Type 0) (text : List ℕ) → IsTaken takes text → IsTaken takes []
+nothing-taken takes text is = record { room = is.room; taken = is.taken; fits = omega arith }
+
+-- the reply that the work ended with is the reply to the words
+module _ (shelf : ShelfSeen) (words : Result Command ℕ) (reply : Reply) where
+  same-reply : (given : Reply) → IsEnding shelf words (replied given) → reply_to words shelf.told ≡ Some reply → given ≡ reply
+  same-reply given is there = subst (λ (o : Option Reply). IfSome o (MayReply (replied given))) there is.reply
+
+  -- each sink takes its text of the ending
+  out-taken : (out err : ℕ → Type 0) (end : Ending) → IsEnding shelf words end → HasRead end → reply_to words shelf.told ≡ Some reply
+      → AreTaken out err words reply → IsTaken out (ending_reply end).out
+  out-taken out err (replied given) is read there taken = subst (λ (r : Reply). IsTaken out r.out) (sym (same-reply given is there)) taken.out
+  out-taken out err (unread file) is read there taken = absurd read
+  out-taken out err no_memory is read there taken = nothing-taken out reply.out taken.out
+
+  err-taken : (out err : ℕ → Type 0) (end : Ending) → IsEnding shelf words end → HasRead end → reply_to words shelf.told ≡ Some reply
+      → AreTaken out err words reply → IsTaken err (ending_reply end).err
+  err-taken out err (replied given) is read there taken = subst (λ (r : Reply). IsTaken err r.err) (sym (same-reply given is there)) taken.err
+  err-taken out err (unread file) is read there taken = absurd read
+  err-taken out err no_memory is read there taken = taken.memory is.cause
+
+  -- and so what holds where each takes its text holds
+  pub where-taken : {P : Type 0} (out err : ℕ → Type 0) (end : Ending) → IsEnding shelf words end → HasRead end → reply_to words shelf.told ≡ Some reply
+      → AreTaken out err words reply → (IsTaken out (ending_reply end).out → IsTaken err (ending_reply end).err → P) → P
+  where-taken out err end is read there taken holds = holds (out-taken out err end is read there taken) (err-taken out err end is read there taken)
+
+  -- the status of the ending is the reply's, or tells want of memory
+  pub spared-status : (end : Ending) (result : Status) → IsEnding shelf words end → HasRead end → reply_to words shelf.told ≡ Some reply
+      → result ≡ (ending_reply end).status → (result ≡ reply.status) ⊎ (result ≡ OutOfMemory)
+  spared-status (replied given) result is read there same = inl (same ∙ ap (λ (r : Reply). r.status) (same-reply given is there))
+  spared-status (unread file) result is read there same = absurd read
+  spared-status no_memory result is read there same = inr same

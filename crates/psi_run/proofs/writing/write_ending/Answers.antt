@@ -1,0 +1,19 @@
+use Rattle.std.proofs.Common.{refl}
+use Rattle.psi_run.proofs.Written.{line_written}
+use Rattle.psi_run.proofs.writing.write_ending.Goals as goal
+
+pub returns-in-NetUnread-clause-written : goal.returns-in-NetUnread-clause-written
+returns-in-NetUnread-clause-written g c = let written = c.write_all-in-NetUnread in
+    rw c.in-NetUnread.is (line_written _ _ _ written.result refl refl written.ensures.whole written.ensures.prefix written.ensures.failed)
+
+pub returns-in-NetUnread-clause-taken : goal.returns-in-NetUnread-clause-taken
+returns-in-NetUnread-clause-taken g c = let written = c.write_all-in-NetUnread.ensures in
+    rw c.in-NetUnread.is (λ out err. (written.taken err.room err.taken err.fits, refl, written.spared err.room err.taken err.fits))
+
+pub returns-in-OutOfMemory-clause-written : goal.returns-in-OutOfMemory-clause-written
+returns-in-OutOfMemory-clause-written g c = let written = c.write_all-in-OutOfMemory in
+    rw c.in-OutOfMemory.is (line_written _ _ _ written.result refl refl written.ensures.whole written.ensures.prefix written.ensures.failed)
+
+pub returns-in-OutOfMemory-clause-taken : goal.returns-in-OutOfMemory-clause-taken
+returns-in-OutOfMemory-clause-taken g c = let written = c.write_all-in-OutOfMemory.ensures in
+    rw c.in-OutOfMemory.is (λ out err. (written.taken err.room err.taken err.fits, refl, written.spared err.room err.taken err.fits))

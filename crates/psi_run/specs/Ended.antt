@@ -1,0 +1,29 @@
+-- The program's own ending, as the definition's, and what a network file gives.
+use Rattle.std.specs.Prelude.{◌≡◌, ℕ, List, Option, Ok, Err, IfSome}
+use Rattle.psi_network.specs.Network.{Network}
+use Rattle.psi_net.specs.Reading.{network_of}
+use Rattle.psi_run.specs.declared.ending.Ending.{Ending as Ended}
+use Rattle.psi_run.specs.declared.ending.Ending.TheVariants.{Printed, Usage, NetRefused, NetUnread, OutOfMemory}
+use Rattle.psi_run.specs.Command.{net_file}
+use Rattle.psi_run.specs.Reply.{text_reply, usage_reply, refused_reply}
+use Rattle.psi_run.specs.Ending.{Ending, replied, unread, no_memory}
+use Rattle.psi_run.specs.Seen.{ShelfSeen, IsUnread}
+
+-- the ending that the program's own is
+abbrev pub ending_of : Ended → Ending
+ending_of (Printed status text) = replied (text_reply status text.items)
+ending_of (Usage place) = replied (usage_reply place)
+ending_of (NetRefused refusal) = replied (refused_reply refusal)
+ending_of (NetUnread name) = unread (net_file name.now)
+ending_of OutOfMemory = no_memory
+
+-- the network is that in the file of the name, where the shelf tells it
+abbrev pub IsNetAt : (List ℕ → Option (List ℕ)) → List ℕ → Network → Type 0
+IsNetAt told name net = IfSome (told name) (λ bytes. network_of bytes ≡ Ok net)
+
+-- how the work ends where no network is had from the file of the name: it is refused, a read of it failed, or memory ran out
+abbrev pub IsNoNet : ShelfSeen → List ℕ → Ended → Type 0
+IsNoNet shelf name (NetRefused refusal) = IfSome (shelf.told name) (λ bytes. network_of bytes ≡ Err refusal)
+IsNoNet shelf name (NetUnread own) = (own.now ≡ name) × IsUnread shelf name
+IsNoNet shelf name OutOfMemory = Unit {0}
+IsNoNet shelf name ended = ⊥

@@ -1,0 +1,17 @@
+-- What it means that a call of a command ends with a reply's status.
+use Rattle.std.specs.Prelude.{◌≡◌, ℕ, List, Option, Some, Ok}
+use Rattle.psi_network.specs.Network.{Network}
+use Rattle.psi_net.specs.Reading.{network_of}
+use Rattle.psi_run.specs.declared.status.Status.{Status}
+use Rattle.psi_run.specs.Command.{Command, sample, check}
+use Rattle.psi_run.specs.Sample.{IsSampled}
+use Rattle.psi_run.specs.Check.{IsChecked}
+
+-- the network in the file of the name has the property, where the shelf tells the file and it reads as a network
+abbrev pub OfNetwork : (List ℕ → Option (List ℕ)) → List ℕ → (Network → Type 0) → Type 0
+OfNetwork told name Has = (bytes : List ℕ) (net : Network) → told name ≡ Some bytes → network_of bytes ≡ Ok net → Has net
+
+-- what the status says together with what out holds before and after: a sample is drawn, or a description is right
+abbrev pub Means : Command → (List ℕ → Option (List ℕ)) → Option (List ℕ) → Option (List ℕ) → Status → Type 0
+Means (sample name seed stream) told before after result = OfNetwork told name (λ net. IsSampled before after result net seed stream)
+Means (check name) told before after result = OfNetwork told name (λ net. IsChecked before after result net)

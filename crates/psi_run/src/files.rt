@@ -1,0 +1,39 @@
+//! Reading the files that a command names.
+
+ghost use Rattle.std.specs.Prelude.{◌≡◌, IfOk, IfErr};
+ghost use Rattle.psi_run.specs.Spared.{HasRead};
+ghost use Rattle.psi_run.specs.Ended.{ending_of, IsNetAt, IsNoNet};
+
+use crate::ending::Ending;
+use psi_io::{Shelf, ShelfFault};
+use psi_net::{Net, NetError, net_of};
+use std::alloc::Global;
+
+/// The most bytes that a network file may have.
+const MOST_NET_BYTES: u32 = 1_048_576;
+
+/// The network in the file of this name. Where there is none, the work ends the same whichever command
+/// names the file: it is refused, a read of it failed in this call, or there was not enough memory.
+pub(crate) fn network_at<'w, F: Shelf>(
+    alloc: Global,
+    shelf: &mut F,
+    name: &'w str,
+) -> Result<Net, Ending<'w>>
+    ensures network { IfOk result (IsNetAt (F.told shelf.old) name.now) }
+    ensures none { IfErr result (IsNoNet (record { told = F.told shelf.old; faults_before = F.faults shelf.old; faults_after = F.faults shelf.new })
+        name.now) }
+    // Where the shelf gives the file, no read of it failed, and no count rose.
+    ensures read { F.gives shelf.old name.now → IfErr result (λ ending. HasRead (ending_of ending)) }
+    ensures spared { F.gives shelf.old name.now → F.faults shelf.new ≡ F.faults shelf.old }
+{
+    let bytes = match shelf.read(alloc, name, MOST_NET_BYTES) {
+        Ok(bytes) => bytes,
+        Err(ShelfFault::Failed) => return Err(Ending::NetUnread(name)),
+        Err(ShelfFault::OutOfMemory) => return Err(Ending::OutOfMemory),
+    };
+    match net_of(alloc, bytes.as_slice()) {
+        Ok(net) => Ok(net),
+        Err(NetError::Refused(refusal)) => Err(Ending::NetRefused(refusal)),
+        Err(NetError::OutOfMemory) => Err(Ending::OutOfMemory),
+    }
+}
