@@ -1,0 +1,116 @@
+#!/usr/bin/env python3
+"""check_gallery.py [PSI]
+
+Compares what the documents show with what the built program prints; PSI is its path, and
+crates/psi/out/psi where it isn't given. It looks at
+
+- each run in the comments of examples/*.toml: a line "`psi WORDS` prints", and behind it the text,
+  four columns in;
+- each run in README.md and docs/*.md: a block of one line `./psi WORDS`, prose that ends with
+  'prints', and a block with the text; or a block that begins with `$ ./psi WORDS`, with the text
+  behind it;
+- each whole network in docs/*.md, a block of TOML that begins with its version: `check` takes it.
+
+A run is made in the folder of its gallery file, or at the top, and must end with the status that
+its text says. Each that differs is told; the exit status is 1 where there is one, and 2 where
+nothing was found.
+"""
+
+import pathlib
+import re
+import shlex
+import subprocess
+import sys
+import tempfile
+
+TOP = pathlib.Path(__file__).resolve().parent.parent
+SECONDS = 60
+SHOWN = re.compile(r"^# `psi ([^`]*)` prints\n#\n((?:#     .*\n)+)", re.M)
+BLOCK = re.compile(r"^```(\w*)\n(.*?)^```\n", re.M | re.S)
+
+
+def runs_of_gallery():
+    """The runs in the comments of the gallery: where, the folder, the words, the text."""
+    for file in sorted((TOP / "examples").glob("*.toml")):
+        shown = SHOWN.findall(file.read_text())
+        if not shown:
+            yield file, file.parent, None, "no run in its comment"
+        for words, text in shown:
+            yield file, file.parent, shlex.split(words), text.replace("#     ", "")
+
+
+def runs_of_document(file):
+    """The runs that a document shows."""
+    text = file.read_text()
+    blocks = list(BLOCK.finditer(text))
+    for block, following in zip(blocks, [*blocks[1:], None]):
+        first, _, rest = block[2].partition("\n")
+        if first.startswith("$ ./psi "):
+            yield file, TOP, shlex.split(first)[2:], rest
+        elif first.startswith("./psi ") and not rest and following:
+            if text[block.end() : following.start()].rstrip(" :\n").endswith("prints"):
+                yield file, TOP, shlex.split(first)[1:], following[2]
+
+
+def networks_of_document(file):
+    """The whole networks that a document shows."""
+    for block in BLOCK.finditer(file.read_text()):
+        if block[1] == "toml" and block[2].startswith("version"):
+            yield file, block[2]
+
+
+def wanted_statuses(text):
+    """The statuses with which a run may end that prints this text."""
+    if text.startswith("psi: "):
+        return range(2, 9)
+    return (1,) if text.startswith("not coupled") else (0,)
+
+
+def answer(program, folder, words):
+    """The status of a run, and both its texts behind each other."""
+    done = subprocess.run(
+        [program, *words],
+        cwd=folder,
+        stdin=subprocess.DEVNULL,
+        capture_output=True,
+        timeout=SECONDS,
+    )
+    return done.returncode, (done.stdout + done.stderr).decode("utf-8", "replace")
+
+
+def tell(file, what, wanted, got):
+    """Tells a difference."""
+    print(f"{file.relative_to(TOP)}: {what}\n--- shown\n{wanted}--- printed\n{got}")
+
+
+def differing(program):
+    """How many texts were compared, and how many differ."""
+    documents = [TOP / "README.md", *sorted((TOP / "docs").glob("*.md"))]
+    compared = differs = 0
+    runs = [*runs_of_gallery(), *(run for file in documents for run in runs_of_document(file))]
+    for file, folder, words, text in runs:
+        compared += 1
+        status, got = (0, "") if words is None else answer(program, folder, words)
+        if got != text or status not in wanted_statuses(text):
+            differs += 1
+            tell(file, f"psi {shlex.join(words or [])} (status {status})", text, got)
+    with tempfile.TemporaryDirectory() as room:
+        for file, network in (found for file in documents for found in networks_of_document(file)):
+            compared += 1
+            pathlib.Path(room, "net.toml").write_text(network)
+            status, got = answer(program, room, ["check", "net.toml"])
+            if status != 0:
+                differs += 1
+                tell(file, "a network that is refused", network, got)
+    return compared, differs
+
+
+def main():
+    program = pathlib.Path(sys.argv[1]) if len(sys.argv) > 1 else TOP / "crates/psi/out/psi"
+    compared, differs = differing(program.resolve())
+    print(f"{compared - differs} of {compared} texts are as the documents show them")
+    return 1 if differs else 0 if compared else 2
+
+
+if __name__ == "__main__":
+    sys.exit(main())
