@@ -1,3 +1,4 @@
+-- The lemmas of this crate.
 pub mod TurnLemmas
 pub mod ReadingLemmas
 pub mod FoundLemmas

@@ -1,3 +1,4 @@
+-- The definitions of this crate, and the laws that clauses rest on.
 pub mod Refusal
 pub mod Values
 pub mod Names

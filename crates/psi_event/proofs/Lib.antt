@@ -1,3 +1,4 @@
+-- The lemmas of this crate.
 pub mod ChoiceLemmas
 pub mod IdleLemmas
 pub mod LawLemmas

@@ -1,3 +1,4 @@
+-- The definitions of this crate, and the laws that clauses rest on.
 pub mod Law
 pub mod Choice
 pub mod Idle

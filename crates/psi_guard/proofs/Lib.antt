@@ -1,3 +1,4 @@
+-- The lemmas of this crate.
 pub mod Arrays
 pub mod Order
 pub mod Pairs

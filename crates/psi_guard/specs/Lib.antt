@@ -1,3 +1,4 @@
+-- The definitions of this crate, and the laws that clauses rest on.
 pub mod Guarding
 pub mod Inverse
 pub mod InverseLaws

@@ -1,3 +1,4 @@
+-- The lemmas of this crate.
 pub mod RunsLemmas
 pub mod AgreeingLemmas
 pub mod SampleLemmas

@@ -1,3 +1,4 @@
+-- The definitions of this crate, and the laws that clauses rest on.
 pub mod Runs
 pub mod Agreeing
 pub mod Sample

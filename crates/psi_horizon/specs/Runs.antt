@@ -12,28 +12,30 @@ abbrev pub follow : ℕ → Functions → ℕ → Area → Area
 follow split f zero a = a
 follow split f (suc t) a = follow split f t (step split (f (suc t)) a)
 
--- the region with which the run of a horizon ends: what the last t steps make of the box of all states
-abbrev pub region_at : ℕ → Functions → List ℕ → ℕ → Area
-region_at split f caps t = follow split f t (start caps)
+-- the runs of a network with this split number, these functions and these capacities
+module _ (split : ℕ) (f : Functions) (caps : List ℕ) where
+  -- the region with which the run of a horizon ends: what the last t steps make of the box of all states
+  abbrev pub region_at : ℕ → Area
+  region_at t = follow split f t (start caps)
 
--- the one state with which the run of a horizon ends, if it ends with one
-abbrev pub ending_at : ℕ → Functions → List ℕ → ℕ → Option (List ℕ)
-ending_at split f caps t = single (region_at split f caps t).states
+  -- the one state with which the run of a horizon ends, if it ends with one
+  abbrev pub ending_at : ℕ → Option (List ℕ)
+  ending_at t = single (region_at t).states
 
--- the region of the run of a horizon after so many of its steps: its first step is that of the time of the horizon
-abbrev pub region_after : ℕ → Functions → List ℕ → ℕ → ℕ → Area
-region_after split f caps horizon zero = start caps
-region_after split f caps horizon (suc done) = step split (f (horizon - done)) (region_after split f caps horizon done)
+  -- the region of the run of a horizon after so many of its steps: its first step is that of the time of the horizon
+  abbrev pub region_after : ℕ → ℕ → Area
+  region_after horizon zero = start caps
+  region_after horizon (suc done) = step split (f (horizon - done)) (region_after horizon done)
 
--- the regions are ordered by horizon: a longer run's is within a shorter run's, and split where that one is
-pub record AreOrdered (split : ℕ) (f : Functions) (caps : List ℕ) : Type 0 where
-  pub each : (t : ℕ) → IsWithin (region_at split f caps (suc t)) (region_at split f caps t)
+  -- the regions are ordered by horizon: a longer run's is within a shorter run's, and split where that one is
+  pub record AreOrdered : Type 0 where
+    pub each : (t : ℕ) → IsWithin (region_at (suc t)) (region_at t)
 
--- where an outcome is met, each run from its horizon on ends with its state alone; where it isn't, no run of a horizon up to 2^limit ends with one state
-abbrev pub DecidesRuns : ℕ → Functions → List ℕ → ℕ → Outcome → Type 0
-DecidesRuns split f caps limit (Met t s) = (later : ℕ) → t ≤ later → (region_at split f caps later).states ≡ s ∷ []
-DecidesRuns split f caps limit (NotMet l) = (t : ℕ) → t ≤ 2 ^ limit → ending_at split f caps t ≡ None
+  -- where an outcome is met, each run from its horizon on ends with its state alone; where it isn't, no run of a horizon up to 2^limit ends with one state
+  abbrev pub DecidesRuns : ℕ → Outcome → Type 0
+  DecidesRuns limit (Met t s) = (later : ℕ) → t ≤ later → (region_at later).states ≡ s ∷ []
+  DecidesRuns limit (NotMet l) = (t : ℕ) → t ≤ 2 ^ limit → ending_at t ≡ None
 
--- where there are at most the split number of states, the run of each horizon from 1 on is split, and is the image of all states
-pub record AreExact (split : ℕ) (f : Functions) (caps : List ℕ) : Type 0 where
-  pub each : (t : ℕ) → 1 ≤ t → region_at split f caps t ≡ record { is_split = true; states = image_at f caps t }
+  -- where there are at most the split number of states, the run of each horizon from 1 on is split, and is the image of all states
+  pub record AreExact : Type 0 where
+    pub each : (t : ℕ) → 1 ≤ t → region_at t ≡ record { is_split = true; states = image_at f caps t }

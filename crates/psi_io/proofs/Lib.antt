@@ -1,3 +1,4 @@
+-- The lemmas of this crate.
 pub mod CountsLemmas
 pub mod SinkLemmas
 pub mod Files

@@ -1,3 +1,4 @@
+-- The lemmas of this crate.
 pub mod QueueLemmas
 pub mod CopyLemmas
 pub mod KindLemmas

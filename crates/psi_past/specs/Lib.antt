@@ -1,3 +1,4 @@
+-- The definitions of this crate, and the laws that clauses rest on.
 pub mod ChaCha20
 pub mod Seeded
 pub mod SeedWord

@@ -1,3 +1,4 @@
+-- The lemmas of this crate.
 pub mod Sorting
 pub mod Places
 pub mod Linking

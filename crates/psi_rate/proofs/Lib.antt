@@ -1,3 +1,4 @@
+-- The lemmas of this crate.
 pub mod RatesLemmas
 pub mod PowersLemmas
 pub mod TotalsLemmas

@@ -1,3 +1,4 @@
+-- The lemmas of this crate.
 mod Whole
 mod Extents
 mod Listing

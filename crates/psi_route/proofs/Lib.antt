@@ -1,3 +1,4 @@
+-- The lemmas of this crate.
 pub mod AcceptedLemmas
 pub mod ActingLemmas
 pub mod TablesLemmas

@@ -1,3 +1,4 @@
+-- The definitions of this crate, and the laws that clauses rest on.
 pub mod Routing
 pub mod Refusals
 pub mod Acting

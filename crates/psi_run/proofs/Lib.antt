@@ -1,3 +1,4 @@
+-- The lemmas of this crate.
 pub mod Numerals
 pub mod Asking
 pub mod Listing

@@ -1,3 +1,4 @@
+-- The lemmas of this crate.
 pub mod AscendingLemmas
 pub mod BoxesLemmas
 pub mod HullLemmas

@@ -1,3 +1,4 @@
+-- Answers in the proof of `array_in`.
 use Rattle.psi_document.proofs.Lists.{array_read}
 use Rattle.psi_document.proofs.keys.array_in.Goals as goal
 

@@ -1,3 +1,4 @@
+-- Answers in the proof of `find`.
 use Rattle.toml.proofs.Views.{table_get}
 use Rattle.psi_document.proofs.keys.find.Goals as goal
 

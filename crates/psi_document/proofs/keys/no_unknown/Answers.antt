@@ -1,3 +1,4 @@
+-- Answers in the proof of `no_unknown`.
 use Rattle.std.proofs.Common.{◌++◌, map, sym, ◌∙◌}
 use Rattle.psi_document.specs.Values.{no_unknown}
 use Rattle.psi_document.proofs.UnknownKeys.{known_on, order_on, unknown_on}

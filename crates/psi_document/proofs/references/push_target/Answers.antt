@@ -1,3 +1,4 @@
+-- Answers in the proof of `push_target`.
 use Rattle.std.proofs.Common.{List, ℕ, length, sym, ◌∙◌, subst}
 use Rattle.psi_document.specs.Targets.{AreTargets}
 use Rattle.psi_document.proofs.PigeonLemmas.{room_for_more, targets_more}

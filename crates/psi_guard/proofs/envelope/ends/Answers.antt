@@ -1,3 +1,4 @@
+-- Answers in the proof of `ends`.
 use Rattle.psi_guard.proofs.Intervals.{least-greatest}
 use Rattle.psi_guard.proofs.envelope.ends.Goals as goal
 

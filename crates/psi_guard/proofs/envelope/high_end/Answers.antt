@@ -1,3 +1,4 @@
+-- Answers in the proof of `high_end`.
 use Rattle.std.proofs.Common.{◌≡◌, ◌≤◌, min, inl, ap, ◌∙◌, arith}
 use Rattle.psi_guard.specs.Guarding.{moved}
 use Rattle.psi_guard.proofs.envelope.high_end.Goals as goal

@@ -1,3 +1,4 @@
+-- Answers in the proof of `low_end`.
 use Rattle.std.proofs.Common.{◌≡◌, ◌≤◌, max, inl, ap, ◌∙◌, arith}
 use Rattle.psi_guard.specs.Guarding.{moved}
 use Rattle.psi_guard.proofs.envelope.low_end.Goals as goal

@@ -1,3 +1,4 @@
+-- Answers in the proof of `even`.
 use Rattle.std.proofs.Common.{◌≡◌, ◌<◌, ◌≢◌, ℕ, List, length, slice_index, ap, ◌∙◌, arith, below_more, length-set, get_or-set_same, get_or-set_other}
 use Rattle.std.proofs.lemmas.List.{length-replicate}
 use Rattle.psi_guard.proofs.tests.even.Goals as goal

@@ -1,3 +1,4 @@
+-- Invariants of the loops of `even`.
 use Rattle.std.proofs.Common.{◌≡◌, ℕ, ◌<◌, length, slice_index}
 use Rattle.psi_guard.proofs.tests.even.Given as goal
 

@@ -1,3 +1,4 @@
+-- Answers in the proof of `ending`.
 use Rattle.std.proofs.Common.{◌≡◌, ℕ, ◌≤◌, List, map, ap, sym, ◌∙◌, subst, arith}
 use Rattle.psi_rate.specs.Composition.{picked, system_functions}
 use Rattle.psi_rate.proofs.FunctionsLemmas.{functions-closed}

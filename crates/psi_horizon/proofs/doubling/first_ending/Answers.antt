@@ -1,3 +1,4 @@
+-- Answers in the proof of `first_ending`.
 use Rattle.std.proofs.Common.{◌≡◌, ℕ, suc, ◌*◌, ◌^◌, ◌%◌, ap, sym, ◌∙◌, subst, arith}
 use Rattle.psi_rate.specs.Composition.{system_functions}
 use Rattle.psi_rate.specs.Doubling.{HasNone}

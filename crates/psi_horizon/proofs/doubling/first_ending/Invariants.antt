@@ -1,3 +1,4 @@
+-- Invariants of the loops of `first_ending`.
 use Rattle.std.proofs.Common.{◌≡◌}
 use Rattle.psi_rate.specs.Composition.{system_functions}
 use Rattle.psi_rate.specs.Doubling.{HasNone}

@@ -1,3 +1,4 @@
+-- Invariants of the loops of `joined`.
 use Rattle.std.proofs.Common.{◌≡◌, ℕ, ◌+◌, ◌<◌, ◌≤◌, min, slice_index, vec_len, vec_capacity}
 use Rattle.psi_index.proofs.level.joined.Given as goal
 

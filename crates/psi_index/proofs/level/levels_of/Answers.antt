@@ -1,3 +1,4 @@
+-- Answers in the proof of `levels_of`.
 use Rattle.std.proofs.Common.{◌+◌, ◌^◌, ◌≤◌, length, List, sym, ◌∙◌, subst, arith, zero, ◌<◌}
 use Rattle.std.proofs.Math.Nat.{pow-le-pow_right}
 use Rattle.psi_index.specs.Extremes.{AreLeast}

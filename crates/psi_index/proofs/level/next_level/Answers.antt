@@ -1,3 +1,4 @@
+-- Answers in the proof of `next_level`.
 use Rattle.std.proofs.Common.{rules, ◌≡◌, ℕ, ◌+◌, ◌*◌, ◌%◌, ◌^◌, List, length, sym, subst, arith}
 use Rattle.std.proofs.lemmas.Nat.{one_shl}
 use Rattle.psi_index.specs.Extremes.{AreLeast}

@@ -1,3 +1,4 @@
+-- Invariants of the loops of `is_rising`.
 use Rattle.std.proofs.Common.{ℕ, ◌+◌, ◌<◌, ◌≤◌, slice_index}
 use Rattle.psi_index.proofs.table.is_rising.Given as goal
 

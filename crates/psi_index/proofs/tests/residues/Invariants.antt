@@ -1,3 +1,4 @@
+-- Invariants of the loops of `residues`.
 use Rattle.std.proofs.Common.{◌≡◌, ◌≤◌, vec_len, vec_capacity}
 use Rattle.psi_index.proofs.tests.residues.Given as goal
 

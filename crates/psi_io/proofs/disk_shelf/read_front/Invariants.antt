@@ -1,3 +1,4 @@
+-- Invariants of the loops of `read_front`.
 use Rattle.std.proofs.Common.{◌≤◌, ◌-◌, vec_len}
 use Rattle.std.specs.Io.KnownBytes.{Consumes}
 use Rattle.psi_io.proofs.disk_shelf.read_front.Given as goal

@@ -1,3 +1,4 @@
+-- Invariants of the loops of `write_all`.
 use Rattle.std.proofs.Common.{◌≡◌, ℕ, ◌≤◌, ◌-◌, length, take}
 use Rattle.psi_io.specs.Sink.{appended}
 use Rattle.psi_io.proofs.sink.write_all.Given as goal

@@ -1,3 +1,4 @@
+-- Answers in the proof of `are_tables`.
 use Rattle.std.proofs.Common.{◌≡◌, ◌<◌, ℕ, [], List, length, get_or, slice_index, sym, ◌∙◌, ap, arith}
 use Rattle.psi_route.proofs.TablesLemmas.{are_tables-count, are_tables-at, are_tables-each}
 use Rattle.psi_kinds.proofs.judging.are_tables.Goals as goal

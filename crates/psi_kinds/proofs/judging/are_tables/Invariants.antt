@@ -1,3 +1,4 @@
+-- Invariants of the loops of `are_tables`.
 use Rattle.std.proofs.Common.{◌≡◌, ◌<◌, ℕ, [], slice_index, get_or, length}
 use Rattle.psi_kinds.proofs.judging.are_tables.Given as goal
 

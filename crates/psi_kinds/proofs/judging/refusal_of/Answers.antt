@@ -1,3 +1,4 @@
+-- Answers in the proof of `refusal_of`.
 use Rattle.std.proofs.Common.{sym, ap, ◌∙◌}
 use Rattle.psi_event.specs.Choice.{first_or}
 use Rattle.psi_kinds.specs.Refusals.{refusal_of, refusal_of_parts}

@@ -1,3 +1,4 @@
+-- Answers in the proof of `event_of`.
 use Rattle.std.proofs.Common.{List, [], ℕ, None, Some, refl, ap, ◌∙◌, subst}
 use Rattle.psi_guard.specs.Refusals as guard
 use Rattle.psi_route.specs.Accepted.{shape}

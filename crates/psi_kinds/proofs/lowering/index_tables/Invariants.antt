@@ -1,3 +1,4 @@
+-- Invariants of the loops of `index_tables`.
 use Rattle.std.proofs.Common.{◌≡◌, take}
 use Rattle.psi_kinds.proofs.lowering.index_tables.Given as goal
 

@@ -1,3 +1,4 @@
+-- Answers in the proof of `lower_accepted`.
 use Rattle.std.proofs.Common.{List, ℕ, sym, subst}
 use Rattle.std.proofs.lemmas.Result.{IfOk-weaker}
 use Rattle.psi_kinds.specs.Kinds.{Does}

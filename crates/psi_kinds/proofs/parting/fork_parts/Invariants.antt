@@ -1,3 +1,4 @@
+-- Invariants of the loops of `fork_parts`.
 use Rattle.std.proofs.Common.{◌≡◌, ◌++◌, map, take}
 use Rattle.psi_kinds.specs.Forms.{gaining_part, source_parts}
 use Rattle.psi_kinds.proofs.parting.fork_parts.Given as goal

@@ -1,3 +1,4 @@
+-- Invariants of the loops of `join_parts`.
 use Rattle.std.proofs.Common.{◌≡◌, map, take}
 use Rattle.psi_kinds.specs.Forms.{losing_part}
 use Rattle.psi_kinds.proofs.parting.join_parts.Given as goal

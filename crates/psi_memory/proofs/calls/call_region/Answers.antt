@@ -1,3 +1,4 @@
+-- Answers in the proof of `call_region`.
 use Rattle.psi_memory.proofs.WithinLemmas.{all_below}
 use Rattle.psi_memory.proofs.calls.call_region.Goals as goal
 

@@ -1,3 +1,4 @@
+-- Answers in the proof of `push_event`.
 use Rattle.psi_net.proofs.KeptEvents.{source_read}
 use Rattle.psi_net.proofs.event_tables.push_event.Goals as goal
 

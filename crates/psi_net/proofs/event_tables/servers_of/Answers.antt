@@ -1,3 +1,4 @@
+-- Answers in the proof of `servers_of`.
 use Rattle.std.proofs.Common.{ℕ, ◌≤◌, ◌≡◌, refl, sym, ◌∙◌, subst}
 use Rattle.psi_network.specs.Expansion.{source_of, servers_at}
 use Rattle.psi_network.proofs.QueueLemmas.{servers_most}

@@ -1,3 +1,4 @@
+-- Invariants of the loops of `all_numbers`.
 use Rattle.std.proofs.Common.{◌≡◌, ◌+◌, [], map, drop}
 use Rattle.toml.specs.View.{view}
 use Rattle.psi_document.specs.Values.{each}

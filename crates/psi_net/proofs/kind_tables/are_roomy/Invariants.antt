@@ -1,3 +1,4 @@
+-- Invariants of the loops of `are_roomy`.
 use Rattle.std.proofs.Common.{◌≡◌, drop, slice_index, nat_le}
 use Rattle.std.specs.List.{list_all}
 use Rattle.psi_net.proofs.kind_tables.are_roomy.Given as goal

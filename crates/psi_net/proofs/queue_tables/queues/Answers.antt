@@ -1,3 +1,4 @@
+-- Answers in the proof of `queues`.
 use Rattle.std.proofs.Common.{List, map, ap, sym, ◌∙◌, subst}
 use Rattle.psi_network.specs.Valid.{AreListed}
 use Rattle.psi_network.specs.declared.entries.Queue.{Queue}

@@ -1,3 +1,4 @@
+-- Answers in the proof of `net_of`.
 use Rattle.psi_network.specs.Draft.{drafted}
 use Rattle.psi_net.proofs.FrontLemmas.{network_of-take}
 use Rattle.psi_net.proofs.NetworkLemmas.{network_kept}

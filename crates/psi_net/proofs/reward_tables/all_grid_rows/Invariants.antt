@@ -1,3 +1,4 @@
+-- Invariants of the loops of `all_grid_rows`.
 use Rattle.std.proofs.Common.{◌≡◌, ◌+◌, [], length, map, drop}
 use Rattle.toml.specs.View.{view}
 use Rattle.psi_document.specs.Values.{each}

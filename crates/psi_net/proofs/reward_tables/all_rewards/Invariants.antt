@@ -1,3 +1,4 @@
+-- Invariants of the loops of `all_rewards`.
 use Rattle.std.proofs.Common.{◌≡◌, ◌+◌, [], All, map, drop}
 use Rattle.psi_reward.specs.Rewards.{reward_caps}
 use Rattle.toml.specs.View.{view}

@@ -1,3 +1,4 @@
+-- Answers in the proof of `reward`.
 use Rattle.psi_net.proofs.KeptRewards.{reward_kept}
 use Rattle.psi_net.proofs.reward_tables.reward.Goals as goal
 

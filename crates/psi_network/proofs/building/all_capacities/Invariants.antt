@@ -1,3 +1,4 @@
+-- Invariants of the loops of `all_capacities`.
 use Rattle.psi_network.proofs.Parts.{AreSet}
 use Rattle.psi_network.proofs.building.all_capacities.Given as goal
 

@@ -1,3 +1,4 @@
+-- Answers in the proof of `all_lowered`.
 use Rattle.psi_network.proofs.Lowered.{lowered_more}
 use Rattle.psi_network.proofs.building.all_lowered.Goals as goal
 

@@ -1,3 +1,4 @@
+-- Invariants of the loops of `all_lowered`.
 use Rattle.std.proofs.Common.{take}
 use Rattle.psi_network.specs.Made.{AreMade}
 use Rattle.psi_network.proofs.Lowered.{capacities, function, upset_pair}

@@ -1,3 +1,4 @@
+-- Answers in the proof of `capacities`.
 use Rattle.std.proofs.Common.{List, ℕ, sym, subst}
 use Rattle.psi_state.specs.State.{AreCapacities}
 use Rattle.psi_network.proofs.QueueLemmas.{capacities_kept}

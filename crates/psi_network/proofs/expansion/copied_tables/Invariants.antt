@@ -1,3 +1,4 @@
+-- Invariants of the loops of `copied_tables`.
 use Rattle.std.proofs.Common.{◌≡◌, take}
 use Rattle.psi_network.proofs.expansion.copied_tables.Given as goal
 

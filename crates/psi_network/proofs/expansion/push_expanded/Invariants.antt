@@ -1,3 +1,4 @@
+-- Invariants of the loops of `push_expanded`.
 use Rattle.std.proofs.Common.{◌≡◌, ◌++◌}
 use Rattle.psi_network.specs.Expansion.{served_by}
 use Rattle.psi_network.proofs.expansion.push_expanded.Given as goal

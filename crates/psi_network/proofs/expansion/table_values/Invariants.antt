@@ -1,3 +1,4 @@
+-- Invariants of the loops of `table_values`.
 use Rattle.std.proofs.Common.{◌≡◌, ◌≤◌, take, map, length}
 use Rattle.psi_rate.specs.Rates.{total}
 use Rattle.psi_network.specs.Expansion.{most_index_values}

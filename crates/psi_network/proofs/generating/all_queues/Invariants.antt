@@ -1,3 +1,4 @@
+-- Invariants of the loops of `all_queues`.
 use Rattle.std.proofs.Common.{◌≡◌, map}
 use Rattle.psi_state.specs.State.{numbers_from}
 use Rattle.psi_network.specs.Generated.{nth_queue}

@@ -1,3 +1,4 @@
+-- Invariants of the loops of `first_queues`.
 use Rattle.std.proofs.Common.{◌≡◌}
 use Rattle.psi_state.specs.State.{numbers_from}
 use Rattle.psi_network.proofs.generating.first_queues.Given as goal

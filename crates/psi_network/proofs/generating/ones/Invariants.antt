@@ -1,3 +1,4 @@
+-- Invariants of the loops of `ones`.
 use Rattle.std.proofs.Common.{◌≡◌, replicate, pos}
 use Rattle.psi_network.proofs.generating.ones.Given as goal
 

@@ -1,3 +1,4 @@
+-- Invariants of the loops of `push_passing`.
 use Rattle.std.proofs.Common.{◌≡◌, ◌++◌, map}
 use Rattle.std.specs.List.{flat_map}
 use Rattle.psi_state.specs.State.{numbers_from}

@@ -1,3 +1,4 @@
+-- Answers in the proof of `total_reward`.
 use Rattle.psi_network.proofs.KeptGenerated.{total_kept}
 use Rattle.psi_network.proofs.generating.total_reward.Goals as goal
 

@@ -1,3 +1,4 @@
+-- Answers in the proof of `name_from`.
 use Rattle.std.proofs.Common.{sym}
 use Rattle.psi_network.proofs.Cells.{few, covered}
 use Rattle.psi_network.proofs.name.name_from.Goals as goal

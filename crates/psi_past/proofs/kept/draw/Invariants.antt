@@ -1,3 +1,4 @@
+-- Invariants of the loops of `draw`.
 use Rattle.std.proofs.Common.{◌≡◌, ◌≤◌, max, vec_capacity, length}
 use Rattle.psi_past.specs.Keeping.{AreWords}
 use Rattle.psi_past.proofs.kept.draw.Given as goal

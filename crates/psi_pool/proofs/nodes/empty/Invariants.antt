@@ -1,3 +1,4 @@
+-- Invariants of the loops of `empty`.
 use Rattle.std.proofs.Common.{◌≡◌, ℕ, ◌<◌, slice_index}
 use Rattle.psi_pool.proofs.nodes.empty.Given as goal
 

@@ -1,3 +1,4 @@
+-- Invariants of the loops of `free_heads`.
 use Rattle.std.proofs.Common.{◌≡◌, ◌<◌, ◌≤◌, ℕ, length, slice_index, vec_capacity}
 use Rattle.psi_pool.proofs.nodes.free_heads.Given as goal
 

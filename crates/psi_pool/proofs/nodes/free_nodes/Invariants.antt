@@ -1,3 +1,4 @@
+-- Invariants of the loops of `free_nodes`.
 use Rattle.std.proofs.Common.{◌≡◌, ◌≤◌, length, vec_capacity}
 use Rattle.psi_pool.proofs.nodes.free_nodes.Given as goal
 

@@ -1,3 +1,4 @@
+-- Invariants of the loops of `gather`.
 use Rattle.std.proofs.Common.{◌≡◌, vec_capacity}
 use Rattle.psi_pool.specs.Nodes.{states}
 use Rattle.psi_pool.proofs.nodes.gather.Given as goal

@@ -1,3 +1,4 @@
+-- Invariants of the loops of `has`.
 use Rattle.std.proofs.Common.{◌+◌, ◌%◌, length}
 use Rattle.psi_pool.proofs.Seeking.{IsSeeking}
 use Rattle.psi_pool.proofs.nodes.has.Given as goal

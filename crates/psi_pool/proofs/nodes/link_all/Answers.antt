@@ -1,3 +1,4 @@
+-- Answers in the proof of `link_all`.
 use Rattle.std.proofs.Common.{◌≡◌, ◌-◌, length, get_or, arith, refl, true}
 use Rattle.psi_pool.specs.Nodes.{states}
 use Rattle.psi_pool.proofs.Relinking.{relink-start, relink-more, relink-fewer, relink-end}

@@ -1,3 +1,4 @@
+-- Invariants of the loops of `link_all`.
 use Rattle.std.proofs.Common.{◌-◌, ◌≤◌, length}
 use Rattle.psi_pool.specs.Nodes.{states}
 use Rattle.psi_pool.proofs.Relinking.{IsRelinking}

@@ -1,3 +1,4 @@
+-- Answers in the proof of `move_on`.
 use Rattle.std.proofs.Common.{length, sym, ◌∙◌, subst, refl, arith}
 use Rattle.psi_state.specs.State.{IsBelow}
 use Rattle.psi_pool.specs.declared.nodes.Node.{Node}

@@ -1,3 +1,4 @@
+-- Answers in the proof of `relink`.
 use Rattle.std.proofs.Common.{◌≡◌, ◌++◌, ◌≤◌, ◌∙◌, List, ℕ, take, drop, length, map, ap, subst, arith}
 use Rattle.std.proofs.lemmas.List.{length-take-le}
 use Rattle.psi_state.specs.Members.{In}

@@ -1,3 +1,4 @@
+-- Answers in the proof of `covers_image`.
 use Rattle.std.proofs.Common.{sym, ◌∙◌}
 use Rattle.psi_state.specs.State.{box}
 use Rattle.psi_state.proofs.BoxesLemmas.{In-high}

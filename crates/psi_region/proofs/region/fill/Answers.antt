@@ -1,3 +1,4 @@
+-- Answers in the proof of `fill`.
 use Rattle.std.proofs.Common.{◌∙◌}
 use Rattle.psi_region.proofs.Steps.{filled-next}
 use Rattle.psi_region.proofs.region.fill.Goals as goal

@@ -1,3 +1,4 @@
+-- Invariants of the loops of `fill`.
 use Rattle.std.proofs.Common.{◌≡◌, ◌++◌}
 use Rattle.psi_state.specs.State.{box}
 use Rattle.psi_region.proofs.region.fill.Given as goal

@@ -1,3 +1,4 @@
+-- Invariants of the loops of `has_rows`.
 use Rattle.std.proofs.Common.{◌≡◌, true, drop}
 use Rattle.psi_reward.specs.Held.{held}
 use Rattle.psi_reward.specs.Refusing.{has_rows}

@@ -1,3 +1,4 @@
+-- Invariants of the loops of `count_above`.
 use Rattle.std.proofs.Common.{◌≡◌, ◌+◌, ◌≤◌, length, drop, count_by, nat_lt}
 use Rattle.psi_reward.specs.Held.{held}
 use Rattle.psi_reward.proofs.extremes.count_above.Given as goal

@@ -1,3 +1,4 @@
+-- Invariants of the loops of `greatest_held`.
 use Rattle.std.proofs.Common.{◌≡◌, pos, map, drop}
 use Rattle.psi_reward.specs.Held.{held}
 use Rattle.psi_reward.specs.Ranges.{greatest}

@@ -1,3 +1,4 @@
+-- Invariants of the loops of `row_ends`.
 use Rattle.psi_reward.specs.Sums.{entry}
 use Rattle.psi_reward.specs.Spans.{IsSpan}
 use Rattle.psi_reward.proofs.sums.row_ends.Given as goal

@@ -1,3 +1,4 @@
+-- Invariants of the loops of `table_range`.
 use Rattle.std.proofs.Common.{◌+◌, ◌*◌, ◌≤◌, unsigned_abs, length, map, drop}
 use Rattle.psi_reward.specs.Held.{held}
 use Rattle.psi_reward.specs.Sums.{entry, added}

@@ -1,3 +1,4 @@
+-- Answers in the proof of `table_sum`.
 use Rattle.std.specs.Prelude.{◌≡◌, ℤ, ◌-◌, ◌+ℤ◌, List, [], slice_index, slice_index_or}
 use Rattle.std.proofs.Common.{ap, ◌∙◌, arith, w32, w64, to_z, of_z}
 use Rattle.std.proofs.lemmas.Int.{ints}

@@ -1,3 +1,4 @@
+-- Answers in the proof of `weighted_ends`.
 use Rattle.std.specs.Prelude.{◌≡◌}
 use Rattle.std.specs.Int.{int_min, int_max}
 use Rattle.std.proofs.Common.{ap, ◌∙◌, arith, w32, w64, to_z, of_z}

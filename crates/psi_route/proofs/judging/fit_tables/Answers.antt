@@ -1,3 +1,4 @@
+-- Answers in the proof of `fit_tables`.
 use Rattle.std.proofs.Common.{◌≡◌, ◌<◌, ℕ, [], List, length, get_or, slice_index, sym, ◌∙◌, ap, arith}
 use Rattle.std.proofs.lemmas.List.{get_or_read_under}
 use Rattle.psi_route.proofs.TablesLemmas.{are_tables-count, are_tables-at, are_tables-each}

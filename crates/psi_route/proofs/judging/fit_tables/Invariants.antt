@@ -1,3 +1,4 @@
+-- Invariants of the loops of `fit_tables`.
 use Rattle.std.proofs.Common.{◌≡◌, ◌<◌, ℕ, [], slice_index, get_or, length}
 use Rattle.psi_route.proofs.judging.fit_tables.Given as goal
 

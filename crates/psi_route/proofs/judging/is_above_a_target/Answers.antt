@@ -1,3 +1,4 @@
+-- Answers in the proof of `is_above_a_target`.
 use Rattle.std.proofs.Common.{slice_index, nat_lt, sym, arith}
 use Rattle.psi_state.proofs.RepeatsLemmas.{any-none}
 use Rattle.psi_route.proofs.judging.is_above_a_target.Goals as goal

@@ -1,3 +1,4 @@
+-- Invariants of the loops of `is_above_a_target`.
 use Rattle.std.proofs.Common.{◌≡◌, ◌<◌, ℕ, slice_index, nat_lt, false}
 use Rattle.psi_route.proofs.judging.is_above_a_target.Given as goal
 

@@ -1,3 +1,4 @@
+-- Invariants of the loops of `first_at_least`.
 use Rattle.std.proofs.Common.{◌<◌, ◌≤◌, ◌-◌, ℕ, length, slice_index}
 use Rattle.psi_route.proofs.table_search.first_at_least.Given as goal
 

@@ -1,3 +1,4 @@
+-- Invariants of the loops of `alike`.
 use Rattle.std.proofs.Common.{◌≡◌, ℕ, ◌<◌, length, slice_index}
 use Rattle.psi_route.proofs.tests.alike.Given as goal
 

@@ -1,3 +1,4 @@
+-- Invariants of the loops of `first_queues`.
 use Rattle.std.proofs.Common.{◌≡◌, ℕ, ◌<◌, length, slice_index}
 use Rattle.psi_route.proofs.tests.first_queues.Given as goal
 

@@ -1,3 +1,4 @@
+-- Answers in the proof of `work`.
 use Rattle.psi_run.proofs.Endings.{no_command}
 use Rattle.psi_run.proofs.Sparing.{sample-given, check-given}
 use Rattle.psi_run.proofs.commands.work.Goals as goal

@@ -1,3 +1,4 @@
+-- Answers in the proof of `network_at`.
 use Rattle.std.proofs.Common.{refl, Ok, Err}
 use Rattle.psi_run.specs.declared.files.TheConstants.{MOST_NET_BYTES}
 use Rattle.psi_run.proofs.Endings.{judged_whole}

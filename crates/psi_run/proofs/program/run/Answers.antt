@@ -1,3 +1,4 @@
+-- Answers in the proof of `run`.
 use Rattle.psi_run.proofs.Asking.{sample_asked}
 use Rattle.psi_run.proofs.Running.{run_whole, run_cut, run_means, run_headline}
 use Rattle.psi_run.proofs.Sparing.{where-taken, spared-status}

@@ -1,3 +1,4 @@
+-- Answers in the proof of `push_number_line`.
 use Rattle.std.proofs.Common.{append_assoc}
 use Rattle.psi_run.specs.Texts.{number_line}
 use Rattle.psi_run.proofs.texts.push_number_line.Goals as goal

@@ -1,3 +1,4 @@
+-- Invariants of the loops of `push_pieces`.
 use Rattle.std.proofs.Common.{◌≡◌, ◌++◌, take}
 use Rattle.std.specs.List.{flat_map}
 use Rattle.psi_run.proofs.texts.push_pieces.Given as goal

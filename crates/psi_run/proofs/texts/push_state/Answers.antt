@@ -1,3 +1,4 @@
+-- Answers in the proof of `push_state`.
 use Rattle.std.specs.Prelude.{[], ◌∷◌, slice_index}
 use Rattle.std.specs.Fmt.{decimal}
 use Rattle.std.proofs.Common.{◌∙◌, append_assoc, arith}

@@ -1,3 +1,4 @@
+-- Invariants of the loops of `push_state`.
 use Rattle.std.proofs.Common.{◌≡◌, ◌++◌, take}
 use Rattle.psi_run.specs.Texts.{state_text}
 use Rattle.psi_run.proofs.texts.push_state.Given as goal

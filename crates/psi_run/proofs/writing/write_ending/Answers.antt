@@ -1,3 +1,4 @@
+-- Answers in the proof of `write_ending`.
 use Rattle.std.proofs.Common.{refl}
 use Rattle.psi_run.proofs.Written.{line_written}
 use Rattle.psi_run.proofs.writing.write_ending.Goals as goal

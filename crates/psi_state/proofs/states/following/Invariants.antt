@@ -1,3 +1,4 @@
+-- Invariants of the loops of `following`.
 use Rattle.psi_state.proofs.Odometer.{IsTurned}
 use Rattle.psi_state.proofs.states.following.Given as goal
 

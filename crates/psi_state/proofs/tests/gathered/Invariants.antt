@@ -1,3 +1,4 @@
+-- Invariants of the loops of `gathered`.
 use Rattle.std.specs.Prelude.{◌≡◌, ◌++◌}
 use Rattle.psi_state.specs.State.{box}
 use Rattle.psi_state.proofs.tests.gathered.Given as goal

@@ -1,3 +1,4 @@
+-- Invariants of the loops of `state_of`.
 use Rattle.std.proofs.Common.{◌≡◌, length}
 use Rattle.psi_state.proofs.tests.state_of.Given as goal
 

@@ -1,3 +1,4 @@
+-- Invariants of the loops of `pools::fill`.
 use Rattle.std.proofs.Common.{◌≡◌, ℕ, List}
 use Rattle.psi_state.specs.State.{IsBelow}
 use Rattle.psi_state.specs.Members.{In}

@@ -1,3 +1,4 @@
+-- Answers in the proof of `pools::moved`.
 use Rattle.psi_pool.proofs.Within.{within-moved}
 use Rattle.psi_core_tests.proofs.tests.pools.moved.Goals as goal
 

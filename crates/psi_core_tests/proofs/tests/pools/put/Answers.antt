@@ -1,3 +1,4 @@
+-- Answers in the proof of `pools::put`.
 use Rattle.psi_pool.proofs.Within.{within-inserted}
 use Rattle.psi_core_tests.proofs.tests.pools.put.Goals as goal
 

@@ -1,3 +1,4 @@
+-- Answers in the proof of `regions::followed`.
 use Rattle.std.proofs.Common.{ℕ, List, ap, sym, ◌∙◌, subst}
 use Rattle.psi_region.specs.Region.{Area, IsArea, start}
 use Rattle.psi_region.proofs.RegionLemmas.{start-area, step-area}

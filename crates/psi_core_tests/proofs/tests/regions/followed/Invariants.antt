@@ -1,3 +1,4 @@
+-- Invariants of the loops of `regions::followed`.
 use Rattle.psi_region.specs.Region.{IsArea}
 use Rattle.psi_core_tests.proofs.tests.regions.followed.Given as goal
 

@@ -1,3 +1,4 @@
+-- Answers in the proof of `IdleEventLaw::envelope`.
 use Rattle.std.proofs.Common.{sym}
 use Rattle.psi_event.proofs.LawLemmas.{monotone-tight, monotone-corners}
 use Rattle.psi_event.specs.Idle.{unchanged}

@@ -1,3 +1,4 @@
+-- Answers in the proof of `GuardedEventLaw::apply`.
 use Rattle.std.proofs.Common.{ℕ, List, sym, ◌∙◌, subst}
 use Rattle.psi_state.specs.State.{IsBelow}
 use Rattle.psi_guard.specs.RuleLaws.{guarded-closed, guarded-keeps}

@@ -1,3 +1,4 @@
+-- Answers in the proof of `GuardedEventLaw::envelope`.
 use Rattle.std.proofs.Common.{◌∙◌}
 use Rattle.psi_event.proofs.LawLemmas.{monotone-corners, tight-within}
 use Rattle.psi_guard.specs.Guarding.{guarded}

@@ -1,3 +1,4 @@
+-- Answers in the proof of `GuardedEventLaw::upset`.
 use Rattle.std.proofs.Common.{sym, ◌∙◌}
 use Rattle.psi_guard.proofs.Pairs.{leaps-show, rises-show, plunges-show, falls-decide, upset_of-leaps, upset_of-rises, upset_of-plunges, upset_of-falls}
 use Rattle.psi_guard.proofs.event.GuardedEventLaw.upset.Goals as goal

@@ -1,3 +1,4 @@
+-- Answers in the proof of `Guarded::accepted`.
 use Rattle.psi_guard.proofs.Accepted.{guards-accepted}
 use Rattle.psi_guard.proofs.guarded.Guarded.accepted.Goals as goal
 

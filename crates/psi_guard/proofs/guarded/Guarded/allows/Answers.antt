@@ -1,3 +1,4 @@
+-- Answers in the proof of `Guarded::allows`.
 use Rattle.std.proofs.Common.{◌<◌, ◌≤◌, ◌⊎◌, ◌≡◌, slice_index, length, inl, inr, sym, subst, arith, below_more}
 use Rattle.psi_guard.specs.declared.parts.Part.{Part}
 use Rattle.psi_guard.proofs.Steps.{all_allow-from, all_allow-out}

@@ -1,3 +1,4 @@
+-- Invariants of the loops of `Guarded::allows`.
 use Rattle.std.proofs.Common.{ℕ, ◌<◌, ◌≤◌, slice_index}
 use Rattle.psi_guard.specs.Refusals.{at}
 use Rattle.psi_guard.proofs.guarded.Guarded.allows.Given as goal

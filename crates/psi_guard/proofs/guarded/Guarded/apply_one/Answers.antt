@@ -1,3 +1,4 @@
+-- Answers in the proof of `Guarded::apply_one`.
 use Rattle.std.proofs.Common.{◌≡◌, ◌<◌, ◌≤◌, ◌⊎◌, true, slice_index, length, inl, inr, sym, subst, arith}
 use Rattle.psi_guard.specs.declared.parts.Part.{Part}
 use Rattle.psi_guard.specs.Guarding.{all_allow}

@@ -1,3 +1,4 @@
+-- Answers in the proof of `Guarded::can_move`.
 use Rattle.std.proofs.Common.{◌<◌, inl, inr, length, subst, arith}
 use Rattle.psi_guard.specs.declared.parts.Part.{Part}
 use Rattle.psi_guard.proofs.Intervals.{PartMisses, meets-all, misses-one}

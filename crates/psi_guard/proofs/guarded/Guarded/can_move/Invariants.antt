@@ -1,3 +1,4 @@
+-- Invariants of the loops of `Guarded::can_move`.
 use Rattle.std.proofs.Common.{ℕ, ◌<◌}
 use Rattle.psi_guard.specs.Refusals.{at}
 use Rattle.psi_guard.proofs.Intervals.{PartMeets}

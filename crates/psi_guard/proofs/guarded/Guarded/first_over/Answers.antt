@@ -1,3 +1,4 @@
+-- Answers in the proof of `Guarded::first_over`.
 use Rattle.std.proofs.Common.{◌<◌, ◌≤◌, length, sym, ◌∙◌, arith, below_more}
 use Rattle.psi_guard.proofs.Steps.{queues-found, queues-none}
 use Rattle.psi_guard.proofs.guarded.Guarded.first_over.Goals as goal

@@ -1,3 +1,4 @@
+-- Invariants of the loops of `Guarded::first_over`.
 use Rattle.std.proofs.Common.{◌≡◌, ℕ, ◌<◌, List, Option, None}
 use Rattle.psi_guard.specs.Guarding.{AnswersAs}
 use Rattle.psi_guard.proofs.guarded.Guarded.first_over.Given as goal

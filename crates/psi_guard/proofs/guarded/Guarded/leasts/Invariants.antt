@@ -1,3 +1,4 @@
+-- Invariants of the loops of `Guarded::leasts`.
 use Rattle.std.proofs.Common.{◌≡◌, ℕ, ◌<◌, length, slice_index}
 use Rattle.psi_guard.specs.Guarding.{part_of}
 use Rattle.psi_guard.proofs.guarded.Guarded.leasts.Given as goal

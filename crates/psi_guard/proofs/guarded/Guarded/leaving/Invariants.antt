@@ -1,3 +1,4 @@
+-- Invariants of the loops of `Guarded::leaving`.
 use Rattle.psi_guard.proofs.Intervals.{KnowsParts}
 use Rattle.psi_guard.proofs.guarded.Guarded.leaving.Given as goal
 

@@ -1,3 +1,4 @@
+-- Invariants of the loops of `Guarded::move_each`.
 use Rattle.psi_guard.proofs.Steps.{IsMoving}
 use Rattle.psi_guard.proofs.guarded.Guarded.move_each.Given as goal
 

@@ -1,3 +1,4 @@
+-- Answers in the proof of `Guarded::move_ends`.
 use Rattle.std.proofs.Common.{◌<◌, ◌+◌, length, sym, ◌∙◌, subst, arith}
 use Rattle.psi_state.specs.State.{Corners, IsBelow}
 use Rattle.psi_event.proofs.LawLemmas.{tight-corners}

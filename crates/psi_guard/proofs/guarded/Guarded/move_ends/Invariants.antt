@@ -1,3 +1,4 @@
+-- Invariants of the loops of `Guarded::move_ends`.
 use Rattle.psi_guard.proofs.Intervals.{IsEnding}
 use Rattle.psi_guard.proofs.guarded.Guarded.move_ends.Given as goal
 

@@ -1,3 +1,4 @@
+-- Answers in the proof of `Guarded::new`.
 use Rattle.std.proofs.Common.{◌≡◌, ◌≤◌, ℕ, suc, ◌+◌, List, [], ◌∷◌, ◌++◌, length, take, drop, ap, sym, ◌∙◌, subst, arith, None, take-suc, take_all, drop_of_length-le}
 use Rattle.psi_guard.specs.declared.parts.Part.{Part}
 use Rattle.psi_guard.specs.Guarding.{guarded, upset_of}

@@ -1,3 +1,4 @@
+-- Invariants of the loops of `Guarded::new`.
 use Rattle.std.proofs.Common.{◌≡◌, take, drop}
 use Rattle.psi_guard.specs.Refusals.{AreGuards, refusal_after, refusal_of}
 use Rattle.psi_guard.proofs.guarded.Guarded.new.Given as goal

@@ -1,3 +1,4 @@
+-- Answers in the proof of `Guarded::part_of`.
 use Rattle.std.proofs.Common.{◌≡◌, ◌<◌, length, inl, inr, ap, sym, ◌∙◌, arith, below_more}
 use Rattle.psi_guard.specs.Guarding.{part_of, free_part}
 use Rattle.psi_guard.specs.Refusals.{at}

@@ -1,3 +1,4 @@
+-- Invariants of the loops of `Guarded::part_of`.
 use Rattle.std.proofs.Common.{◌≡◌, ℕ, ◌<◌}
 use Rattle.psi_guard.specs.Refusals.{at}
 use Rattle.psi_guard.proofs.guarded.Guarded.part_of.Given as goal

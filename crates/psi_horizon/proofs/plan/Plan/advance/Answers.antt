@@ -1,3 +1,4 @@
+-- Answers in the proof of `Plan::advance`.
 use Rattle.psi_rate.specs.Composition.{system_functions}
 use Rattle.psi_rate.proofs.FunctionsLemmas.{functions-closed}
 use Rattle.psi_horizon.proofs.Running.{underway-area}

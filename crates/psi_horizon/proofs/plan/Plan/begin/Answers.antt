@@ -1,3 +1,4 @@
+-- Answers in the proof of `Plan::begin`.
 use Rattle.psi_rate.specs.Composition.{system_functions}
 use Rattle.psi_horizon.proofs.RunsLemmas.{region_after-whole}
 use Rattle.psi_horizon.proofs.plan.Plan.begin.Goals as goal

@@ -1,3 +1,4 @@
+-- Answers in the proof of `Plan::bounds`.
 use Rattle.std.proofs.Common.{◌≡◌, subst}
 use Rattle.psi_rate.specs.Composition.{Parts, system_functions}
 use Rattle.psi_rate.specs.System.{IsSystem}

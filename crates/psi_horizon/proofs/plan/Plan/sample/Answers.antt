@@ -1,3 +1,4 @@
+-- Answers in the proof of `Plan::sample`.
 use Rattle.std.proofs.Common.{map, subst}
 use Rattle.psi_rate.specs.Composition.{system_functions}
 use Rattle.psi_rate.specs.Outcomes.{IsOutcome}

@@ -1,3 +1,4 @@
+-- Answers in the proof of `Plan::states`.
 use Rattle.std.proofs.Common.{◌≡◌, ◌≤◌, ℕ, List, length, true, refl, ap, ◌∙◌, subst}
 use Rattle.psi_state.specs.Members.{In}
 use Rattle.psi_rate.specs.Composition.{Parts, system_functions}

@@ -1,3 +1,4 @@
+-- Answers in the proof of `Minima::least`.
 use Rattle.std.proofs.Common.{ℕ, ◌+◌, ◌^◌, List, length, ap, sym, subst, arith}
 use Rattle.psi_index.specs.Extremes.{IsLeast}
 use Rattle.psi_index.proofs.Joining.{least-two, least-slice_range}

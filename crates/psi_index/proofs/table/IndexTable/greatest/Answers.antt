@@ -1,3 +1,4 @@
+-- Answers in the proof of `IndexTable::greatest`.
 use Rattle.std.proofs.Common.{ℕ, ◌+◌, List, length, ap, slice_index, ◌∙◌, arith}
 use Rattle.std.proofs.lemmas.List.{get_or-map}
 use Rattle.psi_index.specs.Extremes.{complement, greatest_of, least_of, stretch}

@@ -1,3 +1,4 @@
+-- Answers in the proof of `DiskShelfShelf::TheImpl`.
 use Rattle.std.proofs.Common.{Result, Ok, Err, IfOk, refl}
 use Rattle.std.specs.Prelude.{⊤}
 use Rattle.psi_io.proofs.disk_shelf.DiskShelfShelf.TheImpl.Goals as goal

@@ -1,3 +1,4 @@
+-- Answers in the proof of `MemoryShelfShelf::TheImpl`.
 use Rattle.psi_io.proofs.Giving.{no-fault-given, spared-given, gives-read}
 use Rattle.psi_io.proofs.memory_shelf.MemoryShelfShelf.TheImpl.Goals as goal
 

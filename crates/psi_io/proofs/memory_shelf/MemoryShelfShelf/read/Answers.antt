@@ -1,3 +1,4 @@
+-- Answers in the proof of `MemoryShelfShelf::read`.
 use Rattle.std.proofs.Common.{◌≡◌, ◌+◌, ◌^◌, ◌<◌, ◌≤◌, false, List, ℕ, Option, None, Some, get_or, take, refl, sym, ◌∙◌, ap, subst, inr, arith}
 use Rattle.std.specs.Prelude.{nat_eq, position, IfOk, IfSome}
 use Rattle.std.specs.List.{list_any}

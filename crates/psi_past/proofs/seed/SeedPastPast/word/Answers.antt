@@ -1,3 +1,4 @@
+-- Answers in the proof of `SeedPastPast::word`.
 use Rattle.std.proofs.Common.{◌≡◌, ℕ, ap, ◌∙◌, arith}
 use Rattle.rand_chacha.specs.ChaCha.{ChaCha, key_of}
 use Rattle.psi_past.specs.declared.seed.SeedPast.TheInside.{Inside}

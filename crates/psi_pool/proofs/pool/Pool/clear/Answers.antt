@@ -1,3 +1,4 @@
+-- Answers in the proof of `Pool::clear`.
 use Rattle.std.proofs.Common.{◌≡◌, List, ℕ, length, ap, sym, ◌∙◌, subst, arith, vec_capacity}
 use Rattle.psi_pool.specs.Nodes.{IsPool}
 use Rattle.psi_pool.proofs.Keeping.{written, pool-empty}

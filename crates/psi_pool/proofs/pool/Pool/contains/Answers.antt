@@ -1,3 +1,4 @@
+-- Answers in the proof of `Pool::contains`.
 use Rattle.std.proofs.Common.{ap, arith}
 use Rattle.psi_pool.specs.Pooled.{Pooled}
 use Rattle.psi_pool.specs.Nodes.{states}

@@ -1,3 +1,4 @@
+-- Answers in the proof of `Pool::insert`.
 use Rattle.std.proofs.Common.{◌≡◌, ◌<◌, ℕ, List, ap, sym, ◌∙◌, subst, length, refl, arith, vec_capacity}
 use Rattle.psi_state.specs.Members.{In}
 use Rattle.psi_state.specs.Sets.{insert_state}

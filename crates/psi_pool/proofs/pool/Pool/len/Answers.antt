@@ -1,3 +1,4 @@
+-- Answers in the proof of `Pool::len`.
 use Rattle.std.proofs.Common.{◌≡◌, ap, ◌∙◌, subst, length, arith, vec_capacity}
 use Rattle.psi_state.specs.Ascending.{IsRising}
 use Rattle.psi_state.proofs.AscendingLemmas.{ascending-rising}

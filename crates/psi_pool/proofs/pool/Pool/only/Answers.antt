@@ -1,3 +1,4 @@
+-- Answers in the proof of `Pool::only`.
 use Rattle.std.proofs.Common.{ap, sym, ◌∙◌, length, vec_capacity}
 use Rattle.psi_pool.specs.Pooled.{Pooled}
 use Rattle.psi_pool.proofs.Keeping.{pool-length, single-not}

@@ -1,3 +1,4 @@
+-- Answers in the proof of `Pool::reserve`.
 use Rattle.std.proofs.Common.{◌∙◌, arith, vec_capacity}
 use Rattle.psi_pool.proofs.Keeping.{pool-empty}
 use Rattle.psi_pool.proofs.pool.Pool.reserve.Goals as goal

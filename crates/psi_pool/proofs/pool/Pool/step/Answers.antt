@@ -1,3 +1,4 @@
+-- Answers in the proof of `Pool::step`.
 use Rattle.std.proofs.Common.{◌++◌, ◌∙◌, List, ℕ, take, drop, length, map, ap, sym, subst, vec_capacity}
 use Rattle.psi_state.specs.Sets.{ascending, image}
 use Rattle.psi_pool.specs.declared.nodes.Node.{Node}

@@ -1,3 +1,4 @@
+-- Answers in the proof of `Pool::walk`.
 use Rattle.std.proofs.Common.{List, ap, ◌∙◌, subst, refl}
 use Rattle.std.specs.List.Sorted.{IsPermutation}
 use Rattle.psi_pool.specs.declared.nodes.Node.{Node}

@@ -1,3 +1,4 @@
+-- Answers in the proof of `Wheel::idle`.
 use Rattle.psi_rate.proofs.Dealt.{dial-below, dial-idle}
 use Rattle.psi_rate.proofs.wheel.Wheel.idle.Goals as goal
 

@@ -1,3 +1,4 @@
+-- Answers in the proof of `Wheel::modulus`.
 use Rattle.psi_rate.proofs.Dealt.{dial-least}
 use Rattle.psi_rate.proofs.wheel.Wheel.modulus.Goals as goal
 

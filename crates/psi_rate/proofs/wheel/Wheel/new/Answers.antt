@@ -1,3 +1,4 @@
+-- Answers in the proof of `Wheel::new`.
 use Rattle.std.proofs.Common.{◌≤◌, length, ◌∙◌, sym, arith}
 use Rattle.psi_rate.proofs.Dealt.{total-passes, total-take_more, totals_from-take_more, dial-whole, length-some}
 use Rattle.psi_rate.proofs.wheel.Wheel.new.Goals as goal

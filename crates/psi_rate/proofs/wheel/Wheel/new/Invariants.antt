@@ -1,3 +1,4 @@
+-- Invariants of the loops of `Wheel::new`.
 use Rattle.std.proofs.Common.{◌≡◌, ◌≤◌, length, take, vec_len, vec_capacity}
 use Rattle.psi_rate.specs.Rates.{total}
 use Rattle.psi_rate.specs.Totals.{totals_from}

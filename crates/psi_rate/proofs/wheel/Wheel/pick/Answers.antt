@@ -1,3 +1,4 @@
+-- Answers in the proof of `Wheel::pick`.
 use Rattle.std.proofs.Common.{rules, of_calls, ◌<◌, ◌^◌, ◌-◌, refl, bit_and, arith}
 use Rattle.std.proofs.Math.Dec.{leb}
 use Rattle.std.proofs.lemmas.Fn.{always_returns_same}

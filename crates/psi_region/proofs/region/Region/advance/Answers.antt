@@ -1,3 +1,4 @@
+-- Answers in the proof of `Region::advance`.
 use Rattle.psi_region.proofs.Steps.{held-image, stepped-split, stepped-box, high-within}
 use Rattle.psi_region.proofs.region.Region.advance.Goals as goal
 

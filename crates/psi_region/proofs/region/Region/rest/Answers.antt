@@ -1,3 +1,4 @@
+-- Answers in the proof of `Region::rest`.
 use Rattle.std.proofs.Common.{◌∙◌}
 use Rattle.psi_region.proofs.Steps.{rested-held}
 use Rattle.psi_region.proofs.region.Region.rest.Goals as goal

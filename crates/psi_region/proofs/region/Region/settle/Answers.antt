@@ -1,3 +1,4 @@
+-- Answers in the proof of `Region::settle`.
 use Rattle.psi_region.proofs.Steps.{held-split}
 use Rattle.psi_region.proofs.region.Region.settle.Goals as goal
 

@@ -1,3 +1,4 @@
+-- Answers in the proof of `Region::single`.
 use Rattle.psi_region.proofs.Steps.{states-unsplit, single-same, single-two, two-unsplit}
 use Rattle.psi_region.proofs.region.Region.single.Goals as goal
 

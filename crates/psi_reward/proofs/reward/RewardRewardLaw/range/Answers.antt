@@ -1,3 +1,4 @@
+-- Answers in the proof of `RewardRewardLaw::range`.
 use Rattle.std.specs.Prelude.{◌≡◌, List, ℕ, map}
 use Rattle.std.proofs.Common.{ap, sym, ◌∙◌, subst, arith, to_z, of_z, w64}
 use Rattle.std.proofs.lemmas.Int.{ints}

@@ -1,3 +1,4 @@
+-- Answers in the proof of `RewardRewardLaw::value`.
 use Rattle.psi_reward.proofs.Accepted.{length-table, reach-table}
 use Rattle.psi_reward.proofs.reward.RewardRewardLaw.value.Goals as goal
 

@@ -1,3 +1,4 @@
+-- Answers in the proof of `RouteEventLaw::apply`.
 use Rattle.std.proofs.Common.{List, ℕ, sym, subst}
 use Rattle.psi_state.specs.State.{IsBelow}
 use Rattle.psi_route.specs.Closed.{routed-closed}

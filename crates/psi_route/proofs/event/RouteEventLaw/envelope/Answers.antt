@@ -1,3 +1,4 @@
+-- Answers in the proof of `RouteEventLaw::envelope`.
 use Rattle.std.proofs.Common.{◌∙◌}
 use Rattle.psi_event.proofs.LawLemmas.{monotone-corners, tight-within}
 use Rattle.psi_route.specs.Routing.{routed}

@@ -1,3 +1,4 @@
+-- Answers in the proof of `RouteEventLaw::monotone`.
 use Rattle.std.proofs.Common.{List, ℕ, Option, ◌≡◌, ◌↔◌, is_none, IsTrue, sym, ◌∙◌, ap, subst}
 use Rattle.psi_event.specs.Law.{IsMonotone}
 use Rattle.psi_route.specs.Routing.{routed, upset_of}

@@ -1,3 +1,4 @@
+-- Answers in the proof of `RouteEventLaw::upset`.
 use Rattle.std.proofs.Common.{List, ℕ, Option, sym, subst}
 use Rattle.psi_event.specs.Law.{ShowsUpset}
 use Rattle.psi_route.specs.Routing.{routed}

@@ -1,3 +1,4 @@
+-- Answers in the proof of `Route::accepted`.
 use Rattle.psi_route.specs.Accepted.{shape}
 use Rattle.psi_route.proofs.AcceptedLemmas.{accepted}
 use Rattle.psi_route.proofs.route.Route.accepted.Goals as goal

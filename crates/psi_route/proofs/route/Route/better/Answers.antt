@@ -1,3 +1,4 @@
+-- Answers in the proof of `Route::better`.
 use Rattle.std.proofs.Common.{sym, ap, ◌∙◌}
 use Rattle.psi_route.specs.Routing.{routing}
 use Rattle.psi_route.specs.ActingLaws.{is-room}

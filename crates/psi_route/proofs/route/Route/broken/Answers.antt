@@ -1,3 +1,4 @@
+-- Answers in the proof of `Route::broken`.
 use Rattle.std.proofs.Common.{ℕ, List, Some, None, sym, ◌∙◌, ap}
 use Rattle.psi_route.proofs.Upset.{upset-several}
 use Rattle.psi_route.specs.Route.{shape_of}

@@ -1,3 +1,4 @@
+-- Answers in the proof of `Route::earlier`.
 use Rattle.std.proofs.Common.{ℕ, Option, MatchOption, subst}
 use Rattle.psi_route.specs.Falls.{NoFall, IsFall}
 use Rattle.psi_route.specs.Route.{shape_of}

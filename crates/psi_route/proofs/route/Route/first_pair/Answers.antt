@@ -1,3 +1,4 @@
+-- Answers in the proof of `Route::first_pair`.
 use Rattle.std.proofs.Common.{◌≡◌, ℕ, List, [], length, subst, refl, arith}
 use Rattle.std.proofs.lemmas.List.{get_or_read_under}
 use Rattle.psi_index.specs.Extremes.{IsRising}

@@ -1,3 +1,4 @@
+-- Invariants of the loops of `Route::first_pair`.
 use Rattle.std.proofs.Common.{◌≡◌, ◌<◌, ℕ, None}
 use Rattle.psi_route.specs.Routing.{pair_behind}
 use Rattle.psi_route.specs.Route.{shape_of}

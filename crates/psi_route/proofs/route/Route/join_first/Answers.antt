@@ -1,3 +1,4 @@
+-- Answers in the proof of `Route::join_first`.
 use Rattle.std.proofs.Common.{List, ℕ, ◌≡◌, ◌+◌, ◌<◌, length, slice_index, slice_set, ap, ◌∙◌, arith}
 use Rattle.psi_route.specs.Routing.{routing, best, moved, HasRoom}
 use Rattle.psi_route.specs.Route.{shape_of}

@@ -1,3 +1,4 @@
+-- Invariants of the loops of `Route::join_first`.
 use Rattle.std.proofs.Common.{◌≡◌}
 use Rattle.psi_route.specs.Routing.{routing}
 use Rattle.psi_route.specs.Acting.{NoRoom}

@@ -1,3 +1,4 @@
+-- Answers in the proof of `Route::least_key`.
 use Rattle.std.proofs.Common.{arith}
 use Rattle.psi_route.specs.Route.{shape_of}
 use Rattle.psi_route.proofs.Choosing.{leader-some, leader-none}

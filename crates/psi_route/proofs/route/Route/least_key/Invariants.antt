@@ -1,3 +1,4 @@
+-- Invariants of the loops of `Route::least_key`.
 use Rattle.psi_route.specs.Routing.{routing}
 use Rattle.psi_route.specs.Route.{shape_of}
 use Rattle.psi_route.specs.Leader.{IsLeader}

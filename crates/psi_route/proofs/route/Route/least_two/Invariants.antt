@@ -1,3 +1,4 @@
+-- Invariants of the loops of `Route::least_two`.
 use Rattle.psi_route.specs.Offers.{AreLeastTwo}
 use Rattle.psi_route.proofs.route.Route.least_two.Given as goal
 

@@ -1,3 +1,4 @@
+-- Answers in the proof of `Route::pair_behind`.
 use Rattle.std.proofs.Common.{length, arith}
 use Rattle.psi_route.specs.Routing.{pair_between, pair_behind}
 use Rattle.psi_route.specs.Route.{shape_of}

@@ -1,3 +1,4 @@
+-- Invariants of the loops of `Route::pair_behind`.
 use Rattle.std.proofs.Common.{◌≡◌, ◌<◌, ℕ, None}
 use Rattle.psi_route.specs.Routing.{pair_between}
 use Rattle.psi_route.specs.Route.{shape_of}

@@ -1,3 +1,4 @@
+-- Answers in the proof of `Route::pair_between`.
 use Rattle.std.proofs.Common.{ℕ, List, Some, slice_index, ap, ◌∙◌, arith}
 use Rattle.psi_route.specs.Route.{shape_of}
 use Rattle.psi_route.proofs.Falling.{between-none, between-some, found-none, found-some}

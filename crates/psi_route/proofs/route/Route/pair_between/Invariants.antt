@@ -1,3 +1,4 @@
+-- Invariants of the loops of `Route::pair_between`.
 use Rattle.psi_route.specs.Falls.{AreFalls}
 use Rattle.psi_route.specs.Route.{shape_of}
 use Rattle.psi_route.proofs.route.Route.pair_between.Given as goal

@@ -1,3 +1,4 @@
+-- Answers in the proof of `Route::pass`.
 use Rattle.std.proofs.Common.{◌∙◌, refl}
 use Rattle.psi_route.specs.Routing.{routing, best}
 use Rattle.psi_route.specs.Route.{shape_of}

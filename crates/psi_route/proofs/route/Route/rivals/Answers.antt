@@ -1,3 +1,4 @@
+-- Answers in the proof of `Route::rivals`.
 use Rattle.std.proofs.Common.{rules}
 use Rattle.psi_route.specs.Routing.{routing}
 use Rattle.psi_route.specs.Route.{shape_of}

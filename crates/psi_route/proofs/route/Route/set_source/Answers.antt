@@ -1,3 +1,4 @@
+-- Answers in the proof of `Route::set_source`.
 use Rattle.std.proofs.Common.{◌≡◌, ◌-◌, ◌<◌, ◌≤◌, length, if◌then◌else◌, ap, sym, subst, arith, Option}
 use Rattle.psi_route.specs.Routing.{routing, source_queue}
 use Rattle.psi_route.specs.Route.{shape_of}

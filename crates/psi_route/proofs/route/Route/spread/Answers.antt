@@ -1,3 +1,4 @@
+-- Answers in the proof of `Route::spread`.
 use Rattle.std.proofs.Common.{refl}
 use Rattle.std.proofs.lemmas.Bool.{MatchBool-at_false}
 use Rattle.psi_route.specs.Routing.{routing}

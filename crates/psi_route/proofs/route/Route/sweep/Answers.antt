@@ -1,3 +1,4 @@
+-- Answers in the proof of `Route::sweep`.
 use Rattle.std.proofs.Common.{◌≡◌, ◌+◌, ◌<◌, ◌≤◌, length, slice_index, ap, sym, ◌∙◌, subst, arith}
 use Rattle.std.specs.Bool.{MatchBool}
 use Rattle.psi_state.specs.State.{Corners}

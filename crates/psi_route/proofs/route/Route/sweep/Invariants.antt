@@ -1,3 +1,4 @@
+-- Invariants of the loops of `Route::sweep`.
 use Rattle.std.specs.Bool.{MatchBool}
 use Rattle.psi_route.specs.Routing.{routing}
 use Rattle.psi_route.specs.Route.{shape_of}

@@ -1,3 +1,4 @@
+-- Invariants of the loops of `Route::target_high`.
 use Rattle.std.proofs.Common.{ℕ, ◌+◌, ◌<◌, ◌≤◌}
 use Rattle.psi_route.specs.Routing.{routing}
 use Rattle.psi_route.specs.Route.{shape_of}

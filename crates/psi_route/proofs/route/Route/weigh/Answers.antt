@@ -1,3 +1,4 @@
+-- Answers in the proof of `Route::weigh`.
 use Rattle.std.proofs.Common.{◌≡◌, ◌+◌, ◌<◌, length, slice_set, is_none, true, false, sym, ◌∙◌, subst, arith}
 use Rattle.psi_state.specs.State.{Corners}
 use Rattle.psi_route.specs.Routing.{routing}

@@ -1,3 +1,4 @@
+-- Invariants of the loops of `Route::weigh`.
 use Rattle.psi_route.specs.Routing.{routing}
 use Rattle.psi_route.specs.Route.{shape_of}
 use Rattle.psi_route.specs.Ends.{AreTargetEnds}

@@ -1,3 +1,4 @@
+-- Answers in the proof of `check::push_event`.
 use Rattle.std.proofs.Common.{◌∙◌, append_assoc, refl}
 use Rattle.psi_run.specs.Check.{event_line}
 use Rattle.psi_run.proofs.commands.check.push_event.Goals as goal

@@ -1,3 +1,4 @@
+-- Answers in the proof of `check::push_events`.
 use Rattle.std.specs.Prelude.{◌≡◌, ℕ, ◌+◌, List, take, ◌&&◌, is_none, Some, option_map}
 use Rattle.std.specs.List.{list_all}
 use Rattle.std.proofs.Common.{ap, sym, ◌∙◌, arith}

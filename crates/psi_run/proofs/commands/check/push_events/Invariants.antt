@@ -1,3 +1,4 @@
+-- Invariants of the loops of `check::push_events`.
 use Rattle.std.proofs.Common.{◌≡◌, ◌++◌, take}
 use Rattle.std.specs.Prelude.{is_none, All}
 use Rattle.std.specs.List.{flat_map, list_all}

@@ -1,3 +1,4 @@
+-- Answers in the proof of `check::push_queue`.
 use Rattle.std.proofs.Common.{append_assoc}
 use Rattle.psi_run.specs.Check.{queue_line}
 use Rattle.psi_run.proofs.commands.check.push_queue.Goals as goal

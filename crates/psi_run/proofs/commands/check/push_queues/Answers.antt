@@ -1,3 +1,4 @@
+-- Answers in the proof of `check::push_queues`.
 use Rattle.std.specs.Prelude.{ℕ, List}
 use Rattle.std.proofs.Common.{ap, ◌∙◌, arith}
 use Rattle.psi_network.specs.declared.entries.Queue.{Queue}

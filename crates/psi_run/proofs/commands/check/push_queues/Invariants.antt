@@ -1,3 +1,4 @@
+-- Invariants of the loops of `check::push_queues`.
 use Rattle.std.proofs.Common.{◌≡◌, ◌++◌, take}
 use Rattle.std.specs.List.{flat_map}
 use Rattle.psi_run.specs.Check.{queue_line}

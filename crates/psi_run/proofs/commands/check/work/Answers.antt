@@ -1,3 +1,4 @@
+-- Answers in the proof of `check::work`.
 use Rattle.psi_run.proofs.Endings.{no_net, on_net}
 use Rattle.psi_run.proofs.Sparing.{ends-read}
 use Rattle.psi_run.proofs.Checking.{checked_printed, check_about}

@@ -1,3 +1,4 @@
+-- Answers in the proof of `sample::sample_of`.
 use Rattle.psi_run.proofs.Sampling.{sampled_by}
 use Rattle.psi_run.proofs.commands.sample.sample_of.Goals as goal
 

@@ -1,3 +1,4 @@
+-- Answers in the proof of `line::key_text`.
 use Rattle.std.specs.Prelude.{length, ◌&&◌, nat_le}
 use Rattle.std.specs.List.{list_all}
 use Rattle.std.proofs.lemmas.Bool.{and_parts, leb-true}

@@ -1,3 +1,4 @@
+-- Answers in the proof of `Bounds::holds`.
 use Rattle.psi_state.proofs.Deciding.{holds-then, holds-else}
 use Rattle.psi_state.proofs.bounds.Bounds.holds.Goals as goal
 

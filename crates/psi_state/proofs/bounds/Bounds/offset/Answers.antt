@@ -1,3 +1,4 @@
+-- Answers in the proof of `Bounds::offset`.
 use Rattle.std.specs.Prelude.{◌≡◌, slice_index}
 use Rattle.std.proofs.Common.{ap, arith}
 use Rattle.psi_state.specs.State.{Corners}

@@ -1,3 +1,4 @@
+-- Answers in the proof of `Bounds::rank`.
 use Rattle.std.specs.Prelude.{◌+◌, ◌-◌, ◌*◌, ◌<◌, length, slice_index, refl}
 use Rattle.std.proofs.Common.{arith}
 use Rattle.psi_state.specs.State.{box}

@@ -1,3 +1,4 @@
+-- Invariants of the loops of `Bounds::rank`.
 use Rattle.psi_state.proofs.Counting.{IsRanking}
 use Rattle.psi_state.proofs.bounds.Bounds.rank.Given as goal
 

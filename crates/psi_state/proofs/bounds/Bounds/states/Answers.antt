@@ -1,3 +1,4 @@
+-- Answers in the proof of `Bounds::states`.
 use Rattle.std.specs.Prelude.{ℕ, List, length}
 use Rattle.std.proofs.Common.{ap, ◌∙◌}
 use Rattle.std.proofs.iter.runs.Sources.{from_front, as_is}

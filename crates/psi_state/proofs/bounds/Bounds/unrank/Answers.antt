@@ -1,3 +1,4 @@
+-- Answers in the proof of `Bounds::unrank`.
 use Rattle.std.specs.Prelude.{◌≡◌, ℕ, List, ◌+◌, ◌-◌, ◌/◌, ◌%◌, ◌≤◌, slice_index}
 use Rattle.std.proofs.Common.{ap, sym, ◌∙◌, subst, arith}
 use Rattle.psi_state.proofs.Counting.{IsUnranking, unranking-step, unranking-last, digit-high}

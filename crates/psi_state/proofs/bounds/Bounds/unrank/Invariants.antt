@@ -1,3 +1,4 @@
+-- Invariants of the loops of `Bounds::unrank`.
 use Rattle.psi_state.proofs.Counting.{IsUnranking}
 use Rattle.psi_state.proofs.bounds.Bounds.unrank.Given as goal
 

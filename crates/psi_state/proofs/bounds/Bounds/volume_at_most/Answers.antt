@@ -1,3 +1,4 @@
+-- Answers in the proof of `Bounds::volume_at_most`.
 use Rattle.std.specs.Prelude.{◌*◌, ◌≤◌, ◌+◌, length}
 use Rattle.std.proofs.Common.{arith}
 use Rattle.psi_state.specs.State.{box}

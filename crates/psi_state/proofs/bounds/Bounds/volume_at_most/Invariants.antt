@@ -1,3 +1,4 @@
+-- Invariants of the loops of `Bounds::volume_at_most`.
 use Rattle.std.specs.Prelude.{◌<◌, ◌≤◌, ◌^◌}
 use Rattle.psi_state.proofs.Counting.{IsCounting}
 use Rattle.psi_state.proofs.bounds.Bounds.volume_at_most.Given as goal

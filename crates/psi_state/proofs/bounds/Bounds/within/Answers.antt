@@ -1,3 +1,4 @@
+-- Answers in the proof of `Bounds::within`.
 use Rattle.psi_state.proofs.Deciding.{within-then, within-else}
 use Rattle.psi_state.proofs.bounds.Bounds.within.Goals as goal
 

@@ -1,3 +1,4 @@
+-- Answers in the proof of `Queues::contains_from`.
 use Rattle.std.proofs.Common.{◌≡◌, ◌<◌, length, slice_index, nat_eq, sym, arith}
 use Rattle.std.proofs.lemmas.Bool.{eq-eqb}
 use Rattle.psi_state.proofs.RepeatsLemmas.{any-at, any-none}

@@ -1,3 +1,4 @@
+-- Invariants of the loops of `Queues::contains_from`.
 use Rattle.std.proofs.Common.{◌≡◌, ◌<◌, ◌≤◌, ℕ, slice_index, nat_eq, false}
 use Rattle.psi_state.proofs.queues.Queues.contains_from.Given as goal
 

@@ -1,3 +1,4 @@
+-- Answers in the proof of `Queues::empty`.
 use Rattle.std.specs.Prelude.{refl}
 use Rattle.std.proofs.Common.{arith}
 use Rattle.psi_state.proofs.Arrays.{slice_index-zeros}

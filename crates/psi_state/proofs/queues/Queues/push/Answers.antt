@@ -1,3 +1,4 @@
+-- Answers in the proof of `Queues::push`.
 use Rattle.std.specs.Prelude.{◌≡◌, ◌<◌, ℕ, length}
 use Rattle.std.proofs.Common.{ap, sym, ◌∙◌, arith}
 use Rattle.std.proofs.lemmas.List.{length-set, length-take-le}

@@ -1,3 +1,4 @@
+-- Answers in the proof of `Queues::repeats`.
 use Rattle.std.proofs.Common.{◌≡◌, ◌<◌, ◌+◌, suc, true, length, drop, slice_index, nat_eq, sym, ◌∙◌, ap, arith}
 use Rattle.std.specs.List.{list_any}
 use Rattle.psi_state.proofs.RepeatsLemmas.{repeats-at, repeats-none}

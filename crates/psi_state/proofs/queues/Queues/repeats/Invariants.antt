@@ -1,3 +1,4 @@
+-- Invariants of the loops of `Queues::repeats`.
 use Rattle.std.proofs.Common.{◌≡◌, ◌<◌, ℕ, suc, drop, slice_index, nat_eq, false}
 use Rattle.std.specs.List.{list_any}
 use Rattle.psi_state.proofs.queues.Queues.repeats.Given as goal

@@ -1,3 +1,4 @@
+-- Invariants of the loops of `State::has_quads_of`.
 use Rattle.std.proofs.Common.{◌≡◌, ◌<◌, ℕ}
 use Rattle.psi_state.specs.Hashing.{quad}
 use Rattle.psi_state.proofs.state.State.has_quads_of.Given as goal

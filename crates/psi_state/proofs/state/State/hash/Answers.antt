@@ -1,3 +1,4 @@
+-- Answers in the proof of `State::hash`.
 use Rattle.std.proofs.Common.{◌≡◌, ◌/◌, ◌^◌, length, nat_le, false, ap, sym, ◌∙◌, if◌then◌else◌, arith}
 use Rattle.std.proofs.lemmas.Bool.{lt-leb}
 use Rattle.psi_state.specs.Hashing.{mixed, hash}

@@ -1,3 +1,4 @@
+-- Invariants of the loops of `State::mixed`.
 use Rattle.std.proofs.Common.{◌≡◌}
 use Rattle.psi_state.specs.Hashing.{mixed}
 use Rattle.psi_state.proofs.state.State.mixed.Given as goal

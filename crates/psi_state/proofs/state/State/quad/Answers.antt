@@ -1,3 +1,4 @@
+-- Answers in the proof of `State::quad`.
 use Rattle.std.proofs.Common.{ap, ◌∙◌}
 use Rattle.psi_state.specs.Hashing.{quad}
 use Rattle.psi_state.proofs.Arrays.{quad-padded}

@@ -1,3 +1,4 @@
+-- Answers in the proof of `State::zero`.
 use Rattle.std.proofs.Common.{refl, arith}
 use Rattle.std.proofs.lemmas.List.{drop-replicate, take-replicate}
 use Rattle.psi_state.proofs.Arrays.{slice_index-zeros}

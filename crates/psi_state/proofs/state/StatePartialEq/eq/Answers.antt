@@ -1,3 +1,4 @@
+-- Answers in the proof of `StatePartialEq::eq`.
 use Rattle.std.proofs.Common.{arith}
 use Rattle.psi_state.proofs.Quads.{eq-from_quads}
 use Rattle.psi_state.proofs.state.StatePartialEq.eq.Goals as goal
