@@ -29,6 +29,7 @@ impl Guarded {
         ensures hull { b.new ≡ corners (image (guarded self.now.parts) (box b.old.lo b.old.hi)) }
         ensures tight { IsTight (image (guarded self.now.parts) (box b.old.lo b.old.hi)) b.new.lo b.new.hi }
     {
+        // Called for its clause: the corners are in order.
         let _queues = b.len();
         let moves = self.can_move(b);
         let leaving = self.leaving(b);

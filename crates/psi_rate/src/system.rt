@@ -53,8 +53,8 @@ impl<'n, E: EventLaw> System<'n, E> {
         requires most_split { split ≤ 4096 }
         ensures { result ≡ record { caps = caps; events = events.entry.now; rates = wheel.entry.now; limit = limit; split = split } }
     {
+        // Called for their clauses: a wheel has a rate, so there is an event, and its capacities are the network's.
         let _events = wheel.events();
-        // Called for its clause: a wheel has a rate, so there is an event, and its capacities are the network's.
         let _caps = events[0].caps();
         System {
             caps,

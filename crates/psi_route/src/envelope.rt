@@ -35,6 +35,7 @@ impl Route {
         ensures hull { b.new ≡ corners (image (routed (shape_of self.now)) (box b.old.lo b.old.hi)) }
         ensures tight { IsTight (image (routed (shape_of self.now)) (box b.old.lo b.old.hi)) b.new.lo b.new.hi }
     {
+        // Called for its clause: the corners are in order.
         let _queues = b.len();
         let coming = self.coming(b);
         if coming.sometimes {

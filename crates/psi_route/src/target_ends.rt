@@ -99,6 +99,7 @@ impl Route {
         ensures place { result.place ≡ j }
         ensures value { key_of result ≡ (routing (shape_of self.now)).key j v }
     {
+        // Called for its clause: there are at most 32 places.
         let _few = self.places();
         let weight = self.weight(j, v);
         Key { weight, place: j }
