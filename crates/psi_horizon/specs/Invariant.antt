@@ -20,6 +20,6 @@ pub record IsUnderway (f : Functions) (split : ℕ) (caps : List ℕ) (count : �
 -- there is room for the words of the greatest horizon, which no run passes, and for a split region
 pub record IsPlan {E P : Type 0} (f : Functions) (system : Parts E) (words : Keeping P) (region : Regional) (progress : Option Progress) : Type 0 where
   pub room : 2 ^ system.limit ≤ words.most
-  pub split : region.most ≡ system.split
+  pub split : region.split ≡ system.split
   pub within : IfSome progress (λ r. r.horizon ≤ 2 ^ system.limit)
   pub run : IfSome progress (λ r. IsUnderway f system.split system.caps words.count region r)

@@ -20,12 +20,12 @@ pub(crate) fn first_ending<E: EventLaw, P: Past + Drop>(
     region: &mut Region,
 ) -> Outcome
     requires room { 2 ^ system.now.limit ≤ words.old.most }
-    requires split { region.old.most ≡ system.now.split }
+    requires split { region.old.split ≡ system.now.split }
     ensures least { let f = system_functions E.function system.now (P.words words.old.past) in
         IsOutcome (ending_at system.now.split f system.now.caps) system.now.limit result }
     ensures words { P.words words.new.past ≡ P.words words.old.past }
     ensures most { words.new.most ≡ words.old.most }
-    ensures split { region.new.most ≡ region.old.most }
+    ensures split { region.new.split ≡ region.old.split }
 {
     let limit = system.limit();
     for exponent in 0..limit + 1 {
@@ -46,11 +46,11 @@ fn ending<E: EventLaw, P: Past + Drop>(
     horizon: u32,
 ) -> Option<State>
     requires room { horizon ≤ words.old.most }
-    requires split { region.old.most ≡ system.now.split }
+    requires split { region.old.split ≡ system.now.split }
     ensures ending { result ≡ ending_at system.now.split (system_functions E.function system.now (P.words words.old.past)) system.now.caps horizon }
     ensures words { P.words words.new.past ≡ P.words words.old.past }
     ensures most { words.new.most ≡ words.old.most }
-    ensures split { region.new.most ≡ region.old.most }
+    ensures split { region.new.split ≡ region.old.split }
 {
     words.extend_to(horizon);
     region.start(&system.caps());
@@ -70,8 +70,8 @@ pub(crate) fn follow_word<E: EventLaw>(
     requires { IsArea system.now.caps region.old.area }
     ensures event { result ≡ event_of system.now.rates word }
     ensures number { result ≤ length system.now.events }
-    ensures area { region.new.area ≡ step region.old.most (picked (map E.function system.now.events) system.now.rates word) region.old.area }
-    ensures most { region.new.most ≡ region.old.most }
+    ensures area { region.new.area ≡ step region.old.split (picked (map E.function system.now.events) system.now.rates word) region.old.area }
+    ensures split { region.new.split ≡ region.old.split }
 {
     // Called for its clause: the events fit the capacities.
     let _caps = system.caps();

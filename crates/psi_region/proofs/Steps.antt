@@ -21,12 +21,12 @@ use Rattle.psi_region.specs.Held.{area_of, IsHeld}
 use Rattle.psi_region.proofs.RegionLemmas.{step-split, step-box}
 
 -- the states of an unsplit region are those of its box
-pub states-unsplit : (most : ℕ) (split : Bool) (b : Corners) (xs : List (List ℕ)) (now : Regional) → record { most = most; area = area_of split b xs } ≡ now
+pub states-unsplit : (most : ℕ) (split : Bool) (b : Corners) (xs : List (List ℕ)) (now : Regional) → record { split = most; area = area_of split b xs } ≡ now
     → split ≡ false → now.area.states ≡ box b.lo b.hi
 states-unsplit most split b xs now is no_split =
     ap (λ (r : Regional). r.area.states) (sym is) ∙ ap (λ s. (area_of s b xs).states) no_split
 
-pub states-split : (most : ℕ) (split : Bool) (b : Corners) (xs : List (List ℕ)) (now : Regional) → record { most = most; area = area_of split b xs } ≡ now
+pub states-split : (most : ℕ) (split : Bool) (b : Corners) (xs : List (List ℕ)) (now : Regional) → record { split = most; area = area_of split b xs } ≡ now
     → split ≡ true → now.area.states ≡ xs
 states-split most split b xs now is split_is =
     ap (λ (r : Regional). r.area.states) (sym is) ∙ ap (λ s. (area_of s b xs).states) split_is
@@ -98,41 +98,41 @@ held-image most split b old new f held is same made = record {
 
 -- a step of a region that is held as a set
 pub stepped-split : (f : List ℕ → List ℕ) (old now : Regional) (most : ℕ) (split : Bool) (b : Corners) (xs ys : List (List ℕ))
-    → now.area ≡ settled old.most old.area → record { most = most; area = area_of split b xs } ≡ now → split ≡ true → ys ≡ image f xs
-    → area_of split b ys ≡ step old.most f old.area
+    → now.area ≡ settled old.split old.area → record { split = most; area = area_of split b xs } ≡ now → split ≡ true → ys ≡ image f xs
+    → area_of split b ys ≡ step old.split f old.area
 stepped-split f old now most split b xs ys settles held is made =
-    let flag : splits old.most old.area ≡ true =
+    let flag : splits old.split old.area ≡ true =
     ap (λ (a : Area). a.is_split) (sym settles) ∙ (ap (λ (r : Regional). r.area.is_split) (sym held) ∙ ap (λ s. (area_of s b xs).is_split) is) in
     let states : old.area.states ≡ xs =
     ap (λ (a : Area). a.states) (sym settles) ∙ states-split most split b xs now held is in
     let image_is : image f old.area.states ≡ ys = ap (λ (zs : List (List ℕ)). image f zs) states ∙ sym made in
     ap (λ s. area_of s b ys) is
-    ∙ sym (step-split old.most f old.area flag ∙ ap (λ (zs : List (List ℕ)). area_split zs) image_is)
+    ∙ sym (step-split old.split f old.area flag ∙ ap (λ (zs : List (List ℕ)). area_split zs) image_is)
   where
     area_split : List (List ℕ) → Area
     area_split zs = record { is_split = true; states = zs }
 
 -- and of one that is held as a box
 pub stepped-box : (f : List ℕ → List ℕ) (old now : Regional) (most : ℕ) (split : Bool) (b made : Corners) (xs : List (List ℕ))
-    → now.area ≡ settled old.most old.area → record { most = most; area = area_of split b xs } ≡ now → split ≡ false → made ≡ corners (image f (box b.lo b.hi))
-    → area_of split made xs ≡ step old.most f old.area
+    → now.area ≡ settled old.split old.area → record { split = most; area = area_of split b xs } ≡ now → split ≡ false → made ≡ corners (image f (box b.lo b.hi))
+    → area_of split made xs ≡ step old.split f old.area
 unfolding hull
 stepped-box f old now most split b made xs settles held is envelope =
-    let flag : splits old.most old.area ≡ false =
+    let flag : splits old.split old.area ≡ false =
     ap (λ (a : Area). a.is_split) (sym settles) ∙ (ap (λ (r : Regional). r.area.is_split) (sym held) ∙ ap (λ s. (area_of s b xs).is_split) is) in
     let states : old.area.states ≡ box b.lo b.hi =
     ap (λ (a : Area). a.states) (sym settles) ∙ states-unsplit most split b xs now held is in
     let hull_is : hull (image f old.area.states) ≡ box made.lo made.hi =
     ap (λ (zs : List (List ℕ)). hull (image f zs)) states ∙ ap (λ (c : Corners). box c.lo c.hi) (sym envelope) in
     ap (λ s. area_of s made xs) is
-    ∙ sym (step-box old.most f old.area flag ∙ ap (λ (zs : List (List ℕ)). area_whole zs) hull_is)
+    ∙ sym (step-box old.split f old.area flag ∙ ap (λ (zs : List (List ℕ)). area_whole zs) hull_is)
   where
     area_whole : List (List ℕ) → Area
     area_whole zs = record { is_split = false; states = zs }
 
 -- the greatest state of a box that the region has is within the capacities
 pub high-within : (caps : List ℕ) (old now : Regional) (most : ℕ) (split : Bool) (b : Corners) (xs : List (List ℕ)) → ((x : List ℕ) → In x old.area.states → IsBelow x caps)
-    → now.area ≡ settled old.most old.area → record { most = most; area = area_of split b xs } ≡ now → split ≡ false → IsBelow b.lo b.hi → IsBelow b.hi caps
+    → now.area ≡ settled old.split old.area → record { split = most; area = area_of split b xs } ≡ now → split ≡ false → IsBelow b.lo b.hi → IsBelow b.hi caps
 high-within caps old now most split b xs within settles held is ordered =
     let states : old.area.states ≡ box b.lo b.hi =
     ap (λ (a : Area). a.states) (sym settles) ∙ states-unsplit most split b xs now held is in
@@ -158,7 +158,7 @@ rested most a l h false few rising whole =
     area s xs = record { is_split = s; states = xs }
 
 -- as a region is held
-pub rested-held : (most m : ℕ) (split : Bool) (b : Corners) (xs : List (List ℕ)) (now : Regional) → record { most = m; area = area_of split b xs } ≡ now → IsRising xs → IsBelow b.lo b.hi
+pub rested-held : (most m : ℕ) (split : Bool) (b : Corners) (xs : List (List ℕ)) (now : Regional) → record { split = m; area = area_of split b xs } ≡ now → IsRising xs → IsBelow b.lo b.hi
     → settled most now.area ≡ step most (λ (x : List ℕ). x) now.area
 rested-held most m true b xs now held rising ordered =
     subst (λ (a : Area). settled most a ≡ step most (λ (x : List ℕ). x) a) (ap (λ (r : Regional). r.area) held)

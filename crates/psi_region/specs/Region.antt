@@ -14,7 +14,7 @@ pub record Area : Type 0 where
 
 -- a region with the split number: the number of states up to which it is followed state by state
 pub record Regional : Type 0 where
-  pub most : ℕ
+  pub split : ℕ
   pub area : Area
 
 -- the box of all states, unsplit

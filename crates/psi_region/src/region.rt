@@ -33,7 +33,7 @@ impl From<psi_pool::OutOfMemory> for OutOfMemory {
 /// there is at least one. Only `reserve` takes memory.
 #[derive(Drop)]
 pub struct Region {
-    most: u16,
+    split: u16,
     is_split: bool,
     // The states while it isn't split.
     bounds: Bounds,
@@ -47,9 +47,9 @@ impl Model for Region {
 
     ghost Value = { Regional };
 
-    ghost view = { λ r. record { most = r.most; area = area_of r.is_split r.bounds r.pool.states } };
+    ghost view = { λ r. record { split = r.split; area = area_of r.is_split r.bounds r.pool.states } };
 
-    ghost invariant = { λ r. IsHeld r.most r.is_split r.bounds r.pool };
+    ghost invariant = { λ r. IsHeld r.split r.is_split r.bounds r.pool };
 }
 
 impl Region {
@@ -60,13 +60,13 @@ impl Region {
     pub fn reserve(alloc: Global, split: u16) -> Result<Region, OutOfMemory>
         requires some { 1 ≤ split }
         requires few { split ≤ 4096 }
-        ensures { IfOk result (λ region. region ≡ record { most = split; area = start (1 ∷ []) }) }
+        ensures { IfOk result (λ region. region ≡ record { split = split; area = start (1 ∷ []) }) }
     {
         let pool = Pool::reserve(alloc, split)?;
         let mut one = State::zero(1);
         one.set(0, 1);
         Ok(Region {
-            most: split,
+            split,
             is_split: false,
             bounds: Bounds::whole(&one),
             pool,
@@ -76,7 +76,7 @@ impl Region {
     /// Makes the region the box of all states of the capacities `caps`, unsplit.
     pub fn start(&mut self, caps: &State)
         ensures area { self.new.area ≡ start caps.now }
-        ensures most { self.new.most ≡ self.old.most }
+        ensures split { self.new.split ≡ self.old.split }
     {
         if self.is_split {
             self.pool.clear();
@@ -92,8 +92,8 @@ impl Region {
     /// envelope of its box. A split region is never made a box again.
     pub fn advance<E: EventLaw>(&mut self, e: &E)
         requires { (x : List ℕ) → In x self.old.area.states → IsBelow x (E.capacities e.now) }
-        ensures area { self.new.area ≡ step self.old.most (E.function e.now) self.old.area }
-        ensures most { self.new.most ≡ self.old.most }
+        ensures area { self.new.area ≡ step self.old.split (E.function e.now) self.old.area }
+        ensures split { self.new.split ≡ self.old.split }
     {
         self.settle();
         if self.is_split {
@@ -108,8 +108,8 @@ impl Region {
     /// Follows the region through a step in which nothing happens: a region of at most the split number of
     /// states becomes split, and its states stay.
     pub fn rest(&mut self)
-        ensures area { self.new.area ≡ step self.old.most (λ (x : List ℕ). x) self.old.area }
-        ensures most { self.new.most ≡ self.old.most }
+        ensures area { self.new.area ≡ step self.old.split (λ (x : List ℕ). x) self.old.area }
+        ensures split { self.new.split ≡ self.old.split }
     {
         // Called for its clause: the set is ascending, and the corners are in order.
         let _count = self.pool.len();
@@ -153,7 +153,7 @@ impl Region {
         ensures states { result.now ≡ self.old.area.states }
         ensures rising { IsRising result.now }
         ensures some { 1 ≤ length result.now }
-        ensures few { length result.now ≤ self.old.most }
+        ensures few { length result.now ≤ self.old.split }
         ensures* same { sem 𝓛 (follows_so the_row the_row self.entry.ghost_name none (λ _ _. ⊤) (λ v. v ≡ self.old)) }
     {
         // Called for its clause: the set is ascending and has room for its states.
@@ -164,10 +164,10 @@ impl Region {
     // A region of at most the split number of states becomes split, keeping its states.
     #[inline]
     fn settle(&mut self)
-        ensures area { self.new.area ≡ settled self.old.most self.old.area }
-        ensures most { self.new.most ≡ self.old.most }
+        ensures area { self.new.area ≡ settled self.old.split self.old.area }
+        ensures split { self.new.split ≡ self.old.split }
     {
-        if !self.is_split && self.bounds.volume_at_most(u32::from(self.most)).is_some() {
+        if !self.is_split && self.bounds.volume_at_most(u32::from(self.split)).is_some() {
             // Called for its clause: the corners are in order.
             let _queues = self.bounds.len();
             fill(&self.bounds, &mut self.pool);

@@ -28,10 +28,11 @@ impl EventLaw for Route {
     }
 
     fn apply(&self, x: &mut State) {
-        self.pass(x);
+        self.move_customers(x);
     }
 
     fn envelope(&self, b: &mut Bounds) {
+        // Called for its clause: the corners are in order.
         let _queues = b.len();
         self.spread(b);
     }

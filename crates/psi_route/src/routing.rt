@@ -12,7 +12,7 @@ impl Route {
     ghost use Rattle.psi_route.specs.Leader.{IsLeader};
 
     // Moves the customers, in place.
-    pub(crate) fn pass(&self, x: &mut State)
+    pub(crate) fn move_customers(&self, x: &mut State)
         requires { length x.old ≡ length self.now.caps }
         ensures { x.new ≡ routed (shape_of self.now) x.old }
     {

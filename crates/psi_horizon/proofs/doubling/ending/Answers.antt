@@ -16,7 +16,7 @@ loop-place-init g c =
     record {
       area = subst (λ (a : Area). IsArea system.caps a) (sym begun) (start-area system.caps);
       left = ap (λ (a : Area). follow system.split f c.args.horizon a) begun;
-      split = c.start.ensures.most ∙ c.requires.split;
+      split = c.start.ensures.split ∙ c.requires.split;
     }
 
 pub loop-place-preserved : goal.loop-place-preserved
@@ -37,7 +37,7 @@ loop-place-preserved g c =
       area = subst (λ (a : Area). IsArea system.caps a) (sym stepped)
           (step-area system.split system.caps (f c.loop-place.place) old (closed.each c.loop-place.place) kept.area);
       left = follow-step system.split f c.loop-place.place old c.follow_word-event.new.region.area (region_at system.split f system.caps c.args.horizon) some kept.left stepped;
-      split = c.follow_word-event.ensures.most ∙ kept.split;
+      split = c.follow_word-event.ensures.split ∙ kept.split;
     }
 
 pub returns-clause-ending : goal.returns-clause-ending

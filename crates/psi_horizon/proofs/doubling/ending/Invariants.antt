@@ -11,5 +11,5 @@ invariant-loop-place g l = record {
   area : IsArea l.system.caps l.region.area;
   left : follow l.system.split (system_functions g.E.EventLaw.function l.system (g.P.Past.words l.words.past)) l.place l.region.area
       ≡ region_at l.system.split (system_functions g.E.EventLaw.function l.system (g.P.Past.words l.words.past)) l.system.caps l.horizon;
-  split : l.region.most ≡ l.system.split;
+  split : l.region.split ≡ l.system.split;
 }

@@ -11,5 +11,5 @@ invariant-loop-exponent g l = record {
   earlier : HasNone (ending_at l.system.split (system_functions g.E.EventLaw.function l.system (g.P.Past.words l.fn.words.past)) l.system.caps) l.exponent;
   words : g.P.Past.words l.words.past ≡ g.P.Past.words l.fn.words.past;
   most : l.words.most ≡ l.fn.words.most;
-  split : l.region.most ≡ l.fn.region.most;
+  split : l.region.split ≡ l.fn.region.split;
 }

@@ -16,4 +16,4 @@ pub loop-preserved : goal.loop-preserved
 loop-preserved g c =
     let event = c.args.event.now in
     subst (λ (a : Area). IsArea (g.E.EventLaw.capacities event) a) (sym c.advance.ensures.area)
-    (step-area c.loop.region.most (g.E.EventLaw.capacities event) (g.E.EventLaw.function event) c.loop.region.area (g.met.E.EventLaw.closed event) c.loop.invariant)
+    (step-area c.loop.region.split (g.E.EventLaw.capacities event) (g.E.EventLaw.function event) c.loop.region.area (g.met.E.EventLaw.closed event) c.loop.invariant)

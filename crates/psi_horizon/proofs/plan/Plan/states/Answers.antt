@@ -30,7 +30,7 @@ returns g c =
     let fit = subst (λ (p : Planned g.row.E.Denot g.row.P.Denot). IsSystem g.E.EventLaw.capacities p.system) c.self.view_is c.caps-caps.ensures.fit in
     let area = plan-area (λ (system : Parts g.row.E.Denot) (past : g.row.P.Denot). system_functions g.E.EventLaw.function system (g.P.Past.words past)) held.system held.words held.region held.run plan
     c.self.view_is c.self.invariant (functions-closed g.E.EventLaw.capacities g.E.EventLaw.function plan.system words g.met.E.EventLaw.closed fit.same_caps) c.requires.begun in
-    let room : held.region.most ≡ plan.system.split = c.self.invariant.split ∙ ap (λ (p : Planned g.row.E.Denot g.row.P.Denot). p.system.split) c.self.view_is in (
+    let room : held.region.split ≡ plan.system.split = c.self.invariant.split ∙ ap (λ (p : Planned g.row.E.Denot g.row.P.Denot). p.system.split) c.self.view_is in (
       (refl, λ w. tt, c.self.view_is),
       record {
         states = if_some-map (λ r. held.region.area ≡ region_after plan.system.split f plan.system.caps r.horizon r.done)

@@ -7,5 +7,5 @@ use Rattle.psi_route.proofs.event.RouteEventLaw.apply.Goals as goal
 
 pub returns-clause-within : goal.returns-clause-within
 returns-clause-within c =
-    subst (λ (y : List ℕ). IsBelow y c.args.self.now.caps) (sym c.pass.ensures)
+    subst (λ (y : List ℕ). IsBelow y c.args.self.now.caps) (sym c.move_customers.ensures)
     ((routed-closed (shape_of c.args.self.now)).each c.args.x.now c.requires)

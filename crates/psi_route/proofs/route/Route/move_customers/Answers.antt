@@ -1,9 +1,9 @@
--- Answers in the proof of `Route::pass`.
+-- Answers in the proof of `Route::move_customers`.
 use Rattle.std.proofs.Common.{◌∙◌, refl}
 use Rattle.psi_route.specs.Routing.{routing, best}
 use Rattle.psi_route.specs.Route.{shape_of}
 use Rattle.psi_route.proofs.Choosing.{chosen-place, chosen-room, routed-serves, routed-idle}
-use Rattle.psi_route.proofs.route.Route.pass.Goals as goal
+use Rattle.psi_route.proofs.route.Route.move_customers.Goals as goal
 
 pub returns-then-not-serves : goal.returns-then-not-serves
 returns-then-not-serves c = routed-idle (shape_of c.args.self.now) c.args.x.now c.serves.result c.serves.ensures c.if-not-serves.true
