@@ -65,28 +65,28 @@ next-is : (b : Bool) (f : List ℕ → List ℕ) (xs : List (List ℕ)) → next
 next-is true f xs = refl
 next-is false f xs = refl
 
-pub step-agree : (most : ℕ) (caps : List ℕ) (f g : List ℕ → List ℕ) (a : Area) → Agree caps f g → IsArea caps a → step most f a ≡ step most g a
+pub step-agree : (split : ℕ) (caps : List ℕ) (f g : List ℕ → List ℕ) (a : Area) → Agree caps f g → IsArea caps a → step split f a ≡ step split g a
 unfolding step
-step-agree most caps f g a agree is =
-    next-is (splits most a) f a.states
-    ∙ ap (λ (ys : List (List ℕ)). area_by (splits most a) ys) (image-agree f g a.states (λ x member. agree.each x (is.within x member)))
-    ∙ sym (next-is (splits most a) g a.states)
+step-agree split caps f g a agree is =
+    next-is (splits split a) f a.states
+    ∙ ap (λ (ys : List (List ℕ)). area_by (splits split a) ys) (image-agree f g a.states (λ x member. agree.each x (is.within x member)))
+    ∙ sym (next-is (splits split a) g a.states)
 
-pub follow-agree : (most : ℕ) (caps : List ℕ) (f g : ℕ → List ℕ → List ℕ) (t : ℕ) (a : Area) → AreClosed caps f → ((k : ℕ) → Agree caps (f k) (g k)) → IsArea caps a
-    → follow most f t a ≡ follow most g t a
-follow-agree most caps f g zero a closed agree is = refl
-follow-agree most caps f g (suc t) a closed agree is =
-    follow-agree most caps f g t (step most (f (suc t)) a) closed agree (step-area most caps (f (suc t)) a (closed.each (suc t)) is)
-    ∙ ap (λ (b : Area). follow most g t b) (step-agree most caps (f (suc t)) (g (suc t)) a (agree (suc t)) is)
+pub follow-agree : (split : ℕ) (caps : List ℕ) (f g : ℕ → List ℕ → List ℕ) (t : ℕ) (a : Area) → AreClosed caps f → ((k : ℕ) → Agree caps (f k) (g k)) → IsArea caps a
+    → follow split f t a ≡ follow split g t a
+follow-agree split caps f g zero a closed agree is = refl
+follow-agree split caps f g (suc t) a closed agree is =
+    follow-agree split caps f g t (step split (f (suc t)) a) closed agree (step-area split caps (f (suc t)) a (closed.each (suc t)) is)
+    ∙ ap (λ (b : Area). follow split g t b) (step-agree split caps (f (suc t)) (g (suc t)) a (agree (suc t)) is)
 
-pub ending_at-agree : (most : ℕ) (caps : List ℕ) (f g : ℕ → List ℕ → List ℕ) → AreClosed caps f → ((k : ℕ) → Agree caps (f k) (g k))
-    → (t : ℕ) → ending_at most f caps t ≡ ending_at most g caps t
-ending_at-agree most caps f g closed agree t =
-    ap (λ (a : Area). single a.states) (follow-agree most caps f g t (start caps) closed agree (start-area caps))
+pub ending_at-agree : (split : ℕ) (caps : List ℕ) (f g : ℕ → List ℕ → List ℕ) → AreClosed caps f → ((k : ℕ) → Agree caps (f k) (g k))
+    → (t : ℕ) → ending_at split f caps t ≡ ending_at split g caps t
+ending_at-agree split caps f g closed agree t =
+    ap (λ (a : Area). single a.states) (follow-agree split caps f g t (start caps) closed agree (start-area caps))
 
 -- so they have the same outcome
-pub outcome_within-agree : (most : ℕ) (caps : List ℕ) (f g : ℕ → List ℕ → List ℕ) (limit : ℕ) (o : Outcome) → AreClosed caps f → ((k : ℕ) → Agree caps (f k) (g k))
-    → IsOutcome (ending_at most f caps) limit o → o ≡ outcome_within (ending_at most g caps) limit
-outcome_within-agree most caps f g limit o closed agree is =
-    outcome_within-only (ending_at most g caps) limit o
-    (outcome-agree (ending_at most f caps) (ending_at most g caps) limit o (λ t some. ending_at-agree most caps f g closed agree t) is)
+pub outcome_within-agree : (split : ℕ) (caps : List ℕ) (f g : ℕ → List ℕ → List ℕ) (limit : ℕ) (o : Outcome) → AreClosed caps f → ((k : ℕ) → Agree caps (f k) (g k))
+    → IsOutcome (ending_at split f caps) limit o → o ≡ outcome_within (ending_at split g caps) limit
+outcome_within-agree split caps f g limit o closed agree is =
+    outcome_within-only (ending_at split g caps) limit o
+    (outcome-agree (ending_at split f caps) (ending_at split g caps) limit o (λ t some. ending_at-agree split caps f g closed agree t) is)

@@ -23,13 +23,13 @@ single-within caps a s is one =
     subst (λ (x : List ℕ). IsBelow x caps) (single-each a.states s is.some.0 one is.some.1) (is.within is.some.0 is.some.1)
 
 -- so is the one with which a run ends
-pub ending-within : (most : ℕ) (caps : List ℕ) (f : ℕ → List ℕ → List ℕ) (t : ℕ) (s : List ℕ) → AreClosed caps f → ending_at most f caps t ≡ Some s → IsBelow s caps
-ending-within most caps f t s closed met = single-within caps (region_at most f caps t) s (run-area most caps f t closed) met
+pub ending-within : (split : ℕ) (caps : List ℕ) (f : ℕ → List ℕ → List ℕ) (t : ℕ) (s : List ℕ) → AreClosed caps f → ending_at split f caps t ≡ Some s → IsBelow s caps
+ending-within split caps f t s closed met = single-within caps (region_at split f caps t) s (run-area split caps f t closed) met
 
-pub outcome-within : (most : ℕ) (caps : List ℕ) (f : ℕ → List ℕ → List ℕ) (limit : ℕ) (o : Outcome) → AreClosed caps f
-    → IsOutcome (ending_at most f caps) limit o → MeetsWithin caps o
-outcome-within most caps f limit (Met t s) closed is = ending-within most caps f t s closed is.answer
-outcome-within most caps f limit (NotMet l) closed is = tt
+pub outcome-within : (split : ℕ) (caps : List ℕ) (f : ℕ → List ℕ → List ℕ) (limit : ℕ) (o : Outcome) → AreClosed caps f
+    → IsOutcome (ending_at split f caps) limit o → MeetsWithin caps o
+outcome-within split caps f limit (Met t s) closed is = ending-within split caps f t s closed is.answer
+outcome-within split caps f limit (NotMet l) closed is = tt
 
 -- the outcome of the region runs is a sample
 pub sample-is : (caps : List ℕ) (functions : List (List ℕ → List ℕ)) (rates : List ℕ) (limit split : ℕ) (words : ℕ → ℕ) (o : Outcome)

@@ -124,18 +124,18 @@ next-area caps f xs z false closed member within = record {
 }
 
 -- and each step makes a region of a region
-pub step-area : (most : ℕ) (caps : List ℕ) (f : List ℕ → List ℕ) (a : Area) → IsClosed caps f → IsArea caps a → IsArea caps (step most f a)
+pub step-area : (split : ℕ) (caps : List ℕ) (f : List ℕ → List ℕ) (a : Area) → IsClosed caps f → IsArea caps a → IsArea caps (step split f a)
 unfolding step
-step-area most caps f a closed is = next-area caps f a.states is.some.0 (splits most a) closed is.some.1 is.within
+step-area split caps f a closed is = next-area caps f a.states is.some.0 (splits split a) closed is.some.1 is.within
 
 -- a smaller region splits no later: it has no more states
-pub splits-sooner : (most : ℕ) (a b : Area) → IsRising a.states → IsWithin a b → splits most b ≡ true → splits most a ≡ true
-splits-sooner most a b rising within is =
-    elim (or_cases b.is_split (nat_le (length b.states) most) is) [
-      | inl split ↦ or_left a.is_split (nat_le (length a.states) most) (within.split split)
-      | inr few ↦ (let more : length b.states ≤ most = leb-true (length b.states) most few in
+pub splits-sooner : (split : ℕ) (a b : Area) → IsRising a.states → IsWithin a b → splits split b ≡ true → splits split a ≡ true
+splits-sooner split a b rising within is =
+    elim (or_cases b.is_split (nat_le (length b.states) split) is) [
+      | inl already ↦ or_left a.is_split (nat_le (length a.states) split) (within.split already)
+      | inr few ↦ (let more : length b.states ≤ split = leb-true (length b.states) split few in
           let fewer : length a.states ≤ length b.states = length-among a.states b.states (rising-distinct a.states rising) within.states in
-          or_right a.is_split (nat_le (length a.states) most) (le-leb (length a.states) most (omega arith)))
+          or_right a.is_split (nat_le (length a.states) split) (le-leb (length a.states) split (omega arith)))
     ]
 
 next-within : (caps : List ℕ) (f : List ℕ → List ℕ) (a b : Area) (p q : Bool) → (q ≡ true → p ≡ true) → IsClosed caps f → IsArea caps a → IsArea caps b
@@ -159,11 +159,11 @@ next-within caps f a b false false sooner closed first second within = record {
 }
 
 -- a step keeps the order of regions
-pub step-within : (most : ℕ) (caps : List ℕ) (f : List ℕ → List ℕ) (a b : Area) → IsClosed caps f → IsArea caps a → IsArea caps b → IsWithin a b
-    → IsWithin (step most f a) (step most f b)
+pub step-within : (split : ℕ) (caps : List ℕ) (f : List ℕ → List ℕ) (a b : Area) → IsClosed caps f → IsArea caps a → IsArea caps b → IsWithin a b
+    → IsWithin (step split f a) (step split f b)
 unfolding step
-step-within most caps f a b closed first second within =
-    next-within caps f a b (splits most a) (splits most b) (splits-sooner most a b first.rising within) closed first second within
+step-within split caps f a b closed first second within =
+    next-within caps f a b (splits split a) (splits split b) (splits-sooner split a b first.rising within) closed first second within
 
 -- each region is within the one that the run begins with
 pub within-start : (caps : List ℕ) (a : Area) → IsArea caps a → IsWithin a (start caps)
@@ -179,17 +179,17 @@ next-has caps f xs true x closed within member = In-image f x xs member
 next-has caps f xs false x closed within member =
     In-hull (length caps) (f x) (image f xs) (image-length caps f xs closed within) (In-image f x xs member)
 
-pub step-has : (most : ℕ) (caps : List ℕ) (f : List ℕ → List ℕ) (a : Area) (x : List ℕ) → IsClosed caps f → IsArea caps a → In x a.states
-    → In (f x) (step most f a).states
+pub step-has : (split : ℕ) (caps : List ℕ) (f : List ℕ → List ℕ) (a : Area) (x : List ℕ) → IsClosed caps f → IsArea caps a → In x a.states
+    → In (f x) (step split f a).states
 unfolding step
-step-has most caps f a x closed is member = next-has caps f a.states (splits most a) x closed is.within member
+step-has split caps f a x closed is member = next-has caps f a.states (splits split a) x closed is.within member
 
 -- a step of a region that is split, or has few states, is the image
-pub step-split : (most : ℕ) (f : List ℕ → List ℕ) (a : Area) → splits most a ≡ true → step most f a ≡ record { is_split = true; states = image f a.states }
+pub step-split : (split : ℕ) (f : List ℕ → List ℕ) (a : Area) → splits split a ≡ true → step split f a ≡ record { is_split = true; states = image f a.states }
 unfolding step
-step-split most f a is = ap (λ b. next b f a.states) is
+step-split split f a is = ap (λ b. next b f a.states) is
 
 -- and otherwise the hull of the image
-pub step-box : (most : ℕ) (f : List ℕ → List ℕ) (a : Area) → splits most a ≡ false → step most f a ≡ record { is_split = false; states = hull (image f a.states) }
+pub step-box : (split : ℕ) (f : List ℕ → List ℕ) (a : Area) → splits split a ≡ false → step split f a ≡ record { is_split = false; states = hull (image f a.states) }
 unfolding step
-step-box most f a is = ap (λ b. next b f a.states) is
+step-box split f a is = ap (λ b. next b f a.states) is

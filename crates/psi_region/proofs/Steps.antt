@@ -21,14 +21,14 @@ use Rattle.psi_region.specs.Held.{area_of, IsHeld}
 use Rattle.psi_region.proofs.RegionLemmas.{step-split, step-box}
 
 -- the states of an unsplit region are those of its box
-pub states-unsplit : (most : ℕ) (split : Bool) (b : Corners) (xs : List (List ℕ)) (now : Regional) → record { split = most; area = area_of split b xs } ≡ now
-    → split ≡ false → now.area.states ≡ box b.lo b.hi
-states-unsplit most split b xs now is no_split =
+pub states-unsplit : (split : ℕ) (is_split : Bool) (b : Corners) (xs : List (List ℕ)) (now : Regional) → record { split = split; area = area_of is_split b xs } ≡ now
+    → is_split ≡ false → now.area.states ≡ box b.lo b.hi
+states-unsplit split is_split b xs now is no_split =
     ap (λ (r : Regional). r.area.states) (sym is) ∙ ap (λ s. (area_of s b xs).states) no_split
 
-pub states-split : (most : ℕ) (split : Bool) (b : Corners) (xs : List (List ℕ)) (now : Regional) → record { split = most; area = area_of split b xs } ≡ now
-    → split ≡ true → now.area.states ≡ xs
-states-split most split b xs now is split_is =
+pub states-split : (split : ℕ) (is_split : Bool) (b : Corners) (xs : List (List ℕ)) (now : Regional) → record { split = split; area = area_of is_split b xs } ≡ now
+    → is_split ≡ true → now.area.states ≡ xs
+states-split split is_split b xs now is split_is =
     ap (λ (r : Regional). r.area.states) (sym is) ∙ ap (λ s. (area_of s b xs).states) split_is
 
 -- an unsplit region has one state exactly where its corners are one
@@ -80,16 +80,16 @@ filled-next l h xs x whole rest more is step made =
     ap (λ (ys : List (List ℕ)). ys ++ rest) (made ∙ insert_state-next xs x rest rising) ∙ (append_assoc xs (x ∷ []) rest ∙ from)
 
 -- what the two ways of being held say when they go on
-pub held-split : (most : ℕ) (b : Corners) (pool : Pooled) (m : ℕ) → pool.most ≡ m → m ≡ most → IsBelow b.lo b.hi → pool.states ≡ box b.lo b.hi → IsHeld most true b pool
-held-split most b pool m room is ordered filled = record {
+pub held-split : (split : ℕ) (b : Corners) (pool : Pooled) (m : ℕ) → pool.most ≡ m → m ≡ split → IsBelow b.lo b.hi → pool.states ≡ box b.lo b.hi → IsHeld split true b pool
+held-split split b pool m room is ordered filled = record {
   room = room ∙ is;
   empty = λ e. absurd (true≢false e);
   some = λ e. (b.lo, subst (λ (xs : List (List ℕ)). In b.lo xs) (sym filled) (In-low b.lo b.hi ordered));
 }
 
-pub held-image : (most : ℕ) (split : Bool) (b : Corners) (old new : Pooled) (f : List ℕ → List ℕ) → IsHeld most split b old → split ≡ true → new.most ≡ old.most
-    → new.states ≡ image f old.states → IsHeld most split b new
-held-image most split b old new f held is same made = record {
+pub held-image : (split : ℕ) (is_split : Bool) (b : Corners) (old new : Pooled) (f : List ℕ → List ℕ) → IsHeld split is_split b old → is_split ≡ true → new.most ≡ old.most
+    → new.states ≡ image f old.states → IsHeld split is_split b new
+held-image split is_split b old new f held is same made = record {
   room = same ∙ held.room;
   empty = λ e. absurd (true≢false (sym is ∙ e));
   some = λ e. (let member = held.some e in
@@ -97,14 +97,14 @@ held-image most split b old new f held is same made = record {
 }
 
 -- a step of a region that is held as a set
-pub stepped-split : (f : List ℕ → List ℕ) (old now : Regional) (most : ℕ) (split : Bool) (b : Corners) (xs ys : List (List ℕ))
-    → now.area ≡ settled old.split old.area → record { split = most; area = area_of split b xs } ≡ now → split ≡ true → ys ≡ image f xs
-    → area_of split b ys ≡ step old.split f old.area
-stepped-split f old now most split b xs ys settles held is made =
+pub stepped-split : (f : List ℕ → List ℕ) (old now : Regional) (split : ℕ) (is_split : Bool) (b : Corners) (xs ys : List (List ℕ))
+    → now.area ≡ settled old.split old.area → record { split = split; area = area_of is_split b xs } ≡ now → is_split ≡ true → ys ≡ image f xs
+    → area_of is_split b ys ≡ step old.split f old.area
+stepped-split f old now split is_split b xs ys settles held is made =
     let flag : splits old.split old.area ≡ true =
     ap (λ (a : Area). a.is_split) (sym settles) ∙ (ap (λ (r : Regional). r.area.is_split) (sym held) ∙ ap (λ s. (area_of s b xs).is_split) is) in
     let states : old.area.states ≡ xs =
-    ap (λ (a : Area). a.states) (sym settles) ∙ states-split most split b xs now held is in
+    ap (λ (a : Area). a.states) (sym settles) ∙ states-split split is_split b xs now held is in
     let image_is : image f old.area.states ≡ ys = ap (λ (zs : List (List ℕ)). image f zs) states ∙ sym made in
     ap (λ s. area_of s b ys) is
     ∙ sym (step-split old.split f old.area flag ∙ ap (λ (zs : List (List ℕ)). area_split zs) image_is)
@@ -113,15 +113,15 @@ stepped-split f old now most split b xs ys settles held is made =
     area_split zs = record { is_split = true; states = zs }
 
 -- and of one that is held as a box
-pub stepped-box : (f : List ℕ → List ℕ) (old now : Regional) (most : ℕ) (split : Bool) (b made : Corners) (xs : List (List ℕ))
-    → now.area ≡ settled old.split old.area → record { split = most; area = area_of split b xs } ≡ now → split ≡ false → made ≡ corners (image f (box b.lo b.hi))
-    → area_of split made xs ≡ step old.split f old.area
+pub stepped-box : (f : List ℕ → List ℕ) (old now : Regional) (split : ℕ) (is_split : Bool) (b made : Corners) (xs : List (List ℕ))
+    → now.area ≡ settled old.split old.area → record { split = split; area = area_of is_split b xs } ≡ now → is_split ≡ false → made ≡ corners (image f (box b.lo b.hi))
+    → area_of is_split made xs ≡ step old.split f old.area
 unfolding hull
-stepped-box f old now most split b made xs settles held is envelope =
+stepped-box f old now split is_split b made xs settles held is envelope =
     let flag : splits old.split old.area ≡ false =
     ap (λ (a : Area). a.is_split) (sym settles) ∙ (ap (λ (r : Regional). r.area.is_split) (sym held) ∙ ap (λ s. (area_of s b xs).is_split) is) in
     let states : old.area.states ≡ box b.lo b.hi =
-    ap (λ (a : Area). a.states) (sym settles) ∙ states-unsplit most split b xs now held is in
+    ap (λ (a : Area). a.states) (sym settles) ∙ states-unsplit split is_split b xs now held is in
     let hull_is : hull (image f old.area.states) ≡ box made.lo made.hi =
     ap (λ (zs : List (List ℕ)). hull (image f zs)) states ∙ ap (λ (c : Corners). box c.lo c.hi) (sym envelope) in
     ap (λ s. area_of s made xs) is
@@ -131,38 +131,38 @@ stepped-box f old now most split b made xs settles held is envelope =
     area_whole zs = record { is_split = false; states = zs }
 
 -- the greatest state of a box that the region has is within the capacities
-pub high-within : (caps : List ℕ) (old now : Regional) (most : ℕ) (split : Bool) (b : Corners) (xs : List (List ℕ)) → ((x : List ℕ) → In x old.area.states → IsBelow x caps)
-    → now.area ≡ settled old.split old.area → record { split = most; area = area_of split b xs } ≡ now → split ≡ false → IsBelow b.lo b.hi → IsBelow b.hi caps
-high-within caps old now most split b xs within settles held is ordered =
+pub high-within : (caps : List ℕ) (old now : Regional) (split : ℕ) (is_split : Bool) (b : Corners) (xs : List (List ℕ)) → ((x : List ℕ) → In x old.area.states → IsBelow x caps)
+    → now.area ≡ settled old.split old.area → record { split = split; area = area_of is_split b xs } ≡ now → is_split ≡ false → IsBelow b.lo b.hi → IsBelow b.hi caps
+high-within caps old now split is_split b xs within settles held is ordered =
     let states : old.area.states ≡ box b.lo b.hi =
-    ap (λ (a : Area). a.states) (sym settles) ∙ states-unsplit most split b xs now held is in
+    ap (λ (a : Area). a.states) (sym settles) ∙ states-unsplit split is_split b xs now held is in
     within b.hi (subst (λ (zs : List (List ℕ)). In b.hi zs) (sym states) (In-high b.lo b.hi ordered))
 
 -- a step that changes no state only splits a region of few states
-rested : (most : ℕ) (a : Area) (l h : List ℕ) (few : Bool) → splits most a ≡ few → IsRising a.states → (a.is_split ≡ false → (a.states ≡ box l h) × IsBelow l h)
-    → settled most a ≡ step most (λ (x : List ℕ). x) a
-rested most a l h true few rising whole =
-    ap (λ s. area s a.states) few ∙ sym (step-split most (λ (x : List ℕ). x) a few ∙ ap (λ (xs : List (List ℕ)). area true xs) (image-identity a.states rising))
+rested : (split : ℕ) (a : Area) (l h : List ℕ) (few : Bool) → splits split a ≡ few → IsRising a.states → (a.is_split ≡ false → (a.states ≡ box l h) × IsBelow l h)
+    → settled split a ≡ step split (λ (x : List ℕ). x) a
+rested split a l h true few rising whole =
+    ap (λ s. area s a.states) few ∙ sym (step-split split (λ (x : List ℕ). x) a few ∙ ap (λ (xs : List (List ℕ)). area true xs) (image-identity a.states rising))
   where
     area : Bool → List (List ℕ) → Area
     area s xs = record { is_split = s; states = xs }
-rested most a l h false few rising whole =
-    let flag : a.is_split ≡ false = (or_parts a.is_split (nat_le (length a.states) most) few).0 in
+rested split a l h false few rising whole =
+    let flag : a.is_split ≡ false = (or_parts a.is_split (nat_le (length a.states) split) few).0 in
     let is : a.states ≡ box l h = (whole flag).0 in
     let same : hull a.states ≡ a.states = ap (λ (xs : List (List ℕ)). hull xs) is ∙ (hull-box l h ((whole flag).1) ∙ sym is) in
     ap (λ s. area s a.states) few
-    ∙ sym (step-box most (λ (x : List ℕ). x) a few
+    ∙ sym (step-box split (λ (x : List ℕ). x) a few
     ∙ ap (λ (xs : List (List ℕ)). area false xs) (ap (λ (xs : List (List ℕ)). hull xs) (image-identity a.states rising) ∙ same))
   where
     area : Bool → List (List ℕ) → Area
     area s xs = record { is_split = s; states = xs }
 
 -- as a region is held
-pub rested-held : (most m : ℕ) (split : Bool) (b : Corners) (xs : List (List ℕ)) (now : Regional) → record { split = m; area = area_of split b xs } ≡ now → IsRising xs → IsBelow b.lo b.hi
-    → settled most now.area ≡ step most (λ (x : List ℕ). x) now.area
-rested-held most m true b xs now held rising ordered =
-    subst (λ (a : Area). settled most a ≡ step most (λ (x : List ℕ). x) a) (ap (λ (r : Regional). r.area) held)
-    (rested most (area_of true b xs) b.lo b.hi (splits most (area_of true b xs)) refl rising (λ e. absurd (true≢false e)))
-rested-held most m false b xs now held rising ordered =
-    subst (λ (a : Area). settled most a ≡ step most (λ (x : List ℕ). x) a) (ap (λ (r : Regional). r.area) held)
-    (rested most (area_of false b xs) b.lo b.hi (splits most (area_of false b xs)) refl (box-rising b.lo b.hi) (λ e. (refl, ordered)))
+pub rested-held : (split m : ℕ) (is_split : Bool) (b : Corners) (xs : List (List ℕ)) (now : Regional) → record { split = m; area = area_of is_split b xs } ≡ now → IsRising xs → IsBelow b.lo b.hi
+    → settled split now.area ≡ step split (λ (x : List ℕ). x) now.area
+rested-held split m true b xs now held rising ordered =
+    subst (λ (a : Area). settled split a ≡ step split (λ (x : List ℕ). x) a) (ap (λ (r : Regional). r.area) held)
+    (rested split (area_of true b xs) b.lo b.hi (splits split (area_of true b xs)) refl rising (λ e. absurd (true≢false e)))
+rested-held split m false b xs now held rising ordered =
+    subst (λ (a : Area). settled split a ≡ step split (λ (x : List ℕ). x) a) (ap (λ (r : Regional). r.area) held)
+    (rested split (area_of false b xs) b.lo b.hi (splits split (area_of false b xs)) refl (box-rising b.lo b.hi) (λ e. (refl, ordered)))

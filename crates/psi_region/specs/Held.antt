@@ -11,7 +11,7 @@ area_of true b xs = record { is_split = true; states = xs }
 area_of false b xs = record { is_split = false; states = box b.lo b.hi }
 
 -- the set has room for the split number of states, is empty until the region is split, and holds a state from then on
-pub record IsHeld (most : ℕ) (is_split : Bool) (b : Corners) (pool : Pooled) : Type 0 where
-  pub room : pool.most ≡ most
+pub record IsHeld (split : ℕ) (is_split : Bool) (b : Corners) (pool : Pooled) : Type 0 where
+  pub room : pool.most ≡ split
   pub empty : is_split ≡ false → pool.states ≡ []
   pub some : is_split ≡ true → (x : List ℕ) × In x pool.states
