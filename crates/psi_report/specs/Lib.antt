@@ -1,0 +1,9 @@
+-- The definitions of this crate.
+pub mod Samples
+pub mod Distinct
+pub mod Quantities
+pub mod Report
+pub mod Totals
+pub mod Joined
+pub mod Rows
+pub mod Holding
