@@ -1,0 +1,104 @@
+//! The first horizon at which a reward has one value.
+
+ghost use Rattle.std.specs.Prelude.{◌≡◌, ◌^◌, ◌≤◌, ℕ, List, Some, length};
+ghost use Rattle.psi_state.specs.State.{IsBelow, box};
+ghost use Rattle.psi_state.specs.Members.{In};
+ghost use Rattle.psi_rate.specs.Composition.{system_functions};
+ghost use Rattle.psi_reward.specs.Rewards.{reward_caps, reward_kind};
+ghost use Rattle.psi_reward.specs.Worth.{worth_of};
+ghost use Rattle.psi_horizon.specs.Planned.{IsOver};
+ghost use Rattle.psi_couple.specs.Valuing.{common_value, value_at, valued_within, IsValued, ReachesValued};
+
+use crate::answers::Valued;
+use crate::running::run_whole;
+use psi_event::EventLaw;
+use psi_horizon::Plan;
+use psi_past::Past;
+use psi_reward::{Reward, RewardLaw};
+use psi_state::{Bounds, State};
+
+/// The least horizon among 1, 2, 4, .., 2 to the power `limit` at which all states with which the region
+/// run ends have one value of the reward, with that value, in the reward's unit. Every state within the
+/// capacities that starts there or earlier has it at time zero, though these states need not have met.
+/// `NotAt` comes exactly where there is no such horizon, and tells the system's limit.
+///
+/// The reward is one of the system's capacities.
+///
+/// The horizons are doubled as those of a sample are (Propp and Wilson 1996). On a box the value is one
+/// where the reward's least and greatest number there are equal; a set's states are compared one by one.
+///
+/// The plan's system and its past's words stay as they were. Afterwards [`Plan::advance`] answers `None`
+/// until the next run is begun. The call takes no memory.
+pub fn value_horizon<E: EventLaw, P: Past + Drop>(
+    plan: &mut Plan<'_, E, P>,
+    reward: &Reward,
+) -> Valued
+    requires { reward_caps reward.now ≡ plan.old.system.caps }
+    ensures answer { let f = system_functions E.function plan.old.system (P.words plan.old.past) in
+        result ≡ valued_within (value_at (worth_of (reward_kind reward.now)) plan.old.system.split f plan.old.system.caps) plan.old.system.limit }
+    ensures first { let f = system_functions E.function plan.old.system (P.words plan.old.past) in
+        IsValued (value_at (worth_of (reward_kind reward.now)) plan.old.system.split f plan.old.system.caps) plan.old.system.limit result }
+    ensures reached { let f = system_functions E.function plan.old.system (P.words plan.old.past) in
+        ReachesValued (worth_of (reward_kind reward.now)) f plan.old.system.caps result }
+    ensures system { plan.new.system ≡ plan.old.system }
+    ensures words { P.words plan.new.past ≡ P.words plan.old.past }
+    ensures over { IsOver plan.new.run }
+{
+    let limit = plan.limit();
+    for exponent in 0..limit + 1 {
+        let horizon = 1 << exponent;
+        if let Some(value) = value_after(plan, reward, horizon) {
+            return Valued::At { horizon, value };
+        }
+    }
+    Valued::NotAt { limit }
+}
+
+// The value that all states have with which the run of a horizon ends, if they have one.
+fn value_after<E: EventLaw, P: Past + Drop>(
+    plan: &mut Plan<'_, E, P>,
+    reward: &Reward,
+    horizon: u32,
+) -> Option<i64>
+    requires caps { reward_caps reward.now ≡ plan.old.system.caps }
+    requires some { 1 ≤ horizon }
+    requires most { horizon ≤ 2 ^ plan.old.system.limit }
+    ensures value { let f = system_functions E.function plan.old.system (P.words plan.old.past) in
+        result ≡ value_at (worth_of (reward_kind reward.now)) plan.old.system.split f plan.old.system.caps horizon }
+    ensures system { plan.new.system ≡ plan.old.system }
+    ensures words { P.words plan.new.past ≡ P.words plan.old.past }
+    ensures over { IsOver plan.new.run }
+{
+    run_whole(plan, horizon);
+    match plan.bounds() {
+        Some(bounds) => value_on_box(reward, &bounds),
+        None => value_on_set(reward, plan.states()),
+    }
+}
+
+// The value that all states of a box have, if they have one.
+fn value_on_box(reward: &Reward, bounds: &Bounds) -> Option<i64>
+    requires { IsBelow bounds.now.hi (reward_caps reward.now) }
+    ensures { result ≡ common_value (worth_of (reward_kind reward.now)) (box bounds.now.lo bounds.now.hi) }
+{
+    let (least, greatest) = reward.range(bounds);
+    if least != greatest {
+        return None;
+    }
+    Some(least)
+}
+
+// The value that all these states have, if they have one.
+fn value_on_set(reward: &Reward, states: &[State]) -> Option<i64>
+    requires some { 1 ≤ length states.now }
+    requires within { (x : List ℕ) → In x states.now → IsBelow x (reward_caps reward.now) }
+    ensures { result ≡ common_value (worth_of (reward_kind reward.now)) states.now }
+{
+    let value = reward.value(&states[0]);
+    for state in states {
+        if reward.value(state) != value {
+            return None;
+        }
+    }
+    Some(value)
+}
