@@ -1,0 +1,4 @@
+-- The definitions of this crate.
+pub mod Log
+pub mod Text
+pub mod Room

@@ -1,0 +1,18 @@
+//! The lines of a log, the text that certifies a sample: their grammar, and a buffer that writes them.
+//!
+//! A log has the header of its sample, the region at which the run begins, one line for each step with the
+//! region after it, and the state at time zero. In version 2 a box that follows a box is written by the
+//! queues whose ranges changed.
+#![tactic(auto)]
+
+mod header;
+mod line_buf;
+mod lines;
+mod pieces;
+mod regions;
+
+pub use header::Header;
+pub use line_buf::{LineBuf, OutOfMemory};
+
+#[cfg(test)]
+mod tests;
