@@ -1,0 +1,19 @@
+-- The lemmas of this crate.
+pub mod WordLemmas
+pub mod NumberLemmas
+pub mod StateLemmas
+pub mod MoveLemmas
+pub mod RegionLemmas
+pub mod ChangedLemmas
+pub mod GivenLemmas
+pub mod LineLemmas
+pub mod HeaderLemmas
+pub mod ReadLaws
+mod ValueLemmas
+mod RowsLemmas
+pub mod ToldLemmas
+pub mod StepLemmas
+mod ChangeLemmas
+mod OrderLemmas
+pub mod TurnLemmas
+mod Worked

@@ -1,0 +1,23 @@
+//! Logs, the texts that certify samples: a text is read as the one log that it stands for, or refused at
+//! the first line that isn't as the grammar has it.
+#![tactic(auto)]
+
+mod form;
+mod forms;
+mod header;
+mod log;
+mod moves;
+mod parts;
+mod refusals;
+mod regions;
+mod state_list;
+mod steps;
+mod words;
+
+pub use form::Form;
+pub use log::{Log, read_log};
+pub use psi_lines::{Header, LineBuf};
+pub use refusals::{Cause, LogError};
+
+#[cfg(test)]
+mod tests;

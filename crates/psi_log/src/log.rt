@@ -1,0 +1,139 @@
+//! A log in memory.
+
+ghost use Rattle.std.specs.Prelude.{◌≡◌, ◌⊎◌, ◌+◌, ◌<◌, ◌≤◌, Ok, Err, Some, length, vec_len, option_map, option_and_then, IfOk};
+ghost use Rattle.psi_lines.specs.Log.{Certificate, IsLog};
+ghost use Rattle.psi_lines.specs.Text.{IsLogOf};
+ghost use Rattle.psi_log.specs.Refusal.{Gives};
+ghost use Rattle.psi_log.specs.Reading.{read};
+ghost use Rattle.psi_log.specs.Kept.{region_of, IsThere};
+ghost use Rattle.psi_log.specs.Parts.{certificate_of, IsWhole};
+ghost use Rattle.psi_log.specs.Told.{region_at, form, step_at, HasState, state_in};
+ghost use Rattle.psi_log.specs.declared.refusals.LogError.TheVariants.{OutOfMemory};
+
+use crate::form::Form;
+use crate::parts::{Parts, read_parts};
+use crate::refusals::LogError;
+use crate::regions::Kept;
+use psi_lines::Header;
+use psi_state::{State, Step};
+use std::alloc::Global;
+use std::marker::Model;
+
+/// A log: its header, the region at which the run begins, the steps from the oldest on with the region after
+/// each, and the state at time zero. It is seen as that, and meets the counts, ranges and orders of the grammar.
+///
+/// A box that its text writes by what changed stands whole here. The states of all sets lie in one vector of
+/// numbers.
+#[derive(Drop)]
+pub struct Log {
+    parts: Parts,
+}
+
+impl Model for Log {
+    ghost use Rattle.psi_lines.specs.Log.{Certificate, IsLog};
+    ghost use Rattle.psi_log.specs.Parts.{certificate_of, IsWhole};
+
+    ghost Value = { Certificate };
+
+    ghost view = { λ l. certificate_of l.parts };
+
+    ghost invariant = { λ l. IsLog (certificate_of l.parts) × IsWhole l.parts };
+}
+
+// The region with a number.
+#[tactic(auto, using(crate::proofs::ToldLemmas::region_zero, crate::proofs::ToldLemmas::region_next, crate::proofs::ToldLemmas::there_next))]
+fn region_of(parts: &Parts, i: u32) -> Kept
+    requires number { i ≤ vec_len parts.now.lines }
+    requires whole { IsWhole parts.now }
+    ensures value { region_at (certificate_of parts.now) i ≡ Some (region_of parts.now.states.states result) }
+    ensures there { IsThere parts.now.header.queues parts.now.states.states result }
+{
+    if i == 0 {
+        return parts.begin;
+    }
+    parts.lines[i as usize - 1].region
+}
+
+// The step with a number.
+#[tactic(auto, using(crate::proofs::ToldLemmas::step_next))]
+fn step_of(parts: &Parts, i: u32) -> Step
+    requires least { 1 ≤ i }
+    requires most { i ≤ vec_len parts.now.lines }
+    ensures { step_at (certificate_of parts.now) i ≡ Some result }
+{
+    parts.lines[i as usize - 1].step
+}
+
+impl Log {
+    /// The header. Its second clause is how a caller learns what every `Log` keeps.
+    pub fn header(&self) -> Header
+        ensures value { result ≡ self.now.header }
+        ensures log { IsLog self.now }
+    {
+        self.parts.header
+    }
+
+    /// The form of a region: 0 is the region at which the run begins, and `i` the one after the `i`-th step line.
+    #[tactic(auto, using(crate::proofs::ToldLemmas::set_count, crate::proofs::ToldLemmas::lines_count))]
+    pub fn region(&self, i: u32) -> Form
+        requires { i ≤ self.now.header.horizon }
+        ensures { option_map form (region_at self.now i) ≡ Some result }
+    {
+        match region_of(&self.parts, i) {
+            Kept::Box(bounds) => Form::Box(bounds),
+            Kept::Set { count, .. } => Form::Set { count },
+        }
+    }
+
+    /// The step of the `i`-th step line, counted from 1.
+    #[tactic(auto, using(crate::proofs::ToldLemmas::lines_count))]
+    pub fn step(&self, i: u32) -> Step
+        requires least { 1 ≤ i }
+        requires most { i ≤ self.now.header.horizon }
+        ensures { step_at self.now i ≡ Some result }
+    {
+        step_of(&self.parts, i)
+    }
+
+    /// The state at place `j` of a region that is a set; places are counted from 0, and regions as in
+    /// [`Log::region`].
+    #[tactic(auto, using(crate::proofs::ToldLemmas::set_place, crate::proofs::ToldLemmas::set_state, crate::proofs::ToldLemmas::lines_count))]
+    pub fn state(&self, i: u32, j: u16) -> State
+        requires number { i ≤ self.now.header.horizon }
+        requires place { HasState j (region_at self.now i) }
+        ensures { option_and_then (state_in j) (region_at self.now i) ≡ Some result }
+    {
+        // The number of states fits its type, and so does each place below it.
+        let _count = self.parts.states.len();
+        match region_of(&self.parts, i) {
+            Kept::Set { first, .. } => self.parts.states.get(first + j as usize),
+            Kept::Box(bounds) => bounds.lo(),
+        }
+    }
+
+    /// The state at time zero.
+    pub fn end(&self) -> State
+        ensures { result ≡ self.now.final }
+    {
+        self.parts.end
+    }
+}
+
+/// The log that a text is. The clauses `found` and `only` say that what is read is the log of that text, and
+/// that the text of each log of at most 33,554,432 bytes is read as that log, unless memory is wanting.
+///
+/// # Errors
+///
+/// The first line that isn't as the grammar has it, with its first cause, as [`crate::Cause`] has them;
+/// `OutOfMemory`, and no clause says when that is.
+#[tactic(auto, using(crate::proofs::ReadLaws::read_found, crate::proofs::ReadLaws::read_only))]
+pub fn read_log(alloc: Global, bytes: &[u8]) -> Result<Log, LogError>
+    ensures value { Gives (λ log. log) result (read bytes.now) }
+    ensures found { IfOk result (λ log. IsLogOf bytes.now log) }
+    ensures only { (c : Certificate) → IsLogOf bytes.now c → (result ≡ Ok c) ⊎ (result ≡ Err OutOfMemory) }
+{
+    match read_parts(alloc, bytes) {
+        Ok(parts) => Ok(Log { parts }),
+        Err(error) => Err(error),
+    }
+}

@@ -1,0 +1,126 @@
+//! The parts of a log, read from its text.
+
+ghost use Rattle.std.specs.Prelude.{◌≡◌, ◌+◌, ◌≤◌, length, map, take, Ok, None, IfOk, IfErr, OnOk};
+ghost use Rattle.psi_log.specs.Refusal.{Gives, IsLogError};
+ghost use Rattle.psi_log.specs.Reading.{read_begin, read_end, after_header, read};
+ghost use Rattle.psi_log.specs.Kept.{region_of, IsThere};
+ghost use Rattle.psi_log.specs.Parts.{certificate_of, IsWhole};
+
+use crate::forms::form_of;
+use crate::header::read_header;
+use crate::refusals::{Cause, LogError};
+use crate::regions::{Kept, box_before, read_given, read_state};
+use crate::state_list::StateList;
+use crate::steps::{Line, read_steps};
+use crate::words::{has_pieces, line_of, words_of};
+use psi_lines::Header;
+use psi_state::State;
+use std::alloc::Global;
+
+/// The parts of a log. The states of its sets lie in one list.
+#[derive(Drop)]
+pub(crate) struct Parts {
+    pub(crate) header: Header,
+    pub(crate) begin: Kept,
+    pub(crate) lines: Vec<Line>,
+    pub(crate) end: State,
+    pub(crate) states: StateList,
+}
+
+// The words of the region at which the run begins; the states of a set are put behind those of the list.
+#[tactic(auto, unfolding(crate::specs::Reading::read_begin))]
+fn read_begin(
+    alloc: Global,
+    queues: u8,
+    words: &[&[u8]],
+    states: &mut StateList,
+) -> Result<Kept, LogError>
+    requires some { 1 ≤ queues }
+    requires few { queues ≤ 32 }
+    requires queues { states.old.queues ≡ queues }
+    ensures queues { states.new.queues ≡ queues }
+    ensures value { IfOk result (λ kept. read_begin queues (map (λ word. word.now) words.now) ≡ Ok (region_of states.new.states kept)) }
+    ensures refused { IfErr result (λ error. IsLogError error (read_begin queues (map (λ word. word.now) words.now))) }
+    ensures there { IfOk result (λ kept. IsThere queues states.new.states kept) }
+{
+    let [first, region @ ..] = words else {
+        return Err(Cause::Shape.at(6));
+    };
+    if *first != b"begin".as_slice() {
+        return Err(Cause::Shape.at(6));
+    }
+    match form_of(6, queues, None, region) {
+        Ok(form) => read_given(alloc, 6, queues, form, states),
+        Err(error) => Err(error),
+    }
+}
+
+// The words of the state at time zero.
+#[tactic(auto, unfolding(crate::specs::Reading::read_end))]
+fn read_end(alloc: Global, line: u32, queues: u8, words: &[&[u8]]) -> Result<State, LogError>
+    requires some { 1 ≤ queues }
+    requires few { queues ≤ 32 }
+    ensures { Gives (λ x. x) result (read_end line queues (map (λ word. word.now) words.now)) }
+{
+    match words {
+        [first, state] => {
+            if *first == b"end".as_slice() && has_pieces(queues as usize, state) {
+                read_state(alloc, line, queues, state)
+            } else {
+                Err(Cause::Shape.at(line))
+            }
+        }
+        _ => Err(Cause::Shape.at(line)),
+    }
+}
+
+// The parts of the log behind its header.
+#[tactic(auto, unfolding(crate::specs::Reading::after_header), using(crate::proofs::StepLemmas::region_kept))]
+fn parts_of(alloc: Global, header: Header, text: &[u8]) -> Result<Parts, LogError>
+    requires some { 1 ≤ header.queues }
+    requires few { header.queues ≤ 32 }
+    requires horizon { header.horizon ≤ 4194304 }
+    ensures value { Gives certificate_of result (after_header header text.now) }
+    ensures whole { IfOk result (λ parts. IsWhole parts) }
+{
+    let mut states = StateList::new(alloc, header.queues);
+    let (own, rest) = line_of(6, text)?;
+    let words = words_of(alloc, own)?;
+    let begin = read_begin(alloc, header.queues, &words, &mut states)?;
+    let before = box_before(header.version, &begin);
+    let (lines, rest) = match read_steps(alloc, &header, before, rest, &mut states) {
+        Ok(read) => read,
+        Err(error) => return Err(error),
+    };
+    let last = 7 + header.horizon;
+    let (own, rest) = line_of(last, rest)?;
+    let words = words_of(alloc, own)?;
+    let end = read_end(alloc, last, header.queues, &words)?;
+    if !rest.is_empty() {
+        return Err(Cause::TrailingText.at(last + 1));
+    }
+    Ok(Parts {
+        header,
+        begin,
+        lines,
+        end,
+        states,
+    })
+}
+
+/// The parts of the log that a text is.
+///
+/// # Errors
+///
+/// The first refusal of the text; `OutOfMemory`.
+#[tactic(auto, unfolding(crate::specs::Reading::read))]
+pub(crate) fn read_parts(alloc: Global, text: &[u8]) -> Result<Parts, LogError>
+    ensures value { Gives certificate_of result (read text.now) }
+    ensures whole { IfOk result (λ parts. IsWhole parts) }
+{
+    if text.len() > 33_554_432 {
+        return Err(Cause::TooLong.at(0));
+    }
+    let (header, rest) = read_header(alloc, text)?;
+    parts_of(alloc, header, rest)
+}

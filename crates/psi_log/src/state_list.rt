@@ -1,0 +1,99 @@
+//! States of one length, in one vector of numbers.
+
+ghost use Rattle.std.specs.Prelude.{◌≡◌, ◌∷◌, [], ◌++◌, ◌+◌, ◌*◌, ◌<◌, ◌≤◌, length, take, drop, Some, OnOk};
+ghost use Rattle.std.specs.List.{slice_get};
+ghost use Rattle.psi_log.specs.Rows.{States, rows};
+
+use psi_state::State;
+use std::alloc::{AllocError, Global};
+use std::marker::Model;
+
+/// A list of states of so many queues, 1 to 32. It takes two bytes for each queue of each state.
+#[derive(Drop)]
+pub(crate) struct StateList {
+    queues: u8,
+    count: usize,
+    numbers: Vec<u16>,
+}
+
+impl Model for StateList {
+    ghost use Rattle.std.specs.Prelude.{◌≡◌, ◌*◌, ◌≤◌, length};
+    ghost use Rattle.psi_log.specs.Rows.{States, rows};
+
+    ghost Value = { States };
+
+    ghost view = { λ s. record { queues = s.queues; states = rows s.count s.queues s.numbers.items } };
+
+    ghost invariant = { λ s. (1 ≤ s.queues) × (s.queues ≤ 32) × (length s.numbers.items ≡ s.count * s.queues) };
+}
+
+// The numbers of a state, and zeros behind them.
+fn row_of(x: &State) -> [u16; 32]
+    ensures whole { length result ≡ 32 }
+    ensures front { take (length x.now) result ≡ x.now }
+{
+    let mut row = [0u16; 32];
+    for queue in 0..x.len() {
+        row[queue as usize] = x.get(queue);
+    }
+    row
+}
+
+// The state whose numbers stand in the vector from a place on.
+fn state_at(numbers: &[u16], first: usize, queues: u8) -> State
+    requires some { 1 ≤ queues }
+    requires few { queues ≤ 32 }
+    requires there { first + queues ≤ length numbers.now }
+    ensures { result ≡ take queues (drop first numbers.now) }
+{
+    let mut x = State::zero(queues);
+    for queue in 0..queues {
+        x.set(queue, numbers[first + queue as usize]);
+    }
+    x
+}
+
+impl StateList {
+    /// No states of so many queues.
+    pub(crate) fn new(alloc: Global, queues: u8) -> StateList
+        requires some { 1 ≤ queues }
+        requires few { queues ≤ 32 }
+        ensures { result ≡ record { queues = queues; states = [] } }
+    {
+        StateList {
+            queues,
+            count: 0,
+            numbers: Vec::new(alloc),
+        }
+    }
+
+    /// The number of states.
+    #[tactic(auto, using(crate::proofs::RowsLemmas::length_rows))]
+    pub(crate) fn len(&self) -> usize
+        ensures { result ≡ length self.now.states }
+    {
+        self.count
+    }
+
+    /// Puts a state at the end.
+    #[tactic(auto, using(crate::proofs::RowsLemmas::rows_push))]
+    pub(crate) fn push(&mut self, x: &State) -> Result<(), AllocError>
+        requires { length x.now ≡ self.old.queues }
+        ensures queues { self.new.queues ≡ self.old.queues }
+        ensures states { OnOk result (self.new.states ≡ self.old.states ++ x.now ∷ []) }
+    {
+        let row = row_of(x);
+        self.numbers.extend_from_slice(&row[..x.len() as usize])?;
+        self.count += 1;
+        Ok(())
+    }
+
+    /// The state at a place, counted from 0.
+    #[tactic(auto, using(crate::proofs::RowsLemmas::length_rows, crate::proofs::RowsLemmas::rows_get, crate::proofs::RowsLemmas::rows_room))]
+    pub(crate) fn get(&self, place: usize) -> State
+        requires { place < length self.now.states }
+        ensures { slice_get self.now.states place ≡ Some result }
+    {
+        state_at(&self.numbers, place * self.queues as usize, self.queues)
+    }
+}
