@@ -9,14 +9,22 @@ use Rattle.psi_io.specs.Sink.{appended}
 use Rattle.psi_run.specs.declared.status.Status.{Status}
 use Rattle.psi_run.specs.declared.status.Status.TheVariants.{NetRefused as Refused}
 use Rattle.psi_run.specs.declared.ending.Ending.{Ending as Ended}
-use Rattle.psi_run.specs.declared.ending.Ending.TheVariants.{Printed, Usage, NetRefused, NetUnread, OutOfMemory}
+use Rattle.psi_run.specs.declared.ending.Ending.TheVariants.{Printed, Usage, NetRefused, UnknownReward, NetUnread, OutOfMemory}
 use Rattle.psi_state.specs.declared.Outcome.{Outcome}
 use Rattle.psi_state.specs.declared.Outcome.TheVariants.{Met, NotMet}
-use Rattle.psi_run.specs.Command.{Command, sample, check, File, net_file, files_of}
+use Rattle.psi_run.specs.Command.{Command, sample, check, report, trial, couple, reward, File, net_file, files_of}
+use Rattle.psi_network.specs.Generated.{generated_network}
 use Rattle.psi_run.specs.Texts.{outcome_text}
+use Rattle.psi_reward.specs.declared.kinds.RewardKind.{RewardKind}
+use Rattle.psi_couple.specs.declared.answers.Coupled.{Coupled}
+use Rattle.psi_couple.specs.declared.answers.Valued.{Valued}
+use Rattle.psi_couple.specs.declared.answers.Coupled.TheVariants as coupled
+use Rattle.psi_couple.specs.declared.answers.Valued.TheVariants as valued
+use Rattle.psi_run.specs.Couple.{coupling, coupling_status, coupling_text}
+use Rattle.psi_run.specs.Reward.{kind_named, valuation, value_status, value_text}
 use Rattle.psi_run.specs.Means.{OfNetwork, Means}
 use Rattle.psi_run.specs.Sample.{sampled, outcome_status}
-use Rattle.psi_run.specs.Reply.{Reply, text_reply, usage_reply, refused_reply, reply_of, judged_reply, reply_to, IsReply}
+use Rattle.psi_run.specs.Reply.{Reply, text_reply, value_reply, usage_reply, refused_reply, reply_of, judged_reply, reply_to, IsReply}
 use Rattle.psi_run.specs.Seen.{ShelfSeen, IsUnread, IsRead}
 use Rattle.psi_run.specs.Ending.{Ending, replied, unread, no_memory, MayReply, EndsWith, HasReplied, IsMeant, IsEnding}
 use Rattle.psi_run.specs.Ended.{ending_of, IsNetAt, IsNoNet}
@@ -42,6 +50,19 @@ text-reply : (outcome : Outcome) → IsReply (text_reply (outcome_status outcome
 text-reply (Met horizon state) = record { status = tt; printed = λ k. refl; reported = λ k. absurd k }
 text-reply (NotMet limit) = record { status = tt; printed = λ k. refl; reported = λ k. absurd k }
 
+coupling-reply : (c : Coupled) → IsReply (text_reply (coupling_status c) (coupling_text c))
+coupling-reply (coupled.At horizon state) = record { status = tt; printed = λ k. refl; reported = λ k. absurd k }
+coupling-reply (coupled.NotAt limit) = record { status = tt; printed = λ k. refl; reported = λ k. absurd k }
+
+valued-reply : (v : Valued) → IsReply (text_reply (value_status v) (value_text v))
+valued-reply (valued.At horizon value) = record { status = tt; printed = λ k. refl; reported = λ k. absurd k }
+valued-reply (valued.NotAt limit) = record { status = tt; printed = λ k. refl; reported = λ k. absurd k }
+
+-- and a line on a reward that there isn't
+value-reply : (net : Network) (seed stream : ℕ) (kind : Option RewardKind) → IsReply (value_reply net seed stream kind)
+value-reply net seed stream None = record { status = tt; printed = λ k. absurd k; reported = λ k. refl }
+value-reply net seed stream (Some kind) = valued-reply (valuation net seed stream kind)
+
 refused-reply : (refusal : NetRefusal) → IsReply (refused_reply refusal)
 refused-reply refusal = record { status = tt; printed = λ k. absurd k; reported = λ k. refl }
 
@@ -49,6 +70,10 @@ refused-reply refusal = record { status = tt; printed = λ k. absurd k; reported
 reply-of : (command : Command) (net : Network) → IsReply (reply_of command net)
 reply-of (sample name seed stream) net = text-reply (sampled net seed stream)
 reply-of (check name) net = record { status = tt; printed = λ k. refl; reported = λ k. absurd k }
+reply-of (report name seed first count) net = record { status = tt; printed = λ k. refl; reported = λ k. absurd k }
+reply-of (couple file seed stream) net = coupling-reply (coupling net seed stream)
+reply-of (reward file seed stream name) net = value-reply net seed stream (kind_named name net.rewards)
+reply-of (trial number) net = record { status = tt; printed = λ k. refl; reported = λ k. absurd k }
 
 -- the reply to what the file is judged to be is the reply to the file
 reply-judged : (told : Option (List ℕ)) (reply : Network → Reply) (judged : Result Network NetRefusal) (ending : Ending)
@@ -78,6 +103,7 @@ module _ (command : Command) (name : List ℕ) (Has : Network → Option (List �
   pub no_net : (ended : Ended) → IsAbout command name Has → IsNoNet shelf name ended → IsEnding shelf (Ok command) (ending_of ended)
   no_net (Printed status text) about none = absurd none
   no_net (Usage place) about none = absurd none
+  no_net UnknownReward about none = absurd none
   no_net (NetRefused refusal) about none = record {
     reply = judged-reply (Err refusal) (replied (refused_reply refusal)) about none refl;
     cause = refused-reply refusal;
@@ -108,6 +134,20 @@ module _ (command : Command) (name : List ℕ) (Has : Network → Option (List �
   }
   on_net net (unread file) about at is holds = absurd is
   on_net net no_memory about at is holds = record { reply = of-any (reply_to (Ok command) shelf.told); cause = refl; means = tt }
+
+-- the work for a trial, which reads no file
+pub on_number : (shelf : ShelfSeen) (number : ℕ) (ending : Ending) → EndsWith ending (reply_of (trial number) (generated_network number))
+    → ((before after : Option (List ℕ)) → after ≡ appended before (reply_of (trial number) (generated_network number)).out
+    → Means (trial number) shelf.told before after (reply_of (trial number) (generated_network number)).status)
+    → IsEnding shelf (Ok (trial number)) ending
+unfolding reply_to
+on_number shelf number (replied reply) is holds = record {
+  reply = is;
+  cause = subst IsReply (sym is) (reply-of (trial number) (generated_network number));
+  means = subst (λ r. IsMeant shelf.told (replied r) (trial number)) (sym is) holds;
+}
+on_number shelf number (unread file) is holds = absurd is
+on_number shelf number no_memory is holds = record { reply = tt; cause = refl; means = tt }
 
 -- the work for words that aren't a command
 pub no_command : (shelf : ShelfSeen) (command : Result Command ℕ) (place : ℕ) → command ≡ Err place → IsEnding shelf command (replied (usage_reply place))

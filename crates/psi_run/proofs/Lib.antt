@@ -5,6 +5,8 @@ pub mod Listing
 pub mod Endings
 pub mod Sampling
 pub mod Checking
+pub mod Reporting
+pub mod Coupling
 pub mod Written
 pub mod Running
 pub mod Sparing

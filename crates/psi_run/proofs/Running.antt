@@ -42,6 +42,7 @@ command-replied : (status : Status) → IsOfCommand status → IsReplied status
 command-replied ending.Done k = tt
 command-replied ending.NotCoupled k = tt
 command-replied ending.NetRefused k = tt
+command-replied ending.UnknownReward k = tt
 command-replied s k = absurd k
 
 reply-replied : (command : Result Command ℕ) (reply : Reply) → IsReplyTo command reply → IsReplied reply.status

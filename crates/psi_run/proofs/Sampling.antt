@@ -5,7 +5,7 @@ use Rattle.std.proofs.lemmas.List.Elements.{All-map}
 use Rattle.psi_state.specs.declared.Outcome.{Outcome}
 use Rattle.psi_past.specs.SeedWord.{seed_word}
 use Rattle.psi_event.specs.Law.{IsClosed}
-use Rattle.psi_rate.specs.Composition.{Parts, function_at, system_functions, AreClosed}
+use Rattle.psi_rate.specs.Composition.{Parts, Functions, function_at, system_functions, AreClosed}
 use Rattle.psi_rate.specs.Outcomes.{IsOutcome}
 use Rattle.psi_rate.proofs.OutcomesLemmas.{outcome_within-is}
 use Rattle.psi_rate.proofs.FunctionsLemmas.{function_at-closed}
@@ -27,11 +27,12 @@ use Rattle.psi_io.specs.Sink.{appended}
 use Rattle.psi_run.specs.Command.{sample}
 use Rattle.psi_run.specs.Texts.{outcome_text}
 use Rattle.psi_run.specs.Sample.{functions_by_time, sampled, outcome_status, IsDrawn, IsSampled}
+use Rattle.psi_run.specs.Networks.{IsSystemOf}
 use Rattle.psi_run.specs.Reply.{reply_to}
 use Rattle.psi_run.proofs.Endings.{IsAbout}
 
 -- a network that is accepted can be sampled
-accepted_kept : (bytes : List ℕ) (n : Network) → network_of bytes ≡ Ok n → IsNetwork n
+pub accepted_kept : (bytes : List ℕ) (n : Network) → network_of bytes ≡ Ok n → IsNetwork n
 unfolding network_of
 accepted_kept bytes n is =
     let text = bind_ok (file_text bytes) text_network n is in
@@ -63,20 +64,40 @@ done-closed n kept =
     (λ k d small. (let is : IsAccepted (caps_of n) (slice_index_or n.events k d).kind = kept.kinds k d small in
     kind-closed (caps_of n) (slice_index_or n.events k d).kind (capacities_kept n.queues kept.queues) is.named is.accepted))
 
-functions_by_time-closed : (n : Network) (seed stream : ℕ) → IsNetwork n → AreClosed (caps_of n) (functions_by_time n seed stream)
+pub functions_by_time-closed : (n : Network) (seed stream : ℕ) → IsNetwork n → AreClosed (caps_of n) (functions_by_time n seed stream)
 unfolding functions_by_time
 functions_by_time-closed n seed stream kept = function_at-closed (caps_of n) (functions_of n) (rates_of n) (seed_word seed stream) (done-closed n kept)
 
+-- functions that do what the network's kinds do are those of the network at each time
+pub functions-alike : (n : Network) (seed stream : ℕ) (fs : List (List ℕ → List ℕ)) → IsNetwork n → EachDoes (caps_of n) fs n.events
+    → AreClosed (caps_of n) (function_at fs (rates_of n) (seed_word seed stream))
+    × ((t : ℕ) → Agree (caps_of n) (function_at fs (rates_of n) (seed_word seed stream) t) (functions_by_time n seed stream t))
+unfolding functions_by_time
+functions-alike n seed stream fs kept does =
+    let alike = each-alike (caps_of n) fs n.events does in (
+      alike-closed_at (caps_of n) (functions_of n) fs (rates_of n) (seed_word seed stream) (functions_by_time-closed n seed stream kept) alike,
+      λ t. agree-back (caps_of n) (functions_by_time n seed stream t) (function_at fs (rates_of n) (seed_word seed stream) t)
+          (function_at-agree (caps_of n) (functions_of n) fs (rates_of n) (seed_word seed stream) alike t),
+    )
+
+-- what holds of a system's parts, with the functions of its events by time, holds of the network's that it is
+pub of_network : {E : Type 0} (function : E → List ℕ → List ℕ) (system : Parts E) (n : Network) (seed stream : ℕ) (P : ℕ → Functions → List ℕ → ℕ → Type 0)
+    → IsSystemOf function n system → P system.split (system_functions function system (seed_word seed stream)) system.caps system.limit
+    → P n.split (function_at (map function system.events) (rates_of n) (seed_word seed stream)) (caps_of n) n.limit
+of_network function system n seed stream P is holds =
+    let At : List ℕ → List ℕ → ℕ → ℕ → Type 0 =
+    λ rs cs l k. P k (function_at (map function system.events) rs (seed_word seed stream)) cs l in
+    subst (λ k. At (rates_of n) (caps_of n) n.limit k) is.split
+    (subst (λ l. At (rates_of n) (caps_of n) l system.split) is.limit
+    (subst (λ cs. At (rates_of n) cs system.limit system.split) is.caps
+    (subst (λ rs. At rs system.caps system.limit system.split) is.rates holds)))
+
 sampled-by : (n : Network) (seed stream : ℕ) (fs : List (List ℕ → List ℕ)) (o : Outcome) → IsNetwork n → EachDoes (caps_of n) fs n.events
     → IsOutcome (ending_at n.split (function_at fs (rates_of n) (seed_word seed stream)) (caps_of n)) n.limit o → o ≡ sampled n seed stream
-unfolding functions_by_time sampled
+unfolding sampled
 sampled-by n seed stream fs o kept does is =
-    let alike = each-alike (caps_of n) fs n.events does in
-    outcome_within-agree n.split (caps_of n) (function_at fs (rates_of n) (seed_word seed stream)) (functions_by_time n seed stream) n.limit o
-    (alike-closed_at (caps_of n) (functions_of n) fs (rates_of n) (seed_word seed stream) (functions_by_time-closed n seed stream kept) alike)
-    (λ t. agree-back (caps_of n) (functions_by_time n seed stream t) (function_at fs (rates_of n) (seed_word seed stream) t)
-    (function_at-agree (caps_of n) (functions_of n) fs (rates_of n) (seed_word seed stream) alike t))
-    is
+    let alike = functions-alike n seed stream fs kept does in
+    outcome_within-agree n.split (caps_of n) (function_at fs (rates_of n) (seed_word seed stream)) (functions_by_time n seed stream) n.limit o alike.0 alike.1 is
 
 -- the sample of a system that is made of the network is the network's
 pub sampled_by : {E : Type 0} (function : E → List ℕ → List ℕ) (system : Parts E) (n : Network) (seed stream : ℕ) (o : Outcome)
@@ -85,20 +106,16 @@ pub sampled_by : {E : Type 0} (function : E → List ℕ → List ℕ) (system :
     → IsOutcome (ending_at system.split (system_functions function system (seed_word seed stream)) system.caps) system.limit o
     → o ≡ sampled n seed stream
 sampled_by function system n seed stream o kept does rates caps limit split is =
-    let At : List ℕ → List ℕ → ℕ → ℕ → Type 0 =
-    λ rs cs l k. IsOutcome (ending_at k (function_at (map function system.events) rs (seed_word seed stream)) cs) l o in
     sampled-by n seed stream (map function system.events) o kept does
-    (subst (λ k. At (rates_of n) (caps_of n) n.limit k) split
-    (subst (λ l. At (rates_of n) (caps_of n) l system.split) limit
-    (subst (λ cs. At (rates_of n) cs system.limit system.split) caps
-    (subst (λ rs. At rs system.caps system.limit system.split) rates is))))
+    (of_network function system n seed stream (λ k f cs l. IsOutcome (ending_at k f cs) l o)
+    (record { caps = caps; functions = does; rates = rates; limit = limit; split = split }) is)
 
 sampled-least : (n : Network) (seed stream : ℕ) → IsOutcome (ending_at n.split (functions_by_time n seed stream) (caps_of n)) n.limit (sampled n seed stream)
 unfolding sampled
 sampled-least n seed stream = outcome_within-is (ending_at n.split (functions_by_time n seed stream) (caps_of n)) n.limit
 
 -- the sample is that of coupling from the past
-sampled-drawn : (n : Network) (seed stream : ℕ) → IsNetwork n → IsDrawn n seed stream (sampled n seed stream)
+pub sampled-drawn : (n : Network) (seed stream : ℕ) → IsNetwork n → IsDrawn n seed stream (sampled n seed stream)
 unfolding functions_by_time
 sampled-drawn n seed stream kept =
     sample-is (caps_of n) (functions_of n) (rates_of n) n.limit n.split (seed_word seed stream) (sampled n seed stream)

@@ -1,9 +1,9 @@
 -- A call whose reads and writes are not to fail ends with its reply, or for want of memory.
-use Rattle.std.specs.Prelude.{◌≡◌, ℕ, zero, List, [], Option, Some, Result, Ok, IfSome, ◌⊎◌, refl}
+use Rattle.std.specs.Prelude.{◌≡◌, ℕ, zero, List, [], ◌∷◌, Contains, Option, Some, Result, Ok, IfSome, ◌⊎◌, refl}
 use Rattle.std.proofs.Common.{sym, ap, ◌∙◌, subst, arith, inl, inr}
 use Rattle.psi_run.specs.declared.status.Status.{Status}
 use Rattle.psi_run.specs.declared.status.Status.TheVariants.{OutOfMemory}
-use Rattle.psi_run.specs.Command.{Command, sample, check, net_file}
+use Rattle.psi_run.specs.Command.{Command, File, net_file, files_of}
 use Rattle.psi_run.specs.Reply.{Reply, reply_to}
 use Rattle.psi_run.specs.Seen.{ShelfSeen}
 use Rattle.psi_run.specs.Ending.{Ending, replied, unread, no_memory, ending_reply, MayReply, EndsWith, IsEnding}
@@ -15,14 +15,12 @@ ends-read (replied given) reply ends = tt
 ends-read (unread file) reply ends = ends
 ends-read no_memory reply ends = tt
 
--- the file of a command about one network is given
-pub sample-given : (gives : List ℕ → Type 0) (words : Result Command ℕ) (name : List ℕ) (seed stream : ℕ) → words ≡ Ok (sample name seed stream)
-    → AreGiven gives words → gives name
-sample-given gives words name seed stream asked given =
-    subst (λ w. AreGiven gives w) asked given (net_file name) (zero, omega arith, refl)
-
-pub check-given : (gives : List ℕ → Type 0) (words : Result Command ℕ) (name : List ℕ) → words ≡ Ok (check name) → AreGiven gives words → gives name
-check-given gives words name asked given = subst (λ w. AreGiven gives w) asked given (net_file name) (zero, omega arith, refl)
+-- the file of a command that reads it alone is given
+pub net_given : (gives : List ℕ → Type 0) (words : Result Command ℕ) (command : Command) (name : List ℕ) → files_of command ≡ net_file name ∷ []
+    → words ≡ Ok command → AreGiven gives words → gives name
+net_given gives words command name files asked given =
+    let alone : Contains (net_file name ∷ []) (net_file name) = (zero, omega arith, refl) in
+    subst (λ w. AreGiven gives w) asked given (net_file name) (subst (λ (fs : List File). Contains fs (net_file name)) (sym files) alone)
 
 -- a sink that takes a text takes none
 nothing-taken : (takes : ℕ → Type 0) (text : List ℕ) → IsTaken takes text → IsTaken takes []

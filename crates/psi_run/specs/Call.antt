@@ -59,12 +59,12 @@ pub record MemoryLacked (call : Call) : Type 0 where
 
 -- what the status of a call says of it
 pub record IsRun (call : Call) (result : Status) : Type 0 where
-  -- where the shelf tells the file needed, a status from 0 to 5 is the reply's, whatever counts rose
+  -- where the shelf tells the file needed, a status of a reply, that is one from 0 to 5 or 9, is the reply's, whatever counts rose
   pub status : IfSome (reply_to_call call) (λ reply. IsReplied result → result ≡ reply.status)
   -- and with such a status each sink that tells what it holds grew by exactly the reply's text
   pub out : IfSome (reply_to_call call) (λ reply. IsReplied result → Grew call.out reply.out)
   pub err : IfSome (reply_to_call call) (λ reply. IsReplied result → Grew call.err reply.err)
-  -- where no count of out, of err or of a file of the command rose in the call, the status is one from 0 to 5, or 8
+  -- where no count of out, of err or of a file of the command rose in the call, the status is that of a reply, or 8
   pub complete : ¬ (HasFailed call.out) → ¬ (HasFailed call.err) → ¬ (ReadFailed call) → IsReplied result ⊎ (result ≡ OutOfMemory)
   -- status 2 comes only where the words aren't a command, and where they aren't, it comes unless err fails
   pub usage : result ≡ Usage → IsErr (command_of call.words)
@@ -76,6 +76,6 @@ pub record IsRun (call : Call) (result : Status) : Type 0 where
   pub read_fault : result ≡ ReadFault → ReadFaulted call
   pub write_fault : result ≡ WriteFault → OutFaulted call ⊎ ErrFaulted call
   pub no_memory : result ≡ OutOfMemory → MemoryLacked call
-  -- with the statuses 2 to 6 and 8 nothing is written to out, and with 0 and 1 nothing to err
+  -- with the statuses 2 to 6, 8 and 9 nothing is written to out, and with 0 and 1 nothing to err
   pub silent_out : IsReported result → IsUnchanged call.out
   pub silent_err : IsPrinted result → IsUnchanged call.err

@@ -7,6 +7,14 @@ pub data Command : Type 0 where
   sample : (net : List ℕ) (seed stream : ℕ) → Command
   -- the description of the network in this file
   check : (net : List ℕ) → Command
+  -- a report over samples of the network in this file, drawn from the words of this seed and so many streams, from the first on
+  report : (net : List ℕ) (seed first count : ℕ) → Command
+  -- four samples of the network that is made from this number
+  trial : (number : ℕ) → Command
+  -- the least horizon of any length at which the runs of the network in this file couple, under the words of this seed and stream
+  couple : (net : List ℕ) (seed stream : ℕ) → Command
+  -- the value of the reward of this name at time zero, under the words of this seed and stream, as soon as all states have one
+  reward : (net : List ℕ) (seed stream : ℕ) (name : List ℕ) → Command
 
 -- a file, by what it is to hold and its name
 pub data File : Type 0 where
@@ -17,7 +25,11 @@ pub data File : Type 0 where
 abbrev pub file_name : File → List ℕ
 file_name (net_file name) = name
 
--- the files that a command reads, in this order; the first is that of its network
+-- the files that a command reads, in this order; the first, if there is one, is that of its network
 abbrev pub files_of : Command → List File
 files_of (sample net seed stream) = net_file net ∷ []
 files_of (check net) = net_file net ∷ []
+files_of (report net seed first count) = net_file net ∷ []
+files_of (trial number) = []
+files_of (couple net seed stream) = net_file net ∷ []
+files_of (reward net seed stream name) = net_file net ∷ []

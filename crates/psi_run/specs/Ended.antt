@@ -3,9 +3,11 @@ use Rattle.std.specs.Prelude.{◌≡◌, ℕ, List, Option, Ok, Err, IfSome}
 use Rattle.psi_network.specs.Network.{Network}
 use Rattle.psi_net.specs.Reading.{network_of}
 use Rattle.psi_run.specs.declared.ending.Ending.{Ending as Ended}
-use Rattle.psi_run.specs.declared.ending.Ending.TheVariants.{Printed, Usage, NetRefused, NetUnread, OutOfMemory}
+use Rattle.psi_run.specs.declared.ending.Ending.TheVariants.{Printed, Usage, NetRefused, UnknownReward, NetUnread, OutOfMemory}
+use Rattle.psi_run.specs.declared.status.Status.TheVariants.{UnknownReward as Unknown}
 use Rattle.psi_run.specs.Command.{net_file}
-use Rattle.psi_run.specs.Reply.{text_reply, usage_reply, refused_reply}
+use Rattle.psi_run.specs.Texts.{unknown_line}
+use Rattle.psi_run.specs.Reply.{text_reply, line_reply, usage_reply, refused_reply}
 use Rattle.psi_run.specs.Ending.{Ending, replied, unread, no_memory}
 use Rattle.psi_run.specs.Seen.{ShelfSeen, IsUnread}
 
@@ -14,6 +16,7 @@ abbrev pub ending_of : Ended → Ending
 ending_of (Printed status text) = replied (text_reply status text.items)
 ending_of (Usage place) = replied (usage_reply place)
 ending_of (NetRefused refusal) = replied (refused_reply refusal)
+ending_of UnknownReward = replied (line_reply Unknown unknown_line)
 ending_of (NetUnread name) = unread (net_file name.now)
 ending_of OutOfMemory = no_memory
 

@@ -6,6 +6,11 @@ pub mod Request
 pub mod Texts
 pub mod Sample
 pub mod Check
+pub mod Report
+pub mod Trial
+pub mod Couple
+pub mod Reward
+pub mod Networks
 pub mod Reply
 pub mod Means
 pub mod Seen

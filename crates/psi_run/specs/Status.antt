@@ -1,7 +1,7 @@
 -- The exit status of each ending, and what a status says of the two texts.
 use Rattle.std.specs.Prelude.{ℕ}
 use Rattle.psi_run.specs.declared.status.Status.{Status}
-use Rattle.psi_run.specs.declared.status.Status.TheVariants.{Done, NotCoupled, Usage, NetRefused, LogRefused, LogTooLong, ReadFault, WriteFault, OutOfMemory}
+use Rattle.psi_run.specs.declared.status.Status.TheVariants.{Done, NotCoupled, Usage, NetRefused, LogRefused, LogTooLong, ReadFault, WriteFault, OutOfMemory, UnknownReward}
 
 -- the number with which the program ends
 abbrev pub status_code : Status → ℕ
@@ -14,6 +14,7 @@ status_code LogTooLong = 5
 status_code ReadFault = 6
 status_code WriteFault = 7
 status_code OutOfMemory = 8
+status_code UnknownReward = 9
 
 -- the statuses that come with a text in out
 abbrev pub IsPrinted : Status → Type 0
@@ -36,6 +37,7 @@ IsReplied Usage = Unit {0}
 IsReplied NetRefused = Unit {0}
 IsReplied LogRefused = Unit {0}
 IsReplied LogTooLong = Unit {0}
+IsReplied UnknownReward = Unit {0}
 IsReplied ReadFault = ⊥
 IsReplied WriteFault = ⊥
 IsReplied OutOfMemory = ⊥
@@ -45,4 +47,5 @@ abbrev pub IsOfCommand : Status → Type 0
 IsOfCommand Done = Unit {0}
 IsOfCommand NotCoupled = Unit {0}
 IsOfCommand NetRefused = Unit {0}
+IsOfCommand UnknownReward = Unit {0}
 IsOfCommand status = ⊥

@@ -80,6 +80,10 @@ refused_line refusal =
 abbrev pub unread_line : File → List ℕ
 unread_line (net_file name) = codes "psi: cannot read network\n"
 
+-- no reward has the name
+abbrev pub unknown_line : List ℕ
+unknown_line = codes "psi: unknown reward\n"
+
 -- there is no memory
 abbrev pub memory_line : List ℕ
 memory_line = codes "psi: out of memory\n"

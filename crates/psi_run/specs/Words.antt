@@ -1,9 +1,9 @@
 -- The command of a list of words, or the place of the word that offends.
-use Rattle.std.specs.Prelude.{ℕ, ◌+◌, List, [], ◌∷◌, length, slice_index, codes, drop, Bool, true, false, not, ◌&&◌, ◌||◌, ◌==◌, nat_lt, nat_le, Option, Some, None, Result, Ok, Err, if◌then◌else◌}
+use Rattle.std.specs.Prelude.{ℕ, ◌+◌, ◌-◌, List, [], ◌∷◌, length, slice_index, codes, drop, Bool, true, false, not, ◌&&◌, ◌||◌, ◌==◌, nat_lt, nat_le, Option, Some, None, Result, Ok, Err, if◌then◌else◌}
 use Rattle.std.specs.List.{list_all}
 use Rattle.std.specs.Str.{bytes_eq}
 use Rattle.std.specs.Str.Parse.{digits_value}
-use Rattle.psi_run.specs.Command.{Command, sample, check}
+use Rattle.psi_run.specs.Command.{Command, sample, check, report, trial, couple, reward}
 
 -- a decimal digit of ASCII
 abbrev pub is_digit : ℕ → Bool
@@ -54,6 +54,19 @@ text_word next place words = or_offends (first_text words) next place words
 abbrev pub number_word : ℕ → (ℕ → ℕ → List (List ℕ) → Result Command ℕ) → ℕ → List (List ℕ) → Result Command ℕ
 number_word most next place words = or_offends (number_in most (first_text words)) next place words
 
+-- whether so many streams can follow one another from the first on: at least one, and the last of them is a stream
+abbrev pub is_count : ℕ → ℕ → Bool
+is_count first count = nat_lt 0 count && nat_le (first + count - 1) greatest_number
+
+-- the number that is read, where it is a number of streams from the first on
+abbrev pub counted : ℕ → Option ℕ → Option ℕ
+counted first None = None
+counted first (Some count) = if is_count first count then Some count else None
+
+-- at this place a number of streams from the first on must stand, at most 65,536
+abbrev pub count_word : ℕ → (ℕ → ℕ → List (List ℕ) → Result Command ℕ) → ℕ → List (List ℕ) → Result Command ℕ
+count_word first next place words = or_offends (counted first (number_in 65536 (first_text words))) next place words
+
 -- at this place no word may stand: one that does is one too many
 abbrev pub no_word : Command → ℕ → List (List ℕ) → Result Command ℕ
 no_word command place words = if is_over words then Ok command else Err place
@@ -67,10 +80,33 @@ sample_words =
 abbrev pub check_words : ℕ → List (List ℕ) → Result Command ℕ
 check_words = text_word (λ net. no_word (check net))
 
+-- the words of a report after the first: NET, SEED, FIRST and COUNT
+abbrev pub report_words : ℕ → List (List ℕ) → Result Command ℕ
+report_words =
+    text_word (λ net. number_word greatest_number (λ seed. number_word greatest_number (λ first. count_word first (λ count. no_word (report net seed first count)))))
+
+-- the words of a trial after the first: NUMBER
+abbrev pub trial_words : ℕ → List (List ℕ) → Result Command ℕ
+trial_words = number_word 65535 (λ number. no_word (trial number))
+
+-- the words of a coupling after the first: NET, SEED and STREAM
+abbrev pub couple_words : ℕ → List (List ℕ) → Result Command ℕ
+couple_words =
+    text_word (λ net. number_word greatest_number (λ seed. number_word greatest_number (λ stream. no_word (couple net seed stream))))
+
+-- the words of a reward's value after the first: NET, SEED, STREAM and NAME
+abbrev pub reward_words : ℕ → List (List ℕ) → Result Command ℕ
+reward_words =
+    text_word (λ net. number_word greatest_number (λ seed. number_word greatest_number (λ stream. text_word (λ name. no_word (reward net seed stream name)))))
+
 -- the command that the words are, by the first of them, or the place that offends
 unfoldable pub command_of : List (List ℕ) → Result Command ℕ
 command_of [] = Err 1
 command_of (word ∷ words) =
     if bytes_eq word (codes "sample") then sample_words 2 words
     else if bytes_eq word (codes "check") then check_words 2 words
+    else if bytes_eq word (codes "report") then report_words 2 words
+    else if bytes_eq word (codes "trial") then trial_words 2 words
+    else if bytes_eq word (codes "couple") then couple_words 2 words
+    else if bytes_eq word (codes "reward") then reward_words 2 words
     else Err 1

@@ -7,7 +7,11 @@ ghost use Rattle.psi_run.specs.Spared.{AreGiven, HasRead};
 ghost use Rattle.psi_run.specs.Ended.{ending_of};
 
 mod check;
+mod couple;
+mod report;
+mod reward;
 mod sample;
+mod trial;
 
 use crate::ending::Ending;
 use crate::words::{Request, command_of};
@@ -26,6 +30,24 @@ pub(crate) fn work<'w, F: Shelf>(alloc: Global, words: &'w [String], shelf: &mut
     match command_of(words) {
         Ok(Request::Sample { net, seed, stream }) => sample::work(alloc, shelf, net, seed, stream),
         Ok(Request::Check { net }) => check::work(alloc, shelf, net),
+        Ok(
+            Request::Report {
+                net,
+                seed,
+                first,
+                count,
+            },
+        ) => report::work(alloc, shelf, net, seed, first, count),
+        Ok(Request::Trial { number }) => trial::work(alloc, number),
+        Ok(Request::Couple { net, seed, stream }) => couple::work(alloc, shelf, net, seed, stream),
+        Ok(
+            Request::Reward {
+                net,
+                seed,
+                stream,
+                name,
+            },
+        ) => reward::work(alloc, shelf, net, seed, stream, name),
         Err(place) => Ending::Usage(place),
     }
 }

@@ -19,6 +19,8 @@ pub(crate) enum Ending<'w> {
     Usage(u8),
     /// The network file is refused.
     NetRefused(NetRefusal),
+    /// The network has no reward of the name.
+    UnknownReward,
     /// The network file of this name couldn't be read.
     NetUnread(&'w str),
     /// There was not enough memory.
@@ -37,6 +39,7 @@ impl<'w> Ending<'w> {
             Ending::Printed { status, .. } => *status,
             Ending::Usage(_) => Status::Usage,
             Ending::NetRefused(_) => Status::NetRefused,
+            Ending::UnknownReward => Status::UnknownReward,
             Ending::NetUnread(_) => Status::ReadFault,
             Ending::OutOfMemory => Status::OutOfMemory,
         }

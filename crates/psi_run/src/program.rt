@@ -26,9 +26,14 @@ use std::alloc::Global;
 /// |---|---|
 /// | `check NET` | prints the description of the network in the file NET |
 /// | `sample NET SEED STREAM` | prints the sample that this seed and stream draw of the network in the file NET |
+/// | `report NET SEED FIRST COUNT` | samples with COUNT streams of this seed, from FIRST on, and prints the report of these samples |
+/// | `trial NUMBER` | makes the network of NUMBER, samples it with the seed NUMBER and the streams 0 to 3, and prints the report |
+/// | `couple NET SEED STREAM` | prints the least horizon, of any length, at which this seed and stream couple the network in the file NET |
+/// | `reward NET SEED STREAM NAME` | prints the value of the reward NAME at time zero, as soon as all states have one |
 ///
-/// NET is any text. SEED and STREAM are `0` or digits without a leading zero, at most
-/// 18,446,744,073,709,551,615. The words are judged from the left; the offending word is the first place,
+/// NET and NAME are any texts. Numbers are `0` or digits without a leading zero: SEED, STREAM and FIRST are
+/// at most 18,446,744,073,709,551,615, COUNT is 1 to 65,536 and the last stream is no greater than they may
+/// be, and NUMBER is at most 65,535. The words are judged from the left; the offending word is the first place,
 /// counted from 1, at which the word is missing, isn't the command or number that must stand there, or is
 /// one too many.
 ///
@@ -36,12 +41,17 @@ use std::alloc::Global;
 /// |---|---|---|
 /// | `Done` | the network is described | out: the description |
 /// | `Done` | the sample is met | out: `met T`, `state S` |
-/// | `NotCoupled` | the sample isn't met within N = 2 to the power `limit` steps | out: `not coupled within N` |
+/// | `Done` | the samples are counted | out: the report |
+/// | `Done` | there is a least horizon | out: `coupled T`, `state S` |
+/// | `Done` | the reward has one value | out: `reward-met T`, `value V` |
+/// | `NotCoupled` | the sample isn't met, or there is no least horizon, within N = 2 to the power `limit` steps | out: `not coupled within N` |
+/// | `NotCoupled` | the reward hasn't one value within N steps | out: `reward not coupled within N` |
 /// | `Usage` | the words aren't a command | err: `psi: usage word N` |
 /// | `NetRefused` | the network file is refused | err: `psi: network refused CODE NAME SECTION NUMBER KEY` |
 /// | `ReadFault` | the shelf's count of NET rose in this call | err: `psi: cannot read network` |
 /// | `WriteFault` | the count of out or of err rose in this call | a prefix of the text |
 /// | `OutOfMemory` | there was not enough memory | err: `psi: out of memory` |
+/// | `UnknownReward` | the network has no reward NAME | err: `psi: unknown reward` |
 ///
 /// The description has, in this order: `queues Q`; for each queue `queue NAME CAPACITY SERVERS`; `events E`,
 /// the events after their expansion over servers; for each of these `event NAME K RATE monotone`, K being
@@ -57,6 +67,17 @@ use std::alloc::Global;
 /// is met, no run of up to N steps ends with one state. In a monotone network T is the least such that all
 /// states that start T steps before time zero meet, and so it is where the network has at most `split`
 /// states.
+///
+/// The report has comma-separated records of three fields (RFC 4180, with a line feed alone at each end):
+/// `item,name,value`; how many samples there are, are met and aren't; each horizon that some sample has,
+/// with how many have it; and for each queue and each reward its sum over the samples that are met, and its
+/// least and its greatest value where one is met. A trial prints `trial NUMBER`, `queues Q`, `events E` and
+/// `modulus M` before its report.
+///
+/// The least horizon T is that from 1 to N, a power of two or not, such that the region run of T ends with
+/// one state, and no shorter one does; S is that state. The value of a reward is looked for at the horizons
+/// 1, 2, 4, .., N: T is the least of them at which all states of the region have one value, V. In either
+/// case every longer run ends with that state, or with states of that value.
 ///
 /// All memory is taken before the first byte is written. Words that aren't a command take none.
 ///

@@ -6,9 +6,10 @@ ghost use Rattle.psi_run.specs.Status.{status_code};
 /// How a call of the program ends.
 #[derive(Clone, Copy, PartialEq, Eq, Debug)]
 pub enum Status {
-    /// A sample is met, or a network is described; the text is printed.
+    /// What was asked for is printed: a sample or a value that is met, a description, a report.
     Done,
-    /// A sample isn't met within the network's greatest horizon, and that is printed.
+    /// A sample, a least horizon or a value isn't met within the network's greatest horizon, and that is
+    /// printed.
     NotCoupled,
     /// The words aren't a command; the place of the word that offends is told.
     Usage,
@@ -25,10 +26,12 @@ pub enum Status {
     WriteFault,
     /// There was not enough memory. It comes only before the first byte is written.
     OutOfMemory,
+    /// The network has no reward of the name that was asked for; that is told.
+    UnknownReward,
 }
 
 impl Status {
-    /// The exit status of the program: 0 to 8, in the order of the variants.
+    /// The exit status of the program: 0 to 9, in the order of the variants.
     pub fn code(&self) -> u8
         ensures { result ≡ status_code self.now }
     {
@@ -42,6 +45,7 @@ impl Status {
             Status::ReadFault => 6,
             Status::WriteFault => 7,
             Status::OutOfMemory => 8,
+            Status::UnknownReward => 9,
         }
     }
 }

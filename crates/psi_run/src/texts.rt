@@ -3,8 +3,13 @@
 ghost use Rattle.std.specs.Prelude.{◌≡◌, ◌++◌, decimal, IfOk, OnOk};
 ghost use Rattle.std.specs.List.{flat_map};
 ghost use Rattle.psi_run.specs.Texts.{number_line, state_text, outcome_text, IsWithinLimit};
+ghost use Rattle.psi_run.specs.Couple.{coupling_text};
+ghost use Rattle.psi_run.specs.Couple.{HasLimit as HasCouplingLimit};
+ghost use Rattle.psi_run.specs.Reward.{value_text};
+ghost use Rattle.psi_run.specs.Reward.{HasLimit as HasValueLimit};
 
 use itoa::Buffer;
+use psi_couple::{Coupled, Valued};
 use psi_state::{Outcome, State};
 use std::alloc::{AllocError, Global};
 
@@ -67,6 +72,54 @@ pub(crate) fn outcome_text(alloc: Global, outcome: &Outcome) -> Result<Vec<u8>, 
         Outcome::NotMet { limit } => {
             let horizon = 1u32 << limit;
             push_number_line(&mut text, b"not coupled within ", horizon)?;
+        }
+    }
+    Ok(text)
+}
+
+/// What is printed of a coupling: a line with the least horizon and a line with the state; where there is
+/// none, a line with the greatest horizon.
+#[tactic(auto, unfolding(crate::specs::Couple::coupling_text, crate::specs::Texts::number_line))]
+pub(crate) fn coupling_text(alloc: Global, coupled: &Coupled) -> Result<Vec<u8>, AllocError>
+    requires { HasCouplingLimit coupled.now }
+    ensures { IfOk result (λ text. text.items ≡ coupling_text coupled.now) }
+{
+    let mut text = Vec::new(alloc);
+    match *coupled {
+        Coupled::At { horizon, state } => {
+            push_number_line(&mut text, b"coupled ", horizon)?;
+            text.extend_from_slice(b"state ")?;
+            push_state(&mut text, &state)?;
+            text.push(b'\n')?;
+        }
+        Coupled::NotAt { limit } => {
+            let horizon = 1u32 << limit;
+            push_number_line(&mut text, b"not coupled within ", horizon)?;
+        }
+    }
+    Ok(text)
+}
+
+/// What is printed of a reward's value: a line with the horizon and a line with the value; where there is
+/// none, a line with the greatest horizon.
+#[tactic(auto, unfolding(crate::specs::Reward::value_text, crate::specs::Texts::number_line))]
+pub(crate) fn value_text(alloc: Global, valued: &Valued) -> Result<Vec<u8>, AllocError>
+    requires { HasValueLimit valued.now }
+    ensures { IfOk result (λ text. text.items ≡ value_text valued.now) }
+{
+    let mut text = Vec::new(alloc);
+    match *valued {
+        Valued::At { horizon, value } => {
+            let mut digits = Buffer::new();
+            push_number_line(&mut text, b"reward-met ", horizon)?;
+            push_pieces(
+                &mut text,
+                &[b"value ", digits.format(value).as_bytes(), b"\n"],
+            )?;
+        }
+        Valued::NotAt { limit } => {
+            let horizon = 1u32 << limit;
+            push_number_line(&mut text, b"reward not coupled within ", horizon)?;
         }
     }
     Ok(text)

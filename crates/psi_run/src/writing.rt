@@ -33,6 +33,7 @@ pub(crate) fn write_ending<O: Sink, E: Sink>(
         Ending::Printed { text, .. } => write_all(out, text.as_slice()),
         Ending::Usage(place) => write_all(err, usage_line(*place).as_slice()),
         Ending::NetRefused(refusal) => write_all(err, refused_line(refusal).as_slice()),
+        Ending::UnknownReward => write_all(err, b"psi: unknown reward\n"),
         Ending::NetUnread(_) => write_all(err, b"psi: cannot read network\n"),
         Ending::OutOfMemory => write_all(err, b"psi: out of memory\n"),
     }

@@ -1,7 +1,7 @@
 //! The words that are left, read one after another.
 
-ghost use Rattle.std.specs.Prelude.{◌≡◌, ◌+◌, ◌<◌, Some, None, true, false, drop, map, string_bytes, IfOk, IfErr, OnOk, OnErr};
-ghost use Rattle.psi_run.specs.Words.{greatest_number, first_text, number_in, is_over};
+ghost use Rattle.std.specs.Prelude.{◌≡◌, ◌+◌, ◌^◌, ◌<◌, ◌≤◌, Some, None, true, false, drop, map, string_bytes, IfOk, IfErr, OnOk, OnErr};
+ghost use Rattle.psi_run.specs.Words.{greatest_number, first_text, number_in, counted, is_over};
 
 use crate::words::numeral::number;
 
@@ -43,19 +43,40 @@ impl<'w> Cursor<'w> {
         Ok(word.as_str())
     }
 
-    /// The number of 64 bits that the first word is, which is then no longer left; or the place where it is
-    /// missing or no such number.
-    pub(crate) fn next_number(&mut self) -> Result<u64, u8>
+    /// The number of at most `most` that the first word is, which is then no longer left; or the place where
+    /// it is missing or no such number.
+    pub(crate) fn next_number(&mut self, most: u64) -> Result<u64, u8>
         requires { self.now.place < 255 }
-        ensures number { IfOk result (λ n. number_in greatest_number (first_text (map string_bytes self.old.left.now)) ≡ Some n) }
+        ensures number { IfOk result (λ n. number_in most (first_text (map string_bytes self.old.left.now)) ≡ Some n) }
+        ensures bound { IfOk result (λ n. n ≤ most) }
         ensures rest { OnOk result (map string_bytes self.new.left.now ≡ drop 1 (map string_bytes self.old.left.now)) }
         ensures place { OnOk result (self.new.place ≡ self.old.place + 1) }
-        ensures wrong { OnErr result (number_in greatest_number (first_text (map string_bytes self.old.left.now)) ≡ None) }
+        ensures wrong { OnErr result (number_in most (first_text (map string_bytes self.old.left.now)) ≡ None) }
         ensures offends { IfErr result (λ place. place ≡ self.old.place) }
     {
         let place = self.place;
         let word = self.next_text()?;
-        number(word).ok_or(place)
+        number(word, most).ok_or(place)
+    }
+
+    /// The number of streams from the first on that the first word is, which is then no longer left; or the
+    /// place where it is missing or no such number. The streams are 1 to 65,536, and the last of them is at
+    /// most 2 to the power 64 less 1.
+    pub(crate) fn next_count(&mut self, first: u64) -> Result<u32, u8>
+        requires { self.now.place < 255 }
+        ensures count { IfOk result (λ n. counted first (number_in 65536 (first_text (map string_bytes self.old.left.now))) ≡ Some n) }
+        ensures streams { IfOk result (λ n. (1 ≤ n) × (n ≤ 65536) × (first + n ≤ 2 ^ 64)) }
+        ensures rest { OnOk result (map string_bytes self.new.left.now ≡ drop 1 (map string_bytes self.old.left.now)) }
+        ensures place { OnOk result (self.new.place ≡ self.old.place + 1) }
+        ensures wrong { OnErr result (counted first (number_in 65536 (first_text (map string_bytes self.old.left.now))) ≡ None) }
+        ensures offends { IfErr result (λ place. place ≡ self.old.place) }
+    {
+        let place = self.place;
+        let count = self.next_number(65_536)?;
+        if count == 0 || count - 1 > u64::MAX - first {
+            return Err(place);
+        }
+        Ok(count as u32)
     }
 
     /// Nothing, where no word is left; or the place of the first that is one too many.

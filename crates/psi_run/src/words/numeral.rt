@@ -1,6 +1,6 @@
 //! Numbers as words.
 
-ghost use Rattle.std.specs.Prelude.{◌≡◌, Option};
+ghost use Rattle.std.specs.Prelude.{◌≡◌, ◌≤◌, Option, IfSome};
 ghost use Rattle.std.specs.List.{list_all};
 ghost use Rattle.psi_run.specs.Words.{is_digit, is_numeral, greatest_number, number_up_to};
 
@@ -25,10 +25,20 @@ fn is_numeral(word: &[u8]) -> bool
     are_digits(word)
 }
 
-/// The number of 64 bits that a word is, if it is one. (The reading of numbers in std takes a plus sign and
+/// The number of at most `most` that a word is, if it is one. (The reading of numbers in std takes a plus sign and
 /// zeros in front, which are none here.)
+#[tactic(auto, using(crate::proofs::Numerals::number_unread))]
+pub(crate) fn number(word: &str, most: u64) -> Option<u64>
+    ensures number { result ≡ number_up_to most word.now }
+    ensures bound { IfSome result (λ n. n ≤ most) }
+{
+    let number = greatest_read(word)?;
+    if number <= most { Some(number) } else { None }
+}
+
+// The number of 64 bits that a word is, if it is one.
 #[tactic(auto, using(crate::proofs::Numerals::number_parsed, crate::proofs::Numerals::number_none))]
-pub(crate) fn number(word: &str) -> Option<u64>
+fn greatest_read(word: &str) -> Option<u64>
     ensures { result ≡ number_up_to greatest_number word.now }
 {
     if is_numeral(word.as_bytes()) {

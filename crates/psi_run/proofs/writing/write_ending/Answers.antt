@@ -18,3 +18,11 @@ returns-in-OutOfMemory-clause-written g c = let written = c.write_all-in-OutOfMe
 pub returns-in-OutOfMemory-clause-taken : goal.returns-in-OutOfMemory-clause-taken
 returns-in-OutOfMemory-clause-taken g c = let written = c.write_all-in-OutOfMemory.ensures in
     rw c.in-OutOfMemory.is (λ out err. (written.taken err.room err.taken err.fits, refl, written.spared err.room err.taken err.fits))
+
+pub returns-in-UnknownReward-clause-written : goal.returns-in-UnknownReward-clause-written
+returns-in-UnknownReward-clause-written g c = let written = c.write_all-in-UnknownReward in
+    rw c.in-UnknownReward.is (line_written _ _ _ written.result refl refl written.ensures.whole written.ensures.prefix written.ensures.failed)
+
+pub returns-in-UnknownReward-clause-taken : goal.returns-in-UnknownReward-clause-taken
+returns-in-UnknownReward-clause-taken g c = let written = c.write_all-in-UnknownReward.ensures in
+    rw c.in-UnknownReward.is (λ out err. (written.taken err.room err.taken err.fits, refl, written.spared err.room err.taken err.fits))

@@ -1,0 +1,111 @@
+//! `report NET SEED FIRST COUNT`: a report over samples of a network, one for each of several streams.
+
+ghost use Rattle.std.specs.Prelude.{◌≡◌, ◌+◌, ◌^◌, ◌≤◌, ℕ, List, IfSome, Ok};
+ghost use Rattle.psi_report.specs.Samples.{IsSampleOf};
+ghost use Rattle.psi_report.specs.Report.{report_text};
+ghost use Rattle.psi_report.specs.Totals.{StandsFor};
+ghost use Rattle.psi_run.specs.Command.{report};
+ghost use Rattle.psi_run.specs.Sample.{sampled};
+ghost use Rattle.psi_run.specs.Report.{samples_of};
+ghost use Rattle.psi_run.specs.Networks.{IsSystemOf};
+ghost use Rattle.psi_run.specs.Reply.{reply_of};
+ghost use Rattle.psi_run.specs.Ending.{EndsWith, IsEnding};
+ghost use Rattle.psi_run.specs.Spared.{HasRead};
+ghost use Rattle.psi_run.specs.Ended.{ending_of};
+
+use crate::ending::Ending;
+use crate::files::network_at;
+use crate::status::Status;
+use psi_event::EventLaw;
+use psi_horizon::Plan;
+use psi_io::Shelf;
+use psi_kinds::Event;
+use psi_net::Net;
+use psi_past::SeedPast;
+use psi_report::Tally;
+use psi_state::Outcome;
+use std::alloc::Global;
+
+// The sample of a stream, by the plan for the network.
+fn next_sample(plan: &mut Plan<'_, Event, SeedPast>, net: &Net, seed: u64, stream: u64) -> Outcome
+    requires { IsSystemOf ⟦<Event as EventLaw>⟧.function net.now plan.old.system }
+    ensures value { result ≡ sampled net.now seed stream }
+    ensures sample { IsSampleOf net.now result }
+    ensures system { plan.new.system ≡ plan.old.system }
+{
+    // Called for its clause: the network is one that can be sampled.
+    let _queues = net.queues();
+    plan.replace(SeedPast::new(seed, stream));
+    plan.sample()
+}
+
+// The totals of the samples of so many streams; none where there is not enough memory. One plan serves all
+// streams.
+fn tally_of(alloc: Global, net: &Net, seed: u64, first: u64, count: u32) -> Option<Tally>
+    requires few { count ≤ 65536 }
+    requires streams { first + count ≤ 2 ^ 64 }
+    ensures { IfSome result (λ tally. StandsFor tally net.now (samples_of net.now seed first count)) }
+{
+    let mut tally = Tally::new(alloc, net).ok()?;
+    let mut plan = Plan::new(alloc, net.system(), SeedPast::new(seed, first)).ok()?;
+    for i in 0..count {
+        let outcome = next_sample(&mut plan, net, seed, first + i as u64);
+        tally.add(net, &outcome);
+    }
+    Some(tally)
+}
+
+/// The report of the samples of `count` streams, at most 65,536 of them, from `first` on; none where there
+/// is not enough memory.
+pub(crate) fn report_of(
+    alloc: Global,
+    net: &Net,
+    seed: u64,
+    first: u64,
+    count: u32,
+) -> Option<Vec<u8>>
+    requires few { count ≤ 65536 }
+    requires streams { first + count ≤ 2 ^ 64 }
+    ensures { IfSome result (λ text. text.items ≡ report_text net.now (samples_of net.now seed first count)) }
+{
+    let tally = tally_of(alloc, net, seed, first, count)?;
+    let text = tally.text(alloc, net).ok()?;
+    Some(text)
+}
+
+// The work on the network: the report.
+fn work_on<'w>(alloc: Global, net: &Net, seed: u64, first: u64, count: u32) -> Ending<'w>
+    requires few { count ≤ 65536 }
+    requires streams { first + count ≤ 2 ^ 64 }
+    ensures { (name : List ℕ) → EndsWith (ending_of result) (reply_of (report name seed first count) net.now) }
+{
+    match report_of(alloc, net, seed, first, count) {
+        Some(text) => Ending::Printed {
+            status: Status::Done,
+            text,
+        },
+        None => Ending::OutOfMemory,
+    }
+}
+
+/// The work for a report: the network is read, and a sample of each stream is drawn and counted.
+pub(crate) fn work<'w, F: Shelf>(
+    alloc: Global,
+    shelf: &mut F,
+    net: &'w str,
+    seed: u64,
+    first: u64,
+    count: u32,
+) -> Ending<'w>
+    requires few { count ≤ 65536 }
+    requires streams { first + count ≤ 2 ^ 64 }
+    ensures ending { IsEnding (record { told = F.told shelf.old; faults_before = F.faults shelf.old; faults_after = F.faults shelf.new })
+        (Ok (report net.now seed first count)) (ending_of result) }
+    ensures read { F.gives shelf.old net.now → HasRead (ending_of result) }
+    ensures spared { F.gives shelf.old net.now → F.faults shelf.new ≡ F.faults shelf.old }
+{
+    match network_at(alloc, shelf, net) {
+        Ok(net) => work_on(alloc, &net, seed, first, count),
+        Err(ending) => ending,
+    }
+}

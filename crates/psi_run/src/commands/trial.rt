@@ -1,0 +1,60 @@
+//! `trial NUMBER`: four samples of a network that is made from a number.
+
+ghost use Rattle.std.specs.Prelude.{◌≡◌, ℕ, List, IfSome, IsSome, Ok};
+ghost use Rattle.psi_network.specs.Generated.{generated_network};
+ghost use Rattle.psi_network.specs.Valid.{IsNetwork};
+ghost use Rattle.psi_run.specs.Command.{trial};
+ghost use Rattle.psi_run.specs.Report.{samples_of};
+ghost use Rattle.psi_run.specs.Trial.{trial_text};
+ghost use Rattle.psi_run.specs.Reply.{reply_of};
+ghost use Rattle.psi_run.specs.Seen.{ShelfSeen};
+ghost use Rattle.psi_run.specs.Ending.{EndsWith, IsEnding};
+ghost use Rattle.psi_run.specs.Spared.{HasRead};
+ghost use Rattle.psi_run.specs.Ended.{ending_of};
+
+use crate::commands::report::report_of;
+use crate::ending::Ending;
+use crate::status::Status;
+use crate::texts::push_number_line;
+use psi_net::{Net, generated};
+use std::alloc::Global;
+
+// The text of the trial of a network; none where there is not enough memory.
+#[tactic(auto, unfolding(crate::specs::Trial::trial_text))]
+fn trial_text(alloc: Global, net: &Net, number: u16) -> Option<Vec<u8>>
+    ensures text { IfSome result (λ text. text.items ≡ trial_text number net.now (samples_of net.now number 0 4)) }
+    ensures kept { IsSome result → IsNetwork net.now }
+{
+    let report = report_of(alloc, net, number as u64, 0, 4)?;
+    let system = net.system();
+    let mut text = Vec::new(alloc);
+    push_number_line(&mut text, b"trial ", number as u32).ok()?;
+    push_number_line(&mut text, b"queues ", net.queues() as u32).ok()?;
+    push_number_line(&mut text, b"events ", net.events() as u32).ok()?;
+    push_number_line(&mut text, b"modulus ", system.wheel().modulus()).ok()?;
+    text.extend_from_slice(report.as_slice()).ok()?;
+    Some(text)
+}
+
+// The trial's text, from its number; none where there is not enough memory.
+fn text_of(alloc: Global, number: u16) -> Option<Vec<u8>>
+    ensures text { IfSome result (λ text. text.items ≡ trial_text number (generated_network number) (samples_of (generated_network number) number 0 4)) }
+    ensures kept { IsSome result → IsNetwork (generated_network number) }
+{
+    let net = generated(alloc, number).ok()?;
+    trial_text(alloc, &net, number)
+}
+
+/// The work for a trial: the network is made, and four samples of it are drawn and counted. No file is read.
+pub(crate) fn work<'w>(alloc: Global, number: u16) -> Ending<'w>
+    ensures ending { (shelf : ShelfSeen) → IsEnding shelf (Ok (trial number)) (ending_of result) }
+    ensures read { HasRead (ending_of result) }
+{
+    match text_of(alloc, number) {
+        Some(text) => Ending::Printed {
+            status: Status::Done,
+            text,
+        },
+        None => Ending::OutOfMemory,
+    }
+}
