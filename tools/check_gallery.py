@@ -12,8 +12,8 @@ crates/psi/out/psi where it isn't given. It looks at
 - each whole network in docs/*.md, a block of TOML that begins with its version: `check` takes it.
 
 A run is made in the folder of its gallery file, or at the top, and must end with the status that
-its text says. Each that differs is told; the exit status is 1 where there is one, and 2 where
-nothing was found.
+its text says. A text whose last line is `...` shows the first lines of what is printed. Each that
+differs is told; the exit status is 1 where there is one, and 2 where nothing was found.
 """
 
 import pathlib
@@ -66,6 +66,14 @@ def wanted_statuses(text):
     return (1,) if text.startswith("not coupled") else (0,)
 
 
+def is_shown(text, printed):
+    """Whether a document that shows this text shows what is printed."""
+    if not ("\n" + text).endswith("\n...\n"):
+        return printed == text
+    front = text.removesuffix("...\n")
+    return printed.startswith(front) and len(printed) > len(front)
+
+
 def answer(program, folder, words):
     """The status of a run, and both its texts behind each other."""
     done = subprocess.run(
@@ -91,7 +99,7 @@ def differing(program):
     for file, folder, words, text in runs:
         compared += 1
         status, got = (0, "") if words is None else answer(program, folder, words)
-        if got != text or status not in wanted_statuses(text):
+        if not is_shown(text, got) or status not in wanted_statuses(text):
             differs += 1
             tell(file, f"psi {shlex.join(words or [])} (status {status})", text, got)
     with tempfile.TemporaryDirectory() as room:

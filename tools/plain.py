@@ -1,14 +1,23 @@
-"""A plain program that describes and samples small networks by listing their states.
+#!/usr/bin/env python3
+"""plain.py check NET | sample NET SEED STREAM | report NET SEED FIRST COUNT
+         | couple NET SEED STREAM | reward NET SEED STREAM NAME
+
+A plain program that describes and samples small networks by listing their states.
 
 It was written from the definitions (docs/DEFINITIONS.md, docs/FORMATS.md) and shares nothing with
-the proved program: each event is a function on tuples, a region is a sorted list of states, and
-every horizon is run from its beginning. It takes valid networks alone, as `tomllib` reads them, and
-is meant for a few thousand states at most.
+the proved program: each event is a function on tuples, a region is a sorted list of states, every
+horizon is run from its beginning, and what a report tells is counted in the list of all samples. It
+takes valid networks alone, as `tomllib` reads them, and is meant for a few thousand states at most.
+
+Of a trial it has the network and the lines before the report: there are too many states to list.
 """
 
 import bisect
+import functools
 import itertools
 import struct
+import sys
+import tomllib
 
 MASK = 0xFFFFFFFF
 
@@ -30,6 +39,7 @@ def _turned(word, by):
     return ((word << by) | (word >> (32 - by))) & MASK
 
 
+@functools.cache
 def block(seed, stream, counter):
     """The 16 words of a block."""
     key = struct.unpack("<8I", struct.pack("<Q24x", seed))
@@ -79,6 +89,7 @@ class Network:
         while self.modulus < self.totals[-1]:
             self.modulus *= 2
         self.idle = self.modulus - self.totals[-1]
+        self.rewards = [Reward(self, entry) for entry in table.get("reward", [])]
 
     def copies(self, entry):
         """How many events an entry stands for: one for each server of its single source."""
@@ -142,6 +153,7 @@ class Event:
                 )
         return rules
 
+    @functools.cache
     def after(self, x):
         """What the event makes of a state."""
         if self.kind in ("arrival", "service", "index", "batch"):
@@ -211,6 +223,27 @@ class Event:
         return None
 
 
+class Reward:
+    """A number for each state."""
+
+    def __init__(self, net, entry):
+        self.name, self.kind = entry["name"], entry["kind"]
+        self.queues = [net.place[name] for name in entry["queues"]]
+        self.weights, self.table = entry.get("weights"), entry.get("table")
+        self.level = entry.get("level")
+
+    def value(self, x):
+        """The reward of a state."""
+        numbers = [x[queue] for queue in self.queues]
+        if self.kind == "linear":
+            return sum(weight * number for weight, number in zip(self.weights, numbers))
+        if self.kind == "table":
+            return sum(row[number] for row, number in zip(self.table, numbers))
+        if self.kind == "above":
+            return sum(number > self.level for number in numbers)
+        return max(numbers) if self.kind == "greatest" else min(numbers)
+
+
 def shifted(rule, number):
     """A number of customers after the shift of a rule, within its floor and ceiling."""
     _, _, shift, floor, ceiling = rule
@@ -248,6 +281,60 @@ def ending(net, words, horizon):
     return states
 
 
+def outcome(net, seed, stream):
+    """The horizon and the state of a sample; none where it isn't met."""
+    words = Words(seed, stream)
+    for exponent in range(net.limit + 1):
+        states = ending(net, words, 2**exponent)
+        if len(states) == 1:
+            return 2**exponent, states[0]
+    return None
+
+
+def coupling(net, seed, stream):
+    """The least horizon of any length and its state; none where there is none."""
+    words = Words(seed, stream)
+    for horizon in range(1, 2**net.limit + 1):
+        states = ending(net, words, horizon)
+        if len(states) == 1:
+            return horizon, states[0]
+    return None
+
+
+def valuation(net, seed, stream, reward):
+    """The horizon at which a reward has one value, and that value; none where there is none."""
+    words = Words(seed, stream)
+    for exponent in range(net.limit + 1):
+        values = {reward.value(x) for x in ending(net, words, 2**exponent)}
+        if len(values) == 1:
+            return 2**exponent, values.pop()
+    return None
+
+
+# The network of a trial.
+
+def made_network(number):
+    """The network that is made from a number, as the table of a network file."""
+    count = 4 + number % 13
+    names = [f"q{i}" for i in range(1, count + 1)]
+    queues = [
+        {"name": name, "capacity": 8 + (5 * i + number) % 25, "servers": 1 + (i + number) % 3}
+        for i, name in enumerate(names, 1)
+    ]
+    events = [{"name": "in", "kind": "arrival", "rate": 8, "to": ["q1", "q2"]}]
+    for i in range(1, count):
+        keys = {"from": f"q{i}", "to": [f"q{i + 1}"], "full": "stay" if i % 2 else "lost"}
+        events.append({"name": f"s{i}", "kind": "service", "rate": 10, **keys})
+    events.append({"name": f"s{count}", "kind": "service", "rate": 12, "from": names[-1]})
+    if number % 2:
+        events.append({"name": "bulk", "kind": "batch", "rate": 1, "to": ["q1"], "size": 3})
+        keys = {"from": "q2", "on": names[-1], "amount": 1}
+        events.append({"name": "neg", "kind": "negative", "rate": 1, **keys})
+    total = {"name": "total", "kind": "linear", "queues": names, "weights": [1] * count}
+    top = {"version": 1, "limit": 18, "split": 64}
+    return {**top, "queue": queues, "event": events, "reward": [total]}
+
+
 # Texts.
 
 def text_of(state):
@@ -256,12 +343,68 @@ def text_of(state):
 
 def sample(net, seed, stream):
     """The status and the text of a sample."""
-    words = Words(seed, stream)
-    for exponent in range(net.limit + 1):
-        states = ending(net, words, 2**exponent)
-        if len(states) == 1:
-            return 0, f"met {2**exponent}\nstate {text_of(states[0])}\n"
-    return 1, f"not coupled within {2**net.limit}\n"
+    drawn = outcome(net, seed, stream)
+    if drawn is None:
+        return 1, f"not coupled within {2**net.limit}\n"
+    horizon, state = drawn
+    return 0, f"met {horizon}\nstate {text_of(state)}\n"
+
+
+def couple(net, seed, stream):
+    """The status and the text of a coupling."""
+    found = coupling(net, seed, stream)
+    if found is None:
+        return 1, f"not coupled within {2**net.limit}\n"
+    horizon, state = found
+    return 0, f"coupled {horizon}\nstate {text_of(state)}\n"
+
+
+def value(net, seed, stream, name):
+    """The status and the text of a reward's value, or of a name that no reward has."""
+    named = [reward for reward in net.rewards if reward.name == name]
+    if not named:
+        return 9, "psi: unknown reward\n"
+    found = valuation(net, seed, stream, named[0])
+    if found is None:
+        return 1, f"reward not coupled within {2**net.limit}\n"
+    return 0, "reward-met {}\nvalue {}\n".format(*found)
+
+
+def report(net, seed, first, count):
+    """The text of a report."""
+    return report_of(net, [outcome(net, seed, stream) for stream in range(first, first + count)])
+
+
+def report_of(net, outcomes):
+    """The text of a report of samples."""
+    met = [drawn for drawn in outcomes if drawn is not None]
+    horizons = [horizon for horizon, _ in met]
+    records = [("item", "name", "value")]
+    records.append(("samples", "-", len(outcomes)))
+    records.append(("met", "-", len(met)))
+    records.append(("uncoupled", "-", outcomes.count(None)))
+    records += [("horizon", horizon, horizons.count(horizon)) for horizon in sorted({*horizons})]
+    for i, queue in enumerate(net.queues):
+        records += value_records("", queue["name"], [state[i] for _, state in met])
+    for reward in net.rewards:
+        records += value_records("reward-", reward.name, [reward.value(state) for _, state in met])
+    return "".join(f"{item},{name},{value}\n" for item, name, value in records)
+
+
+def value_records(front, name, values):
+    """The records of a queue or a reward, of its values at the states that are met."""
+    records = [(front + "sum", name, sum(values))]
+    if values:
+        records.append((front + "least", name, min(values)))
+        records.append((front + "greatest", name, max(values)))
+    return records
+
+
+def trial_heading(number):
+    """The lines of a trial before its report."""
+    net = Network(made_network(number))
+    lines = [f"trial {number}", f"queues {len(net.queues)}", f"events {len(net.events)}"]
+    return "".join(line + "\n" for line in [*lines, f"modulus {net.modulus}"])
 
 
 def description(net):
@@ -278,3 +421,28 @@ def description(net):
     lines += [f"limit {net.limit}", f"split {net.split}"]
     lines.append("monotone no" if any(marks) else "monotone yes")
     return "".join(line + "\n" for line in lines)
+
+
+def main():
+    command, file, *numbers = sys.argv[1:]
+    name = numbers.pop() if command == "reward" else None
+    with open(file, "rb") as network:
+        net = Network(tomllib.load(network))
+    numbers = list(map(int, numbers))
+    status, text = 0, ""
+    if command == "check":
+        text = description(net)
+    elif command == "sample":
+        status, text = sample(net, *numbers)
+    elif command == "report":
+        text = report(net, *numbers)
+    elif command == "couple":
+        status, text = couple(net, *numbers)
+    elif command == "reward":
+        status, text = value(net, *numbers, name)
+    print(text, end="")
+    return status
+
+
+if __name__ == "__main__":
+    sys.exit(main())
