@@ -6,51 +6,53 @@ use Rattle.psi_guard.specs.declared.envelope.Leaving.TheVariants.{Nowhere, One, 
 use Rattle.psi_guard.specs.Guarding.{moved}
 use Rattle.psi_guard.specs.Rule.{Rule}
 
--- some number of queue p in the box from l to h isn't within its guard
-abbrev pub Leaves : Rule → List ℕ → List ℕ → ℕ → Type 0
-Leaves r l h p = (slice_index l p < r.least p) ⊎ (r.most p < slice_index h p)
+-- an event with this rule, in the box from l to h
+module _ (r : Rule) (l h : List ℕ) where
+  -- some number of queue p in the box from l to h isn't within its guard
+  abbrev pub Leaves : ℕ → Type 0
+  Leaves p = (slice_index l p < r.least p) ⊎ (r.most p < slice_index h p)
 
--- in some state of the box each queue's number is within its guard
-pub record CanMoveAll (r : Rule) (l h : List ℕ) : Type 0 where
-  pub low : (p : ℕ) → p < r.queues → slice_index l p ≤ r.most p
-  pub high : (p : ℕ) → p < r.queues → r.least p ≤ slice_index h p
+  -- in some state of the box each queue's number is within its guard
+  pub record CanMoveAll : Type 0 where
+    pub low : (p : ℕ) → p < r.queues → slice_index l p ≤ r.most p
+    pub high : (p : ℕ) → p < r.queues → r.least p ≤ slice_index h p
 
--- no number of some queue in the box is within its guard
-pub record MissesSome (r : Rule) (l h : List ℕ) : Type 0 where
-  pub queue : ℕ
-  pub place : queue < r.queues
-  pub out : (slice_index h queue < r.least queue) ⊎ (r.most queue < slice_index l queue)
+  -- no number of some queue in the box is within its guard
+  pub record MissesSome : Type 0 where
+    pub queue : ℕ
+    pub place : queue < r.queues
+    pub out : (slice_index h queue < r.least queue) ⊎ (r.most queue < slice_index l queue)
 
--- a queue other than q leaves its guard
-pub record OtherLeaves (r : Rule) (l h : List ℕ) (q : ℕ) : Type 0 where
-  pub queue : ℕ
-  pub place : queue < r.queues
-  pub other : queue ≡ q → ⊥
-  pub out : Leaves r l h queue
+  -- a queue other than q leaves its guard
+  pub record OtherLeaves (q : ℕ) : Type 0 where
+    pub queue : ℕ
+    pub place : queue < r.queues
+    pub other : queue ≡ q → ⊥
+    pub out : Leaves queue
 
--- queue q may keep the number v
-abbrev pub CanKeep : Rule → List ℕ → List ℕ → ℕ → ℕ → Type 0
-CanKeep r l h q v = OtherLeaves r l h q ⊎ ((v < r.least q) ⊎ (r.most q < v))
+  -- queue q may keep the number v
+  abbrev pub CanKeep : ℕ → ℕ → Type 0
+  CanKeep q v = OtherLeaves q ⊎ ((v < r.least q) ⊎ (r.most q < v))
 
--- u is the least number of queue q among what the event makes of the box
-pub record IsLow (r : Rule) (l h : List ℕ) (q u : ℕ) : Type 0 where
-  pub moved : CanMoveAll r l h → u ≤ r.moves q (max (slice_index l q) (r.least q))
-  pub kept : (v : ℕ) → slice_index l q ≤ v → v ≤ slice_index h q → CanKeep r l h q v → u ≤ v
-  pub reached : (CanMoveAll r l h × (u ≡ r.moves q (max (slice_index l q) (r.least q))))
-      ⊎ (CanKeep r l h q u × ((slice_index l q ≤ u) × (u ≤ slice_index h q)))
+  -- u is the least number of queue q among what the event makes of the box
+  pub record IsLow (q u : ℕ) : Type 0 where
+    pub moved : CanMoveAll → u ≤ r.moves q (max (slice_index l q) (r.least q))
+    pub kept : (v : ℕ) → slice_index l q ≤ v → v ≤ slice_index h q → CanKeep q v → u ≤ v
+    pub reached : (CanMoveAll × (u ≡ r.moves q (max (slice_index l q) (r.least q))))
+        ⊎ (CanKeep q u × ((slice_index l q ≤ u) × (u ≤ slice_index h q)))
 
--- w is the greatest
-pub record IsHigh (r : Rule) (l h : List ℕ) (q w : ℕ) : Type 0 where
-  pub moved : CanMoveAll r l h → r.moves q (min (slice_index h q) (r.most q)) ≤ w
-  pub kept : (v : ℕ) → slice_index l q ≤ v → v ≤ slice_index h q → CanKeep r l h q v → v ≤ w
-  pub reached : (CanMoveAll r l h × (w ≡ r.moves q (min (slice_index h q) (r.most q))))
-      ⊎ (CanKeep r l h q w × ((slice_index l q ≤ w) × (w ≤ slice_index h q)))
+  -- w is the greatest
+  pub record IsHigh (q w : ℕ) : Type 0 where
+    pub moved : CanMoveAll → r.moves q (min (slice_index h q) (r.most q)) ≤ w
+    pub kept : (v : ℕ) → slice_index l q ≤ v → v ≤ slice_index h q → CanKeep q v → v ≤ w
+    pub reached : (CanMoveAll × (w ≡ r.moves q (min (slice_index h q) (r.most q))))
+        ⊎ (CanKeep q w × ((slice_index l q ≤ w) × (w ≤ slice_index h q)))
 
--- which queues leave their guards
-abbrev pub Knows : Rule → List ℕ → List ℕ → Leaving → Type 0
-Knows r l h Nowhere = (p : ℕ) → p < r.queues → Leaves r l h p → ⊥
-Knows r l h (One q) = (q < r.queues) × Leaves r l h q × ((p : ℕ) → p < r.queues → (p ≡ q → ⊥) → Leaves r l h p → ⊥)
-Knows r l h Several = (p : ℕ) × (q : ℕ) × (p < r.queues) × (q < r.queues) × (p ≡ q → ⊥) × Leaves r l h p × Leaves r l h q
+  -- which queues leave their guards
+  abbrev pub Knows : Leaving → Type 0
+  Knows Nowhere = (p : ℕ) → p < r.queues → Leaves p → ⊥
+  Knows (One q) = (q < r.queues) × Leaves q × ((p : ℕ) → p < r.queues → (p ≡ q → ⊥) → Leaves p → ⊥)
+  Knows Several = (p : ℕ) × (q : ℕ) × (p < r.queues) × (q < r.queues) × (p ≡ q → ⊥) × Leaves p × Leaves q
 
 -- whether one other than queue q does
 abbrev pub others : Leaving → ℕ → Bool
@@ -68,18 +70,20 @@ one_more Several q = Several
 abbrev pub MayKeep : Part → Bool → ℕ → Type 0
 MayKeep part stays v = (stays ≡ true) ⊎ ((v < part.least) ⊎ (part.most < v))
 
--- the least number of a part's queue: of those moved, where there are any, and of those kept
-pub record IsLeastOf (part : Part) (l h : ℕ) (moves stays : Bool) (u : ℕ) : Type 0 where
-  pub image : moves ≡ true → u ≤ moved part (max l part.least)
-  pub kept : (v : ℕ) → l ≤ v → v ≤ h → MayKeep part stays v → u ≤ v
-  pub reached : ((moves ≡ true) × (u ≡ moved part (max l part.least))) ⊎ (MayKeep part stays u × ((l ≤ u) × (u ≤ h)))
+-- a part whose queue holds a number from l to h, where the event may move or may stop for another queue
+module _ (part : Part) (l h : ℕ) (moves stays : Bool) where
+  -- the least number of a part's queue: of those moved, where there are any, and of those kept
+  pub record IsLeastOf (u : ℕ) : Type 0 where
+    pub image : moves ≡ true → u ≤ moved part (max l part.least)
+    pub kept : (v : ℕ) → l ≤ v → v ≤ h → MayKeep part stays v → u ≤ v
+    pub reached : ((moves ≡ true) × (u ≡ moved part (max l part.least))) ⊎ (MayKeep part stays u × ((l ≤ u) × (u ≤ h)))
 
--- the greatest
-pub record IsGreatestOf (part : Part) (l h : ℕ) (moves stays : Bool) (w : ℕ) : Type 0 where
-  pub image : moves ≡ true → moved part (min h part.most) ≤ w
-  pub kept : (v : ℕ) → l ≤ v → v ≤ h → MayKeep part stays v → v ≤ w
-  pub reached : ((moves ≡ true) × (w ≡ moved part (min h part.most))) ⊎ (MayKeep part stays w × ((l ≤ w) × (w ≤ h)))
+  -- the greatest
+  pub record IsGreatestOf (w : ℕ) : Type 0 where
+    pub image : moves ≡ true → moved part (min h part.most) ≤ w
+    pub kept : (v : ℕ) → l ≤ v → v ≤ h → MayKeep part stays v → v ≤ w
+    pub reached : ((moves ≡ true) × (w ≡ moved part (min h part.most))) ⊎ (MayKeep part stays w × ((l ≤ w) × (w ≤ h)))
 
--- some number of the queue is moved or kept
-abbrev pub CanTurn : Part → ℕ → ℕ → Bool → Bool → Type 0
-CanTurn part l h moves stays = (moves ≡ true) ⊎ ((stays ≡ true) ⊎ ((h < part.least) ⊎ (part.most < l)))
+  -- some number of the queue is moved or kept
+  abbrev pub CanTurn : Type 0
+  CanTurn = (moves ≡ true) ⊎ ((stays ≡ true) ⊎ ((h < part.least) ⊎ (part.most < l)))

@@ -45,55 +45,9 @@ abbrev pub part_of : List ℕ → List Part → ℕ → Part
 part_of caps [] q = free_part (slice_index caps q) q
 part_of caps (part ∷ parts) q = if nat_eq part.queue q then part else part_of caps parts q
 
--- the state in which each queue holds its least
-abbrev pub leasts : List ℕ → List Part → List ℕ
-leasts caps parts = map (λ q. (part_of caps parts q).least) (numbers_from 0 (length caps))
-
--- queue p at its most and with one more, every other queue at its least
-abbrev pub around_most : List ℕ → List Part → ℕ → List ℕ × List ℕ
-around_most caps parts p =
-    (slice_set (leasts caps parts) p (part_of caps parts p).most, slice_set (leasts caps parts) p ((part_of caps parts p).most + 1))
-
--- queue p with one less than its least and at its least, every other queue at its least
-abbrev pub around_least : List ℕ → List Part → ℕ → List ℕ × List ℕ
-around_least caps parts p =
-    (slice_set (leasts caps parts) p ((part_of caps parts p).least - 1), leasts caps parts)
-
 -- both states with v customers in queue q
 abbrev pub both_with : ℕ → ℕ → List ℕ × List ℕ → List ℕ × List ℕ
 both_with q v pair = (slice_set pair.0 q v, slice_set pair.1 q v)
-
--- whether queue p can hold more than its most
-abbrev pub exceeds : List ℕ → List Part → ℕ → Bool
-exceeds caps parts p = nat_lt (part_of caps parts p).most (slice_index caps p)
-
--- whether queue p can hold less than its least
-abbrev pub falls_short : List ℕ → List Part → ℕ → Bool
-falls_short caps parts p = nat_lt 0 (part_of caps parts p).least
-
--- queue p at its most moves past what it keeps with one more
-abbrev pub leap : List ℕ → List Part → ℕ → Option (List ℕ × List ℕ)
-leap caps parts p =
-    if exceeds caps parts p && nat_lt ((part_of caps parts p).most + 1) (moved (part_of caps parts p) (part_of caps parts p).most)
-    then Some (around_most caps parts p) else None
-
--- another queue q at its least rises, unless p holds more than its most
-abbrev pub rise : List ℕ → List Part → ℕ → ℕ → Option (List ℕ × List ℕ)
-rise caps parts p q =
-    if exceeds caps parts p && (not (nat_eq p q) && nat_lt (part_of caps parts q).least (moved (part_of caps parts q) (part_of caps parts q).least))
-    then Some (around_most caps parts p) else None
-
--- queue p at its least moves below what it keeps with one less
-abbrev pub plunge : List ℕ → List Part → ℕ → Option (List ℕ × List ℕ)
-plunge caps parts p =
-    if falls_short caps parts p && nat_lt (moved (part_of caps parts p) (part_of caps parts p).least) ((part_of caps parts p).least - 1)
-    then Some (around_least caps parts p) else None
-
--- another queue q at its most falls, unless p holds less than its least
-abbrev pub fall : List ℕ → List Part → ℕ → ℕ → Option (List ℕ × List ℕ)
-fall caps parts p q =
-    if falls_short caps parts p && (not (nat_eq p q) && nat_lt (moved (part_of caps parts q) (part_of caps parts q).most) (part_of caps parts q).most)
-    then Some (both_with q (part_of caps parts q).most (around_least caps parts p)) else None
 
 -- the first answer over the queues, by their numbers
 abbrev pub over_queues : {A : Type 0} → List ℕ → (ℕ → Option A) → Option A
@@ -107,9 +61,57 @@ AnswersAs {A} caps may_give f = (p : ℕ) (o : Option A) → p < length caps →
 abbrev pub over_pairs : {A : Type 0} → List ℕ → (ℕ → ℕ → Option A) → Option A
 over_pairs caps f = over_queues caps (λ p. over_queues caps (f p))
 
--- the one pair of states that shows that a guarded event doesn't keep the order: that of the first of four tests that succeeds
-unfoldable pub upset_of : List ℕ → List Part → Option (List ℕ × List ℕ)
-upset_of caps parts =
-    first_or (over_queues caps (leap caps parts))
-    (first_or (over_pairs caps (rise caps parts))
-    (first_or (over_queues caps (plunge caps parts)) (over_pairs caps (fall caps parts))))
+-- a guarded event with these parts, under these capacities
+module _ (caps : List ℕ) (parts : List Part) where
+  -- the state in which each queue holds its least
+  abbrev pub leasts : List ℕ
+  leasts = map (λ q. (part_of caps parts q).least) (numbers_from 0 (length caps))
+
+  -- queue p at its most and with one more, every other queue at its least
+  abbrev pub around_most : ℕ → List ℕ × List ℕ
+  around_most p =
+      (slice_set leasts p (part_of caps parts p).most, slice_set leasts p ((part_of caps parts p).most + 1))
+
+  -- queue p with one less than its least and at its least, every other queue at its least
+  abbrev pub around_least : ℕ → List ℕ × List ℕ
+  around_least p =
+      (slice_set leasts p ((part_of caps parts p).least - 1), leasts)
+
+  -- whether queue p can hold more than its most
+  abbrev pub exceeds : ℕ → Bool
+  exceeds p = nat_lt (part_of caps parts p).most (slice_index caps p)
+
+  -- whether queue p can hold less than its least
+  abbrev pub falls_short : ℕ → Bool
+  falls_short p = nat_lt 0 (part_of caps parts p).least
+
+  -- queue p at its most moves past what it keeps with one more
+  abbrev pub leap : ℕ → Option (List ℕ × List ℕ)
+  leap p =
+      if exceeds p && nat_lt ((part_of caps parts p).most + 1) (moved (part_of caps parts p) (part_of caps parts p).most)
+      then Some (around_most p) else None
+
+  -- another queue q at its least rises, unless p holds more than its most
+  abbrev pub rise : ℕ → ℕ → Option (List ℕ × List ℕ)
+  rise p q =
+      if exceeds p && (not (nat_eq p q) && nat_lt (part_of caps parts q).least (moved (part_of caps parts q) (part_of caps parts q).least))
+      then Some (around_most p) else None
+
+  -- queue p at its least moves below what it keeps with one less
+  abbrev pub plunge : ℕ → Option (List ℕ × List ℕ)
+  plunge p =
+      if falls_short p && nat_lt (moved (part_of caps parts p) (part_of caps parts p).least) ((part_of caps parts p).least - 1)
+      then Some (around_least p) else None
+
+  -- another queue q at its most falls, unless p holds less than its least
+  abbrev pub fall : ℕ → ℕ → Option (List ℕ × List ℕ)
+  fall p q =
+      if falls_short p && (not (nat_eq p q) && nat_lt (moved (part_of caps parts q) (part_of caps parts q).most) (part_of caps parts q).most)
+      then Some (both_with q (part_of caps parts q).most (around_least p)) else None
+
+  -- the one pair of states that shows that a guarded event doesn't keep the order: that of the first of four tests that succeeds
+  unfoldable pub upset_of : Option (List ℕ × List ℕ)
+  upset_of =
+      first_or (over_queues caps leap)
+      (first_or (over_pairs caps rise)
+      (first_or (over_queues caps plunge) (over_pairs caps fall)))

@@ -7,12 +7,6 @@ use Rattle.psi_guard.specs.declared.parts.Part.{Part}
 use Rattle.psi_guard.specs.declared.guarded.GuardRefusal.{GuardRefusal}
 use Rattle.psi_guard.specs.declared.guarded.GuardRefusal.TheVariants.{Empty, Repeated, OutOfRange}
 
--- whether a part's queue isn't one of the network, its most or ceiling is above the capacity, or its shift is beyond 65,535 either way
-abbrev pub is_out : List ℕ → Part → Bool
-is_out caps part =
-    nat_le (length caps) part.queue || (nat_lt (slice_index caps part.queue) part.most
-    || (nat_lt (slice_index caps part.queue) part.ceiling || nat_lt 65535 (unsigned_abs part.shift)))
-
 -- whether one of the parts names queue q
 abbrev pub names : List Part → ℕ → Bool
 names parts q = list_any (λ part. nat_eq part.queue q) parts
@@ -20,32 +14,6 @@ names parts q = list_any (λ part. nat_eq part.queue q) parts
 -- whether no number is from least to most, or none from floor to ceiling
 abbrev pub is_empty : Part → Bool
 is_empty part = nat_lt part.most part.least || nat_lt part.ceiling part.floor
-
--- why a part can't follow the earlier ones, if it can't
-abbrev pub refusal_at : List ℕ → List Part → Part → Option GuardRefusal
-refusal_at caps earlier part =
-    if is_out caps part then Some OutOfRange
-    else (if names earlier part.queue then Some Repeated
-    else (if is_empty part then Some Empty else None))
-
--- the first refusal of the parts that follow the earlier ones, part by part
-abbrev pub refusal_after : List ℕ → List Part → List Part → Option GuardRefusal
-refusal_after caps earlier [] = None
-refusal_after caps earlier (part ∷ parts) =
-    first_or (refusal_at caps earlier part) (refusal_after caps (earlier ++ part ∷ []) parts)
-
--- the first refusal, part by part
-abbrev pub refusal_of : List ℕ → List Part → Option GuardRefusal
-refusal_of caps parts = refusal_after caps [] parts
-
--- what is true of each part of a guarded event: a queue of the network, its guard and its limits within the capacity, a shift of at most 65,535 either way
-pub record FitsQueue (caps : List ℕ) (part : Part) : Type 0 where
-  pub queue : part.queue < length caps
-  pub guard : part.least ≤ part.most
-  pub most : part.most ≤ slice_index caps part.queue
-  pub limits : part.floor ≤ part.ceiling
-  pub ceiling : part.ceiling ≤ slice_index caps part.queue
-  pub shift : unsigned_abs part.shift ≤ 65535
 
 -- the part at a place of a list
 abbrev pub at : List Part → ℕ → Part
@@ -55,7 +23,41 @@ at parts i = slice_index_or parts i no_part
 pub record AreApart (parts : List Part) : Type 0 where
   pub each : (i j : ℕ) → i < length parts → j < length parts → (at parts i).queue ≡ (at parts j).queue → i ≡ j
 
--- what is true of all the parts of a guarded event
-pub record AreGuards (caps : List ℕ) (parts : List Part) : Type 0 where
-  pub each : (i : ℕ) → i < length parts → FitsQueue caps (at parts i)
-  pub apart : AreApart parts
+-- under these capacities
+module _ (caps : List ℕ) where
+  -- whether a part's queue isn't one of the network, its most or ceiling is above the capacity, or its shift is beyond 65,535 either way
+  abbrev pub is_out : Part → Bool
+  is_out part =
+      nat_le (length caps) part.queue || (nat_lt (slice_index caps part.queue) part.most
+      || (nat_lt (slice_index caps part.queue) part.ceiling || nat_lt 65535 (unsigned_abs part.shift)))
+
+  -- why a part can't follow the earlier ones, if it can't
+  abbrev pub refusal_at : List Part → Part → Option GuardRefusal
+  refusal_at earlier part =
+      if is_out part then Some OutOfRange
+      else (if names earlier part.queue then Some Repeated
+      else (if is_empty part then Some Empty else None))
+
+  -- the first refusal of the parts that follow the earlier ones, part by part
+  abbrev pub refusal_after : List Part → List Part → Option GuardRefusal
+  refusal_after earlier [] = None
+  refusal_after earlier (part ∷ parts) =
+      first_or (refusal_at earlier part) (refusal_after (earlier ++ part ∷ []) parts)
+
+  -- the first refusal, part by part
+  abbrev pub refusal_of : List Part → Option GuardRefusal
+  refusal_of parts = refusal_after [] parts
+
+  -- what is true of each part of a guarded event: a queue of the network, its guard and its limits within the capacity, a shift of at most 65,535 either way
+  pub record FitsQueue (part : Part) : Type 0 where
+    pub queue : part.queue < length caps
+    pub guard : part.least ≤ part.most
+    pub most : part.most ≤ slice_index caps part.queue
+    pub limits : part.floor ≤ part.ceiling
+    pub ceiling : part.ceiling ≤ slice_index caps part.queue
+    pub shift : unsigned_abs part.shift ≤ 65535
+
+  -- what is true of all the parts of a guarded event
+  pub record AreGuards (parts : List Part) : Type 0 where
+    pub each : (i : ℕ) → i < length parts → FitsQueue (at parts i)
+    pub apart : AreApart parts

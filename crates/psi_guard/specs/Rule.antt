@@ -27,22 +27,24 @@ rule caps parts = record {
   moves = λ p v. moved (part_of caps parts p) v;
 }
 
--- each queue's number is within its guard
-pub record AllowsAll (r : Rule) (x : List ℕ) : Type 0 where
-  pub low : (p : ℕ) → p < r.queues → r.least p ≤ slice_index x p
-  pub high : (p : ℕ) → p < r.queues → slice_index x p ≤ r.most p
+-- an event with this rule in this state
+module _ (r : Rule) (x : List ℕ) where
+  -- each queue's number is within its guard
+  pub record AllowsAll : Type 0 where
+    pub low : (p : ℕ) → p < r.queues → r.least p ≤ slice_index x p
+    pub high : (p : ℕ) → p < r.queues → slice_index x p ≤ r.most p
 
--- some queue's number isn't
-pub record RefusesSome (r : Rule) (x : List ℕ) : Type 0 where
-  pub queue : ℕ
-  pub place : queue < r.queues
-  pub out : (slice_index x queue < r.least queue) ⊎ (r.most queue < slice_index x queue)
+  -- some queue's number isn't
+  pub record RefusesSome : Type 0 where
+    pub queue : ℕ
+    pub place : queue < r.queues
+    pub out : (slice_index x queue < r.least queue) ⊎ (r.most queue < slice_index x queue)
 
--- y is what the event makes of x
-pub record Makes (r : Rule) (x y : List ℕ) : Type 0 where
-  pub long : length y ≡ r.queues
-  pub turn : (AllowsAll r x × ((p : ℕ) → p < r.queues → slice_index y p ≡ r.moves p (slice_index x p)))
-      ⊎ (RefusesSome r x × ((p : ℕ) → p < r.queues → slice_index y p ≡ slice_index x p))
+  -- y is what the event makes of x
+  pub record Makes (y : List ℕ) : Type 0 where
+    pub long : length y ≡ r.queues
+    pub turn : (AllowsAll × ((p : ℕ) → p < r.queues → slice_index y p ≡ r.moves p (slice_index x p)))
+        ⊎ (RefusesSome × ((p : ℕ) → p < r.queues → slice_index y p ≡ slice_index x p))
 
 -- what is known of the part of each queue
 pub record FitsGuard (cap : ℕ) (part : Part) : Type 0 where

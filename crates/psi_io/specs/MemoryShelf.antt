@@ -22,27 +22,6 @@ pub record ShelfContents : Type 0 where
 abbrev pub has_name : List ℕ → ShelfFile → Bool
 has_name name file = bytes_eq file.name name
 
--- the file of a name
-abbrev pub file_of : ShelfContents → List ℕ → Option ShelfFile
-file_of shelf name = find (has_name name) shelf.files
-
--- the bytes of a name, where it is there
-abbrev pub told_of : ShelfContents → List ℕ → Option (List ℕ)
-told_of shelf name = option_map (λ file. file.bytes) (file_of shelf name)
-
--- the count of a name: its file's, or else the count of the names that aren't there
-abbrev pub faults_of : ShelfContents → List ℕ → ℕ
-faults_of shelf name = option_map_or (λ file. file.count) (file_of shelf name) shelf.absent
-
--- a read of a name fails: its number is to fail, or the name isn't there
-abbrev pub FailsToRead : ShelfContents → List ℕ → Type 0
-FailsToRead shelf name = Contains shelf.fails (counted shelf.reads) ⊎ (told_of shelf name ≡ None)
-
--- no read of a name is to fail: it is there, and no number of a read is to fail
-pub record Gives (shelf : ShelfContents) (name : List ℕ) : Type 0 where
-  pub there : told_of shelf name ≢ None
-  pub no_fails : shelf.fails ≡ []
-
 -- the first file of a name, changed
 abbrev pub changed : (ShelfFile → ShelfFile) → List ℕ → List ShelfFile → List ShelfFile
 changed change name [] = []
@@ -61,18 +40,41 @@ with_bytes bytes file = record file { bytes = bytes }
 abbrev pub after_read : ShelfContents → ShelfContents
 after_read shelf = record shelf { reads = counted shelf.reads }
 
--- the shelf after a read of a name that fails: one more read, and one more fault of the name
-abbrev pub after_failed_read : ShelfContents → List ℕ → ShelfContents
-after_failed_read shelf name = record shelf {
-  files = changed with_fault name shelf.files;
-  absent = option_map_or (λ file. shelf.absent) (file_of shelf name) (counted shelf.absent);
-  reads = counted shelf.reads;
-}
+-- a shelf and a name
+module _ (shelf : ShelfContents) (name : List ℕ) where
+  -- the file of a name
+  abbrev pub file_of : Option ShelfFile
+  file_of = find (has_name name) shelf.files
 
--- the shelf once bytes are put under a name: a name that wasn't there begins with the count of
--- such names
-abbrev pub after_put : ShelfContents → List ℕ → List ℕ → ShelfContents
-after_put shelf name bytes = record shelf {
-  files = option_map_or (λ file. changed (with_bytes bytes) name shelf.files) (file_of shelf name)
-      (shelf.files ++ (record { name = name; bytes = bytes; count = shelf.absent }) ∷ []);
-}
+  -- the bytes of a name, where it is there
+  abbrev pub told_of : Option (List ℕ)
+  told_of = option_map (λ file. file.bytes) file_of
+
+  -- the count of a name: its file's, or else the count of the names that aren't there
+  abbrev pub faults_of : ℕ
+  faults_of = option_map_or (λ file. file.count) file_of shelf.absent
+
+  -- a read of a name fails: its number is to fail, or the name isn't there
+  abbrev pub FailsToRead : Type 0
+  FailsToRead = Contains shelf.fails (counted shelf.reads) ⊎ (told_of ≡ None)
+
+  -- no read of a name is to fail: it is there, and no number of a read is to fail
+  pub record Gives : Type 0 where
+    pub there : told_of ≢ None
+    pub no_fails : shelf.fails ≡ []
+
+  -- the shelf after a read of a name that fails: one more read, and one more fault of the name
+  abbrev pub after_failed_read : ShelfContents
+  after_failed_read = record shelf {
+    files = changed with_fault name shelf.files;
+    absent = option_map_or (λ file. shelf.absent) file_of (counted shelf.absent);
+    reads = counted shelf.reads;
+  }
+
+  -- the shelf once bytes are put under a name: a name that wasn't there begins with the count of
+  -- such names
+  abbrev pub after_put : List ℕ → ShelfContents
+  after_put bytes = record shelf {
+    files = option_map_or (λ file. changed (with_bytes bytes) name shelf.files) file_of
+        (shelf.files ++ (record { name = name; bytes = bytes; count = shelf.absent }) ∷ []);
+  }

@@ -11,10 +11,6 @@ use Rattle.psi_route.specs.declared.Full.TheVariants.{Lost, Stay}
 use Rattle.psi_kinds.specs.declared.kinds.Kind.{Kind}
 use Rattle.psi_kinds.specs.declared.kinds.Kind.TheVariants.{Arrival, Service, Index, Batch, Negative, Fork, Join, Guarded}
 
--- queue q has room for b more customers
-abbrev pub has_room : List ℕ → ℕ → List ℕ → ℕ → Bool
-has_room caps b x q = nat_le (slice_index x q + b) (slice_index caps q)
-
 -- queue q holds a customer
 abbrev pub is_held : List ℕ → ℕ → Bool
 is_held x q = nat_le 1 (slice_index x q)
@@ -22,11 +18,6 @@ is_held x q = nat_le 1 (slice_index x q)
 -- the source's queue holds as many customers as it takes to serve
 abbrev pub serves : Source → List ℕ → Bool
 serves source x = nat_le source.k (slice_index x source.queue)
-
--- the first queue of a list with room for b, or none
-abbrev pub first_with_room : List ℕ → List ℕ → ℕ → List ℕ → Option ℕ
-first_with_room caps [] b x = None
-first_with_room caps (q ∷ queues) b x = if has_room caps b x q then Some q else first_with_room caps queues b x
 
 -- a queue that can be chosen by index: its table's value at what it holds, its place in the list, and its number
 pub record Offer : Type 0 where
@@ -38,14 +29,6 @@ pub record Offer : Type 0 where
 abbrev pub is_less : Offer → Offer → Bool
 is_less a b = nat_lt a.value b.value || (nat_eq a.value b.value && nat_lt a.place b.place)
 
--- the queues of a list with room for b, the first of which has this place
-abbrev pub offers : List ℕ → List ℕ → List (List ℕ) → ℕ → List ℕ → ℕ → List Offer
-offers caps [] tables b x place = []
-offers caps (q ∷ queues) tables b x place =
-    if has_room caps b x q
-    then record { value = slice_index (slice_index_or tables place []) (slice_index x q); place = place; queue = q } ∷ offers caps queues tables b x (suc place)
-    else offers caps queues tables b x (suc place)
-
 -- the one of an offer and another, if there is one, with the lesser pair
 abbrev pub lesser : Offer → Option Offer → Option Offer
 lesser a None = Some a
@@ -55,10 +38,6 @@ lesser a (Some b) = if is_less b a then Some b else Some a
 abbrev pub least_of : List Offer → Option Offer
 least_of [] = None
 least_of (a ∷ rest) = lesser a (least_of rest)
-
--- among the queues of a list with room for b, the one with the least pair of its table's value and its place, or none
-abbrev pub best : List ℕ → List ℕ → List (List ℕ) → ℕ → List ℕ → Option ℕ
-best caps queues tables b x = option_map (λ o. o.queue) (least_of (offers caps queues tables b x 0))
 
 -- queue q gains b customers
 abbrev pub gain : ℕ → ℕ → List ℕ → List ℕ
@@ -90,11 +69,6 @@ abbrev pub leave : Option Source → List ℕ → List ℕ
 leave None x = x
 leave (Some source) x = lose source.queue 1 x
 
--- there is no queue to be joined, or it has room for one
-abbrev pub may_join : List ℕ → Option ℕ → List ℕ → Bool
-may_join caps None x = true
-may_join caps (Some q) x = has_room caps 1 x q
-
 -- every queue of the list gains a customer
 abbrev pub gain_each : List ℕ → List ℕ → List ℕ
 gain_each [] x = x
@@ -105,33 +79,61 @@ abbrev pub lose_each : List ℕ → List ℕ → List ℕ
 lose_each [] x = x
 lose_each (q ∷ queues) x = lose_each queues (lose q 1 x)
 
--- what a kind of event does to a state
-unfoldable pub do_kind : List ℕ → Kind → List ℕ → List ℕ
-do_kind caps (Arrival to) x = gain_chosen (first_with_room caps to 1 x) 1 x
-do_kind caps (Service from to full) x = if serves from x then go_on from to full 1 (first_with_room caps to 1 x) x else x
-do_kind caps (Index None to table full size) x = gain_chosen (best caps to table size x) size x
-do_kind caps (Index (Some from) to table full size) x = if serves from x then go_on from to full size (best caps to table size x) x else x
-do_kind caps (Batch to size) x = gain_chosen (first_with_room caps to size x) size x
-do_kind caps (Negative from on amount) x = if may_serve from x then lose on amount (leave from x) else x
-do_kind caps (Fork from to) x = if may_serve from x && list_all (has_room caps 1 x) to then gain_each to (leave from x) else x
-do_kind caps (Join from to) x = if list_all (is_held x) from && may_join caps to x then gain_chosen to 1 (lose_each from x) else x
-do_kind caps (Guarded parts) x = guarded parts x
+-- a network whose queues have these capacities
+module _ (caps : List ℕ) where
+  -- queue q has room for b more customers
+  abbrev pub has_room : ℕ → List ℕ → ℕ → Bool
+  has_room b x q = nat_le (slice_index x q + b) (slice_index caps q)
 
--- each queue of the list is one of those with these capacities
-abbrev pub AreQueues : List ℕ → List ℕ → Type 0
-AreQueues caps queues = EachIndex queues (λ i. slice_index queues i < length caps)
+  -- the first queue of a list with room for b, or none
+  abbrev pub first_with_room : List ℕ → ℕ → List ℕ → Option ℕ
+  first_with_room [] b x = None
+  first_with_room (q ∷ queues) b x = if has_room b x q then Some q else first_with_room queues b x
 
--- the queues and the source that a kind names are among those with these capacities; parts are judged by themselves
-abbrev pub IsKindOf : List ℕ → Kind → Type 0
-IsKindOf caps (Arrival to) = AreQueues caps to
-IsKindOf caps (Service from to full) = IsSource caps from × AreQueues caps to
-IsKindOf caps (Index from to table full size) = IfSome from (λ source. IsSource caps source) × AreQueues caps to
-IsKindOf caps (Batch to size) = AreQueues caps to
-IsKindOf caps (Negative from on amount) = IfSome from (λ source. IsSource caps source) × (on < length caps)
-IsKindOf caps (Fork from to) = IfSome from (λ source. IsSource caps source) × AreQueues caps to
-IsKindOf caps (Join from to) = AreQueues caps from × IfSome to (λ q. q < length caps)
-IsKindOf caps (Guarded parts) = Unit {0}
+  -- the queues of a list with room for b, the first of which has this place
+  abbrev pub offers : List ℕ → List (List ℕ) → ℕ → List ℕ → ℕ → List Offer
+  offers [] tables b x place = []
+  offers (q ∷ queues) tables b x place =
+      if has_room b x q
+      then record { value = slice_index (slice_index_or tables place []) (slice_index x q); place = place; queue = q } ∷ offers queues tables b x (suc place)
+      else offers queues tables b x (suc place)
 
--- the function does to every state of the capacities what the kind does
-pub record Does (caps : List ℕ) (f : List ℕ → List ℕ) (kind : Kind) : Type 0 where
-  pub each : (x : List ℕ) → IsBelow x caps → f x ≡ do_kind caps kind x
+  -- among the queues of a list with room for b, the one with the least pair of its table's value and its place, or none
+  abbrev pub best : List ℕ → List (List ℕ) → ℕ → List ℕ → Option ℕ
+  best queues tables b x = option_map (λ o. o.queue) (least_of (offers queues tables b x 0))
+
+  -- there is no queue to be joined, or it has room for one
+  abbrev pub may_join : Option ℕ → List ℕ → Bool
+  may_join None x = true
+  may_join (Some q) x = has_room 1 x q
+
+  -- what a kind of event does to a state
+  unfoldable pub do_kind : Kind → List ℕ → List ℕ
+  do_kind (Arrival to) x = gain_chosen (first_with_room to 1 x) 1 x
+  do_kind (Service from to full) x = if serves from x then go_on from to full 1 (first_with_room to 1 x) x else x
+  do_kind (Index None to table full size) x = gain_chosen (best to table size x) size x
+  do_kind (Index (Some from) to table full size) x = if serves from x then go_on from to full size (best to table size x) x else x
+  do_kind (Batch to size) x = gain_chosen (first_with_room to size x) size x
+  do_kind (Negative from on amount) x = if may_serve from x then lose on amount (leave from x) else x
+  do_kind (Fork from to) x = if may_serve from x && list_all (has_room 1 x) to then gain_each to (leave from x) else x
+  do_kind (Join from to) x = if list_all (is_held x) from && may_join to x then gain_chosen to 1 (lose_each from x) else x
+  do_kind (Guarded parts) x = guarded parts x
+
+  -- each queue of the list is one of those with these capacities
+  abbrev pub AreQueues : List ℕ → Type 0
+  AreQueues queues = EachIndex queues (λ i. slice_index queues i < length caps)
+
+  -- the queues and the source that a kind names are among those with these capacities; parts are judged by themselves
+  abbrev pub IsKindOf : Kind → Type 0
+  IsKindOf (Arrival to) = AreQueues to
+  IsKindOf (Service from to full) = IsSource caps from × AreQueues to
+  IsKindOf (Index from to table full size) = IfSome from (λ source. IsSource caps source) × AreQueues to
+  IsKindOf (Batch to size) = AreQueues to
+  IsKindOf (Negative from on amount) = IfSome from (λ source. IsSource caps source) × (on < length caps)
+  IsKindOf (Fork from to) = IfSome from (λ source. IsSource caps source) × AreQueues to
+  IsKindOf (Join from to) = AreQueues from × IfSome to (λ q. q < length caps)
+  IsKindOf (Guarded parts) = Unit {0}
+
+  -- the function does to every state of the capacities what the kind does
+  pub record Does (f : List ℕ → List ℕ) (kind : Kind) : Type 0 where
+    pub each : (x : List ℕ) → IsBelow x caps → f x ≡ do_kind kind x

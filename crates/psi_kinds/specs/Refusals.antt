@@ -49,45 +49,11 @@ has_given queues (Some q) = list_any (λ p. nat_eq p q) queues
 abbrev pub targets_itself : Kind → Bool
 targets_itself kind = has_given (queues_of kind).list (queues_of kind).other || is_self_target (queues_of kind).source (queues_of kind).list
 
--- the tables of an index event don't fit its list
-abbrev pub lacks_tables : List ℕ → Kind → Bool
-lacks_tables caps (Index from to table full size) = not (are_tables caps to table)
-lacks_tables caps kind = false
-
--- a size or an amount is out of its range; with a source the size is 1
-abbrev pub is_out_of_size : List ℕ → Kind → Bool
-is_out_of_size caps (Index from to table full size) = is_size_off caps from size to
-is_out_of_size caps (Batch to size) = is_size_off caps None size to
-is_out_of_size caps (Negative from on amount) = nat_eq amount 0
-is_out_of_size caps kind = false
-
 -- the refusal of a guarded event as that of a kind
 abbrev pub of_parts : GuardRefusal → KindRefusal
 of_parts part.OutOfRange = PartRange
 of_parts part.Repeated = Repeated
 of_parts part.Empty = EmptyGuard
-
--- why the parts of a guarded kind are refused: there is none, or one part after another
-abbrev pub refusal_of_guards : List ℕ → List Part → Option KindRefusal
-refusal_of_guards caps parts = if is_empty parts then Some Empty else option_map of_parts (guard.refusal_of caps parts)
-
--- why the parts of a kind are refused; guarded kinds alone have such
-abbrev pub refusal_of_parts : List ℕ → Kind → Option KindRefusal
-refusal_of_parts caps (Guarded parts) = refusal_of_guards caps parts
-refusal_of_parts caps kind = None
-
--- the first cause for which the lists and numbers of a kind are refused
-abbrev pub listed_refusal : List ℕ → Kind → Option KindRefusal
-listed_refusal caps kind =
-    first_or (then_some (lacks_queues kind) Empty)
-    (first_or (then_some (repeats_queue kind) Repeated)
-    (first_or (then_some (targets_itself kind) SelfTarget)
-    (first_or (then_some (lacks_tables caps kind) TableLength)
-    (then_some (is_out_of_size caps kind) SizeRange))))
-
--- why a kind is refused: the first of these causes, or else of those of its parts
-unfoldable pub refusal_of : List ℕ → Kind → Option KindRefusal
-refusal_of caps kind = first_or (listed_refusal caps kind) (refusal_of_parts caps kind)
 
 -- what a refusal says of the cause that there is; want of memory says nothing
 abbrev pub IsKindRefusal : KindRefusal → Option KindRefusal → Type 0
@@ -100,10 +66,46 @@ IsKindRefusal PartRange cause = cause ≡ Some PartRange
 IsKindRefusal EmptyGuard cause = cause ≡ Some EmptyGuard
 IsKindRefusal OutOfMemory cause = Unit {0}
 
--- the lists and numbers of a kind are no cause of a refusal
-pub record IsUnrefused (caps : List ℕ) (kind : Kind) : Type 0 where
-  pub queues : lacks_queues kind ≡ false
-  pub once : repeats_queue kind ≡ false
-  pub away : targets_itself kind ≡ false
-  pub tables : lacks_tables caps kind ≡ false
-  pub size : is_out_of_size caps kind ≡ false
+-- under these capacities
+module _ (caps : List ℕ) where
+  -- the tables of an index event don't fit its list
+  abbrev pub lacks_tables : Kind → Bool
+  lacks_tables (Index from to table full size) = not (are_tables caps to table)
+  lacks_tables kind = false
+
+  -- a size or an amount is out of its range; with a source the size is 1
+  abbrev pub is_out_of_size : Kind → Bool
+  is_out_of_size (Index from to table full size) = is_size_off caps from size to
+  is_out_of_size (Batch to size) = is_size_off caps None size to
+  is_out_of_size (Negative from on amount) = nat_eq amount 0
+  is_out_of_size kind = false
+
+  -- why the parts of a guarded kind are refused: there is none, or one part after another
+  abbrev pub refusal_of_guards : List Part → Option KindRefusal
+  refusal_of_guards parts = if is_empty parts then Some Empty else option_map of_parts (guard.refusal_of caps parts)
+
+  -- why the parts of a kind are refused; guarded kinds alone have such
+  abbrev pub refusal_of_parts : Kind → Option KindRefusal
+  refusal_of_parts (Guarded parts) = refusal_of_guards parts
+  refusal_of_parts kind = None
+
+  -- the first cause for which the lists and numbers of a kind are refused
+  abbrev pub listed_refusal : Kind → Option KindRefusal
+  listed_refusal kind =
+      first_or (then_some (lacks_queues kind) Empty)
+      (first_or (then_some (repeats_queue kind) Repeated)
+      (first_or (then_some (targets_itself kind) SelfTarget)
+      (first_or (then_some (lacks_tables kind) TableLength)
+      (then_some (is_out_of_size kind) SizeRange))))
+
+  -- why a kind is refused: the first of these causes, or else of those of its parts
+  unfoldable pub refusal_of : Kind → Option KindRefusal
+  refusal_of kind = first_or (listed_refusal kind) (refusal_of_parts kind)
+
+  -- the lists and numbers of a kind are no cause of a refusal
+  pub record IsUnrefused (kind : Kind) : Type 0 where
+    pub queues : lacks_queues kind ≡ false
+    pub once : repeats_queue kind ≡ false
+    pub away : targets_itself kind ≡ false
+    pub tables : lacks_tables kind ≡ false
+    pub size : is_out_of_size kind ≡ false

@@ -39,28 +39,30 @@ pub record IsHeader (h : Header) : Type 0 where
   pub least : 1 ≤ h.horizon
   pub most : h.horizon ≤ greatest_horizon h.version
 
--- a state of so many queues: one number of 16 bits for each
-pub record IsState (queues : ℕ) (x : List ℕ) : Type 0 where
-  pub count : length x ≡ queues
-  pub each : (i : ℕ) → slice_index x i < 2 ^ 16
+-- states of so many queues
+module _ (queues : ℕ) where
+  -- a state of so many queues: one number of 16 bits for each
+  pub record IsState (x : List ℕ) : Type 0 where
+    pub count : length x ≡ queues
+    pub each : (i : ℕ) → slice_index x i < 2 ^ 16
 
--- a box of states of so many queues
-pub record IsBox (queues : ℕ) (b : Corners) : Type 0 where
-  pub lo : IsState queues b.lo
-  pub hi : IsState queues b.hi
-  pub below : IsBelow b.lo b.hi
+  -- a box of states of so many queues
+  pub record IsBox (b : Corners) : Type 0 where
+    pub lo : IsState b.lo
+    pub hi : IsState b.hi
+    pub below : IsBelow b.lo b.hi
 
--- 1 to 4,096 states of so many queues, in ascending lexicographic order
-pub record IsSet (queues : ℕ) (xs : List (List ℕ)) : Type 0 where
-  pub some : 1 ≤ length xs
-  pub few : length xs ≤ 4096
-  pub each : (x : List ℕ) → In x xs → IsState queues x
-  pub rising : IsRising xs
+  -- 1 to 4,096 states of so many queues, in ascending lexicographic order
+  pub record IsSet (xs : List (List ℕ)) : Type 0 where
+    pub some : 1 ≤ length xs
+    pub few : length xs ≤ 4096
+    pub each : (x : List ℕ) → In x xs → IsState x
+    pub rising : IsRising xs
 
--- a region of states of so many queues
-abbrev pub IsRegion : ℕ → Region → Type 0
-IsRegion queues (in_box bounds) = IsBox queues bounds
-IsRegion queues (in_set states) = IsSet queues states
+  -- a region of states of so many queues
+  abbrev pub IsRegion : Region → Type 0
+  IsRegion (in_box bounds) = IsBox bounds
+  IsRegion (in_set states) = IsSet states
 
 -- a step and the region after it, under a header
 pub record IsEntry (h : Header) (e : Entry) : Type 0 where

@@ -40,26 +40,6 @@ abbrev pub box_before : ℕ → Region → Option Corners
 box_before version (in_box bounds) = if version == 2 then Some bounds else None
 box_before version (in_set states) = None
 
--- the words of a step and of the region after it, where the box from which a box has to be written may be given
-unfoldable pub read_step : Header → ℕ → Option Corners → List (List ℕ) → Result Entry Refusal
-read_step h n before (first ∷ number ∷ event ∷ region) = do
-  named ← holds_or (refused n Shape) (bytes_eq first (codes "step"))
-  form ← form_of n h.queues before region
-  t ← number_in n 1 (greatest_horizon h.version) number
-  e ← number_in n 0 1024 event
-  after ← read_given n h.queues form
-  Ok (record { step = record { number = t; event = e }; region = after })
-read_step h n before words = Err (refused n Shape)
-
--- so many lines of steps, from line n on, where the box from which a box has to be written may be given, and what follows them
-unfoldable pub read_steps : Header → ℕ → ℕ → Option Corners → List ℕ → Result (List Entry × List ℕ) Refusal
-read_steps h zero n before text = Ok ([], text)
-read_steps h (suc count) n before text = do
-  line ← line_of n text
-  entry ← read_step h n before (words_of line.0)
-  more ← read_steps h count (n + 1) (box_before h.version entry.region) line.1
-  Ok (entry ∷ more.0, more.1)
-
 -- the words of the state at time zero, on line n
 unfoldable pub read_end : ℕ → ℕ → List (List ℕ) → Result (List ℕ) Refusal
 read_end n queues (first ∷ state ∷ []) = do
@@ -67,16 +47,38 @@ read_end n queues (first ∷ state ∷ []) = do
   read_state n state
 read_end n queues words = Err (refused n Shape)
 
--- the log that a header and the text behind it are
-unfoldable pub after_header : Header → List ℕ → Result Certificate Refusal
-after_header h text = do
-  line ← line_of 6 text
-  begin ← read_begin h.queues (words_of line.0)
-  steps ← read_steps h h.horizon 7 (box_before h.version begin) line.1
-  last ← line_of (7 + h.horizon) steps.1
-  final ← read_end (7 + h.horizon) h.queues (words_of last.0)
-  over ← holds_or (refused (8 + h.horizon) TrailingText) (length last.1 == 0)
-  Ok (record { header = h; begin = begin; entries = steps.0; final = final })
+-- the lines behind this header
+module _ (h : Header) where
+  -- the words of a step and of the region after it, where the box from which a box has to be written may be given
+  unfoldable pub read_step : ℕ → Option Corners → List (List ℕ) → Result Entry Refusal
+  read_step n before (first ∷ number ∷ event ∷ region) = do
+    named ← holds_or (refused n Shape) (bytes_eq first (codes "step"))
+    form ← form_of n h.queues before region
+    t ← number_in n 1 (greatest_horizon h.version) number
+    e ← number_in n 0 1024 event
+    after ← read_given n h.queues form
+    Ok (record { step = record { number = t; event = e }; region = after })
+  read_step n before words = Err (refused n Shape)
+
+  -- so many lines of steps, from line n on, where the box from which a box has to be written may be given, and what follows them
+  unfoldable pub read_steps : ℕ → ℕ → Option Corners → List ℕ → Result (List Entry × List ℕ) Refusal
+  read_steps zero n before text = Ok ([], text)
+  read_steps (suc count) n before text = do
+    line ← line_of n text
+    entry ← read_step n before (words_of line.0)
+    more ← read_steps count (n + 1) (box_before h.version entry.region) line.1
+    Ok (entry ∷ more.0, more.1)
+
+  -- the log that a header and the text behind it are
+  unfoldable pub after_header : List ℕ → Result Certificate Refusal
+  after_header text = do
+    line ← line_of 6 text
+    begin ← read_begin h.queues (words_of line.0)
+    steps ← read_steps h.horizon 7 (box_before h.version begin) line.1
+    last ← line_of (7 + h.horizon) steps.1
+    final ← read_end (7 + h.horizon) h.queues (words_of last.0)
+    over ← holds_or (refused (8 + h.horizon) TrailingText) (length last.1 == 0)
+    Ok (record { header = h; begin = begin; entries = steps.0; final = final })
 
 -- the log that a text is
 unfoldable pub read : List ℕ → Result Certificate Refusal

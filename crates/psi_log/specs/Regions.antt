@@ -21,49 +21,15 @@ pub data Given : Type 0 where
   -- a box, by the box before it and the words of what changed
   given_move : (from : Corners) (changes : List (List ℕ)) → Given
 
--- the words behind `box`: two states
-unfoldable pub box_form : ℕ → ℕ → List (List ℕ) → Result Given Refusal
-box_form n queues (lo ∷ hi ∷ []) = do
-  shaped ← holds_or (refused n Shape) (has_pieces queues lo && has_pieces queues hi)
-  Ok (given_box lo hi)
-box_form n queues words = Err (refused n Shape)
-
--- the words behind `set`: 1 to 4,096 states
-unfoldable pub set_form : ℕ → ℕ → List (List ℕ) → Result Given Refusal
-set_form n queues words = do
-  shaped ← holds_or (refused n Shape) (nat_le 1 (length words) && nat_le (length words) 4096 && list_all (has_pieces queues) words)
-  Ok (given_set words)
-
 -- the words behind `move`: at most 32, each of three pieces
 unfoldable pub move_form : ℕ → Corners → List (List ℕ) → Result Given Refusal
 move_form n from words = do
   shaped ← holds_or (refused n Shape) (nat_le (length words) 32 && list_all (has_pieces 3) words)
   Ok (given_move from words)
 
--- the form of a region's words; where a box before them is given, a box has to be written by what changed from it
-unfoldable pub form_of : ℕ → ℕ → Option Corners → List (List ℕ) → Result Given Refusal
-form_of n queues before [] = Err (refused n Shape)
-form_of n queues None (name ∷ words) =
-    if bytes_eq name (codes "set") then set_form n queues words
-    else if bytes_eq name (codes "box") then box_form n queues words
-    else Err (refused n Shape)
-form_of n queues (Some from) (name ∷ words) =
-    if bytes_eq name (codes "set") then set_form n queues words
-    else if bytes_eq name (codes "move") then move_form n from words
-    else Err (refused n Shape)
-
 -- the numbers of a state
 unfoldable pub read_state : ℕ → List ℕ → Result (List ℕ) Refusal
 read_state n word = each (number_in n 0 65535) (pieces_of word)
-
--- the three numbers of a change
-unfoldable pub read_change : ℕ → ℕ → List (List ℕ) → Result Change Refusal
-read_change n queues (queue ∷ least ∷ greatest ∷ []) = do
-  q ← number_in n 0 (queues - 1) queue
-  l ← number_in n 0 65535 least
-  g ← number_in n 0 65535 greatest
-  Ok (record { queue = q; least = l; greatest = g })
-read_change n queues pieces = Err (refused n Shape)
 
 -- each state is lexicographically below the next
 abbrev pub ascends : List (List ℕ) → Bool
@@ -86,18 +52,54 @@ abbrev pub changed : Corners → List Change → Corners
 changed from [] = from
 changed from (c ∷ cs) = changed (record { lo = slice_set from.lo c.queue c.least; hi = slice_set from.hi c.queue c.greatest }) cs
 
--- the region of words in their form: first the numbers from the left, then their order
-unfoldable pub read_given : ℕ → ℕ → Given → Result Region Refusal
-read_given n queues (given_box lo hi) = do
-  l ← read_state n lo
-  h ← read_state n hi
-  ordered ← holds_or (refused n Shape) (pointwise nat_le l h)
-  Ok (in_box (record { lo = l; hi = h }))
-read_given n queues (given_set words) = do
-  xs ← each (read_state n) words
-  ordered ← holds_or (refused n Shape) (ascends xs)
-  Ok (in_set xs)
-read_given n queues (given_move from words) = do
-  cs ← each (λ word. read_change n queues (pieces_of word)) words
-  ordered ← holds_or (refused n Shape) (queues_ascend cs && list_all (is_change from) cs)
-  Ok (in_box (changed from cs))
+-- a region of states of so many queues, on line n
+module _ (n queues : ℕ) where
+  -- the words behind `box`: two states
+  unfoldable pub box_form : List (List ℕ) → Result Given Refusal
+  box_form (lo ∷ hi ∷ []) = do
+    shaped ← holds_or (refused n Shape) (has_pieces queues lo && has_pieces queues hi)
+    Ok (given_box lo hi)
+  box_form words = Err (refused n Shape)
+
+  -- the words behind `set`: 1 to 4,096 states
+  unfoldable pub set_form : List (List ℕ) → Result Given Refusal
+  set_form words = do
+    shaped ← holds_or (refused n Shape) (nat_le 1 (length words) && nat_le (length words) 4096 && list_all (has_pieces queues) words)
+    Ok (given_set words)
+
+  -- the form of a region's words; where a box before them is given, a box has to be written by what changed from it
+  unfoldable pub form_of : Option Corners → List (List ℕ) → Result Given Refusal
+  form_of before [] = Err (refused n Shape)
+  form_of None (name ∷ words) =
+      if bytes_eq name (codes "set") then set_form words
+      else if bytes_eq name (codes "box") then box_form words
+      else Err (refused n Shape)
+  form_of (Some from) (name ∷ words) =
+      if bytes_eq name (codes "set") then set_form words
+      else if bytes_eq name (codes "move") then move_form n from words
+      else Err (refused n Shape)
+
+  -- the three numbers of a change
+  unfoldable pub read_change : List (List ℕ) → Result Change Refusal
+  read_change (queue ∷ least ∷ greatest ∷ []) = do
+    q ← number_in n 0 (queues - 1) queue
+    l ← number_in n 0 65535 least
+    g ← number_in n 0 65535 greatest
+    Ok (record { queue = q; least = l; greatest = g })
+  read_change pieces = Err (refused n Shape)
+
+  -- the region of words in their form: first the numbers from the left, then their order
+  unfoldable pub read_given : Given → Result Region Refusal
+  read_given (given_box lo hi) = do
+    l ← read_state n lo
+    h ← read_state n hi
+    ordered ← holds_or (refused n Shape) (pointwise nat_le l h)
+    Ok (in_box (record { lo = l; hi = h }))
+  read_given (given_set words) = do
+    xs ← each (read_state n) words
+    ordered ← holds_or (refused n Shape) (ascends xs)
+    Ok (in_set xs)
+  read_given (given_move from words) = do
+    cs ← each (λ word. read_change (pieces_of word)) words
+    ordered ← holds_or (refused n Shape) (queues_ascend cs && list_all (is_change from) cs)
+    Ok (in_box (changed from cs))

@@ -30,18 +30,20 @@ function_at functions rates words t = picked functions rates (words (t - 1))
 abbrev pub system_functions : {E : Type 0} → (E → List ℕ → List ℕ) → Parts E → (ℕ → ℕ) → ℕ → List ℕ → List ℕ
 system_functions function system words = function_at (map function system.events) system.rates words
 
--- what the last t steps make of a state: the oldest event comes first
-abbrev pub compose : Functions → ℕ → List ℕ → List ℕ
-compose f zero x = x
-compose f (suc t) x = compose f t (f (suc t) x)
+-- the functions of all times
+module _ (f : Functions) where
+  -- what the last t steps make of a state: the oldest event comes first
+  abbrev pub compose : ℕ → List ℕ → List ℕ
+  compose zero x = x
+  compose (suc t) x = compose t (f (suc t) x)
 
--- what the last t steps make of the states of a list
-abbrev pub image_from : Functions → List (List ℕ) → ℕ → List (List ℕ)
-image_from f xs t = image (compose f t) xs
+  -- what the last t steps make of the states of a list
+  abbrev pub image_from : List (List ℕ) → ℕ → List (List ℕ)
+  image_from xs t = image (compose t) xs
 
--- what the last t steps make of all states
-abbrev pub image_at : Functions → List ℕ → ℕ → List (List ℕ)
-image_at f caps t = image_from f (all_states caps) t
+  -- what the last t steps make of all states
+  abbrev pub image_at : List ℕ → ℕ → List (List ℕ)
+  image_at caps t = image_from (all_states caps) t
 
 -- the function of each time is such a function
 pub record AreEach (Is : (List ℕ → List ℕ) → Type 0) (f : Functions) : Type 0 where

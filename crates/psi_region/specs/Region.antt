@@ -21,22 +21,24 @@ pub record Regional : Type 0 where
 abbrev pub start : List ℕ → Area
 start caps = record { is_split = false; states = all_states caps }
 
--- the states of a region are followed one by one in the next step: it is split, or has at most the split number of states
-abbrev pub splits : ℕ → Area → Bool
-splits split a = a.is_split || nat_le (length a.states) split
-
--- an unsplit region of at most the split number of states becomes split, keeping its states
-abbrev pub settled : ℕ → Area → Area
-settled split a = record { is_split = splits split a; states = a.states }
-
 -- a split region becomes its image, and an unsplit one the hull of its image
 abbrev pub next : Bool → (List ℕ → List ℕ) → List (List ℕ) → Area
 next true f xs = record { is_split = true; states = image f xs }
 next false f xs = record { is_split = false; states = hull (image f xs) }
 
--- one step: an unsplit region of few states becomes split first
-unfoldable pub step : ℕ → (List ℕ → List ℕ) → Area → Area
-step split f a = next (settled split a).is_split f (settled split a).states
+-- regions with this split number
+module _ (split : ℕ) where
+  -- the states of a region are followed one by one in the next step: it is split, or has at most the split number of states
+  abbrev pub splits : Area → Bool
+  splits a = a.is_split || nat_le (length a.states) split
+
+  -- an unsplit region of at most the split number of states becomes split, keeping its states
+  abbrev pub settled : Area → Area
+  settled a = record { is_split = splits a; states = a.states }
+
+  -- one step: an unsplit region of few states becomes split first
+  unfoldable pub step : (List ℕ → List ℕ) → Area → Area
+  step f a = next (settled a).is_split f (settled a).states
 
 -- what is told of a region's box: none where it is split, and its corners where it isn't
 abbrev pub ShowsBox : Area → Option Corners → Type 0

@@ -42,14 +42,6 @@ has_rows [] (row ∷ rows) = false
 has_rows (cap ∷ caps) [] = false
 has_rows (cap ∷ caps) (row ∷ rows) = (length row == cap + 1) && has_rows caps rows
 
--- the weights are as many as the queues, or the rows fit the queues' capacities
-abbrev pub has_lengths : List ℕ → RewardKind → Bool
-has_lengths caps (Linear queues weights) = length weights == length queues
-has_lengths caps (Table queues table) = has_rows (held queues caps) table
-has_lengths caps (Greatest queues) = true
-has_lengths caps (Least queues) = true
-has_lengths caps (Above queues level) = true
-
 -- the first refusal, where no queue is listed, where one stands twice, and where the lengths fit
 abbrev pub first_refusal : Bool → Bool → Bool → Option RewardRefusal
 first_refusal true repeat fits = Some Empty
@@ -57,17 +49,27 @@ first_refusal false true fits = Some Repeated
 first_refusal false false false = Some Length
 first_refusal false false true = None
 
--- why a reward of these capacities is refused: no queue is listed, one stands twice, or the lengths don't fit, in this order
-abbrev pub refusal_of : List ℕ → RewardKind → Option RewardRefusal
-refusal_of caps kind = first_refusal (is_none_listed (queues_of kind)) (repeats (queues_of kind)) (has_lengths caps kind)
-
 -- each row has an entry for the number that the state holds in its queue
 abbrev pub ReachRows : List ℕ → List ℕ → List (List ℤ) → Type 0
 ReachRows queues x rows = (i : ℕ) → i < length queues → slice_index x (slice_index queues i) < length (slice_index_or rows i [])
 
--- what a reward keeps: its capacities are valid, it isn't refused, its queues are among theirs, and its numbers are small
-pub record IsValid (caps : List ℕ) (kind : RewardKind) : Type 0 where
-  pub capacities : AreCapacities caps
-  pub accepted : refusal_of caps kind ≡ None
-  pub queues : All (λ queue. queue < length caps) (queues_of kind)
-  pub numbers : All IsSmall (numbers_of kind)
+-- under these capacities
+module _ (caps : List ℕ) where
+  -- the weights are as many as the queues, or the rows fit the queues' capacities
+  abbrev pub has_lengths : RewardKind → Bool
+  has_lengths (Linear queues weights) = length weights == length queues
+  has_lengths (Table queues table) = has_rows (held queues caps) table
+  has_lengths (Greatest queues) = true
+  has_lengths (Least queues) = true
+  has_lengths (Above queues level) = true
+
+  -- why a reward of these capacities is refused: no queue is listed, one stands twice, or the lengths don't fit, in this order
+  abbrev pub refusal_of : RewardKind → Option RewardRefusal
+  refusal_of kind = first_refusal (is_none_listed (queues_of kind)) (repeats (queues_of kind)) (has_lengths kind)
+
+  -- what a reward keeps: its capacities are valid, it isn't refused, its queues are among theirs, and its numbers are small
+  pub record IsValid (kind : RewardKind) : Type 0 where
+    pub capacities : AreCapacities caps
+    pub accepted : refusal_of kind ≡ None
+    pub queues : All (λ queue. queue < length caps) (queues_of kind)
+    pub numbers : All IsSmall (numbers_of kind)

@@ -2,18 +2,6 @@
 use Rattle.std.specs.Prelude.{◌≡◌, ◌≢◌, ◌⊎◌, ℕ, ◌+◌, ◌<◌, ◌≤◌, List, length, slice_index}
 use Rattle.psi_route.specs.Routing.{Routing, HasRoom, Lacks}
 
--- with v customers the target at place j is the chosen one in some state of the box
-pub record CanChoose (r : Routing) (l h : List ℕ) (j v : ℕ) : Type 0 where
-  pub room : HasRoom r j v
-  pub serve : r.least ≤ slice_index h r.source
-  pub others : (i : ℕ) → i < r.places → i ≢ j → (w : ℕ) × (slice_index l (r.queue i) ≤ w) × (w ≤ slice_index h (r.queue i))
-      × (Lacks r i w ⊎ (r.key j v < r.key i w))
-
--- with v customers the target at place j gets none in some state of the box
-abbrev pub CanPass : Routing → List ℕ → List ℕ → ℕ → ℕ → Type 0
-CanPass r l h j v = Lacks r j v ⊎ (slice_index l r.source < r.least)
-    ⊎ ((i : ℕ) × (i < r.places) × (i ≢ j) × ((w : ℕ) × (slice_index l (r.queue i) ≤ w) × (w ≤ slice_index h (r.queue i)) × HasRoom r i w × (r.key i w < r.key j v)))
-
 -- the least number after some of those from low to high are raised by the size: the least one that may stay as it is, where each below it must rise,
 -- or else the least one raised
 abbrev pub IsLeastAfter : (ℕ → Type 0) → (ℕ → Type 0) → ℕ → ℕ → ℕ → ℕ → Type 0
@@ -27,42 +15,58 @@ IsGreatestAfter may_rise must_stay size low high u =
     ((v : ℕ) × (low ≤ v) × (v ≤ high) × (high < v + size) × may_rise v × ((t : ℕ) → v < t → t ≤ high → must_stay t) × (u ≡ v + size))
     ⊎ (((t : ℕ) → low ≤ t → t ≤ high → high < t + size → must_stay t) × (u ≡ high))
 
--- the least number at a target after the route
-abbrev pub IsLowEnd : Routing → List ℕ → List ℕ → ℕ → ℕ → Type 0
-IsLowEnd r l h j u =
-    IsLeastAfter (λ v. CanPass r l h j v) (λ v. CanPass r l h j v → ⊥) r.size (slice_index l (r.queue j)) (slice_index h (r.queue j)) u
-
--- the greatest one
-abbrev pub IsHighEnd : Routing → List ℕ → List ℕ → ℕ → ℕ → Type 0
-IsHighEnd r l h j u =
-    IsGreatestAfter (λ v. CanChoose r l h j v) (λ v. CanChoose r l h j v → ⊥) r.size (slice_index l (r.queue j)) (slice_index h (r.queue j)) u
-
--- u has the least numbers of what the function of a route makes of the box from l to h
-pub record AreLowEnds (r : Routing) (f : List ℕ → List ℕ) (l h u : List ℕ) : Type 0 where
-  pub count : length u ≡ r.queues
-  pub targets : (j : ℕ) → j < r.places → IsLowEnd r l h j (slice_index u (r.queue j))
-  pub source : r.source < r.queues → slice_index u r.source ≡ slice_index (f l) r.source
-  pub others : (p : ℕ) → p ≢ r.source → ((i : ℕ) → i < r.places → r.queue i ≢ p) → slice_index u p ≡ slice_index l p
-
--- and w the greatest ones
-pub record AreHighEnds (r : Routing) (f : List ℕ → List ℕ) (l h w : List ℕ) : Type 0 where
-  pub count : length w ≡ r.queues
-  pub targets : (j : ℕ) → j < r.places → IsHighEnd r l h j (slice_index w (r.queue j))
-  pub source : r.source < r.queues → slice_index w r.source ≡ slice_index (f h) r.source
-  pub others : (p : ℕ) → p ≢ r.source → ((i : ℕ) → i < r.places → r.queue i ≢ p) → slice_index w p ≡ slice_index h p
-
--- both together
-pub record AreEnds (r : Routing) (f : List ℕ → List ℕ) (l h u w : List ℕ) : Type 0 where
-  pub low : AreLowEnds r f l h u
-  pub high : AreHighEnds r f l h w
-
 -- the queues of the first n places have such a number, and the others have what they had
 pub record AreSet (queue : ℕ → ℕ) (E : ℕ → ℕ → Type 0) (start ends : List ℕ) (n : ℕ) : Type 0 where
   pub count : length ends ≡ length start
   pub set : (i : ℕ) → i < n → E i (slice_index ends (queue i))
   pub rest : (p : ℕ) → ((i : ℕ) → i < n → queue i ≢ p) → slice_index ends p ≡ slice_index start p
 
--- the first n targets have their ends in the box from u to w, and the other queues what they had in the box from l to h
-pub record AreTargetEnds (r : Routing) (l h u w : List ℕ) (n : ℕ) : Type 0 where
-  pub low : AreSet r.queue (λ i v. IsLowEnd r l h i v) l u n
-  pub high : AreSet r.queue (λ i v. IsHighEnd r l h i v) h w n
+-- a route in the box from l to h
+module _ (r : Routing) (l h : List ℕ) where
+  -- with v customers the target at place j is the chosen one in some state of the box
+  pub record CanChoose (j v : ℕ) : Type 0 where
+    pub room : HasRoom r j v
+    pub serve : r.least ≤ slice_index h r.source
+    pub others : (i : ℕ) → i < r.places → i ≢ j → (w : ℕ) × (slice_index l (r.queue i) ≤ w) × (w ≤ slice_index h (r.queue i))
+        × (Lacks r i w ⊎ (r.key j v < r.key i w))
+
+  -- with v customers the target at place j gets none in some state of the box
+  abbrev pub CanPass : ℕ → ℕ → Type 0
+  CanPass j v = Lacks r j v ⊎ (slice_index l r.source < r.least)
+      ⊎ ((i : ℕ) × (i < r.places) × (i ≢ j) × ((w : ℕ) × (slice_index l (r.queue i) ≤ w) × (w ≤ slice_index h (r.queue i)) × HasRoom r i w × (r.key i w < r.key j v)))
+
+  -- the least number at a target after the route
+  abbrev pub IsLowEnd : ℕ → ℕ → Type 0
+  IsLowEnd j u =
+      IsLeastAfter (λ v. CanPass j v) (λ v. CanPass j v → ⊥) r.size (slice_index l (r.queue j)) (slice_index h (r.queue j)) u
+
+  -- the greatest one
+  abbrev pub IsHighEnd : ℕ → ℕ → Type 0
+  IsHighEnd j u =
+      IsGreatestAfter (λ v. CanChoose j v) (λ v. CanChoose j v → ⊥) r.size (slice_index l (r.queue j)) (slice_index h (r.queue j)) u
+
+  -- the first n targets have their ends in the box from u to w, and the other queues what they had in the box from l to h
+  pub record AreTargetEnds (u w : List ℕ) (n : ℕ) : Type 0 where
+    pub low : AreSet r.queue (λ i v. IsLowEnd i v) l u n
+    pub high : AreSet r.queue (λ i v. IsHighEnd i v) h w n
+
+-- a route with its function in the box from l to h
+module _ (r : Routing) (f : List ℕ → List ℕ) (l h : List ℕ) where
+  -- u has the least numbers of what the function of a route makes of the box from l to h
+  pub record AreLowEnds (u : List ℕ) : Type 0 where
+    pub count : length u ≡ r.queues
+    pub targets : (j : ℕ) → j < r.places → IsLowEnd r l h j (slice_index u (r.queue j))
+    pub source : r.source < r.queues → slice_index u r.source ≡ slice_index (f l) r.source
+    pub others : (p : ℕ) → p ≢ r.source → ((i : ℕ) → i < r.places → r.queue i ≢ p) → slice_index u p ≡ slice_index l p
+
+  -- and w the greatest ones
+  pub record AreHighEnds (w : List ℕ) : Type 0 where
+    pub count : length w ≡ r.queues
+    pub targets : (j : ℕ) → j < r.places → IsHighEnd r l h j (slice_index w (r.queue j))
+    pub source : r.source < r.queues → slice_index w r.source ≡ slice_index (f h) r.source
+    pub others : (p : ℕ) → p ≢ r.source → ((i : ℕ) → i < r.places → r.queue i ≢ p) → slice_index w p ≡ slice_index h p
+
+  -- both together
+  pub record AreEnds (u w : List ℕ) : Type 0 where
+    pub low : AreLowEnds u
+    pub high : AreHighEnds w

@@ -2,26 +2,28 @@
 use Rattle.std.specs.Prelude.{◌≡◌, ℕ, ◌<◌, Option, MatchOption, true, false}
 use Rattle.psi_route.specs.Routing.{Shape, routing, crosses}
 
--- no number of customers at place a lets its key fall past that of place b with w customers
-pub record NoFall (s : Shape) (a b w : ℕ) : Type 0 where
-  pub each : (v : ℕ) → crosses (routing s) a b v w ≡ false
+-- the keys of the places a and b of a route of this shape
+module _ (s : Shape) (a b : ℕ) where
+  -- no number of customers at place a lets its key fall past that of place b with w customers
+  pub record NoFall (w : ℕ) : Type 0 where
+    pub each : (v : ℕ) → crosses (routing s) a b v w ≡ false
 
--- v is the least number that does
-pub record IsFall (s : Shape) (a b w v : ℕ) : Type 0 where
-  pub here : crosses (routing s) a b v w ≡ true
-  pub before : (u : ℕ) → u < v → crosses (routing s) a b u w ≡ false
+  -- v is the least number that does
+  pub record IsFall (w v : ℕ) : Type 0 where
+    pub here : crosses (routing s) a b v w ≡ true
+    pub before : (u : ℕ) → u < v → crosses (routing s) a b u w ≡ false
 
--- no key falls past that of place b with fewer than n customers
-pub record NoFalls (s : Shape) (a b n : ℕ) : Type 0 where
-  pub each : (v w : ℕ) → w < n → crosses (routing s) a b v w ≡ false
+  -- no key falls past that of place b with fewer than n customers
+  pub record NoFalls (n : ℕ) : Type 0 where
+    pub each : (v w : ℕ) → w < n → crosses (routing s) a b v w ≡ false
 
--- p.0 is the least number at place a, and p.1 the least at place b with it, among the falls past fewer than n customers
-pub record IsLeastFall (s : Shape) (a b n : ℕ) (p : ℕ × ℕ) : Type 0 where
-  pub few : p.1 < n
-  pub here : crosses (routing s) a b p.0 p.1 ≡ true
-  pub before : (v w : ℕ) → w < n → v < p.0 → crosses (routing s) a b v w ≡ false
-  pub at : (w : ℕ) → w < p.1 → crosses (routing s) a b p.0 w ≡ false
+  -- p.0 is the least number at place a, and p.1 the least at place b with it, among the falls past fewer than n customers
+  pub record IsLeastFall (n : ℕ) (p : ℕ × ℕ) : Type 0 where
+    pub few : p.1 < n
+    pub here : crosses (routing s) a b p.0 p.1 ≡ true
+    pub before : (v w : ℕ) → w < n → v < p.0 → crosses (routing s) a b v w ≡ false
+    pub at : (w : ℕ) → w < p.1 → crosses (routing s) a b p.0 w ≡ false
 
--- what is found so far
-abbrev pub AreFalls : Shape → ℕ → ℕ → ℕ → Option (ℕ × ℕ) → Type 0
-AreFalls s a b n found = MatchOption found (NoFalls s a b n) (λ p. IsLeastFall s a b n p)
+  -- what is found so far
+  abbrev pub AreFalls : ℕ → Option (ℕ × ℕ) → Type 0
+  AreFalls n found = MatchOption found (NoFalls n) (λ p. IsLeastFall n p)

@@ -12,22 +12,24 @@ abbrev pub is_self_target : Option Source → List ℕ → Bool
 is_self_target None targets = false
 is_self_target (Some source) targets = list_any (λ q. nat_eq q source.queue) targets
 
--- there are as many tables as targets, and each is as long as its target's capacity
-abbrev pub are_tables : List ℕ → List ℕ → List (List ℕ) → Bool
-are_tables caps [] [] = true
-are_tables caps [] (t ∷ ts) = false
-are_tables caps (q ∷ qs) [] = false
-are_tables caps (q ∷ qs) (t ∷ ts) = nat_eq (length t) (slice_index caps q) && are_tables caps qs ts
+-- under these capacities
+module _ (caps : List ℕ) where
+  -- there are as many tables as targets, and each is as long as its target's capacity
+  abbrev pub are_tables : List ℕ → List (List ℕ) → Bool
+  are_tables [] [] = true
+  are_tables [] (t ∷ ts) = false
+  are_tables (q ∷ qs) [] = false
+  are_tables (q ∷ qs) (t ∷ ts) = nat_eq (length t) (slice_index caps q) && are_tables qs ts
 
--- there is no table, or they are the targets' tables
-abbrev pub fit_tables : List ℕ → List ℕ → List (List ℕ) → Bool
-fit_tables caps targets [] = true
-fit_tables caps targets (t ∷ ts) = are_tables caps targets (t ∷ ts)
+  -- there is no table, or they are the targets' tables
+  abbrev pub fit_tables : List ℕ → List (List ℕ) → Bool
+  fit_tables targets [] = true
+  fit_tables targets (t ∷ ts) = are_tables targets (t ∷ ts)
 
--- the size is 0, above a target's capacity, or 2 and more with a source or without a target
-abbrev pub is_size_off : List ℕ → Option Source → ℕ → List ℕ → Bool
-is_size_off caps source size targets = nat_eq size 0 || list_any (λ q. nat_lt (slice_index caps q) size) targets
-    || (nat_le 2 size && (is_some source || nat_eq (length targets) 0))
+  -- the size is 0, above a target's capacity, or 2 and more with a source or without a target
+  abbrev pub is_size_off : Option Source → ℕ → List ℕ → Bool
+  is_size_off source size targets = nat_eq size 0 || list_any (λ q. nat_lt (slice_index caps q) size) targets
+      || (nat_le 2 size && (is_some source || nat_eq (length targets) 0))
 
 -- the first reason for which a shape makes no route
 unfoldable pub refusal_of : Shape → Option RouteRefusal

@@ -60,34 +60,36 @@ routing s = record {
 
 -- ---- what a route does
 
--- the target at a place has room for the customers who come
-abbrev pub has_room : Routing → List ℕ → ℕ → Bool
-has_room r x i = nat_le (slice_index x (r.queue i) + r.size) (r.cap (r.queue i))
+-- a route in a state
+module _ (r : Routing) (x : List ℕ) where
+  -- the target at a place has room for the customers who come
+  abbrev pub has_room : ℕ → Bool
+  has_room i = nat_le (slice_index x (r.queue i) + r.size) (r.cap (r.queue i))
 
--- place i has room, and its key is less than that of place j
-abbrev pub beats : Routing → List ℕ → ℕ → ℕ → Bool
-beats r x j i = has_room r x i && nat_lt (r.key i (slice_index x (r.queue i))) (r.key j (slice_index x (r.queue j)))
+  -- place i has room, and its key is less than that of place j
+  abbrev pub beats : ℕ → ℕ → Bool
+  beats j i = has_room i && nat_lt (r.key i (slice_index x (r.queue i))) (r.key j (slice_index x (r.queue j)))
 
--- place j, where it has room and no place with room has a lesser key
-abbrev pub best_at : Routing → List ℕ → ℕ → Option ℕ
-best_at r x j = then_some (has_room r x j && is_none (first_some (λ i. then_some (beats r x j i) i) 0 r.places)) j
+  -- place j, where it has room and no place with room has a lesser key
+  abbrev pub best_at : ℕ → Option ℕ
+  best_at j = then_some (has_room j && is_none (first_some (λ i. then_some (beats j i) i) 0 r.places)) j
 
--- the place with room whose key is the least, if any has room
-unfoldable pub best : Routing → List ℕ → Option ℕ
-best r x = first_some (best_at r x) 0 r.places
+  -- the place with room whose key is the least, if any has room
+  unfoldable pub best : Option ℕ
+  best = first_some best_at 0 r.places
 
--- one customer leaves the source, if there is one
-abbrev pub taken : Routing → List ℕ → List ℕ
-taken r x = slice_set x r.source (slice_index x r.source - 1)
+  -- one customer leaves the source, if there is one
+  abbrev pub taken : List ℕ
+  taken = slice_set x r.source (slice_index x r.source - 1)
 
--- customers join the chosen place; where there is none, one leaves the source if it is lost or the list is empty
-abbrev pub moved : Routing → List ℕ → Option ℕ → List ℕ
-moved r x (Some j) = slice_set (taken r x) (r.queue j) (slice_index x (r.queue j) + r.size)
-moved r x None = if r.lost || nat_eq r.places 0 then taken r x else x
+  -- customers join the chosen place; where there is none, one leaves the source if it is lost or the list is empty
+  abbrev pub moved : Option ℕ → List ℕ
+  moved (Some j) = slice_set taken (r.queue j) (slice_index x (r.queue j) + r.size)
+  moved None = if r.lost || nat_eq r.places 0 then taken else x
 
--- where the source serves, customers move to the best place
-unfoldable pub act : Routing → List ℕ → List ℕ
-act r x = if nat_le r.least (slice_index x r.source) then moved r x (best r x) else x
+  -- where the source serves, customers move to the best place
+  unfoldable pub act : List ℕ
+  act = if nat_le r.least (slice_index x r.source) then moved best else x
 
 -- what the route of a shape does to a state
 unfoldable pub routed : Shape → List ℕ → List ℕ
@@ -111,37 +113,39 @@ HasRoom r i v = v + r.size ≤ r.cap (r.queue i)
 abbrev pub Lacks : Routing → ℕ → ℕ → Type 0
 Lacks r i v = r.cap (r.queue i) < v + r.size
 
--- place j is the chosen one: it has room, and each other place lacks room or has a greater key
-pub record IsBest (r : Routing) (x : List ℕ) (j : ℕ) : Type 0 where
-  pub place : j < r.places
-  pub room : HasRoom r j (slice_index x (r.queue j))
-  pub others : (i : ℕ) → i < r.places → i ≢ j
-      → Lacks r i (slice_index x (r.queue i)) ⊎ (r.key j (slice_index x (r.queue j)) < r.key i (slice_index x (r.queue i)))
+-- a route in a state
+module _ (r : Routing) (x : List ℕ) where
+  -- place j is the chosen one: it has room, and each other place lacks room or has a greater key
+  pub record IsBest (j : ℕ) : Type 0 where
+    pub place : j < r.places
+    pub room : HasRoom r j (slice_index x (r.queue j))
+    pub others : (i : ℕ) → i < r.places → i ≢ j
+        → Lacks r i (slice_index x (r.queue i)) ⊎ (r.key j (slice_index x (r.queue j)) < r.key i (slice_index x (r.queue i)))
 
--- place j is passed over: it lacks room, or another place has room and a lesser key
-abbrev pub IsPassed : Routing → List ℕ → ℕ → Type 0
-IsPassed r x j = Lacks r j (slice_index x (r.queue j))
-    ⊎ ((i : ℕ) × (i < r.places) × (i ≢ j) × HasRoom r i (slice_index x (r.queue i))
-    × (r.key i (slice_index x (r.queue i)) < r.key j (slice_index x (r.queue j))))
+  -- place j is passed over: it lacks room, or another place has room and a lesser key
+  abbrev pub IsPassed : ℕ → Type 0
+  IsPassed j = Lacks r j (slice_index x (r.queue j))
+      ⊎ ((i : ℕ) × (i < r.places) × (i ≢ j) × HasRoom r i (slice_index x (r.queue i))
+      × (r.key i (slice_index x (r.queue i)) < r.key j (slice_index x (r.queue j))))
 
--- a source that serves loses one: it is lost, the list is empty, or a place has room
-abbrev pub Leaves : Routing → List ℕ → Type 0
-Leaves r x = (r.lost ≡ true) ⊎ (r.places ≡ 0) ⊎ ((i : ℕ) × (i < r.places) × HasRoom r i (slice_index x (r.queue i)))
+  -- a source that serves loses one: it is lost, the list is empty, or a place has room
+  abbrev pub Leaves : Type 0
+  Leaves = (r.lost ≡ true) ⊎ (r.places ≡ 0) ⊎ ((i : ℕ) × (i < r.places) × HasRoom r i (slice_index x (r.queue i)))
 
--- a source that serves keeps all: there are places, and none has room
-abbrev pub Remains : Routing → List ℕ → Type 0
-Remains r x = (r.lost ≡ false) × (0 < r.places) × ((i : ℕ) → i < r.places → Lacks r i (slice_index x (r.queue i)))
+  -- a source that serves keeps all: there are places, and none has room
+  abbrev pub Remains : Type 0
+  Remains = (r.lost ≡ false) × (0 < r.places) × ((i : ℕ) → i < r.places → Lacks r i (slice_index x (r.queue i)))
 
--- y is what the route makes of x
-pub record Routed (r : Routing) (x y : List ℕ) : Type 0 where
-  pub long : length y ≡ r.queues
-  pub idle : slice_index x r.source < r.least → y ≡ x
-  pub gains : (j : ℕ) → r.least ≤ slice_index x r.source → IsBest r x j
-      → slice_index y (r.queue j) ≡ slice_index x (r.queue j) + r.size
-  pub stays : (j : ℕ) → j < r.places → IsPassed r x j → slice_index y (r.queue j) ≡ slice_index x (r.queue j)
-  pub takes : r.source < r.queues → r.least ≤ slice_index x r.source → Leaves r x → slice_index y r.source + 1 ≡ slice_index x r.source
-  pub keeps : Remains r x → slice_index y r.source ≡ slice_index x r.source
-  pub others : (p : ℕ) → p ≢ r.source → ((i : ℕ) → i < r.places → r.queue i ≢ p) → slice_index y p ≡ slice_index x p
+  -- y is what the route makes of x
+  pub record Routed (y : List ℕ) : Type 0 where
+    pub long : length y ≡ r.queues
+    pub idle : slice_index x r.source < r.least → y ≡ x
+    pub gains : (j : ℕ) → r.least ≤ slice_index x r.source → IsBest j
+        → slice_index y (r.queue j) ≡ slice_index x (r.queue j) + r.size
+    pub stays : (j : ℕ) → j < r.places → IsPassed j → slice_index y (r.queue j) ≡ slice_index x (r.queue j)
+    pub takes : r.source < r.queues → r.least ≤ slice_index x r.source → Leaves → slice_index y r.source + 1 ≡ slice_index x r.source
+    pub keeps : Remains → slice_index y r.source ≡ slice_index x r.source
+    pub others : (p : ℕ) → p ≢ r.source → ((i : ℕ) → i < r.places → r.queue i ≢ p) → slice_index y p ≡ slice_index x p
 
 -- ---- where a route of size 1 breaks the order of states
 
@@ -159,36 +163,38 @@ pub record Crosses (r : Routing) (a b v w : ℕ) : Type 0 where
   pub falls : r.key a (v + 1) < r.key b w
   pub above : r.key b w < r.key a v
 
--- the state in which places a and b hold v and w customers, and every other queue is full
-abbrev pub full_but : Shape → ℕ → ℕ → ℕ → ℕ → List ℕ
-full_but s a b v w = slice_set (slice_set s.caps (slice_index s.targets b) w) (slice_index s.targets a) v
+-- a route of this shape
+module _ (s : Shape) where
+  -- the state in which places a and b hold v and w customers, and every other queue is full
+  abbrev pub full_but : ℕ → ℕ → ℕ → ℕ → List ℕ
+  full_but a b v w = slice_set (slice_set s.caps (slice_index s.targets b) w) (slice_index s.targets a) v
 
--- the pair made of the two places and their numbers of customers
-abbrev pub pair_of : Shape → ℕ → ℕ → ℕ → ℕ → List ℕ × List ℕ
-pair_of s a b v w = (full_but s a b v w, full_but s a b (v + 1) w)
+  -- the pair made of the two places and their numbers of customers
+  abbrev pub pair_of : ℕ → ℕ → ℕ → ℕ → List ℕ × List ℕ
+  pair_of a b v w = (full_but a b v w, full_but a b (v + 1) w)
 
--- the pair of the least w, of the least v, of the least b, of the least a, at which keys cross
-abbrev pub pair_at : Shape → ℕ → ℕ → ℕ → ℕ → Option (List ℕ × List ℕ)
-pair_at s a b v w = then_some (crosses (routing s) a b v w) (pair_of s a b v w)
+  -- the pair of the least w, of the least v, of the least b, of the least a, at which keys cross
+  abbrev pub pair_at : ℕ → ℕ → ℕ → ℕ → Option (List ℕ × List ℕ)
+  pair_at a b v w = then_some (crosses (routing s) a b v w) (pair_of a b v w)
 
-unfoldable pub pair_from : Shape → ℕ → ℕ → ℕ → Option (List ℕ × List ℕ)
-pair_from s a b v = first_some (λ w. pair_at s a b v w) 0 (slice_index s.caps (slice_index s.targets b))
+  unfoldable pub pair_from : ℕ → ℕ → ℕ → Option (List ℕ × List ℕ)
+  pair_from a b v = first_some (λ w. pair_at a b v w) 0 (slice_index s.caps (slice_index s.targets b))
 
-unfoldable pub pair_between : Shape → ℕ → ℕ → Option (List ℕ × List ℕ)
-pair_between s a b = first_some (λ v. pair_from s a b v) 0 (slice_index s.caps (slice_index s.targets a))
+  unfoldable pub pair_between : ℕ → ℕ → Option (List ℕ × List ℕ)
+  pair_between a b = first_some (λ v. pair_from a b v) 0 (slice_index s.caps (slice_index s.targets a))
 
-unfoldable pub pair_behind : Shape → ℕ → Option (List ℕ × List ℕ)
-pair_behind s a = first_some (λ b. pair_between s a b) 0 (length s.targets)
+  unfoldable pub pair_behind : ℕ → Option (List ℕ × List ℕ)
+  pair_behind a = first_some (λ b. pair_between a b) 0 (length s.targets)
 
-unfoldable pub first_pair : Shape → Option (List ℕ × List ℕ)
-first_pair s = first_some (λ a. pair_behind s a) 0 (length s.targets)
+  unfoldable pub first_pair : Option (List ℕ × List ℕ)
+  first_pair = first_some (λ a. pair_behind a) 0 (length s.targets)
 
--- every queue but the first target is full; there the customers just have room, and one more is too many
-abbrev pub batch_pair : Shape → List ℕ × List ℕ
-batch_pair s =
-    let q = slice_index s.targets 0 in
-    (slice_set s.caps q (slice_index s.caps q - s.size), slice_set s.caps q (slice_index s.caps q - s.size + 1))
+  -- every queue but the first target is full; there the customers just have room, and one more is too many
+  abbrev pub batch_pair : List ℕ × List ℕ
+  batch_pair =
+      let q = slice_index s.targets 0 in
+      (slice_set s.caps q (slice_index s.caps q - s.size), slice_set s.caps q (slice_index s.caps q - s.size + 1))
 
--- two states whose order the route breaks, if there are any
-unfoldable pub upset_of : Shape → Option (List ℕ × List ℕ)
-upset_of s = if nat_le 2 s.size then Some (batch_pair s) else first_pair s
+  -- two states whose order the route breaks, if there are any
+  unfoldable pub upset_of : Option (List ℕ × List ℕ)
+  upset_of = if nat_le 2 s.size then Some batch_pair else first_pair
