@@ -25,30 +25,32 @@ queue_in place key names d = do
   text ← text_in place key d
   ok_or (number_of names (name_of text)) (at_key UnknownQueue place key)
 
--- the name of a queue that is none of the event's sources
-unfoldable pub target_in : Place → List ℕ → List (List ℕ) → List ℕ → Data → Result ℕ NetRefusal
-target_in place key names sources d = do
-  queue ← queue_in place key names d
-  apart ← holds_or (at_key SelfTarget place key) (not (is_in queue sources))
-  Ok queue
+-- the value of a key at a place, in a file whose queues have these names, for an event with these sources
+module _ (place : Place) (key : List ℕ) (names : List (List ℕ)) (sources : List ℕ) where
+  -- the name of a queue that is none of the event's sources
+  unfoldable pub target_in : Data → Result ℕ NetRefusal
+  target_in d = do
+    queue ← queue_in place key names d
+    apart ← holds_or (at_key SelfTarget place key) (not (is_in queue sources))
+    Ok queue
 
--- one element of a list: the name of a queue that the list doesn't name before it, and that is none of the event's sources
-unfoldable pub target_step : Place → List ℕ → List (List ℕ) → List ℕ → ℕ → List ℕ → Data → Result (List ℕ) NetRefusal
-target_step place key names sources n earlier d = do
-  queue ← queue_in place key names d
-  fresh ← holds_or (at_key RepeatedTarget place key) (not (is_in queue earlier))
-  apart ← holds_or (at_key SelfTarget place key) (not (is_in queue sources))
-  Ok (earlier ++ queue ∷ [])
+  -- one element of a list: the name of a queue that the list doesn't name before it, and that is none of the event's sources
+  unfoldable pub target_step : ℕ → List ℕ → Data → Result (List ℕ) NetRefusal
+  target_step n earlier d = do
+    queue ← queue_in place key names d
+    fresh ← holds_or (at_key RepeatedTarget place key) (not (is_in queue earlier))
+    apart ← holds_or (at_key SelfTarget place key) (not (is_in queue sources))
+    Ok (earlier ++ queue ∷ [])
 
--- a list of names
-unfoldable pub targets_in : Place → List ℕ → List (List ℕ) → List ℕ → Data → Result (List ℕ) NetRefusal
-targets_in place key names sources d = do
-  elements ← array_in place key d
-  each (target_step place key names sources) 1 [] elements
+  -- a list of names
+  unfoldable pub targets_in : Data → Result (List ℕ) NetRefusal
+  targets_in d = do
+    elements ← array_in place key d
+    each target_step 1 [] elements
 
--- a list of at least one name
-unfoldable pub some_targets_in : Place → List ℕ → List (List ℕ) → List ℕ → Data → Result (List ℕ) NetRefusal
-some_targets_in place key names sources d = do
-  elements ← array_in place key d
-  some ← holds_or (at_key OutOfRange place key) (nat_lt 0 (length elements))
-  each (target_step place key names sources) 1 [] elements
+  -- a list of at least one name
+  unfoldable pub some_targets_in : Data → Result (List ℕ) NetRefusal
+  some_targets_in d = do
+    elements ← array_in place key d
+    some ← holds_or (at_key OutOfRange place key) (nat_lt 0 (length elements))
+    each target_step 1 [] elements

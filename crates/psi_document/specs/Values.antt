@@ -57,34 +57,36 @@ abbrev pub optional : {A : Type 0} → A → (Data → Result A NetRefusal) → 
 optional default reading None = Ok default
 optional default reading (Some d) = reading d
 
--- an integer from lo to hi
-unfoldable pub number_in : Place → List ℕ → ℕ → ℕ → Data → Result ℕ NetRefusal
-number_in place key lo hi (integer (pos n)) = if nat_le lo n && nat_le n hi then Ok n else Err (at_key OutOfRange place key)
-number_in place key lo hi (integer (negsuc n)) = Err (at_key OutOfRange place key)
-number_in place key lo hi d = Err (at_key WrongType place key)
+-- the value of a key at a place
+module _ (place : Place) (key : List ℕ) where
+  -- an integer from lo to hi
+  unfoldable pub number_in : ℕ → ℕ → Data → Result ℕ NetRefusal
+  number_in lo hi (integer (pos n)) = if nat_le lo n && nat_le n hi then Ok n else Err (at_key OutOfRange place key)
+  number_in lo hi (integer (negsuc n)) = Err (at_key OutOfRange place key)
+  number_in lo hi d = Err (at_key WrongType place key)
 
--- an integer from -most to most
-unfoldable pub integer_in : Place → List ℕ → ℕ → Data → Result ℤ NetRefusal
-integer_in place key most (integer z) = if nat_le (unsigned_abs z) most then Ok z else Err (at_key OutOfRange place key)
-integer_in place key most d = Err (at_key WrongType place key)
+  -- an integer from -most to most
+  unfoldable pub integer_in : ℕ → Data → Result ℤ NetRefusal
+  integer_in most (integer z) = if nat_le (unsigned_abs z) most then Ok z else Err (at_key OutOfRange place key)
+  integer_in most d = Err (at_key WrongType place key)
 
--- a string
-unfoldable pub text_in : Place → List ℕ → Data → Result (List ℕ) NetRefusal
-text_in place key (string text) = Ok text
-text_in place key d = Err (at_key WrongType place key)
+  -- a string
+  unfoldable pub text_in : Data → Result (List ℕ) NetRefusal
+  text_in (string text) = Ok text
+  text_in d = Err (at_key WrongType place key)
 
--- an array
-unfoldable pub array_in : Place → List ℕ → Data → Result (List Data) NetRefusal
-array_in place key (array items) = Ok (elements_of items)
-array_in place key d = Err (at_key WrongType place key)
+  -- an array
+  unfoldable pub array_in : Data → Result (List Data) NetRefusal
+  array_in (array items) = Ok (elements_of items)
+  array_in d = Err (at_key WrongType place key)
 
--- an array of 1 to so many elements, with the cause for one that is empty
-unfoldable pub elements_in : Place → List ℕ → Cause → ℕ → Data → Result (List Data) NetRefusal
-elements_in place key empty most d = do
-  elements ← array_in place key d
-  some ← holds_or (at_key empty place key) (nat_lt 0 (length elements))
-  few ← holds_or (at_key TooMany place key) (nat_le (length elements) most)
-  Ok elements
+  -- an array of 1 to so many elements, with the cause for one that is empty
+  unfoldable pub elements_in : Cause → ℕ → Data → Result (List Data) NetRefusal
+  elements_in empty most d = do
+    elements ← array_in d
+    some ← holds_or (at_key empty place key) (nat_lt 0 (length elements))
+    few ← holds_or (at_key TooMany place key) (nat_le (length elements) most)
+    Ok elements
 
 -- an element that is a table
 unfoldable pub table_in : Place → Data → Result Members NetRefusal

@@ -31,12 +31,6 @@ kind_named version text =
     else if bytes_eq text (codes "guarded") then (if version == 2 then Some word.Guarded else None)
     else None
 
--- `kind`
-unfoldable pub kind_in : Place → ℕ → Data → Result KindWord NetRefusal
-kind_in place version d = do
-  text ← text_in place (codes "kind") d
-  ok_or (kind_named version text) (at_key UnknownKind place (codes "kind"))
-
 -- the keys that only events of some kinds have
 abbrev pub own_keys : KindWord → List (List ℕ)
 own_keys word.Arrival = codes "to" ∷ []
@@ -52,60 +46,70 @@ own_keys word.Guarded = codes "part" ∷ []
 abbrev pub event_keys : KindWord → List (List ℕ)
 event_keys word = codes "kind" ∷ codes "name" ∷ codes "rate" ∷ own_keys word
 
--- what the keys of its own say of an event of this kind
-unfoldable pub kind_of : Place → KindWord → List (List ℕ) → List ℕ → Members → Result Kind NetRefusal
-kind_of place word.Arrival names caps ms = arrival_of place names ms
-kind_of place word.Service names caps ms = service_of place names ms
-kind_of place word.Index names caps ms = index_of place names caps ms
-kind_of place word.Batch names caps ms = batch_of place names caps ms
-kind_of place word.Negative names caps ms = negative_of place names ms
-kind_of place word.Fork names caps ms = fork_of place names ms
-kind_of place word.Join names caps ms = join_of place names ms
-kind_of place word.Guarded names caps ms = guarded_of place names caps ms
-
--- an event's table, with its place and the names of the events before it; the first server of its source stands for all
-unfoldable pub event_of : Place → ℕ → List (List ℕ) → List (List ℕ) → List ℕ → Members → Result NamedEvent NetRefusal
-event_of place version earlier names caps ms = do
-  word ← required place (codes "kind") (kind_in place version) (get_member (codes "kind") ms)
-  known ← no_unknown place (event_keys word) ms
-  name ← required place (codes "name") (name_in place (codes "name")) (get_member (codes "name") ms)
-  fresh ← unless_taken place earlier name
-  rate ← required place (codes "rate") (number_in place (codes "rate") 1 1048576) (get_member (codes "rate") ms)
-  kind ← kind_of place word names caps ms
-  Ok (record { name = name; server = 1; rate = rate; kind = kind })
-
 -- the names of the tables read so far, and their events expanded over servers
 pub record Listed : Type 0 where
   pub names : List (List ℕ)
   pub events : List NamedEvent
 
--- so many expanded events, index values and numbers of rates are within their limits
-unfoldable pub within_limits : Place → List ℕ → ℕ → ℕ → ℕ → Result (Unit {0}) NetRefusal
-within_limits place key events values rates = do
-  few ← holds_or (at_key TooMany place key) (nat_le events 1024)
-  small ← holds_or (at_key TooMany place (codes "table")) (nat_le values most_index_values)
-  holds_or (at_key TotalTooLarge place (codes "rate")) (nat_le rates greatest_total)
+-- the event at this place
+module _ (place : Place) where
+  -- `kind`
+  unfoldable pub kind_in : ℕ → Data → Result KindWord NetRefusal
+  kind_in version d = do
+    text ← text_in place (codes "kind") d
+    ok_or (kind_named version text) (at_key UnknownKind place (codes "kind"))
 
--- the events so far, the last ones those of this event, are within their limits
-unfoldable pub are_within : Place → NamedEvent → List NamedEvent → Result (Unit {0}) NetRefusal
-are_within place event events = within_limits place (count_key (source_of event.kind)) (length events) (values_of events) (total (map (λ e. e.rate) events))
+  -- what the keys of its own say of an event of this kind
+  unfoldable pub kind_of : KindWord → List (List ℕ) → List ℕ → Members → Result Kind NetRefusal
+  kind_of word.Arrival names caps ms = arrival_of place names ms
+  kind_of word.Service names caps ms = service_of place names ms
+  kind_of word.Index names caps ms = index_of place names caps ms
+  kind_of word.Batch names caps ms = batch_of place names caps ms
+  kind_of word.Negative names caps ms = negative_of place names ms
+  kind_of word.Fork names caps ms = fork_of place names ms
+  kind_of word.Join names caps ms = join_of place names ms
+  kind_of word.Guarded names caps ms = guarded_of place names caps ms
 
--- one element of the array, with its number and what was read before it
-unfoldable pub event_step : ℕ → List Queue → ℕ → Listed → Data → Result Listed NetRefusal
-event_step version queues n earlier d = do
-  ms ← table_in (event_place n) d
-  event ← event_of (event_place n) version earlier.names (map (λ q. q.name) queues) (map (λ q. q.capacity) queues) ms
-  within ← are_within (event_place n) event (earlier.events ++ expanded queues event)
-  Ok (record { names = earlier.names ++ event.name ∷ []; events = earlier.events ++ expanded queues event })
+  -- an event's table, with its place and the names of the events before it; the first server of its source stands for all
+  unfoldable pub event_of : ℕ → List (List ℕ) → List (List ℕ) → List ℕ → Members → Result NamedEvent NetRefusal
+  event_of version earlier names caps ms = do
+    word ← required place (codes "kind") (kind_in version) (get_member (codes "kind") ms)
+    known ← no_unknown place (event_keys word) ms
+    name ← required place (codes "name") (name_in place (codes "name")) (get_member (codes "name") ms)
+    fresh ← unless_taken place earlier name
+    rate ← required place (codes "rate") (number_in place (codes "rate") 1 1048576) (get_member (codes "rate") ms)
+    kind ← kind_of word names caps ms
+    Ok (record { name = name; server = 1; rate = rate; kind = kind })
 
--- `event`: an array of 1 to 1,024 tables
-unfoldable pub events_in : ℕ → List Queue → Data → Result (List NamedEvent) NetRefusal
-events_in version queues d = do
-  tables ← elements_in top (codes "event") NoEvents 1024 d
-  read ← each (event_step version queues) 1 (record { names = []; events = [] }) tables
-  Ok read.events
+  -- so many expanded events, index values and numbers of rates are within their limits
+  unfoldable pub within_limits : List ℕ → ℕ → ℕ → ℕ → Result (Unit {0}) NetRefusal
+  within_limits key events values rates = do
+    few ← holds_or (at_key TooMany place key) (nat_le events 1024)
+    small ← holds_or (at_key TooMany place (codes "table")) (nat_le values most_index_values)
+    holds_or (at_key TotalTooLarge place (codes "rate")) (nat_le rates greatest_total)
 
--- the events of a document, whose key `event` is required
-abbrev pub events_of : ℕ → List Queue → Option Data → Result (List NamedEvent) NetRefusal
-events_of version queues None = Err (at_key NoEvents top (codes "event"))
-events_of version queues (Some d) = events_in version queues d
+  -- the events so far, the last ones those of this event, are within their limits
+  unfoldable pub are_within : NamedEvent → List NamedEvent → Result (Unit {0}) NetRefusal
+  are_within event events = within_limits (count_key (source_of event.kind)) (length events) (values_of events) (total (map (λ e. e.rate) events))
+
+-- in a file of this version with these queues
+module _ (version : ℕ) (queues : List Queue) where
+  -- one element of the array, with its number and what was read before it
+  unfoldable pub event_step : ℕ → Listed → Data → Result Listed NetRefusal
+  event_step n earlier d = do
+    ms ← table_in (event_place n) d
+    event ← event_of (event_place n) version earlier.names (map (λ q. q.name) queues) (map (λ q. q.capacity) queues) ms
+    within ← are_within (event_place n) event (earlier.events ++ expanded queues event)
+    Ok (record { names = earlier.names ++ event.name ∷ []; events = earlier.events ++ expanded queues event })
+
+  -- `event`: an array of 1 to 1,024 tables
+  unfoldable pub events_in : Data → Result (List NamedEvent) NetRefusal
+  events_in d = do
+    tables ← elements_in top (codes "event") NoEvents 1024 d
+    read ← each event_step 1 (record { names = []; events = [] }) tables
+    Ok read.events
+
+  -- the events of a document, whose key `event` is required
+  abbrev pub events_of : Option Data → Result (List NamedEvent) NetRefusal
+  events_of None = Err (at_key NoEvents top (codes "event"))
+  events_of (Some d) = events_in d

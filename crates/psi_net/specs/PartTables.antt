@@ -28,35 +28,37 @@ part_queue place names earlier d = do
   fresh ← holds_or (at_key RepeatedTarget place (codes "queue")) (not (is_named earlier queue))
   Ok queue
 
--- a part's table, with the parts before it
-unfoldable pub part_of : Place → List (List ℕ) → List ℕ → List Part → Members → Result Part NetRefusal
-part_of place names caps earlier ms = do
-  known ← no_unknown place part_keys ms
-  queue ← required place (codes "queue") (part_queue place names earlier) (get_member (codes "queue") ms)
-  least ← optional 0 (number_in place (codes "least") 0 (slice_index caps queue)) (get_member (codes "least") ms)
-  most ← optional (slice_index caps queue) (number_in place (codes "most") 0 (slice_index caps queue)) (get_member (codes "most") ms)
-  shift ← optional (pos 0) (integer_in place (codes "shift") 65535) (get_member (codes "shift") ms)
-  floor ← optional 0 (number_in place (codes "floor") 0 (slice_index caps queue)) (get_member (codes "floor") ms)
-  ceiling ← optional (slice_index caps queue) (number_in place (codes "ceiling") 0 (slice_index caps queue)) (get_member (codes "ceiling") ms)
-  guarded ← holds_or (at_key EmptyGuard place (codes "least")) (nat_le least most)
-  bounded ← holds_or (at_key EmptyGuard place (codes "floor")) (nat_le floor ceiling)
-  Ok (record { queue = queue; least = least; most = most; shift = shift; floor = floor; ceiling = ceiling })
+-- the event at this place, in a file whose queues have these names and capacities
+module _ (place : Place) (names : List (List ℕ)) (caps : List ℕ) where
+  -- a part's table, with the parts before it
+  unfoldable pub part_of : List Part → Members → Result Part NetRefusal
+  part_of earlier ms = do
+    known ← no_unknown place part_keys ms
+    queue ← required place (codes "queue") (part_queue place names earlier) (get_member (codes "queue") ms)
+    least ← optional 0 (number_in place (codes "least") 0 (slice_index caps queue)) (get_member (codes "least") ms)
+    most ← optional (slice_index caps queue) (number_in place (codes "most") 0 (slice_index caps queue)) (get_member (codes "most") ms)
+    shift ← optional (pos 0) (integer_in place (codes "shift") 65535) (get_member (codes "shift") ms)
+    floor ← optional 0 (number_in place (codes "floor") 0 (slice_index caps queue)) (get_member (codes "floor") ms)
+    ceiling ← optional (slice_index caps queue) (number_in place (codes "ceiling") 0 (slice_index caps queue)) (get_member (codes "ceiling") ms)
+    guarded ← holds_or (at_key EmptyGuard place (codes "least")) (nat_le least most)
+    bounded ← holds_or (at_key EmptyGuard place (codes "floor")) (nat_le floor ceiling)
+    Ok (record { queue = queue; least = least; most = most; shift = shift; floor = floor; ceiling = ceiling })
 
--- one element of the array, with the parts before it
-unfoldable pub part_step : Place → List (List ℕ) → List ℕ → ℕ → List Part → Data → Result (List Part) NetRefusal
-part_step place names caps n earlier d = do
-  ms ← part_table place d
-  part ← part_of place names caps earlier ms
-  Ok (earlier ++ part ∷ [])
+  -- one element of the array, with the parts before it
+  unfoldable pub part_step : ℕ → List Part → Data → Result (List Part) NetRefusal
+  part_step n earlier d = do
+    ms ← part_table place d
+    part ← part_of earlier ms
+    Ok (earlier ++ part ∷ [])
 
--- `part`: an array of 1 to 32 tables
-unfoldable pub parts_in : Place → List (List ℕ) → List ℕ → Data → Result (List Part) NetRefusal
-parts_in place names caps d = do
-  tables ← elements_in place (codes "part") OutOfRange 32 d
-  each (part_step place names caps) 1 [] tables
+  -- `part`: an array of 1 to 32 tables
+  unfoldable pub parts_in : Data → Result (List Part) NetRefusal
+  parts_in d = do
+    tables ← elements_in place (codes "part") OutOfRange 32 d
+    each part_step 1 [] tables
 
--- the key of a guarded event
-unfoldable pub guarded_of : Place → List (List ℕ) → List ℕ → Members → Result Kind NetRefusal
-guarded_of place names caps ms = do
-  parts ← required place (codes "part") (parts_in place names caps) (get_member (codes "part") ms)
-  Ok (kind.Guarded parts)
+  -- the key of a guarded event
+  unfoldable pub guarded_of : Members → Result Kind NetRefusal
+  guarded_of ms = do
+    parts ← required place (codes "part") parts_in (get_member (codes "part") ms)
+    Ok (kind.Guarded parts)

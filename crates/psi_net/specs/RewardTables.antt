@@ -25,12 +25,6 @@ reward_named text =
     else if bytes_eq text (codes "above") then Some word.Above
     else None
 
--- `kind`
-unfoldable pub reward_kind_in : Place → Data → Result RewardWord NetRefusal
-reward_kind_in place d = do
-  text ← text_in place (codes "kind") d
-  ok_or (reward_named text) (at_key UnknownKind place (codes "kind"))
-
 -- the key that only rewards of one kind have
 abbrev pub own_keys : RewardWord → List (List ℕ)
 own_keys word.Linear = codes "weights" ∷ []
@@ -47,73 +41,83 @@ reward_keys word = codes "kind" ∷ codes "name" ∷ codes "queues" ∷ own_keys
 abbrev pub greatest_number : ℕ
 greatest_number = 1000000000
 
--- one more integer of the weights or of a row
-unfoldable pub integer_step : Place → List ℕ → ℕ → List ℤ → Data → Result (List ℤ) NetRefusal
-integer_step place key n earlier d = do
-  number ← integer_in place key greatest_number d
-  Ok (earlier ++ number ∷ [])
+-- the reward at this place
+module _ (place : Place) where
+  -- `kind`
+  unfoldable pub reward_kind_in : Data → Result RewardWord NetRefusal
+  reward_kind_in d = do
+    text ← text_in place (codes "kind") d
+    ok_or (reward_named text) (at_key UnknownKind place (codes "kind"))
 
--- `weights`: as many integers as queues
-unfoldable pub weights_in : Place → ℕ → Data → Result (List ℤ) NetRefusal
-weights_in place count d = do
-  elements ← array_in place (codes "weights") d
-  fits ← holds_or (at_key TableLength place (codes "weights")) (length elements == count)
-  each (integer_step place (codes "weights")) 1 [] elements
+  -- one more integer of the weights or of a row
+  unfoldable pub integer_step : List ℕ → ℕ → List ℤ → Data → Result (List ℤ) NetRefusal
+  integer_step key n earlier d = do
+    number ← integer_in place key greatest_number d
+    Ok (earlier ++ number ∷ [])
 
--- one row of `table`, with the rows before it: an integer for 0 customers up to the next queue's capacity
-unfoldable pub grid_step : Place → List ℕ → List ℕ → ℕ → List (List ℤ) → Data → Result (List (List ℤ)) NetRefusal
-grid_step place caps queues n rows d = do
-  elements ← array_in place (codes "table") d
-  fits ← holds_or (at_key TableLength place (codes "table")) (length elements == slice_index caps (slice_index queues (length rows)) + 1)
-  row ← each (integer_step place (codes "table")) 1 [] elements
-  Ok (rows ++ row ∷ [])
+  -- `weights`: as many integers as queues
+  unfoldable pub weights_in : ℕ → Data → Result (List ℤ) NetRefusal
+  weights_in count d = do
+    elements ← array_in place (codes "weights") d
+    fits ← holds_or (at_key TableLength place (codes "weights")) (length elements == count)
+    each (integer_step (codes "weights")) 1 [] elements
 
--- `table`: one row for each queue
-unfoldable pub grid_in : Place → List ℕ → List ℕ → Data → Result (List (List ℤ)) NetRefusal
-grid_in place caps queues d = do
-  elements ← array_in place (codes "table") d
-  fits ← holds_or (at_key TableLength place (codes "table")) (length elements == length queues)
-  each (grid_step place caps queues) 1 [] elements
+  -- one row of `table`, with the rows before it: an integer for 0 customers up to the next queue's capacity
+  unfoldable pub grid_step : List ℕ → List ℕ → ℕ → List (List ℤ) → Data → Result (List (List ℤ)) NetRefusal
+  grid_step caps queues n rows d = do
+    elements ← array_in place (codes "table") d
+    fits ← holds_or (at_key TableLength place (codes "table")) (length elements == slice_index caps (slice_index queues (length rows)) + 1)
+    row ← each (integer_step (codes "table")) 1 [] elements
+    Ok (rows ++ row ∷ [])
 
--- the key of its own that a kind has
-unfoldable pub reward_kind_of : Place → RewardWord → List ℕ → List ℕ → Members → Result RewardKind NetRefusal
-reward_kind_of place word.Linear caps queues ms = do
-  weights ← required place (codes "weights") (weights_in place (length queues)) (get_member (codes "weights") ms)
-  Ok (kind.Linear queues weights)
-reward_kind_of place word.Table caps queues ms = do
-  table ← required place (codes "table") (grid_in place caps queues) (get_member (codes "table") ms)
-  Ok (kind.Table queues table)
-reward_kind_of place word.Greatest caps queues ms = Ok (kind.Greatest queues)
-reward_kind_of place word.Least caps queues ms = Ok (kind.Least queues)
-reward_kind_of place word.Above caps queues ms = do
-  level ← required place (codes "level") (number_in place (codes "level") 0 65535) (get_member (codes "level") ms)
-  Ok (kind.Above queues level)
+  -- `table`: one row for each queue
+  unfoldable pub grid_in : List ℕ → List ℕ → Data → Result (List (List ℤ)) NetRefusal
+  grid_in caps queues d = do
+    elements ← array_in place (codes "table") d
+    fits ← holds_or (at_key TableLength place (codes "table")) (length elements == length queues)
+    each (grid_step caps queues) 1 [] elements
 
--- a reward's table, with its place and the names of the rewards before it
-unfoldable pub reward_of : Place → List (List ℕ) → List (List ℕ) → List ℕ → Members → Result NamedReward NetRefusal
-reward_of place earlier names caps ms = do
-  word ← required place (codes "kind") (reward_kind_in place) (get_member (codes "kind") ms)
-  known ← no_unknown place (reward_keys word) ms
-  name ← required place (codes "name") (name_in place (codes "name")) (get_member (codes "name") ms)
-  fresh ← unless_taken place earlier name
-  queues ← required place (codes "queues") (some_targets_in place (codes "queues") names []) (get_member (codes "queues") ms)
-  kind ← reward_kind_of place word caps queues ms
-  Ok (record { name = name; kind = kind })
+  -- the key of its own that a kind has
+  unfoldable pub reward_kind_of : RewardWord → List ℕ → List ℕ → Members → Result RewardKind NetRefusal
+  reward_kind_of word.Linear caps queues ms = do
+    weights ← required place (codes "weights") (weights_in (length queues)) (get_member (codes "weights") ms)
+    Ok (kind.Linear queues weights)
+  reward_kind_of word.Table caps queues ms = do
+    table ← required place (codes "table") (grid_in caps queues) (get_member (codes "table") ms)
+    Ok (kind.Table queues table)
+  reward_kind_of word.Greatest caps queues ms = Ok (kind.Greatest queues)
+  reward_kind_of word.Least caps queues ms = Ok (kind.Least queues)
+  reward_kind_of word.Above caps queues ms = do
+    level ← required place (codes "level") (number_in place (codes "level") 0 65535) (get_member (codes "level") ms)
+    Ok (kind.Above queues level)
 
--- one element of the array, with its number and the rewards before it
-unfoldable pub reward_step : List (List ℕ) → List ℕ → ℕ → List NamedReward → Data → Result (List NamedReward) NetRefusal
-reward_step names caps n earlier d = do
-  ms ← table_in (reward_place n) d
-  reward ← reward_of (reward_place n) (map (λ r. r.name) earlier) names caps ms
-  Ok (earlier ++ reward ∷ [])
+  -- a reward's table, with its place and the names of the rewards before it
+  unfoldable pub reward_of : List (List ℕ) → List (List ℕ) → List ℕ → Members → Result NamedReward NetRefusal
+  reward_of earlier names caps ms = do
+    word ← required place (codes "kind") reward_kind_in (get_member (codes "kind") ms)
+    known ← no_unknown place (reward_keys word) ms
+    name ← required place (codes "name") (name_in place (codes "name")) (get_member (codes "name") ms)
+    fresh ← unless_taken place earlier name
+    queues ← required place (codes "queues") (some_targets_in place (codes "queues") names []) (get_member (codes "queues") ms)
+    kind ← reward_kind_of word caps queues ms
+    Ok (record { name = name; kind = kind })
 
--- `reward`: an array of at most 64 tables
-unfoldable pub rewards_in : List (List ℕ) → List ℕ → Data → Result (List NamedReward) NetRefusal
-rewards_in names caps d = do
-  tables ← array_in top (codes "reward") d
-  few ← holds_or (at_key TooMany top (codes "reward")) (nat_le (length tables) 64)
-  each (reward_step names caps) 1 [] tables
+-- in a file whose queues have these names and capacities
+module _ (names : List (List ℕ)) (caps : List ℕ) where
+  -- one element of the array, with its number and the rewards before it
+  unfoldable pub reward_step : ℕ → List NamedReward → Data → Result (List NamedReward) NetRefusal
+  reward_step n earlier d = do
+    ms ← table_in (reward_place n) d
+    reward ← reward_of (reward_place n) (map (λ r. r.name) earlier) names caps ms
+    Ok (earlier ++ reward ∷ [])
 
--- the rewards of a document: none where `reward` is left out
-abbrev pub rewards_of : List (List ℕ) → List ℕ → Option Data → Result (List NamedReward) NetRefusal
-rewards_of names caps found = optional [] (rewards_in names caps) found
+  -- `reward`: an array of at most 64 tables
+  unfoldable pub rewards_in : Data → Result (List NamedReward) NetRefusal
+  rewards_in d = do
+    tables ← array_in top (codes "reward") d
+    few ← holds_or (at_key TooMany top (codes "reward")) (nat_le (length tables) 64)
+    each reward_step 1 [] tables
+
+  -- the rewards of a document: none where `reward` is left out
+  abbrev pub rewards_of : Option Data → Result (List NamedReward) NetRefusal
+  rewards_of found = optional [] rewards_in found

@@ -12,18 +12,6 @@ use Rattle.psi_network.specs.Expansion.{expanded}
 use Rattle.psi_network.specs.declared.entries.Queue.{Queue}
 use Rattle.psi_network.specs.declared.entries.NamedEvent.{NamedEvent}
 
--- there are 4 to 16 queues
-abbrev pub queue_count : ℕ → ℕ
-queue_count n = 4 + n % 13
-
--- the i-th queue, i from 1: 8 to 32 customers and 1 to 3 servers
-abbrev pub nth_queue : ℕ → ℕ → Queue
-nth_queue n i = record { name = codes "q" ++ decimal i; capacity = 8 + (5 * i + n) % 25; servers = 1 + (i + n) % 3 }
-
--- the queues of the network of a number
-unfoldable pub generated_queues : ℕ → List Queue
-generated_queues n = map (nth_queue n) (numbers_from 1 (queue_count n))
-
 -- the first server of the i-th queue; an event names queues by numbers from 0, so it stands one below
 abbrev pub server_of : ℕ → Source
 server_of i = record { queue = i - 1; k = 1 }
@@ -52,22 +40,36 @@ bulk_event = record { name = codes "bulk"; server = 1; rate = 1; kind = Batch (0
 abbrev pub negative_event : ℕ → NamedEvent
 negative_event last = record { name = codes "neg"; server = 1; rate = 1; kind = Negative (Some (server_of 2)) (last - 1) 1 }
 
--- the network of an odd number has these too
-abbrev pub odd_events : ℕ → List NamedEvent
-odd_events n = if n % 2 == 1 then bulk_event ∷ negative_event (queue_count n) ∷ [] else []
-
--- the events in order, before they are expanded over servers
-abbrev pub listed_events : ℕ → List NamedEvent
-listed_events n = arrival_event ∷ map passing_event (numbers_from 1 (queue_count n - 1)) ++ leaving_event (queue_count n) ∷ odd_events n
-
--- its events, expanded over servers
-unfoldable pub generated_events : ℕ → List NamedEvent
-generated_events n = flat_map (expanded (generated_queues n)) (listed_events n)
-
--- the number of customers in the network
-unfoldable pub total_reward : ℕ → NamedReward
-total_reward n = record { name = codes "total"; kind = Linear (numbers_from 0 (queue_count n)) (replicate (queue_count n) (pos 1)) }
-
 -- the network of a number
-unfoldable pub generated_network : ℕ → Network
-generated_network n = record { queues = generated_queues n; events = generated_events n; limit = 18; split = 64; rewards = total_reward n ∷ [] }
+module _ (n : ℕ) where
+  -- there are 4 to 16 queues
+  abbrev pub queue_count : ℕ
+  queue_count = 4 + n % 13
+
+  -- the i-th queue, i from 1: 8 to 32 customers and 1 to 3 servers
+  abbrev pub nth_queue : ℕ → Queue
+  nth_queue i = record { name = codes "q" ++ decimal i; capacity = 8 + (5 * i + n) % 25; servers = 1 + (i + n) % 3 }
+
+  -- the queues of the network of a number
+  unfoldable pub generated_queues : List Queue
+  generated_queues = map nth_queue (numbers_from 1 queue_count)
+
+  -- the network of an odd number has these too
+  abbrev pub odd_events : List NamedEvent
+  odd_events = if n % 2 == 1 then bulk_event ∷ negative_event queue_count ∷ [] else []
+
+  -- the events in order, before they are expanded over servers
+  abbrev pub listed_events : List NamedEvent
+  listed_events = arrival_event ∷ map passing_event (numbers_from 1 (queue_count - 1)) ++ leaving_event queue_count ∷ odd_events
+
+  -- its events, expanded over servers
+  unfoldable pub generated_events : List NamedEvent
+  generated_events = flat_map (expanded generated_queues) listed_events
+
+  -- the number of customers in the network
+  unfoldable pub total_reward : NamedReward
+  total_reward = record { name = codes "total"; kind = Linear (numbers_from 0 queue_count) (replicate queue_count (pos 1)) }
+
+  -- the network of a number
+  unfoldable pub generated_network : Network
+  generated_network = record { queues = generated_queues; events = generated_events; limit = 18; split = 64; rewards = total_reward ∷ [] }

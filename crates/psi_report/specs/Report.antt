@@ -52,19 +52,21 @@ queue_items = record { sum = codes "sum"; least = codes "least"; greatest = code
 abbrev pub reward_items : Items
 reward_items = record { sum = codes "reward-sum"; least = codes "reward-least"; greatest = codes "reward-greatest" }
 
--- the least and the greatest of values, where there are any
-unfoldable pub extreme_rows : Items → List ℕ → List ℤ → List (List (List ℕ))
-extreme_rows items name [] = []
-extreme_rows items name (z ∷ zs) =
-    row items.least name (signed_decimal (least (z ∷ zs))) ∷ row items.greatest name (signed_decimal (greatest (z ∷ zs))) ∷ []
+-- records of these names
+module _ (items : Items) where
+  -- the least and the greatest of values, where there are any
+  unfoldable pub extreme_rows : List ℕ → List ℤ → List (List (List ℕ))
+  extreme_rows name [] = []
+  extreme_rows name (z ∷ zs) =
+      row items.least name (signed_decimal (least (z ∷ zs))) ∷ row items.greatest name (signed_decimal (greatest (z ∷ zs))) ∷ []
 
--- the sum of values; and where there are any, the least and the greatest of them
-unfoldable pub value_rows : Items → List ℕ → List ℤ → List (List (List ℕ))
-value_rows items name zs = row items.sum name (signed_decimal (sum_of zs)) ∷ extreme_rows items name zs
+  -- the sum of values; and where there are any, the least and the greatest of them
+  unfoldable pub value_rows : List ℕ → List ℤ → List (List (List ℕ))
+  value_rows name zs = row items.sum name (signed_decimal (sum_of zs)) ∷ extreme_rows name zs
 
--- the records of a quantity over states
-abbrev pub quantity_rows : Items → List (List ℕ) → Quantity → List (List (List ℕ))
-quantity_rows items states quantity = value_rows items quantity.name (map quantity.value states)
+  -- the records of a quantity over states
+  abbrev pub quantity_rows : List (List ℕ) → Quantity → List (List (List ℕ))
+  quantity_rows states quantity = value_rows quantity.name (map quantity.value states)
 
 -- the records of a report: its heading, the numbers of samples, their horizons, the queues and the rewards
 abbrev pub report_rows : Network → List Outcome → List (List (List ℕ))

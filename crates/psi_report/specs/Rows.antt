@@ -20,20 +20,22 @@ unfoldable pub count_rows : ℕ → List ℕ → List (List (List ℕ))
 count_rows k [] = []
 count_rows k (n ∷ ns) = count_row k n ++ count_rows (k + 1) ns
 
--- the least and the greatest of values, where any sample is met
-unfoldable pub range_rows : Items → (met : ℕ) → List ℕ → Summary → List (List (List ℕ))
-range_rows items met name summary =
-    if nat_lt 0 met then row items.least name (signed_decimal summary.least) ∷ row items.greatest name (signed_decimal summary.greatest) ∷ [] else []
+-- records of these names, where so many samples are met
+module _ (items : Items) (met : ℕ) where
+  -- the least and the greatest of values, where any sample is met
+  unfoldable pub range_rows : List ℕ → Summary → List (List (List ℕ))
+  range_rows name summary =
+      if nat_lt 0 met then row items.least name (signed_decimal summary.least) ∷ row items.greatest name (signed_decimal summary.greatest) ∷ [] else []
 
--- the records of what values come to
-unfoldable pub summary_rows : Items → (met : ℕ) → List ℕ → Summary → List (List (List ℕ))
-summary_rows items met name summary = row items.sum name (signed_decimal summary.sum) ∷ range_rows items met name summary
+  -- the records of what values come to
+  unfoldable pub summary_rows : List ℕ → Summary → List (List (List ℕ))
+  summary_rows name summary = row items.sum name (signed_decimal summary.sum) ∷ range_rows name summary
 
--- and those of one quantity after another
-unfoldable pub summaries_rows : Items → (met : ℕ) → List (List ℕ) → List Summary → List (List (List ℕ))
-summaries_rows items met [] summaries = []
-summaries_rows items met (name ∷ names) [] = []
-summaries_rows items met (name ∷ names) (summary ∷ summaries) = summary_rows items met name summary ++ summaries_rows items met names summaries
+  -- and those of one quantity after another
+  unfoldable pub summaries_rows : List (List ℕ) → List Summary → List (List (List ℕ))
+  summaries_rows [] summaries = []
+  summaries_rows (name ∷ names) [] = []
+  summaries_rows (name ∷ names) (summary ∷ summaries) = summary_rows name summary ++ summaries_rows names summaries
 
 -- all records
 unfoldable pub totals_rows : Network → Totals → List (List (List ℕ))
