@@ -1,6 +1,6 @@
 -- What an accepted kind of event does makes states of states.
-use Rattle.std.specs.Prelude.{◌≡◌, ℕ, ◌-◌, ◌≤◌, List, [], ◌∷◌, ◌++◌, length, Bool, true, false, if◌then◌else◌, Option, Some, None, slice_index, refl}
-use Rattle.std.proofs.Common.{sym, ◌∙◌, subst, arith, length-set}
+use Rattle.std.specs.Prelude.{◌≡◌, ℕ, ◌-◌, ◌≤◌, List, [], length, Bool, true, false, if◌then◌else◌, Option, Some, None, slice_index}
+use Rattle.std.proofs.Common.{◌∙◌, subst, arith, length-set}
 use Rattle.psi_state.specs.State.{IsBelow, AreCapacities}
 use Rattle.psi_event.specs.Law.{IsClosed}
 use Rattle.psi_guard.specs.RuleLaws.{guarded-closed}

@@ -6,4 +6,5 @@ mod Fitting
 mod Does
 mod Accepting
 pub mod Closing
+pub mod MoveLemmas
 mod Worked

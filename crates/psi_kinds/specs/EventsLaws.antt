@@ -2,14 +2,11 @@
 use Rattle.psi_event.specs.Law.{IsClosed}
 use Rattle.psi_event.specs.Idle.{unchanged}
 use Rattle.psi_event.specs.IdleLaws.{unchanged-closed}
-use Rattle.psi_event.specs.declared.Idle.{Idle}
 use Rattle.psi_guard.specs.Guarding.{guarded}
 use Rattle.psi_guard.specs.RuleLaws.{guarded-closed}
-use Rattle.psi_guard.specs.declared.Guarded.{Guarded}
 use Rattle.psi_route.specs.Routing.{routed}
 use Rattle.psi_route.specs.Route.{shape_of}
 use Rattle.psi_route.specs.Closed.{routed-closed}
-use Rattle.psi_route.specs.declared.Route.{Route}
 use Rattle.psi_kinds.specs.declared.event.Event.{Event}
 use Rattle.psi_kinds.specs.declared.event.Event.TheVariants as form
 use Rattle.psi_kinds.specs.Events.{by_form}

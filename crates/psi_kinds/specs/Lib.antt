@@ -1,5 +1,6 @@
 -- The definitions of this crate, and the laws that clauses rest on.
 pub mod Kinds
+pub mod Moves
 pub mod Refusals
 pub mod Forms
 pub mod Events

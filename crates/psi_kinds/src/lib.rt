@@ -9,6 +9,7 @@ mod event;
 mod judging;
 mod kinds;
 mod lowering;
+mod moves;
 mod parting;
 mod refusals;
 mod tables;
@@ -17,6 +18,7 @@ pub use event::Event;
 pub use judging::refusal_of;
 pub use kinds::Kind;
 pub use lowering::{lower, lower_accepted};
+pub use moves::Move;
 pub use refusals::{KindRefusal, OutOfMemory};
 pub use tables::Tables;
 

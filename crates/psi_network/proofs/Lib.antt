@@ -8,5 +8,6 @@ mod Cells
 mod Servers
 mod Parts
 mod Lowered
+mod MoveLemmas
 mod Making
 mod KeptGenerated

@@ -1,13 +1,13 @@
 //! A network that can be sampled.
 
-ghost use Rattle.std.specs.Prelude.{◌≡◌, ◌<◌, length, map, Some, slice_get, option_map, All, IfOk};
+ghost use Rattle.std.specs.Prelude.{◌≡◌, ℕ, ◌<◌, List, length, map, Some, slice_get, option_map, option_and_then, All, IfOk, IfSome};
 
 use crate::building::{all_lowered, rates, wheel};
 use crate::entries::{Draft, NamedEvent, Queue, RewardEntry};
 use crate::name::Name;
 use crate::out_of_memory::OutOfMemory;
 use psi_event::EventLaw;
-use psi_kinds::Event;
+use psi_kinds::{Event, Move};
 use psi_rate::{System, Wheel};
 use psi_reward::Reward;
 use psi_state::State;
@@ -52,6 +52,8 @@ impl Net {
     ghost use Rattle.psi_network.specs.Network.{caps_of, rates_of, marks_of};
     ghost use Rattle.psi_network.specs.Made.{EachDoes};
     ghost use Rattle.psi_network.specs.Draft.{drafted, IsWhole};
+    ghost use Rattle.psi_kinds.specs.Kinds.{do_kind};
+    ghost use Rattle.psi_kinds.specs.Moves.{moved, IsMove, move_of};
 
     /// The network of what was said of it, of which nothing is refused.
     ///
@@ -145,6 +147,30 @@ impl Net {
         ensures { option_map (λ v. v.rate) (slice_get self.now.events e) ≡ Some result }
     {
         self.events[e as usize].rate
+    }
+
+    /// The move that event `e` is, if it is one; expanded events are counted from 0.
+    ///
+    /// An event is a move where it is a service with one queue to go to, and customers stay where that queue
+    /// is full: then one customer goes from queue to queue, or nothing changes. The last clause says that
+    /// the event does to every state what the move does.
+    #[tactic(auto, using(crate::proofs::MoveLemmas::move_read, crate::proofs::MoveLemmas::move_kept))]
+    pub fn moves(&self, e: u16) -> Option<Move>
+        requires { e < length self.now.events }
+        ensures value { option_and_then (λ v. move_of v.kind) (slice_get self.now.events e) ≡ result }
+        ensures is { IfSome result (λ m. IsMove (caps_of self.now) m) }
+        ensures does { IfSome result (λ m. (x : List ℕ) → option_map (λ v. do_kind (caps_of self.now) v.kind x) (slice_get self.now.events e) ≡ Some (moved (caps_of self.now) m x)) }
+    {
+        self.event(e).kind.as_move()
+    }
+
+    // The event `e`; the second clause says what every network keeps.
+    fn event(&self, e: u16) -> &NamedEvent
+        requires { e < length self.now.events }
+        ensures event { slice_get self.now.events e ≡ Some result.now }
+        ensures kept { IsNetwork self.now }
+    {
+        &self.events[e as usize]
     }
 
     /// The number of rewards, 0 to 64.

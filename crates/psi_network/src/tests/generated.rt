@@ -1,6 +1,7 @@
 //! The network made from the number 0, worked out by hand.
 
 use crate::{Net, generated};
+use psi_kinds::Move;
 use psi_reward::RewardLaw;
 use psi_state::State;
 use std::process::Abort;
@@ -27,6 +28,11 @@ fn shows_reward(net: &Net, reward: u8, name: &[u8]) -> bool {
     reward < net.rewards() && net.reward_name(reward).bytes() == name
 }
 
+// The network's expanded event of this number is this move, or none.
+fn shows_move(net: &Net, event: u16, expected: Option<Move>) -> bool {
+    event < net.events() && net.moves(event) == expected
+}
+
 // What the first reward of the network makes of a state.
 fn worth(rt: &impl Abort, net: &Net, state: &State) -> i64 {
     let caps = net.system().caps();
@@ -51,6 +57,27 @@ fn the_network_of_0_is_as_worked_out(rt: HostRuntime) -> Result<(), Fail> {
     held.set(3, 9);
     assert_eq!(rt; worth(&rt, &net, &held), 10);
     assert!(rt; shows_reward(&net, 0, b"total"));
+    Ok(())
+}
+
+#[test]
+fn services_whose_customers_stay_are_moves(rt: HostRuntime) -> Result<(), Fail> {
+    let net = generated(rt.alloc(), 0)?;
+    let second = Move {
+        from: 0,
+        k: 2,
+        to: 1,
+    };
+    let third = Move {
+        from: 2,
+        k: 1,
+        to: 3,
+    };
+    assert!(rt; shows_move(&net, 0, None));
+    assert!(rt; shows_move(&net, 2, Some(second)));
+    assert!(rt; shows_move(&net, 3, None));
+    assert!(rt; shows_move(&net, 6, Some(third)));
+    assert!(rt; shows_move(&net, 7, None));
     Ok(())
 }
 
