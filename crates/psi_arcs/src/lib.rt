@@ -1,0 +1,22 @@
+//! The arcs of a decision diagram over the states of a closed network, in one vector of nodes that are linked by
+//! index.
+//!
+//! A state with a fixed number of customers is a walk: it begins at the first queue with no customer before it,
+//! and each queue adds its own. So a set of states is told, up to states that mix their arcs, by the arcs of its
+//! walks (decision diagrams: Bryant 1986). A move of one customer is made on the arcs alone.
+#![tactic(auto)]
+
+mod arcs;
+mod filling;
+mod joining;
+mod marks;
+mod nodes;
+mod reach;
+mod windows;
+
+pub use arcs::{Arcs, OutOfMemory};
+pub use nodes::Arc;
+pub use reach::Reach;
+
+#[cfg(test)]
+mod tests;
