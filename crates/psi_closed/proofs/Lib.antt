@@ -1,0 +1,12 @@
+-- The lemmas of this crate.
+pub mod ListsLemmas
+pub mod ArcsLemmas
+pub mod WalksLemmas
+pub mod MovesLemmas
+pub mod JoiningLemmas
+pub mod HullLemmas
+pub mod RunsLemmas
+pub mod DiagramLemmas
+pub mod StatesLemmas
+pub mod PlanLemmas
+mod Worked

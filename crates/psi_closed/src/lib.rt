@@ -1,0 +1,20 @@
+//! Samples of a closed network, in which a fixed number of customers moves from queue to queue, by coupling from the
+//! past (Propp and Wilson 1996).
+//!
+//! A set of states with as many customers is followed as the arcs of its states, one for each queue: a decision
+//! diagram (Bryant 1986). It holds each state whose arcs it has, the states that it was made of among them. No call
+//! lists states.
+#![tactic(auto)]
+
+mod arcs;
+mod diagram;
+mod doubling;
+mod memory;
+mod plan;
+
+pub use diagram::Diagram;
+pub use memory::OutOfMemory;
+pub use plan::ClosedPlan;
+
+#[cfg(test)]
+mod tests;

@@ -1,0 +1,17 @@
+//! Want of memory.
+
+/// Memory ran out.
+#[derive(Clone, Copy, Debug, PartialEq, Eq)]
+pub struct OutOfMemory;
+
+impl From<psi_arcs::OutOfMemory> for OutOfMemory {
+    fn from(_error: psi_arcs::OutOfMemory) -> OutOfMemory {
+        OutOfMemory
+    }
+}
+
+impl From<psi_past::OutOfMemory> for OutOfMemory {
+    fn from(_error: psi_past::OutOfMemory) -> OutOfMemory {
+        OutOfMemory
+    }
+}

@@ -1,0 +1,112 @@
+//! The plan to sample a closed network.
+
+ghost use Rattle.std.specs.Prelude.{◌≡◌, ◌≤◌, length, IfOk};
+ghost use Rattle.psi_state.specs.State.{AreCapacities};
+ghost use Rattle.psi_rate.specs.Outcomes.{outcome_within};
+ghost use Rattle.psi_closed.specs.Closed.{closed_ending, AreOrdered};
+ghost use Rattle.psi_closed.specs.Diagram.{IsTotal};
+ghost use Rattle.psi_closed.specs.Planned.{network_functions, AreMoves, IsClosedSample};
+
+use crate::doubling::first_ending;
+use crate::{Diagram, OutOfMemory};
+use psi_kinds::Move;
+use psi_past::{Kept, Past};
+use psi_rate::Wheel;
+use psi_state::{Outcome, State};
+use std::alloc::Global;
+use std::marker::Model;
+
+/// A closed network, the number of its customers, and the past that its samples are drawn from, with the room for a
+/// diagram and for the words of the greatest horizon.
+///
+/// It is seen as the network, its number of customers with it, and the past.
+#[derive(Drop)]
+pub struct ClosedPlan<'n, P: Past + Drop> {
+    diagram: Diagram,
+    moves: &'n [Move],
+    wheel: &'n Wheel,
+    limit: u8,
+    words: Kept<P>,
+}
+
+impl<'n, P: Past + Drop> Model for ClosedPlan<'n, P> {
+    ghost use Rattle.psi_closed.specs.Planned.{Planned, IsPlan};
+
+    ghost Value = { Planned P };
+
+    ghost view = { λ p. record {
+      network = record { caps = p.diagram.caps; total = p.diagram.total; moves = p.moves.now; rates = p.wheel.now; limit = p.limit };
+      past = p.words.past;
+    } };
+
+    ghost invariant = { λ p. IsPlan p.diagram p.moves.now p.wheel.now p.limit p.words };
+}
+
+impl<'n, P: Past + Drop> ClosedPlan<'n, P> {
+    /// The plan to sample the network of these capacities and moves, in the wheel's order, among the states that hold
+    /// `total` customers, 0 to 256 and no more than the queues have room for. Each move's queues are two of the
+    /// network, and it wants from 1 to its source's capacity of customers there. `limit` is the exponent of the
+    /// greatest horizon, 0 to 22.
+    ///
+    /// It takes the room for a diagram and for the 2 to the power `limit` words of the greatest horizon, of 4 bytes
+    /// each; `sample` takes no memory. `OutOfMemory` is the answer where there is no memory for it; no clause says
+    /// when that is.
+    pub fn new(
+        alloc: Global,
+        caps: State,
+        moves: &'n [Move],
+        wheel: &'n Wheel,
+        limit: u8,
+        total: u16,
+        past: P,
+    ) -> Result<ClosedPlan<'n, P>, OutOfMemory>
+        requires valid { AreCapacities caps }
+        requires fits { IsTotal caps total }
+        requires moves { AreMoves caps moves.now }
+        requires same_count { length moves.now ≡ length wheel.now }
+        requires most_limit { limit ≤ 22 }
+        ensures { IfOk result (λ plan. plan ≡ record {
+          network = record { caps = caps; total = total; moves = moves.entry.now; rates = wheel.entry.now; limit = limit };
+          past = past;
+        }) }
+    {
+        let most = 1 << limit;
+        let words = Kept::reserve(alloc, past, most)?;
+        let diagram = Diagram::reserve(alloc, caps, total)?;
+        Ok(ClosedPlan {
+            diagram,
+            moves,
+            wheel,
+            limit,
+            words,
+        })
+    }
+
+    /// The sample: the least horizon among 1, 2, 4, .., 2 to the power `limit` whose closed run ends with one state,
+    /// with that state, which is within the capacities and holds the total. Every state that holds the total and
+    /// starts there or earlier is in it at time zero. It isn't met exactly where none of these runs ends with one
+    /// state; then all states of the total may still have met.
+    ///
+    /// The closed run of a horizon begins with all states of the total that many steps before time zero. At each
+    /// step, the move of its word makes of the states the arc hull of their image; an idle step changes nothing. The
+    /// same words are used for the same time at each horizon (Propp and Wilson 1996), so the states of a longer run
+    /// are among those of a shorter one.
+    pub fn sample(&mut self) -> Outcome
+        ensures outcome { let f = network_functions self.old.network (P.words self.old.past) in
+            result ≡ outcome_within (closed_ending self.old.network.caps self.old.network.total f) self.old.network.limit }
+        ensures sample { let f = network_functions self.old.network (P.words self.old.past) in
+            IsClosedSample self.old.network.caps self.old.network.total f self.old.network.limit result }
+        ensures order { let f = network_functions self.old.network (P.words self.old.past) in
+            AreOrdered self.old.network.caps self.old.network.total f }
+        ensures network { self.new.network ≡ self.old.network }
+        ensures words { P.words self.new.past ≡ P.words self.old.past }
+    {
+        first_ending(
+            self.moves,
+            self.wheel,
+            self.limit,
+            &mut self.words,
+            &mut self.diagram,
+        )
+    }
+}
