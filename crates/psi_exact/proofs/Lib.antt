@@ -1,0 +1,10 @@
+-- The lemmas of this crate.
+pub mod PlacesLemmas
+pub mod TablesLemmas
+pub mod DistinctLemmas
+pub mod WalkLemmas
+pub mod MovesLemmas
+pub mod SizesLemmas
+pub mod SurveysLemmas
+pub mod RegionsLemmas
+mod Worked

@@ -1,0 +1,14 @@
+-- Invariants of the loops of `learn_each`.
+use Rattle.std.proofs.Common.{◌≡◌, ◌*◌, ◌/◌, length, map}
+use Rattle.psi_state.specs.State.{all_states}
+use Rattle.psi_exact.specs.Moves.{IsMoves, AreLearned}
+use Rattle.psi_exact.proofs.following.learn_each.Given as goal
+
+-- the events so far are known
+abbrev pub invariant-loop-number : goal.invariant-loop-number
+invariant-loop-number g l = record {
+  valid : IsMoves (length (all_states l.system.caps)) l.moves;
+  known : l.moves.known ≡ l.number;
+  count : length l.moves.starts.items ≡ l.number * (l.moves.size / l.moves.width);
+  learned : AreLearned l.system.caps (map g.E.EventLaw.function l.system.events) l.moves;
+}

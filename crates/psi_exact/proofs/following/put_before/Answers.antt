@@ -1,0 +1,66 @@
+-- Answers in the proof of `put_before`.
+use Rattle.std.proofs.Common.{◌*◌, ◌/◌, ℕ, List, length, map, slice_index_or, Option, Some, None, refl, ap, sym, ◌∙◌, subst, arith, Bor}
+use Rattle.std.specs.Option.{option_map}
+use Rattle.psi_state.specs.State.{all_states}
+use Rattle.psi_event.specs.Law.{IsClosed}
+use Rattle.psi_rate.specs.Rates.{event_of}
+use Rattle.psi_rate.specs.Composition.{picked}
+use Rattle.psi_rate.proofs.FunctionsLemmas.{functions-closed}
+use Rattle.psi_exact.specs.Moves.{IsMoves, HasMove, AreMovesOf}
+use Rattle.psi_exact.proofs.SurveysLemmas.{picked-event, event-caps, before-event, before-none}
+use Rattle.psi_exact.proofs.following.put_before.Goals as goal
+
+pub follow-requires : goal.follow-requires
+follow-requires g c =
+    let system = c.args.system.now in
+    let m = c.args.moves.now in
+    let cap = sym c.requires.same_caps in
+    let closed = functions-closed g.E.EventLaw.capacities g.E.EventLaw.function system (λ t. c.args.word) g.met.E.EventLaw.closed c.caps-caps.ensures.fit.same_caps in
+    let number = c.pick-number.result.0 in
+    record {
+      number = (let most = c.requires.learned.most in let test = c.if-number-moves.true in omega arith);
+      valid = subst (λ (caps : List ℕ). IsMoves (length (all_states caps)) m) cap c.requires.valid;
+      has = subst (λ (caps : List ℕ). HasMove caps m (c.pick-number.result.0 * (m.size / m.width))) cap
+          (record {
+            function = picked (map g.E.EventLaw.function system.events) system.rates c.args.word;
+            closed = closed.each 1;
+            are = subst (λ k. AreMovesOf system.caps (slice_index_or (map g.E.EventLaw.function system.events) k (λ x. x)) m (c.pick-number.result.0 * (m.size / m.width)))
+                c.pick-number.ensures.number (c.requires.learned.each c.pick-number.result.0 c.if-number-moves.true);
+          });
+    }
+
+pub returns-then-number-moves : goal.returns-then-number-moves
+returns-then-number-moves g c = λ f is.
+    (let system = c.args.system.now in
+    let m = c.args.moves.now in
+    let closed = functions-closed g.E.EventLaw.capacities g.E.EventLaw.function system (λ t. c.args.word) g.met.E.EventLaw.closed c.caps-caps.ensures.fit.same_caps in
+    let h = picked (map g.E.EventLaw.function system.events) system.rates c.args.word in
+    let are = subst (λ k. AreMovesOf system.caps (slice_index_or (map g.E.EventLaw.function system.events) k (λ x. x)) m (c.pick-number.result.0 * (m.size / m.width)))
+    c.pick-number.ensures.number (c.requires.learned.each c.pick-number.result.0 c.if-number-moves.true) in
+    before-event system.caps f h h c.args.table.now c.follow.new.self (closed.each 1) refl is
+    (c.follow.ensures h (subst (λ (caps : List ℕ). IsClosed caps h) (sym c.requires.same_caps) (closed.each 1))
+    (subst (λ (caps : List ℕ). AreMovesOf caps h m (c.pick-number.result.0 * (m.size / m.width))) (sym c.requires.same_caps) are)))
+
+pub older-requires : goal.older-requires
+older-requires g c =
+    let system = c.args.system.now in
+    let is = ap (λ (o : Option (Bor g.row.E.Denot)). option_map (λ e. e.now) o) (sym c.in-Some.is) ∙ c.pick-number.ensures.event in
+    event-caps g.E.EventLaw.capacities system.caps system.events (event_of system.rates c.args.word) c.in-Some.event.now c.caps-caps.ensures.fit.same_caps is
+    ∙ sym c.requires.same_caps
+
+pub returns-in-Some : goal.returns-in-Some
+returns-in-Some g c = λ f is.
+    (let system = c.args.system.now in
+    let event = c.in-Some.event.now in
+    let found = ap (λ (o : Option (Bor g.row.E.Denot)). option_map (λ e. e.now) o) (sym c.in-Some.is) ∙ c.pick-number.ensures.event in
+    let cap = event-caps g.E.EventLaw.capacities system.caps system.events (event_of system.rates c.args.word) event c.caps-caps.ensures.fit.same_caps found in
+    before-event system.caps f (g.E.EventLaw.function event) (picked (map g.E.EventLaw.function system.events) system.rates c.args.word) c.args.table.now c.older.new.self
+    (subst (λ (caps : List ℕ). IsClosed caps (g.E.EventLaw.function event)) cap (g.met.E.EventLaw.closed event))
+    (picked-event g.E.EventLaw.function system.events system.rates c.args.word (Some event) found) is c.older.ensures)
+
+pub returns-in-None : goal.returns-in-None
+returns-in-None g c = λ f is.
+    (let system = c.args.system.now in
+    let found = ap (λ (o : Option (Bor g.row.E.Denot)). option_map (λ e. e.now) o) (sym c.in-None.is) ∙ c.pick-number.ensures.event in
+    before-none system.caps f (picked (map g.E.EventLaw.function system.events) system.rates c.args.word) c.args.table.now
+    (picked-event g.E.EventLaw.function system.events system.rates c.args.word None found) is)

@@ -1,0 +1,21 @@
+-- Maps of the states of given capacities.
+use Rattle.std.specs.Prelude.{ℕ, List, [], map, slice_index_or}
+use Rattle.psi_state.specs.State.{zeros, all_states}
+use Rattle.psi_state.specs.Volume.{place_in}
+
+-- a map of the states within these capacities: the states that they are sent to, in the order of the list of all states
+pub record Mapped : Type 0 where
+  pub caps : List ℕ
+  pub images : List (List ℕ)
+
+-- the map of a function on states
+abbrev pub map_of : List ℕ → (List ℕ → List ℕ) → Mapped
+map_of caps f = record { caps = caps; images = map f (all_states caps) }
+
+-- the rank of a state: its place in the list of all states
+unfoldable pub rank_of : List ℕ → List ℕ → ℕ
+rank_of caps x = place_in (zeros caps) caps x
+
+-- the state that a state is sent to
+unfoldable pub sends : Mapped → List ℕ → List ℕ
+sends table x = slice_index_or table.images (rank_of table.caps x) []

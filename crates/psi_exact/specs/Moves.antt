@@ -1,0 +1,63 @@
+-- What events make of all states, kept row by row: a row has the ranks of the images of states that come one after another,
+-- each counted from the rank of the first of these states, and rows that are alike are kept once.
+use Rattle.std.specs.Prelude.{◌≡◌, ℕ, ◌+◌, ◌*◌, ◌/◌, ◌%◌, ◌<◌, ◌≤◌, List, length, slice_index, slice_index_or, vec_capacity}
+use Rattle.psi_event.specs.Law.{IsClosed}
+use Rattle.psi_exact.specs.declared.moves.Moves.{Moves}
+use Rattle.psi_exact.specs.Mapping.{rank_of}
+use Rattle.psi_exact.specs.Table.{state_at}
+
+-- the row from a start on is that of the ranks from the first on, modulo 2^16
+pub record IsRow (rows images : List ℕ) (start first width : ℕ) : Type 0 where
+  pub within : start + width ≤ length rows
+  pub each : (j : ℕ) → j < width → slice_index images (first + j) ≡ (first + slice_index rows (start + j)) % 65536
+
+-- the rank that the row b of an event, whose starts stand from an offset on, has at the place j
+abbrev pub moved : Moves → ℕ → ℕ → ℕ → ℕ
+moved m offset b j = (b * m.width + slice_index m.rows.items (slice_index m.starts.items (offset + b) + j)) % 65536
+
+-- the starts from an offset on tell the rows of these ranks, one after another, so many
+pub record ArePlaced (rows starts images : List ℕ) (width offset blocks : ℕ) : Type 0 where
+  pub there : (b : ℕ) → b < blocks → offset + b < length starts
+  pub each : (b : ℕ) → b < blocks → IsRow rows images (slice_index starts (offset + b)) (b * width) width
+
+-- the second list begins with the first
+pub record IsPrefix (xs ys : List ℕ) : Type 0 where
+  pub more : length xs ≤ length ys
+  pub same : (i : ℕ) → i < length xs → slice_index ys i ≡ slice_index xs i
+
+-- so many states in rows of one width, and room for the ranks of their images
+pub record IsMoves (count : ℕ) (m : Moves) : Type 0 where
+  pub same : m.size ≡ count
+  pub bound : m.size ≤ 65536
+  pub some : 1 ≤ m.width
+  pub whole : m.size / m.width * m.width ≡ m.size
+  pub room : length m.images.items ≡ m.size
+  pub few : vec_capacity m.rows ≤ 262144
+
+-- the starts from an offset on are there, and so are the rows that they tell
+pub record HasRows (m : Moves) (offset : ℕ) : Type 0 where
+  pub there : (b : ℕ) → b < m.size / m.width → offset + b < length m.starts.items
+  pub within : (b : ℕ) → b < m.size / m.width → slice_index m.starts.items (offset + b) + m.width ≤ length m.rows.items
+
+-- the rows from an offset on are those of a function on states
+pub record AreMovesOf (caps : List ℕ) (f : List ℕ → List ℕ) (m : Moves) (offset : ℕ) : Type 0 where
+  pub has : HasRows m offset
+  pub each : (b j : ℕ) → b < m.size / m.width → j < m.width → rank_of caps (f (state_at caps (b * m.width + j))) ≡ moved m offset b j
+
+-- the rows from an offset on are those of some function that makes states of states
+pub record HasMove (caps : List ℕ) (m : Moves) (offset : ℕ) : Type 0 where
+  pub function : List ℕ → List ℕ
+  pub closed : IsClosed caps function
+  pub are : AreMovesOf caps function m offset
+
+-- the rows of the known events are those of the first of these functions, one after another
+pub record AreLearned (caps : List ℕ) (functions : List (List ℕ → List ℕ)) (m : Moves) : Type 0 where
+  pub most : m.known ≤ 1024
+  pub each : (k : ℕ) → k < m.known → AreMovesOf caps (slice_index_or functions k (λ x. x)) m (k * (m.size / m.width))
+
+-- all that the first has, the second has too, and maybe more
+pub record IsLonger (m n : Moves) : Type 0 where
+  pub same_size : n.size ≡ m.size
+  pub same_width : n.width ≡ m.width
+  pub rows : IsPrefix m.rows.items n.rows.items
+  pub starts : IsPrefix m.starts.items n.starts.items

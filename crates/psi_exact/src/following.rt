@@ -1,0 +1,197 @@
+//! The survey of the composed map: how fast it loses states, and when it is constant.
+
+ghost use Rattle.std.specs.Prelude.{◌≡◌, ℕ, ◌+◌, ◌^◌, ◌<◌, ◌≤◌, List, length, map};
+ghost use Rattle.psi_state.specs.State.{all_states};
+ghost use Rattle.psi_rate.specs.Composition.{compose, picked, system_functions};
+ghost use Rattle.psi_rate.specs.Least.{TellsLeast};
+ghost use Rattle.psi_rate.specs.Outcomes.{meeting_at};
+ghost use Rattle.psi_exact.specs.Mapping.{map_of};
+ghost use Rattle.psi_exact.specs.Moves.{IsMoves, AreLearned};
+ghost use Rattle.psi_exact.specs.Sizes.{image_sizes};
+ghost use Rattle.psi_exact.specs.Surveys.{meeting_of, meeting_within, IsMeeting, ReachesMeeting, MeetsBelow};
+
+use crate::answers::{Meeting, Survey};
+use crate::map_table::MapTable;
+use crate::moves::Moves;
+use crate::sizes::Sizes;
+use crate::table::Table;
+use psi_event::EventLaw;
+use psi_past::Past;
+use psi_rate::System;
+use psi_state::State;
+
+/// Follows all states through the last 2 to the power `h` steps, with `h` from 0 to 12: the number of
+/// states that are left at each power of two, and the least horizon of any length at which one is left,
+/// with that state (Propp and Wilson 1996). `NotConstant` comes exactly where there is no such horizon,
+/// and tells `h`.
+///
+/// The events are put before the map from the last one backwards in time, so each word is read once. What
+/// the first events of the system make of all states is learned before that, as far as there is room, so
+/// that their steps only look up ranks. An idle step changes nothing, and a constant map stays as it is.
+///
+/// The table is one of the system's capacities; afterwards it has the map of the last 2 to the power `h`
+/// steps. The past's words stay as they were. The call takes no memory.
+pub fn survey<E: EventLaw, P: Past>(
+    system: &System<'_, E>,
+    past: &mut P,
+    table: &mut MapTable,
+    h: u8,
+) -> Survey
+    requires same_caps { table.old.caps ≡ system.now.caps }
+    requires most { h ≤ 12 }
+    ensures sizes { result.sizes ≡ image_sizes (system_functions E.function system.now (P.words past.old)) system.now.caps h }
+    ensures meeting { let f = system_functions E.function system.now (P.words past.old) in
+        result.meeting ≡ meeting_within (meeting_at f system.now.caps) h }
+    ensures least { let f = system_functions E.function system.now (P.words past.old) in
+        IsMeeting (meeting_at f system.now.caps) h result.meeting }
+    ensures reached { ReachesMeeting (system_functions E.function system.now (P.words past.old)) system.now.caps result.meeting }
+    ensures within { MeetsBelow system.now.caps result.meeting }
+    ensures map { table.new ≡ map_of system.now.caps (compose (system_functions E.function system.now (P.words past.old)) (2 ^ h)) }
+    ensures words { P.words past.new ≡ P.words past.old }
+{
+    // Called for its clause: the events are of the system's capacities.
+    let _caps = system.caps();
+    learn_each(system, &mut table.moves, 1 << h);
+    follow_all(system, past, &mut table.table, &table.moves, h)
+}
+
+// Learns the first events of the system, at most so many, as far as there is room.
+fn learn_each<E: EventLaw>(system: &System<'_, E>, moves: &mut Moves, most: u16)
+    requires few { length (all_states system.now.caps) ≤ 65536 }
+    requires valid { IsMoves (length (all_states system.now.caps)) moves.old }
+    ensures valid { IsMoves (length (all_states system.now.caps)) moves.new }
+    ensures learned { AreLearned system.now.caps (map E.function system.now.events) moves.new }
+{
+    // Called for its clause: the events are of the system's capacities.
+    let _caps = system.caps();
+    moves.clear();
+    for number in 0..system.wheel().events().min(most) {
+        if !moves.place(system.event(number)) {
+            return;
+        }
+        moves.known = number + 1;
+    }
+}
+
+// The survey, where the first events are learned.
+fn follow_all<E: EventLaw, P: Past>(
+    system: &System<'_, E>,
+    past: &mut P,
+    table: &mut Table,
+    moves: &Moves,
+    h: u8,
+) -> Survey
+    requires same_caps { table.old.caps ≡ system.now.caps }
+    requires most { h ≤ 12 }
+    requires valid { IsMoves (length (all_states system.now.caps)) moves.now }
+    requires learned { AreLearned system.now.caps (map E.function system.now.events) moves.now }
+    ensures sizes { result.sizes ≡ image_sizes (system_functions E.function system.now (P.words past.old)) system.now.caps h }
+    ensures least { let f = system_functions E.function system.now (P.words past.old) in
+        IsMeeting (meeting_at f system.now.caps) h result.meeting }
+    ensures map { table.new ≡ map_of system.now.caps (compose (system_functions E.function system.now (P.words past.old)) (2 ^ h)) }
+    ensures words { P.words past.new ≡ P.words past.old }
+{
+    // Called for its clause: the events are of the system's capacities.
+    let _caps = system.caps();
+    table.reset();
+    let mut found = follow(system, past, table, moves, 0, 1, None);
+    let mut sizes = Sizes::one(table.image_size());
+    for exponent in 1..h + 1 {
+        let horizon = 1 << exponent;
+        found = follow(system, past, table, moves, horizon / 2, horizon, found);
+        sizes.push(table.image_size());
+    }
+    Survey {
+        sizes,
+        meeting: told(found, h),
+    }
+}
+
+// The first meeting, if one was found.
+fn told(found: Option<(u32, State)>, exponent: u8) -> Meeting
+    ensures { result ≡ meeting_of exponent found }
+{
+    match found {
+        Some((horizon, state)) => Meeting::Constant { horizon, state },
+        None => Meeting::NotConstant { exponent },
+    }
+}
+
+// Goes on from the map of the last `from` steps to that of the last `to`, and tells the least horizon at
+// which it is constant, if it was found.
+fn follow<E: EventLaw, P: Past>(
+    system: &System<'_, E>,
+    past: &mut P,
+    table: &mut Table,
+    moves: &Moves,
+    from: u32,
+    to: u32,
+    found: Option<(u32, State)>,
+) -> Option<(u32, State)>
+    requires order { from ≤ to }
+    requires valid { IsMoves (length (all_states system.now.caps)) moves.now }
+    requires learned { AreLearned system.now.caps (map E.function system.now.events) moves.now }
+    requires map { table.old ≡ map_of system.now.caps (compose (system_functions E.function system.now (P.words past.old)) from) }
+    requires found { TellsLeast (meeting_at (system_functions E.function system.now (P.words past.old)) system.now.caps) from found }
+    ensures map { table.new ≡ map_of system.now.caps (compose (system_functions E.function system.now (P.words past.old)) to) }
+    ensures found { TellsLeast (meeting_at (system_functions E.function system.now (P.words past.old)) system.now.caps) to result }
+    ensures words { P.words past.new ≡ P.words past.old }
+{
+    let mut least = found;
+    for place in from..to {
+        least = step(system, past, table, moves, place, least);
+    }
+    least
+}
+
+// Goes on from the map of the last `place` steps to that of one step more, whose word stands at that place.
+fn step<E: EventLaw, P: Past>(
+    system: &System<'_, E>,
+    past: &mut P,
+    table: &mut Table,
+    moves: &Moves,
+    place: u32,
+    found: Option<(u32, State)>,
+) -> Option<(u32, State)>
+    requires few { place < 4294967295 }
+    requires valid { IsMoves (length (all_states system.now.caps)) moves.now }
+    requires learned { AreLearned system.now.caps (map E.function system.now.events) moves.now }
+    requires map { table.old ≡ map_of system.now.caps (compose (system_functions E.function system.now (P.words past.old)) place) }
+    requires found { TellsLeast (meeting_at (system_functions E.function system.now (P.words past.old)) system.now.caps) place found }
+    ensures map { table.new ≡ map_of system.now.caps (compose (system_functions E.function system.now (P.words past.old)) (place + 1)) }
+    ensures found { TellsLeast (meeting_at (system_functions E.function system.now (P.words past.old)) system.now.caps) (place + 1) result }
+    ensures words { P.words past.new ≡ P.words past.old }
+{
+    // Called for its clause: the events are of the system's capacities.
+    let _caps = system.caps();
+    if found.is_some() {
+        return found;
+    }
+    let word = past.word(place);
+    put_before(system, word, table, moves);
+    match table.constant() {
+        Some(state) => Some((place + 1, state)),
+        None => None,
+    }
+}
+
+// Puts the event of a word before the map of the table; an idle word changes nothing.
+fn put_before<E: EventLaw>(system: &System<'_, E>, word: u32, table: &mut Table, moves: &Moves)
+    requires same_caps { table.old.caps ≡ system.now.caps }
+    requires valid { IsMoves (length (all_states system.now.caps)) moves.now }
+    requires learned { AreLearned system.now.caps (map E.function system.now.events) moves.now }
+    ensures { (f : List ℕ → List ℕ) → table.old ≡ map_of system.now.caps f
+        → table.new ≡ map_of system.now.caps (λ x. f (picked (map E.function system.now.events) system.now.rates word x)) }
+{
+    // Called for its clause: the events are of the system's capacities.
+    let _caps = system.caps();
+    let (number, event) = system.pick(word);
+    if number < moves.known {
+        table.follow(moves, number as u32);
+        return;
+    }
+    match event {
+        Some(event) => table.older(event),
+        None => {}
+    }
+}

@@ -1,0 +1,17 @@
+//! The composed map of all states of a small network, as a table: coupling from the past (Propp and
+//! Wilson 1996) followed exactly, state by state, so that it can be told what boxes of states lose.
+#![tactic(auto)]
+
+mod answers;
+mod following;
+mod map_table;
+mod moves;
+mod ranks;
+mod rows;
+mod sizes;
+mod table;
+
+pub use answers::{Meeting, Survey};
+pub use following::survey;
+pub use map_table::{MapRefusal, MapTable};
+pub use sizes::Sizes;

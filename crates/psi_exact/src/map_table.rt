@@ -1,0 +1,123 @@
+//! The table of a map of all states.
+
+ghost use Rattle.std.specs.Prelude.{◌≡◌, ◌≤◌, length, IfOk, IfErr, OnOk};
+ghost use Rattle.psi_state.specs.State.{IsBelow, all_states};
+ghost use Rattle.psi_state.specs.Sets.{image, single};
+
+use crate::moves::Moves;
+use crate::table::Table;
+use psi_event::EventLaw;
+use psi_state::{Bounds, State};
+use std::alloc::{AllocError, Global};
+use std::marker::Model;
+
+// The greatest number of states of a table.
+const MOST_STATES: u32 = 65_536;
+
+/// Why there is no table.
+#[derive(Clone, Copy, PartialEq, Eq, Debug)]
+pub enum MapRefusal {
+    /// There are more than 65,536 states.
+    TooManyStates,
+    /// There is no memory for the table.
+    OutOfMemory,
+}
+
+impl From<AllocError> for MapRefusal {
+    ghost use Rattle.psi_exact.specs.declared.map_table.MapRefusal.TheVariants.{OutOfMemory};
+
+    ghost from_gives = { λ _ refusal. refusal ≡ OutOfMemory };
+
+    fn from(_error: AllocError) -> MapRefusal {
+        MapRefusal::OutOfMemory
+    }
+}
+
+/// A map of all states within given capacities: for each of them the state that it is sent to.
+///
+/// It is seen as the capacities and the map. It keeps the rank of each image, which is its place in the
+/// lexicographic list of all states, and has room for what events make of all states. All its memory, one
+/// megabyte at most, is taken by `reserve`.
+#[derive(Drop)]
+pub struct MapTable {
+    pub(crate) table: Table,
+    pub(crate) moves: Moves,
+}
+
+impl Model for MapTable {
+    ghost use Rattle.std.specs.Prelude.{length};
+    ghost use Rattle.psi_state.specs.State.{all_states};
+    ghost use Rattle.psi_exact.specs.Mapping.{Mapped};
+    ghost use Rattle.psi_exact.specs.Moves.{IsMoves};
+
+    ghost Value = { Mapped };
+
+    ghost view = { λ t. t.table };
+
+    ghost invariant = { λ t. IsMoves (length (all_states t.table.caps)) t.moves };
+}
+
+impl MapTable {
+    ghost use Rattle.psi_exact.specs.Mapping.{map_of, sends};
+    ghost use Rattle.psi_exact.specs.Refusal.{IsMapRefusal};
+
+    /// The table of the map that sends each state to itself. No other call takes memory.
+    ///
+    /// `TooManyStates` is the answer exactly where there are more than 65,536 states within these
+    /// capacities, and `OutOfMemory` where there is no memory for the table; no clause says when that is.
+    pub fn reserve(alloc: Global, caps: State) -> Result<MapTable, MapRefusal>
+        ensures itself { IfOk result (λ table. table ≡ map_of caps (λ x. x)) }
+        ensures few { OnOk result (length (all_states caps) ≤ 65536) }
+        ensures refused { IfErr result (λ refusal. IsMapRefusal refusal caps) }
+    {
+        let Some(states) = Bounds::whole(&caps).volume_at_most(MOST_STATES) else {
+            return Err(MapRefusal::TooManyStates);
+        };
+        let table = Table::reserve(alloc, caps, states)?;
+        let moves = Moves::reserve(alloc, &caps, states)?;
+        Ok(MapTable { table, moves })
+    }
+
+    /// Lets the map send each state to itself again.
+    pub fn reset(&mut self)
+        ensures { self.new ≡ map_of self.old.caps (λ x. x) }
+    {
+        self.table.reset();
+    }
+
+    /// Puts the event before the map: each state is sent to where the old map sends what the event makes
+    /// of it. So the map of the last steps becomes that of one step more, where the event is that of the
+    /// step before them.
+    ///
+    /// The event is one of the table's capacities.
+    pub fn older<E: EventLaw>(&mut self, e: &E)
+        requires { E.capacities e.now ≡ self.old.caps }
+        ensures { self.new ≡ map_of self.old.caps (λ x. sends self.old (E.function e.now x)) }
+    {
+        self.table.older(e);
+    }
+
+    /// The state that `x` is sent to, which is within the capacities as `x` has to be.
+    pub fn at(&self, x: &State) -> State
+        requires { IsBelow x.now self.now.caps }
+        ensures value { result ≡ sends self.now x.now }
+        ensures within { IsBelow result self.now.caps }
+    {
+        self.table.at(x)
+    }
+
+    /// The number of different states that are sent to. The map stays.
+    pub fn image_size(&mut self) -> u32
+        ensures size { result ≡ length (image (sends self.old) (all_states self.old.caps)) }
+        ensures same { self.new ≡ self.old }
+    {
+        self.table.image_size()
+    }
+
+    /// The one state that all states are sent to, and `None` exactly where they are sent to two or more.
+    pub fn constant(&self) -> Option<State>
+        ensures { result ≡ single (image (sends self.now) (all_states self.now.caps)) }
+    {
+        self.table.constant()
+    }
+}

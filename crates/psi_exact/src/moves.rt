@@ -1,0 +1,182 @@
+//! What the events of a network make of all states, learned once for all steps.
+
+ghost use Rattle.std.specs.Prelude.{◌≡◌, ℕ, ◌+◌, ◌*◌, ◌/◌, ◌<◌, ◌≤◌, length, slice_index, vec_capacity, IfOk, IsTrue};
+ghost use Rattle.psi_state.specs.State.{all_states};
+ghost use Rattle.psi_exact.specs.Moves.{IsMoves, HasRows, AreMovesOf, ArePlaced, IsLonger, IsPrefix, moved};
+
+use crate::ranks::{write_images, zeroed};
+use crate::rows::{look_up_row, place_row};
+use psi_event::EventLaw;
+use psi_state::State;
+use std::alloc::{AllocError, Global};
+
+// The most ranks that are kept in rows: 512 kilobytes.
+const MOST_RANKS: u32 = 262_144;
+
+// The most rows of all events together, where equal rows count each time: 128 kilobytes of starts.
+const MOST_STARTS: u32 = 32_768;
+
+// The greatest number of events of a network.
+const MOST_EVENTS: u32 = 1_024;
+
+// A row is as short as the states of the last queues allow, but not shorter than this.
+const LEAST_WIDTH: u32 = 256;
+
+/// The ranks of what events make of each state, one event after another, in rows: the states that
+/// differ in the last queues only have a row. An event that changes few queues has few different rows,
+/// and each of these is kept once.
+#[derive(Drop)]
+pub(crate) struct Moves {
+    pub(crate) size: u32,
+    pub(crate) width: u32,
+    pub(crate) known: u16,
+    pub(crate) rows: Vec<u16>,
+    pub(crate) starts: Vec<u32>,
+    pub(crate) images: Vec<u16>,
+}
+
+impl Moves {
+    /// The room for what events make of so many states, all of these capacities; no event is learned.
+    pub(crate) fn reserve(alloc: Global, caps: &State, size: u32) -> Result<Moves, AllocError>
+        requires some { 1 ≤ size }
+        requires few { size ≤ 65536 }
+        ensures { IfOk result (λ moves. IsMoves size moves) }
+    {
+        let width = fitting(width_of(caps), size);
+        let ranks = MOST_RANKS.min(MOST_EVENTS * size);
+        let starts = MOST_STARTS.min(MOST_EVENTS * (size / width));
+        Ok(Moves {
+            size,
+            width,
+            known: 0,
+            rows: Vec::with_capacity(alloc, ranks as usize)?,
+            starts: Vec::with_capacity(alloc, starts as usize)?,
+            images: zeroed(alloc, size)?,
+        })
+    }
+
+    /// Forgets all events.
+    pub(crate) fn clear(&mut self)
+        ensures kept { (count : ℕ) → IsMoves count self.old → IsMoves count self.new }
+        ensures none { length self.new.starts.items ≡ 0 }
+        ensures known { self.new.known ≡ 0 }
+        ensures size { self.new.size ≡ self.old.size }
+        ensures width { self.new.width ≡ self.old.width }
+    {
+        self.known = 0;
+        self.rows.clear();
+        self.starts.clear();
+    }
+
+    /// Places the rows of one event more, if there is room for them, and tells whether there was.
+    pub(crate) fn place<E: EventLaw>(&mut self, e: &E) -> bool
+        requires few { length (all_states (E.capacities e.now)) ≤ 65536 }
+        requires valid { IsMoves (length (all_states (E.capacities e.now))) self.old }
+        ensures valid { IsMoves (length (all_states (E.capacities e.now))) self.new }
+        ensures longer { IsLonger self.old self.new }
+        ensures known { self.new.known ≡ self.old.known }
+        ensures learned { IsTrue result → AreMovesOf (E.capacities e.now) (E.function e.now) self.new (length self.old.starts.items) }
+        ensures count { IsTrue result → length self.new.starts.items ≡ length self.old.starts.items + self.old.size / self.old.width }
+    {
+        write_images(e, self.images.as_mut_slice());
+        let blocks = (self.size / self.width) as usize;
+        if self.starts.capacity() - self.starts.len() < blocks {
+            return false;
+        }
+        place_rows(
+            &mut self.rows,
+            &mut self.starts,
+            self.images.as_slice(),
+            self.width as usize,
+            blocks,
+        )
+    }
+
+    /// Writes for each state what a table has for the rank of what an event made of it; events are counted
+    /// from 0 in the order in which they were learned.
+    pub(crate) fn look_up(&self, number: u32, table: &[u16], next: &mut [u16])
+        requires few { length next.old ≤ 65536 }
+        requires number { number ≤ 1024 }
+        requires valid { IsMoves (length next.old) self.now }
+        requires has { HasRows self.now (number * (self.now.size / self.now.width)) }
+        requires small { (b j : ℕ) → b < self.now.size / self.now.width → j < self.now.width
+            → moved self.now (number * (self.now.size / self.now.width)) b j < length table.now }
+        ensures { (b j : ℕ) → b < self.now.size / self.now.width → j < self.now.width
+            → slice_index next.new (b * self.now.width + j) ≡ slice_index table.now (moved self.now (number * (self.now.size / self.now.width)) b j) }
+    {
+        let blocks = (self.size / self.width) as usize;
+        let width = self.width as usize;
+        let mut first = 0;
+        for block in 0..blocks {
+            let start = self.starts[number as usize * blocks + block] as usize;
+            look_up_row(self.rows.as_slice(), start, width, table, first, next);
+            first += width;
+        }
+    }
+}
+
+// Places the rows of an event, one after another, as long as there is room, and tells whether there was.
+fn place_rows(
+    rows: &mut Vec<u16>,
+    starts: &mut Vec<u32>,
+    images: &[u16],
+    width: usize,
+    blocks: usize,
+) -> bool
+    requires some { 1 ≤ width }
+    requires whole { blocks * width ≡ length images.now }
+    requires few { length images.now ≤ 65536 }
+    requires room { vec_capacity rows.old ≤ 262144 }
+    requires starts { length starts.old.items + blocks ≤ vec_capacity starts.old }
+    ensures placed { IsTrue result → ArePlaced rows.new.items starts.new.items images.now width (length starts.old.items) blocks }
+    ensures count { IsTrue result → length starts.new.items ≡ length starts.old.items + blocks }
+    ensures rows { IsPrefix rows.old.items rows.new.items }
+    ensures starts { IsPrefix starts.old.items starts.new.items }
+    ensures capacity { vec_capacity rows.new ≡ vec_capacity rows.old }
+{
+    let from = rows.len();
+    let mut first = 0;
+    for _block in 0..blocks {
+        match place_row(rows, from, images, first, width) {
+            Some(start) => starts.push_reserved(start),
+            None => return false,
+        }
+        first += width;
+    }
+    true
+}
+
+// The number of states that differ in the last queues only, for as few queues as have at least the least
+// width.
+fn width_of(caps: &State) -> u32
+    ensures { 1 ≤ result }
+{
+    let mut width = 1;
+    for place in (0..caps.len()).rev() {
+        width = widened(width, caps.get(place));
+    }
+    width
+}
+
+// The width with one queue more, where it isn't wide enough without.
+fn widened(width: u32, capacity: u16) -> u32
+    requires some { 1 ≤ width }
+    requires few { width ≤ 16777216 }
+    ensures some { 1 ≤ result }
+    ensures few { result ≤ 16777216 }
+{
+    if width >= LEAST_WIDTH {
+        return width;
+    }
+    width * (capacity as u32 + 1)
+}
+
+// The width where it divides the size, and otherwise the size.
+fn fitting(width: u32, size: u32) -> u32
+    requires width { 1 ≤ width }
+    requires size { 1 ≤ size }
+    ensures some { 1 ≤ result }
+    ensures whole { size / result * result ≡ size }
+{
+    if size % width == 0 { width } else { size }
+}

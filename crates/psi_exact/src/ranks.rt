@@ -1,0 +1,110 @@
+//! Tables of ranks: the rank of a state is its place in the list of all states.
+
+ghost use Rattle.std.specs.Prelude.{◌≡◌, ℕ, ◌<◌, ◌≤◌, List, length, slice_index, MatchOption, IfOk};
+ghost use Rattle.psi_state.specs.State.{all_states};
+ghost use Rattle.psi_exact.specs.Mapping.{map_of, sends};
+ghost use Rattle.psi_exact.specs.Table.{table_of, AreRanks, AreRanksOf};
+ghost use Rattle.psi_exact.specs.Distinct.{distinct_count, AreAll, AreMixed};
+
+use psi_event::EventLaw;
+use psi_state::Bounds;
+use std::alloc::{AllocError, Global};
+
+/// A list of so many zeros.
+pub(crate) fn zeroed(alloc: Global, count: u32) -> Result<Vec<u16>, AllocError>
+    ensures { IfOk result (λ ranks. length ranks.items ≡ count) }
+{
+    let mut ranks = Vec::with_capacity(alloc, count as usize)?;
+    for _rank in 0..count {
+        ranks.push_reserved(0);
+    }
+    Ok(ranks)
+}
+
+/// Writes its own rank at each place.
+pub(crate) fn number(ranks: &mut [u16])
+    requires { length ranks.old ≤ 65536 }
+    ensures { (r : ℕ) → r < length ranks.new → slice_index ranks.new r ≡ r }
+{
+    for rank in 0..ranks.len() {
+        ranks[rank] = rank as u16;
+    }
+}
+
+/// Writes at the rank of each state the rank of what the event makes of it, as the states come one after
+/// another.
+pub(crate) fn write_images<E: EventLaw>(e: &E, ranks: &mut [u16])
+    requires few { length (all_states (E.capacities e.now)) ≤ 65536 }
+    requires room { length ranks.old ≡ length (all_states (E.capacities e.now)) }
+    ensures { AreRanksOf (E.capacities e.now) (E.function e.now) ranks.new }
+{
+    let bounds = Bounds::whole(&e.caps());
+    let mut rank = 0;
+    for state in bounds.states() {
+        let mut image = state;
+        e.apply(&mut image);
+        ranks[rank] = bounds.rank(&image) as u16;
+        rank += 1;
+    }
+}
+
+/// Writes the table of the map that sends each state to where a table sends what the event makes of it.
+pub(crate) fn write_older<E: EventLaw>(e: &E, ranks: &[u16], next: &mut [u16])
+    requires few { length (all_states (E.capacities e.now)) ≤ 65536 }
+    requires own { AreRanks (E.capacities e.now) ranks.now }
+    requires room { length next.old ≡ length (all_states (E.capacities e.now)) }
+    ensures ranks { AreRanks (E.capacities e.now) next.new }
+    ensures map { table_of (E.capacities e.now) next.new ≡ map_of (E.capacities e.now) (λ x. sends (table_of (E.capacities e.now) ranks.now) (E.function e.now x)) }
+{
+    write_images(e, next);
+    look_up(ranks, next);
+}
+
+/// Puts in the place of each rank the one that a table has for it.
+pub(crate) fn look_up(table: &[u16], ranks: &mut [u16])
+    requires { (r : ℕ) → r < length ranks.old → slice_index ranks.old r < length table.now }
+    ensures { (r : ℕ) → r < length ranks.new → slice_index ranks.new r ≡ slice_index table.now (slice_index ranks.old r) }
+{
+    for rank in ranks.iter_mut() {
+        *rank = table[*rank as usize];
+    }
+}
+
+/// The number of different ranks, each of which has a place among the marks.
+pub(crate) fn count_distinct(ranks: &[u16], marks: &mut [u16]) -> u32
+    requires marked { (r : ℕ) → r < length ranks.now → slice_index ranks.now r < length marks.old }
+    requires few { length ranks.now ≤ 65536 }
+    ensures { result ≡ distinct_count ranks.now }
+{
+    clear(marks);
+    let mut count = 0;
+    for place in (0..ranks.len()).rev() {
+        let rank = ranks[place] as usize;
+        count += 1 - marks[rank] as u32;
+        marks[rank] = 1;
+    }
+    count
+}
+
+// Takes all marks away.
+fn clear(marks: &mut [u16])
+    ensures { (r : ℕ) → r < length marks.new → slice_index marks.new r ≡ 0 }
+{
+    for place in 0..marks.len() {
+        marks[place] = 0;
+    }
+}
+
+/// The one rank that stands at all places, if it does.
+pub(crate) fn common(ranks: &[u16]) -> Option<u16>
+    requires { 1 ≤ length ranks.now }
+    ensures { MatchOption result (AreMixed ranks.now) (λ rank. AreAll rank ranks.now) }
+{
+    let first = ranks[0];
+    for rank in ranks {
+        if *rank != first {
+            return None;
+        }
+    }
+    Some(first)
+}

@@ -1,0 +1,106 @@
+//! Maps of all states, kept as ranks.
+
+ghost use Rattle.std.specs.Prelude.{◌≡◌, ◌*◌, ◌/◌, ◌≤◌, ℕ, List, length, IfOk};
+ghost use Rattle.psi_event.specs.Law.{IsClosed};
+ghost use Rattle.psi_state.specs.State.{IsBelow, all_states};
+ghost use Rattle.psi_state.specs.Sets.{image, single};
+
+use crate::moves::Moves;
+use crate::ranks::{common, count_distinct, number, write_older, zeroed};
+use psi_event::EventLaw;
+use psi_state::{Bounds, State};
+use std::alloc::{AllocError, Global};
+use std::marker::Model;
+
+/// A map of all states within given capacities, kept as the rank of the state that each is sent to, with
+/// room for as many ranks again.
+#[derive(Drop)]
+pub(crate) struct Table {
+    caps: State,
+    ranks: Vec<u16>,
+    spare: Vec<u16>,
+}
+
+impl Model for Table {
+    ghost use Rattle.psi_exact.specs.Mapping.{Mapped};
+    ghost use Rattle.psi_exact.specs.Table.{table_of, IsTable};
+
+    ghost Value = { Mapped };
+
+    ghost view = { λ t. table_of t.caps t.ranks.items };
+
+    ghost invariant = { λ t. IsTable t.caps t.ranks.items t.spare.items };
+}
+
+impl Table {
+    ghost use Rattle.psi_exact.specs.Mapping.{map_of, sends};
+    ghost use Rattle.psi_exact.specs.Moves.{IsMoves, HasMove, AreMovesOf};
+
+    /// The table of the map that sends each of all states, so many, to itself.
+    pub(crate) fn reserve(alloc: Global, caps: State, states: u32) -> Result<Table, AllocError>
+        requires all { states ≡ length (all_states caps) }
+        requires few { states ≤ 65536 }
+        ensures { IfOk result (λ table. table ≡ map_of caps (λ x. x)) }
+    {
+        let mut ranks = zeroed(alloc, states)?;
+        let spare = zeroed(alloc, states)?;
+        number(ranks.as_mut_slice());
+        Ok(Table { caps, ranks, spare })
+    }
+
+    /// Lets the map send each state to itself again.
+    pub(crate) fn reset(&mut self)
+        ensures { self.new ≡ map_of self.old.caps (λ x. x) }
+    {
+        number(self.ranks.as_mut_slice());
+    }
+
+    /// Puts the event before the map: each state is sent to where the old map sends what the event makes of
+    /// it.
+    pub(crate) fn older<E: EventLaw>(&mut self, e: &E)
+        requires { E.capacities e.now ≡ self.old.caps }
+        ensures { self.new ≡ map_of self.old.caps (λ x. sends self.old (E.function e.now x)) }
+    {
+        write_older(e, self.ranks.as_slice(), self.spare.as_mut_slice());
+        std::mem::swap(&mut self.ranks, &mut self.spare);
+    }
+
+    /// Puts a learned event before the map; events are counted from 0 in the order in which they were learned.
+    pub(crate) fn follow(&mut self, moves: &Moves, number: u32)
+        requires number { number ≤ 1024 }
+        requires valid { IsMoves (length (all_states self.old.caps)) moves.now }
+        requires has { HasMove self.old.caps moves.now (number * (moves.now.size / moves.now.width)) }
+        ensures { (f : List ℕ → List ℕ) → IsClosed self.old.caps f → AreMovesOf self.old.caps f moves.now (number * (moves.now.size / moves.now.width))
+            → self.new ≡ map_of self.old.caps (λ x. sends self.old (f x)) }
+    {
+        moves.look_up(number, self.ranks.as_slice(), self.spare.as_mut_slice());
+        std::mem::swap(&mut self.ranks, &mut self.spare);
+    }
+
+    /// The state that `x` is sent to, which is within the capacities as `x` has to be.
+    pub(crate) fn at(&self, x: &State) -> State
+        requires { IsBelow x.now self.now.caps }
+        ensures value { result ≡ sends self.now x.now }
+        ensures within { IsBelow result self.now.caps }
+    {
+        let states = Bounds::whole(&self.caps);
+        let rank = self.ranks[states.rank(x) as usize];
+        states.unrank(rank as u32)
+    }
+
+    /// The number of different states that are sent to. The map stays.
+    pub(crate) fn image_size(&mut self) -> u32
+        ensures size { result ≡ length (image (sends self.old) (all_states self.old.caps)) }
+        ensures same { self.new ≡ self.old }
+    {
+        count_distinct(self.ranks.as_slice(), self.spare.as_mut_slice())
+    }
+
+    /// The one state that all states are sent to, and `None` exactly where they are sent to two or more.
+    pub(crate) fn constant(&self) -> Option<State>
+        ensures { result ≡ single (image (sends self.now) (all_states self.now.caps)) }
+    {
+        let rank = common(self.ranks.as_slice())?;
+        Some(Bounds::whole(&self.caps).unrank(rank as u32))
+    }
+}
