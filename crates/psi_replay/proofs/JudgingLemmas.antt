@@ -1,0 +1,89 @@
+-- The judging of lines one after another, and of the step that a word picks.
+use Rattle.std.specs.Prelude.{◌≡◌, ℕ, zero, suc, ◌+◌, ◌-◌, ◌<◌, ◌≤◌, List, [], ◌∷◌, length, map, drop, Bool, ◌==◌, Option, Some, None, option_map, MatchOption, Result, Ok, Err, slice_get, refl}
+use Rattle.std.proofs.Common.{Bor, ap, sym, ◌∙◌, subst, arith}
+use Rattle.std.proofs.lemmas.List.{drop_all, get_or_past}
+use Rattle.std.proofs.lemmas.Option.{get_or_from_slice_get, slice_get-map}
+use Rattle.psi_state.specs.declared.outcome.Step.{Step}
+use Rattle.psi_event.specs.Idle.{unchanged}
+use Rattle.psi_rate.specs.Rates.{event_of}
+use Rattle.psi_rate.specs.Composition.{Functions, picked}
+use Rattle.psi_lines.specs.Log.{Region, Entry, Certificate, IsLog}
+use Rattle.psi_log.specs.Refusal.{Refusal, holds_or}
+use Rattle.psi_log.proofs.WordLemmas.{held}
+use Rattle.psi_log.specs.Told.{step_at}
+use Rattle.psi_replay.specs.Verdict.{rejected, covers, is_within, is_small, judge_step, judge_steps}
+use Rattle.psi_replay.specs.Judging.{Gives}
+use Rattle.psi_replay.specs.declared.causes.Rejection.{Rejection}
+use Rattle.psi_replay.specs.declared.causes.Cause.TheVariants.{StepNumber, WrongEvent, OutsideBox, NotCovered, SplitTooLarge}
+use Rattle.psi_replay.specs.Numbered.{nth_region}
+use Rattle.psi_replay.proofs.ListLemmas.{drop_get}
+use Rattle.psi_replay.proofs.RegionLemmas.{entry_there, nth_entry}
+
+-- the entry of a step is what is told of the step and of the region after it
+pub entry_is : (c : Certificate) (i k : ℕ) (step : Step) (after : Region) → IsLog c → i < c.header.horizon → k ≡ suc i → step_at c k ≡ Some step → after ≡ nth_region c k
+    → slice_get c.entries i ≡ Some (record { step = step; region = after })
+entry_is c i k step after is small next told region =
+    let found = entry_there c i is small in
+    let e = found.0 in
+    let own : step_at c (suc i) ≡ Some step = subst (λ (j : ℕ). step_at c j ≡ Some step) next told in
+    let first : step_at c (suc i) ≡ Some e.step = ap (λ (o : Option Entry). option_map (λ (d : Entry). d.step) o) found.1 in
+    let steps : e.step ≡ step = some_same e.step step (sym first ∙ own) in
+    let regions : e.region ≡ after = sym (nth_entry c i e found.1) ∙ ap (λ (j : ℕ). nth_region c j) (sym next) ∙ sym region in
+    found.1 ∙ entries e step after steps regions
+  where
+    some_same : (s t : Step) → ◌≡◌ {A = Option Step} (Some s) (Some t) → s ≡ t
+    some_same s t same = cc
+
+    entries : (e : Entry) (step : Step) (after : Region) → e.step ≡ step → e.region ≡ after → ◌≡◌ {A = Option Entry} (Some e) (Some (record { step = step; region = after }))
+    entries e step after first second = ap (λ (s : Step). Some (record { step = s; region = e.region })) first ∙ ap (λ (r : Region). Some (record { step = step; region = r })) second
+
+module _ (caps : List ℕ) (limit : ℕ) (events : ℕ → ℕ) (f : Functions) where
+  -- a line that keeps its rules takes the loop one step on, one that breaks one ends it, and behind the last line the region before is the last
+  pub judge_more : (n m t u i : ℕ) (before : Region) (es : List Entry) (e : Entry) → slice_get es i ≡ Some e → m ≡ n + 1 → u ≡ t - 1
+      → judge_step caps limit events f n t before e ≡ Ok tt → judge_steps caps limit events f n t before (drop i es) ≡ judge_steps caps limit events f m u e.region (drop (i + 1) es)
+  unfolding judge_steps
+  judge_more n m t u i before es e is line time kept = rw (drop_get es i e is, kept, line, time) refl
+
+  pub judge_fails : (n t i : ℕ) (before : Region) (es : List Entry) (e : Entry) (refusal : Refusal) → slice_get es i ≡ Some e
+      → judge_step caps limit events f n t before e ≡ Err refusal → judge_steps caps limit events f n t before (drop i es) ≡ Err refusal
+  unfolding judge_steps
+  judge_fails n t i before es e refusal is broken = rw (drop_get es i e is, broken) refl
+
+  pub judge_over : (n t i : ℕ) (before : Region) (es : List Entry) → length es ≤ i → judge_steps caps limit events f n t before (drop i es) ≡ Ok before
+  unfolding judge_steps
+  judge_over n t i before es past = rw (drop_all i es past) refl
+
+slice_get_none : {X : Type 0} (xs : List X) (i : ℕ) → slice_get xs i ≡ None → length xs ≤ i
+slice_get_none [] i none = omega arith
+slice_get_none (x ∷ xs) zero none = absurd cc
+slice_get_none (x ∷ xs) (suc i) none = (let rest = slice_get_none xs i none in omega arith)
+
+-- where the rules before it hold, the last rule of a step's line is left
+pub step_judged : (caps : List ℕ) (limit : ℕ) (events : ℕ → ℕ) (f : Functions) (n t : ℕ) (before : Region) (e : Entry) (numbered drawn within small covered : Bool) (result : Result (Unit {0}) Rejection)
+    → numbered ≡ (e.step.number == t) → drawn ≡ (e.step.event == events t) → within ≡ is_within caps e.region → small ≡ is_small before e.region → covered ≡ covers (f t) before e.region
+    → holds_or (rejected n StepNumber) numbered ≡ Ok tt → holds_or (rejected n WrongEvent) drawn ≡ Ok tt → holds_or (rejected n OutsideBox) within ≡ Ok tt → holds_or (rejected n SplitTooLarge) small ≡ Ok tt
+    → Gives (λ _. tt) result (holds_or (rejected n NotCovered) covered) → Gives (λ _. tt) result (judge_step caps limit events f n t before e)
+unfolding judge_step
+step_judged caps limit events f n t before e numbered drawn within small covered result first second third fourth fifth one two three four last =
+    let rule : judge_step caps limit events f n t before e ≡ holds_or (rejected n NotCovered) (covers (f t) before e.region) =
+    rw (
+      sym first ∙ held (rejected n StepNumber) numbered tt one,
+      sym second ∙ held (rejected n WrongEvent) drawn tt two,
+      sym third ∙ held (rejected n OutsideBox) within tt three,
+      sym fourth ∙ held (rejected n SplitTooLarge) small tt four,
+    ) refl in
+    subst (λ (rules : Result (Unit {0}) Refusal). Gives (λ _. tt) result rules) (ap (λ (b : Bool). holds_or (rejected n NotCovered) b) fifth ∙ sym rule) last
+
+-- the test of the event of a word is that of the word's function
+pub picked_covers : {E : Type 0} (function : E → List ℕ → List ℕ) (events : List E) (rates : List ℕ) (word : ℕ) (event : Option (Bor E)) (r : Bool) (before after : Region)
+    → option_map (λ (e : Bor E). e.now) event ≡ slice_get events (event_of rates word)
+    → MatchOption event (r ≡ covers unchanged before after) (λ e. r ≡ covers (function e.now) before after) → r ≡ covers (picked (map function events) rates word) before after
+picked_covers function events rates word None r before after is tells =
+    tells ∙ ap (λ (f : List ℕ → List ℕ). covers f before after) (sym (none_picked (slice_get-map function events (event_of rates word) ∙ ap (λ o. option_map function o) (sym is))))
+  where
+    none_picked : slice_get (map function events) (event_of rates word) ≡ None → picked (map function events) rates word ≡ (λ x. x)
+    none_picked none = get_or_past (map function events) (event_of rates word) (λ x. x) (slice_get_none (map function events) (event_of rates word) none)
+picked_covers function events rates word (Some e) r before after is tells =
+    tells ∙ ap (λ (f : List ℕ → List ℕ). covers f before after)
+    (sym (get_or_from_slice_get (map function events) (event_of rates word) (function e.now) (λ x. x)
+    (slice_get-map function events (event_of rates word) ∙ ap (λ o. option_map function o) (sym is))))

@@ -1,0 +1,8 @@
+-- The lemmas of this crate.
+pub mod ListLemmas
+pub mod SetLemmas
+pub mod RegionLemmas
+pub mod WindowLemmas
+pub mod JudgingLemmas
+pub mod AcceptedLemmas
+mod Worked

@@ -1,0 +1,83 @@
+-- Tests of the members of a list, one after another as a loop makes them, and whether a state is one of a list.
+use Rattle.std.specs.Prelude.{◌≡◌, ℕ, zero, suc, ◌+◌, ◌≤◌, List, [], ◌∷◌, length, drop, Bool, true, false, ◌&&◌, ◌||◌, Some, slice_get, refl}
+use Rattle.std.specs.List.{list_all}
+use Rattle.std.specs.Str.{bytes_eq}
+use Rattle.std.proofs.Common.{inl, inr, ap, sym, ◌∙◌}
+use Rattle.std.proofs.lemmas.Bool.{and_parts, or_cases, false_from_ne_true}
+use Rattle.std.proofs.lemmas.List.{drop_more, drop_all}
+use Rattle.std.proofs.lemmas.Option.{slice_get_within, get_or_from_slice_get}
+use Rattle.std.proofs.lemmas.Slice.Eq.{bytes_eq-Decides}
+use Rattle.psi_state.specs.Members.{In}
+use Rattle.psi_replay.specs.Verdict.{has}
+
+-- two tests of which each passes where the other does are one
+pub same_test : (r b : Bool) → (r ≡ true → b ≡ true) → (b ≡ true → r ≡ true) → r ≡ b
+same_test true b there back = sym (there refl)
+same_test false true there back = back refl
+same_test false false there back = refl
+
+pub drop_get : {X : Type 0} (xs : List X) (i : ℕ) (x : X) → slice_get xs i ≡ Some x → drop i xs ≡ x ∷ drop (i + 1) xs
+drop_get {X} xs i x is = drop_more xs i x (slice_get_within xs i x is) ∙ ap (λ (y : X). y ∷ drop (i + 1) xs) (get_or_from_slice_get xs i x x is)
+
+-- a member that passes takes the loop one step on, another ends it, and behind the last one none fails
+pub all_more : {X : Type 0} (p : X → Bool) (xs : List X) (i : ℕ) (x : X) (r whole : Bool) → slice_get xs i ≡ Some x → r ≡ p x → r ≡ true
+    → list_all p (drop i xs) ≡ whole → list_all p (drop (i + 1) xs) ≡ whole
+all_more p xs i x r whole is test passes so_far =
+    sym (ap (list_all p) (drop_get xs i x is) ∙ ap (λ b. b && list_all p (drop (i + 1) xs)) (sym test ∙ passes)) ∙ so_far
+
+pub all_fails : {X : Type 0} (p : X → Bool) (xs : List X) (i : ℕ) (x : X) (r whole : Bool) → slice_get xs i ≡ Some x → r ≡ p x → r ≡ false
+    → list_all p (drop i xs) ≡ whole → false ≡ whole
+all_fails p xs i x r whole is test fails so_far =
+    sym (ap (list_all p) (drop_get xs i x is) ∙ ap (λ b. b && list_all p (drop (i + 1) xs)) (sym test ∙ fails)) ∙ so_far
+
+pub all_ends : {X : Type 0} (p : X → Bool) (xs : List X) (i : ℕ) → length xs ≤ i → list_all p (drop i xs) ≡ true
+all_ends p xs i past = ap (list_all p) (drop_all i xs past)
+
+-- a test of all members tells of each
+pub all_each : {X : Type 0} (p : X → Bool) (xs : List X) (x : X) → list_all p xs ≡ true → In x xs → p x ≡ true
+all_each p [] x all member = absurd member
+all_each p (y ∷ ys) x all member =
+    let parts = and_parts (p y) (list_all p ys) all in
+    elim member [ inl e ↦ ap p e ∙ parts.0 | inr rest ↦ all_each p ys x parts.1 rest ]
+
+pub all_from : {X : Type 0} (p : X → Bool) (xs : List X) → ((x : X) → In x xs → p x ≡ true) → list_all p xs ≡ true
+all_from p [] each = refl
+all_from p (y ∷ ys) each = ap (λ b. b && list_all p ys) (each y (inl refl)) ∙ all_from p ys (λ x member. each x (inr member))
+
+-- the test for a state finds it exactly where the list has it
+pub has-In : (xs : List (List ℕ)) (x : List ℕ) → has xs x ≡ true → In x xs
+has-In [] x found = absurd cc
+has-In (y ∷ ys) x found = elim (or_cases (bytes_eq x y) (has ys x) found) [
+  | inl same ↦ inl ((bytes_eq-Decides x y).0 same)
+  | inr rest ↦ inr (has-In ys x rest)
+]
+
+pub has-from_In : (xs : List (List ℕ)) (x : List ℕ) → In x xs → has xs x ≡ true
+has-from_In [] x member = absurd member
+has-from_In (y ∷ ys) x member = elim member [
+  | inl e ↦ ap (λ b. b || has ys x) ((bytes_eq-Decides x y).1 e)
+  | inr rest ↦ either (bytes_eq x y) (has ys x) (has-from_In ys x rest)
+]
+  where
+    either : (a b : Bool) → b ≡ true → (a || b) ≡ true
+    either true b is = refl
+    either false b is = is
+
+pub In-slice_get : {X : Type 0} (xs : List X) (k : ℕ) (x : X) → slice_get xs k ≡ Some x → In x xs
+In-slice_get [] k x is = absurd cc
+In-slice_get (y ∷ ys) zero x is = inl cc
+In-slice_get (y ∷ ys) (suc k) x is = inr (In-slice_get ys k x is)
+
+pub place_of : {X : Type 0} (xs : List X) (x : X) → In x xs → (k : ℕ) × (slice_get xs k ≡ Some x)
+place_of [] x member = absurd member
+place_of {X} (y ∷ ys) x member = elim member [
+  | inl e ↦ (0, ap (λ (z : X). Some z) (sym e))
+  | inr rest ↦ (let found = place_of ys x rest in (suc found.0, found.1))
+]
+
+-- a state that stands at no place isn't there
+pub has_none : (xs : List (List ℕ)) (x : List ℕ) → ((k : ℕ) → slice_get xs k ≡ Some x → ⊥) → has xs x ≡ false
+has_none xs x none = false_from_ne_true (has xs x) (λ found. (let place = place_of xs x (has-In xs x found) in none place.0 place.1))
+
+pub has_at : (xs : List (List ℕ)) (x : List ℕ) (k : ℕ) → slice_get xs k ≡ Some x → has xs x ≡ true
+has_at xs x k is = has-from_In xs x (In-slice_get xs k x is)

@@ -1,0 +1,104 @@
+-- Regions of a log, and the tests of their states by corners or one after another.
+use Rattle.std.specs.Prelude.{◌≡◌, ◌↔◌, ℕ, zero, suc, ◌<◌, ◌≤◌, List, [], ◌∷◌, length, Bool, true, ◌==◌, nat_le, IsTrue, Option, Some, None, is_some, MatchOption, option_map, unwrap_or, slice_get, refl}
+use Rattle.std.specs.Cmp.Lexicographic.{pointwise}
+use Rattle.std.proofs.Common.{inl, inr, ap, sym, subst, arith}
+use Rattle.std.proofs.lemmas.Bool.{eq-eqb, eqb-true, le-leb, lt-leb, leb-true}
+use Rattle.std.proofs.lemmas.Option.{slice_get_cases}
+use Rattle.psi_state.specs.State.{Corners, IsBelow, box}
+use Rattle.psi_state.specs.Members.{In}
+use Rattle.psi_state.proofs.BoxesLemmas.{In-low, In-high, In-of_box, below-through}
+use Rattle.psi_region.specs.Covering.{Covers}
+use Rattle.psi_lines.specs.Log.{Region, in_box, in_set, Entry, Certificate, IsRegion, IsEntry, IsLog}
+use Rattle.psi_log.specs.Told.{form}
+use Rattle.psi_log.specs.declared.form.Form.{Form}
+use Rattle.psi_log.specs.declared.form.Form.TheVariants.{Box, Set}
+use Rattle.psi_log.proofs.StateLemmas.{below_found, below_again}
+use Rattle.psi_replay.specs.Verdict.{states_of, has, covers, is_within}
+use Rattle.psi_replay.specs.Numbered.{nth_region}
+use Rattle.psi_replay.proofs.ListLemmas.{same_test, all_each, all_from, has-In, has-from_In, In-slice_get}
+
+-- a region whose form is a box is that box, and one whose form is a set is the set of its states
+pub shown_box : (found : Option Region) (begin : Region) (bounds : Corners) → option_map form found ≡ Some (Box bounds) → in_box bounds ≡ unwrap_or found begin
+shown_box None begin bounds is = absurd cc
+shown_box (Some (in_box own)) begin bounds is = same own bounds is
+  where
+    same : (own bounds : Corners) → ◌≡◌ {A = Option Form} (Some (Box own)) (Some (Box bounds)) → in_box bounds ≡ in_box own
+    same own bounds is = cc
+shown_box (Some (in_set states)) begin bounds is = absurd cc
+
+pub shown_set : (found : Option Region) (begin : Region) (count : ℕ) → option_map form found ≡ Some (Set count) → in_set (states_of (unwrap_or found begin)) ≡ unwrap_or found begin
+shown_set None begin count is = absurd cc
+shown_set (Some (in_box own)) begin count is = absurd cc
+shown_set (Some (in_set states)) begin count is = refl
+
+-- the region after a step is that of the step's entry
+pub nth_entry : (c : Certificate) (i : ℕ) (e : Entry) → slice_get c.entries i ≡ Some e → nth_region c (suc i) ≡ e.region
+nth_entry c i e is = ap (λ (found : Option Entry). unwrap_or (option_map (λ (d : Entry). d.region) found) c.begin) is
+
+-- each step of a log has its entry
+pub entry_there : (c : Certificate) (i : ℕ) → IsLog c → i < c.header.horizon → (e : Entry) × (slice_get c.entries i ≡ Some e)
+entry_there c i is small = elim (slice_get_cases c.entries i).1 [
+  | inl found ↦ (found.0, found.2)
+  | inr past ↦ absurd (let count = is.count in let over : length c.entries ≤ i = past.0 in omega arith)
+]
+
+-- each region of a log is one of its header's queues
+pub nth_regional : (c : Certificate) (i : ℕ) → IsLog c → i ≤ c.header.horizon → IsRegion c.header.queues (nth_region c i)
+nth_regional c zero is small = is.begin
+nth_regional c (suc i) is small =
+    let found = entry_there c i is (omega arith) in
+    let entry : IsEntry c.header found.0 = is.entries found.0 (In-slice_get c.entries i found.0 found.1) in
+    subst (λ (r : Region). IsRegion c.header.queues r) (sym (nth_entry c i found.0 found.1)) entry.region
+
+-- the test of two states by code is that of the definition
+pub below_test : (x y : List ℕ) (r : Bool) → (IsTrue r ↔ IsBelow x y) → r ≡ pointwise nat_le x y
+below_test x y r tells = same_test r (pointwise nat_le x y) (λ is. below_again x y (tells.0 is)) (λ is. tells.1 (below_found x y is))
+
+-- a box is within the capacities exactly where its upper corner is
+pub box_within : (caps : List ℕ) (b : Corners) (hi : List ℕ) (r : Bool) → IsBelow b.lo b.hi → hi ≡ b.hi → (IsTrue r ↔ IsBelow hi caps) → r ≡ is_within caps (in_box b)
+box_within caps b hi r ordered corner tells =
+    let test : List ℕ → Bool = λ x. pointwise nat_le x caps in
+    same_test r (is_within caps (in_box b))
+    (λ is. (let below : IsBelow b.hi caps = subst (λ (x : List ℕ). IsBelow x caps) corner (tells.0 is) in
+    all_from test (box b.lo b.hi) (λ x member. below_again x caps (below-through x b.hi caps (In-of_box b.lo b.hi x member).high below))))
+    (λ all. tells.1 (subst (λ (x : List ℕ). IsBelow x caps) (sym corner)
+    (below_found b.hi caps (all_each test (box b.lo b.hi) b.hi all (In-high b.lo b.hi ordered)))))
+
+-- each state of a region that is within the capacities is
+pub within_each : (caps : List ℕ) (region : Region) (x : List ℕ) → is_within caps region ≡ true → In x (states_of region) → IsBelow x caps
+within_each caps region x all member = below_found x caps (all_each (λ (y : List ℕ). pointwise nat_le y caps) (states_of region) x all member)
+
+pub within_high : (caps : List ℕ) (b : Corners) → is_within caps (in_box b) ≡ true → IsBelow b.lo b.hi → IsBelow b.hi caps
+within_high caps b all ordered = within_each caps (in_box b) b.hi all (In-high b.lo b.hi ordered)
+
+-- the count of a box, where it is told up to a number
+pub told_some : (n most : ℕ) (o : Option ℕ) → MatchOption o (most < n) (λ count. (count ≡ n) × (count ≤ most)) → is_some o ≡ nat_le n most
+told_some n most (Some count) tells = (let first = tells.0 in let second = tells.1 in let small : n ≤ most = omega arith in sym (le-leb n most small))
+told_some n most None tells = sym (lt-leb n most tells)
+
+-- a box has a state, so it has one exactly where it has at most one
+pub one_state : (b : Corners) → IsBelow b.lo b.hi → nat_le (length (box b.lo b.hi)) 1 ≡ (length (box b.lo b.hi) == 1)
+one_state b ordered = at_most_one (length (box b.lo b.hi)) (some (box b.lo b.hi) b.lo (In-low b.lo b.hi ordered))
+  where
+    some : (xs : List (List ℕ)) (x : List ℕ) → In x xs → 1 ≤ length xs
+    some [] x member = absurd member
+    some (y ∷ ys) x member = omega arith
+
+    at_most_one : (n : ℕ) → 1 ≤ n → nat_le n 1 ≡ (n == 1)
+    at_most_one n least = same_test (nat_le n 1) (n == 1)
+        (λ few. (let most = leb-true n 1 few in eq-eqb n 1 (omega arith)))
+        (λ one. (let is = eqb-true n 1 one in le-leb n 1 (omega arith)))
+
+-- the test of a box by its corners is that of its states
+pub box_holds : (b : Corners) (x : List ℕ) (r : Bool) → (IsTrue r ↔ In x (box b.lo b.hi)) → r ≡ has (box b.lo b.hi) x
+box_holds b x r tells = same_test r (has (box b.lo b.hi) x)
+    (λ is. has-from_In (box b.lo b.hi) x (tells.0 is))
+    (λ found. tells.1 (has-In (box b.lo b.hi) x found))
+
+-- the test of a box by corners is that of what the function makes of its states
+pub box_covers : (f : List ℕ → List ℕ) (b c : Corners) (r : Bool) → (IsTrue r ↔ Covers f (box b.lo b.hi) (box c.lo c.hi)) → r ≡ covers f (in_box b) (in_box c)
+box_covers f b c r tells =
+    let test : List ℕ → Bool = λ x. has (box c.lo c.hi) (f x) in
+    same_test r (covers f (in_box b) (in_box c))
+    (λ is. (let there = tells.0 is in all_from test (box b.lo b.hi) (λ x member. has-from_In (box c.lo c.hi) (f x) (there.each x member))))
+    (λ all. tells.1 (record { each = λ x member. has-In (box c.lo c.hi) (f x) (all_each test (box b.lo b.hi) x all member) }))

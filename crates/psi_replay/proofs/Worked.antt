@@ -1,0 +1,145 @@
+-- Logs worked out by hand, judged by the definition as the checker computes it.
+use Rattle.std.specs.Prelude.{◌≡◌, ℕ, ◌+◌, ◌-◌, min, List, [], ◌∷◌, ◌&&◌, nat_lt, true, false, Ok, Err, slice_index, slice_index_or, if◌then◌else◌, refl}
+use Rattle.psi_rate.specs.Composition.{Functions}
+use Rattle.psi_lines.specs.Log.{Region, in_box, in_set, Entry, Certificate}
+use Rattle.psi_replay.specs.Verdict.{is_small, judge_step, judge_steps, judge_end, judged}
+
+abbrev entry : ℕ → ℕ → Region → Entry
+entry t e region = record { step = record { number = t; event = e }; region = region }
+
+abbrev between : List ℕ → List ℕ → Region
+between l h = in_box (record { lo = l; hi = h })
+
+abbrev one : ℕ → List ℕ
+one v = v ∷ []
+
+abbrev log : ℕ → ℕ → Region → List Entry → List ℕ → Certificate
+log queues horizon begin entries final = record {
+  header = record { version = 1; queues = queues; seed = 0; stream = 0; horizon = horizon };
+  begin = begin;
+  entries = entries;
+  final = final;
+}
+
+-- one queue with room for three: backwards in time one joins, one joins, one joins, one leaves
+abbrev joined : List ℕ → List ℕ
+joined [] = []
+joined (v ∷ x) = (min 3 (v + 1)) ∷ x
+
+abbrev left : List ℕ → List ℕ
+left [] = []
+left (v ∷ x) = (v - 1) ∷ x
+
+abbrev events : ℕ → ℕ
+events t = slice_index (0 ∷ 0 ∷ 0 ∷ 0 ∷ 1 ∷ []) t
+
+abbrev f : Functions
+f t = slice_index_or (joined ∷ left ∷ []) (events t) (λ x. x)
+
+-- its log, with the line of the first step, the last region and the state as they are given
+abbrev server : Entry → Region → ℕ → Certificate
+server first last final = log 1 4 (between (one 0) (one 3))
+    (first ∷ entry 3 0 (in_set (one 1 ∷ one 2 ∷ one 3 ∷ [])) ∷ entry 2 0 (in_set (one 2 ∷ one 3 ∷ [])) ∷ entry 1 0 last ∷ []) (one final)
+
+abbrev first_step : Entry
+first_step = entry 4 1 (in_set (one 0 ∷ one 1 ∷ one 2 ∷ []))
+
+abbrev last_set : Region
+last_set = in_set (one 3 ∷ [])
+
+accepted : judged (one 3) 18 events f (server first_step last_set 3) ≡ Ok tt
+unfolding judged judge_steps judge_step judge_end
+accepted = refl
+
+widened : judged (one 3) 18 events f (server (entry 4 1 (in_set (one 0 ∷ one 1 ∷ one 2 ∷ one 3 ∷ []))) last_set 3) ≡ Ok tt
+unfolding judged judge_steps judge_step judge_end
+widened = refl
+
+narrowed : judged (one 3) 18 events f (server (entry 4 1 (in_set (one 0 ∷ one 1 ∷ []))) last_set 3) ≡ Err (record { line = 7; cause = 5 })
+unfolding judged judge_steps judge_step judge_end
+narrowed = refl
+
+wrong_step_number : judged (one 3) 18 events f (server (entry 5 1 (in_set (one 0 ∷ one 1 ∷ one 2 ∷ []))) last_set 3) ≡ Err (record { line = 7; cause = 2 })
+unfolding judged judge_steps judge_step judge_end
+wrong_step_number = refl
+
+wrong_event : judged (one 3) 18 events f (server (entry 4 0 (in_set (one 0 ∷ one 1 ∷ one 2 ∷ []))) last_set 3) ≡ Err (record { line = 7; cause = 3 })
+unfolding judged judge_steps judge_step judge_end
+wrong_event = refl
+
+outside_the_box : judged (one 3) 18 events f (server (entry 4 1 (in_set (one 0 ∷ one 1 ∷ one 2 ∷ one 4 ∷ []))) last_set 3) ≡ Err (record { line = 7; cause = 4 })
+unfolding judged judge_steps judge_step judge_end
+outside_the_box = refl
+
+not_single : judged (one 3) 18 events f (server first_step (in_set (one 2 ∷ one 3 ∷ [])) 3) ≡ Err (record { line = 11; cause = 7 })
+unfolding judged judge_steps judge_step judge_end
+not_single = refl
+
+wrong_state : judged (one 3) 18 events f (server first_step last_set 2) ≡ Err (record { line = 11; cause = 8 })
+unfolding judged judge_steps judge_step judge_end
+wrong_state = refl
+
+network_of_two_queues : judged (3 ∷ 3 ∷ []) 18 events f (server first_step last_set 3) ≡ Err (record { line = 2; cause = 1 })
+unfolding judged judge_steps judge_step judge_end
+network_of_two_queues = refl
+
+horizon_above_the_limit : judged (one 3) 1 events f (server first_step last_set 3) ≡ Err (record { line = 5; cause = 1 })
+unfolding judged judge_steps judge_step judge_end
+horizon_above_the_limit = refl
+
+-- a region that isn't all states, with too few and with one too many
+begin_without_the_least : judged (one 3) 18 events f (log 1 1 (between (one 1) (one 3)) (entry 1 0 last_set ∷ []) (one 3)) ≡ Err (record { line = 6; cause = 5 })
+unfolding judged judge_steps judge_step judge_end
+begin_without_the_least = refl
+
+begin_outside : judged (one 3) 18 events f (log 1 1 (between (one 0) (one 4)) (entry 1 0 last_set ∷ []) (one 3)) ≡ Err (record { line = 6; cause = 4 })
+unfolding judged judge_steps judge_step judge_end
+begin_outside = refl
+
+-- a box of 4,096 states may be followed by a set, and one of 4,097 may not
+split_of_4096 : is_small (between (one 0) (one 4095)) last_set ≡ true
+split_of_4096 = refl
+
+split_of_4097 : is_small (between (one 0) (one 4096)) last_set ≡ false
+split_of_4097 = refl
+
+-- two queues with room for one each: events that join both, move from the first to the second, and leave each
+abbrev join_both : List ℕ → List ℕ
+join_both (v ∷ w ∷ []) = if nat_lt v 1 && nat_lt w 1 then (v + 1) ∷ (w + 1) ∷ [] else v ∷ w ∷ []
+join_both x = x
+
+abbrev move_on : List ℕ → List ℕ
+move_on (v ∷ w ∷ []) = if nat_lt 0 v && nat_lt w 1 then (v - 1) ∷ (w + 1) ∷ [] else v ∷ w ∷ []
+move_on x = x
+
+abbrev leave_second : List ℕ → List ℕ
+leave_second (v ∷ w ∷ []) = v ∷ (w - 1) ∷ []
+leave_second x = x
+
+abbrev numbers : ℕ → ℕ
+numbers t = slice_index (0 ∷ 2 ∷ 1 ∷ 0 ∷ 0 ∷ 3 ∷ 1 ∷ 2 ∷ 0 ∷ []) t
+
+abbrev functions : Functions
+functions t = slice_index_or (join_both ∷ move_on ∷ left ∷ leave_second ∷ []) (numbers t) (λ x. x)
+
+abbrev two : ℕ → ℕ → List ℕ
+two v w = v ∷ w ∷ []
+
+-- its log of boxes and sets, with the regions after two of the steps as they are given
+abbrev tandem : Region → Region → Certificate
+tandem fourth third = log 2 8 (between (two 0 0) (two 1 1))
+    (entry 8 0 (between (two 0 0) (two 1 1)) ∷ entry 7 2 (between (two 0 0) (two 0 1)) ∷ entry 6 1 (between (two 0 0) (two 0 1)) ∷ entry 5 3 (between (two 0 0) (two 0 0))
+    ∷ entry 4 0 fourth ∷ entry 3 0 third ∷ entry 2 1 (in_set (two 1 1 ∷ [])) ∷ entry 1 2 (in_set (two 0 1 ∷ [])) ∷ []) (two 0 1)
+
+boxes_and_sets : judged (two 1 1) 18 numbers functions (tandem (in_set (two 1 1 ∷ [])) (in_set (two 1 1 ∷ []))) ≡ Ok tt
+unfolding judged judge_steps judge_step judge_end
+boxes_and_sets = refl
+
+box_left_as_it_is : judged (two 1 1) 18 numbers functions (tandem (between (two 0 0) (two 0 0)) (between (two 0 0) (two 0 0))) ≡ Err (record { line = 11; cause = 5 })
+unfolding judged judge_steps judge_step judge_end
+box_left_as_it_is = refl
+
+-- a set may be followed by a box
+box_after_a_set : judged (two 1 1) 18 numbers functions (tandem (in_set (two 1 1 ∷ [])) (between (two 1 1) (two 1 1))) ≡ Ok tt
+unfolding judged judge_steps judge_step judge_end
+box_after_a_set = refl

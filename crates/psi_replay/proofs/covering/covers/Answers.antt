@@ -1,0 +1,13 @@
+-- Answers in the proof of `covering::covers`.
+use Rattle.std.specs.Prelude.{◌≡◌, true}
+use Rattle.std.proofs.Common.{subst}
+use Rattle.psi_replay.specs.Verdict.{is_within}
+use Rattle.psi_replay.specs.Seen.{seen}
+use Rattle.psi_replay.specs.declared.regions.Region.{Region as Shown}
+use Rattle.psi_replay.proofs.RegionLemmas.{within_high}
+use Rattle.psi_replay.proofs.covering.covers.Goals as goal
+
+pub covers_box-requires-clause-before : goal.covers_box-requires-clause-before
+covers_box-requires-clause-before g c =
+    let caps = g.E.EventLaw.capacities c.args.event.now in
+    within_high caps c.in-Box.bounds (subst (λ (r : Shown). is_within caps (seen r) ≡ true) c.in-Box.is c.requires.before) c.len-queues.ensures.ordered

@@ -1,0 +1,12 @@
+-- Invariants of the loops of `covering::covers_set`.
+use Rattle.std.specs.Prelude.{◌≡◌, ℕ, List, drop}
+use Rattle.std.specs.List.{list_all}
+use Rattle.psi_lines.specs.Log.{in_set}
+use Rattle.psi_replay.specs.Verdict.{states_of, has, covers}
+use Rattle.psi_replay.specs.Seen.{seen}
+use Rattle.psi_replay.proofs.covering.covers_set.Given as goal
+
+-- the images of the states so far are there
+abbrev pub invariant-loop-place : goal.invariant-loop-place
+invariant-loop-place g l =
+    list_all (λ (x : List ℕ). has (states_of (seen l.after)) (g.E.EventLaw.function l.event x)) (drop l.place l.before) ≡ covers (g.E.EventLaw.function l.event) (in_set l.before) (seen l.after)

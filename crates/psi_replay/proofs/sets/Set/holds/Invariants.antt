@@ -1,0 +1,14 @@
+-- Invariants of the loops of `Set::holds`.
+use Rattle.std.specs.Prelude.{◌≡◌, ℕ, ◌-◌, ◌<◌, ◌≤◌, length, Some, slice_get}
+use Rattle.psi_replay.proofs.sets.Set.holds.Given as goal
+
+-- the state stands at a place between the two, if anywhere
+abbrev pub invariant-loop-low : goal.invariant-loop-low
+invariant-loop-low l = record {
+  most : l.high ≤ length l.self;
+  between : (k : ℕ) → slice_get l.self k ≡ Some l.x → (l.low ≤ k) × (k < l.high);
+}
+
+-- the stretch gets shorter
+abbrev pub decreases-loop-low : goal.decreases-loop-low
+decreases-loop-low l = l.high - l.low

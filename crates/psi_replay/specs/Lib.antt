@@ -1,0 +1,6 @@
+-- The definitions of this crate.
+pub mod Verdict
+pub mod Numbered
+pub mod Seen
+pub mod Judging
+pub mod Window

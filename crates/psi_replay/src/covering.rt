@@ -1,0 +1,124 @@
+//! Whether a region holds what an event makes of another's states.
+
+ghost use Rattle.std.specs.Prelude.{◌≡◌, ℕ, List, length, true, None, MatchOption};
+ghost use Rattle.psi_state.specs.State.{AreCapacities, IsBelow};
+ghost use Rattle.psi_event.specs.Idle.{unchanged};
+ghost use Rattle.psi_lines.specs.Log.{in_box, in_set, IsRegion};
+ghost use Rattle.psi_replay.specs.Verdict.{states_of, has, covers, is_within, holds_all};
+ghost use Rattle.psi_replay.specs.Seen.{seen};
+
+use crate::regions::Region;
+use crate::sets::Set;
+use psi_event::{EventLaw, Idle};
+use psi_region::covers_image;
+use psi_state::{Bounds, State};
+
+// Whether a region holds what the event makes of a state.
+fn holds_image<E: EventLaw>(event: &E, mut x: State, after: &Region<'_>) -> bool
+    requires state { IsBelow x (E.capacities event.now) }
+    requires after { IsRegion (length (E.capacities event.now)) (seen after.now) }
+    ensures { result ≡ has (states_of (seen after.now)) (E.function event.now x) }
+{
+    event.apply(&mut x);
+    after.holds(&x)
+}
+
+// Whether a region holds what the event makes of each state of a box.
+fn covers_box<E: EventLaw>(event: &E, before: &Bounds, after: &Region<'_>) -> bool
+    requires before { IsBelow before.now.hi (E.capacities event.now) }
+    requires after { IsRegion (length (E.capacities event.now)) (seen after.now) }
+    requires within { is_within (E.capacities event.now) (seen after.now) ≡ true }
+    ensures { result ≡ covers (E.function event.now) (in_box before.now) (seen after.now) }
+{
+    match after {
+        Region::Box(to) => box_covers_box(event, before, to),
+        Region::Set(_) => box_covers_each(event, before, after),
+    }
+}
+
+// The corners tell it where both are boxes.
+fn box_covers_box<E: EventLaw>(event: &E, before: &Bounds, after: &Bounds) -> bool
+    requires before { IsBelow before.now.hi (E.capacities event.now) }
+    requires within { is_within (E.capacities event.now) (in_box after.now) ≡ true }
+    ensures { result ≡ covers (E.function event.now) (in_box before.now) (in_box after.now) }
+{
+    // Called for its clause: the corners are in order.
+    let _queues = after.len();
+    covers_image(event, before, after)
+}
+
+// Else each state of the box is looked at.
+fn box_covers_each<E: EventLaw>(event: &E, before: &Bounds, after: &Region<'_>) -> bool
+    requires before { IsBelow before.now.hi (E.capacities event.now) }
+    requires after { IsRegion (length (E.capacities event.now)) (seen after.now) }
+    ensures { result ≡ covers (E.function event.now) (in_box before.now) (seen after.now) }
+{
+    for x in before.states() {
+        if !holds_image(event, x, after) {
+            return false;
+        }
+    }
+    true
+}
+
+// Whether a region holds what the event makes of each state of a set.
+fn covers_set<E: EventLaw>(event: &E, before: &Set<'_>, after: &Region<'_>) -> bool
+    requires before { is_within (E.capacities event.now) (in_set before.now) ≡ true }
+    requires after { IsRegion (length (E.capacities event.now)) (seen after.now) }
+    ensures { result ≡ covers (E.function event.now) (in_set before.now) (seen after.now) }
+{
+    for place in 0..before.len() {
+        if !holds_image(event, before.get(place), after) {
+            return false;
+        }
+    }
+    true
+}
+
+// Whether a region holds what the event makes of each state of another.
+fn covers<E: EventLaw>(event: &E, before: &Region<'_>, after: &Region<'_>) -> bool
+    requires before { is_within (E.capacities event.now) (seen before.now) ≡ true }
+    requires after { IsRegion (length (E.capacities event.now)) (seen after.now) }
+    requires within { is_within (E.capacities event.now) (seen after.now) ≡ true }
+    ensures { result ≡ covers (E.function event.now) (seen before.now) (seen after.now) }
+{
+    match before {
+        Region::Box(bounds) => {
+            // Called for its clause: the corners are in order.
+            let _queues = bounds.len();
+            covers_box(event, bounds, after)
+        }
+        Region::Set(set) => covers_set(event, set, after),
+    }
+}
+
+/// Whether a region holds what a step makes of each state of another. An idle step, which has no event,
+/// leaves them as they are.
+pub(crate) fn step_covers<E: EventLaw>(
+    event: Option<&E>,
+    caps: &State,
+    before: &Region<'_>,
+    after: &Region<'_>,
+) -> bool
+    requires valid { AreCapacities caps.now }
+    requires event { MatchOption event (Unit {0}) (λ e. E.capacities e.now ≡ caps.now) }
+    requires before { is_within caps.now (seen before.now) ≡ true }
+    requires after { IsRegion (length caps.now) (seen after.now) }
+    requires within { is_within caps.now (seen after.now) ≡ true }
+    ensures { MatchOption event.entry (result ≡ covers unchanged (seen before.now) (seen after.now)) (λ e. result ≡ covers (E.function e.now) (seen before.now) (seen after.now)) }
+{
+    match event {
+        Some(event) => covers(event, before, after),
+        None => covers(&Idle::new(*caps), before, after),
+    }
+}
+
+/// Whether a region has all states of the capacities.
+pub(crate) fn holds_all(caps: &State, region: &Region<'_>) -> bool
+    requires valid { AreCapacities caps.now }
+    requires region { IsRegion (length caps.now) (seen region.now) }
+    requires within { is_within caps.now (seen region.now) ≡ true }
+    ensures { result ≡ holds_all caps.now (seen region.now) }
+{
+    covers_box(&Idle::new(*caps), &Bounds::whole(caps), region)
+}

@@ -1,0 +1,115 @@
+//! The rules of a log, line by line.
+
+ghost use Rattle.std.specs.Prelude.{◌≡◌, ◌≤◌, ◌<◌, length, true, IfOk, OnOk};
+ghost use Rattle.psi_rate.specs.Composition.{system_functions};
+ghost use Rattle.psi_lines.specs.Log.{IsLog, IsRegion};
+ghost use Rattle.psi_replay.specs.Verdict.{is_within, judge_step, judge_steps, judge_end, judged, event_numbers};
+ghost use Rattle.psi_replay.specs.Seen.{seen};
+ghost use Rattle.psi_replay.specs.Judging.{Gives};
+
+use crate::causes::{Cause, Rejection};
+use crate::covering::{holds_all, step_covers};
+use crate::regions::{Region, region_of};
+use psi_event::EventLaw;
+use psi_log::Log;
+use psi_past::Past;
+use psi_rate::System;
+use psi_state::{State, Step};
+
+// Judges the line of a step, which has to be that of a time.
+#[tactic(auto, unfolding(crate::specs::Verdict::judge_step))]
+fn judge_step<E: EventLaw, P: Past>(
+    system: &System<'_, E>,
+    past: &mut P,
+    line: u32,
+    time: u32,
+    before: &Region<'_>,
+    step: Step,
+    after: &Region<'_>,
+) -> Result<(), Rejection>
+    requires time { 1 ≤ time }
+    requires before { is_within system.now.caps (seen before.now) ≡ true }
+    requires after { IsRegion (length system.now.caps) (seen after.now) }
+    ensures value { let words = P.words past.old in
+        Gives (λ _. tt) result (judge_step system.now.caps system.now.limit (event_numbers system.now words) (system_functions E.function system.now words)
+        line time (seen before.now) (record { step = step; region = seen after.now })) }
+    ensures within { OnOk result (is_within system.now.caps (seen after.now) ≡ true) }
+    ensures words { P.words past.new ≡ P.words past.old }
+{
+    let (number, event) = system.pick(past.word(time - 1));
+    let caps = system.caps();
+    Cause::StepNumber.unless(step.number == time, line)?;
+    Cause::WrongEvent.unless(step.event == number, line)?;
+    Cause::OutsideBox.unless(after.is_within(&caps), line)?;
+    Cause::SplitTooLarge.unless(before.is_small(after), line)?;
+    Cause::NotCovered.unless(step_covers(event, &caps, before, after), line)
+}
+
+// Judges the lines of steps, and gives the last region.
+fn judge_steps<'l, E: EventLaw, P: Past>(
+    system: &System<'_, E>,
+    past: &mut P,
+    log: &'l Log,
+) -> Result<Region<'l>, Rejection>
+    requires log { IsLog log.now }
+    requires queues { log.now.header.queues ≡ length system.now.caps }
+    requires begin { is_within system.now.caps log.now.begin ≡ true }
+    ensures value { let words = P.words past.old in
+        Gives seen result (judge_steps system.now.caps system.now.limit (event_numbers system.now words) (system_functions E.function system.now words)
+        7 log.entry.now.header.horizon log.entry.now.begin log.entry.now.entries) }
+    ensures regional { IfOk result (λ last. IsRegion (length system.now.caps) (seen last)) }
+    ensures words { P.words past.new ≡ P.words past.old }
+{
+    let horizon = log.header().horizon;
+    let mut before = region_of(log, 0);
+    for done in 0..horizon {
+        let after = region_of(log, done + 1);
+        let step = log.step(done + 1);
+        judge_step(
+            system,
+            past,
+            7 + done,
+            horizon - done,
+            &before,
+            step,
+            &after,
+        )?;
+        before = after;
+    }
+    Ok(before)
+}
+
+// Judges the last line.
+#[tactic(auto, unfolding(crate::specs::Verdict::judge_end))]
+fn judge_end(line: u32, last: &Region<'_>, end: &State) -> Result<(), Rejection>
+    requires { IsRegion (length end.now) (seen last.now) }
+    ensures { Gives (λ _. tt) result (judge_end line (seen last.now) end.now) }
+{
+    Cause::NotSingle.unless(last.is_single(), line)?;
+    Cause::WrongState.unless(last.holds(end), line)
+}
+
+/// Judges a log by all its rules.
+///
+/// # Errors
+///
+/// The first line that breaks one, with its first cause.
+#[tactic(auto, unfolding(crate::specs::Verdict::judged))]
+pub(crate) fn judged<E: EventLaw, P: Past>(
+    system: &System<'_, E>,
+    past: &mut P,
+    log: &Log,
+) -> Result<(), Rejection>
+    ensures value { let words = P.words past.old in
+        Gives (λ _. tt) result (judged system.now.caps system.now.limit (event_numbers system.now words) (system_functions E.function system.now words) log.now) }
+{
+    let header = log.header();
+    let caps = system.caps();
+    Cause::Header.unless(header.queues == caps.len(), 2)?;
+    Cause::Header.unless(header.horizon <= 1 << system.limit(), 5)?;
+    let begin = region_of(log, 0);
+    Cause::OutsideBox.unless(begin.is_within(&caps), 6)?;
+    Cause::NotCovered.unless(holds_all(&caps, &begin), 6)?;
+    let last = judge_steps(system, past, log)?;
+    judge_end(7 + header.horizon, &last, &log.end())
+}

@@ -1,0 +1,109 @@
+//! A region of a log, and the rules that speak of its states.
+
+ghost use Rattle.std.specs.Prelude.{◌≡◌, ◌==◌, ◌≤◌, ℕ, true, length};
+ghost use Rattle.psi_state.specs.State.{IsBelow, box};
+ghost use Rattle.psi_lines.specs.Log.{in_box, in_set, IsLog, IsRegion};
+ghost use Rattle.psi_replay.specs.Verdict.{states_of, has, is_within, is_small};
+ghost use Rattle.psi_replay.specs.Numbered.{nth_region};
+ghost use Rattle.psi_replay.specs.Seen.{seen};
+
+use crate::sets::Set;
+use psi_log::{Form, Log};
+use psi_state::{Bounds, State};
+
+/// A region of a log.
+#[derive(Drop)]
+pub(crate) enum Region<'l> {
+    /// The states between two corners.
+    Box(Bounds),
+    /// The states of a set.
+    Set(Set<'l>),
+}
+
+/// The region of a log with a number: 0 is the one at which the run begins, and `i` the one after the `i`-th
+/// step line.
+pub(crate) fn region_of(log: &Log, number: u32) -> Region<'_>
+    requires log { IsLog log.now }
+    requires number { number ≤ log.now.header.horizon }
+    ensures value { seen result ≡ nth_region log.entry.now number }
+    ensures regional { IsRegion log.entry.now.header.queues (seen result) }
+{
+    match log.region(number) {
+        Form::Box(bounds) => Region::Box(bounds),
+        Form::Set { count } => Region::Set(Set::new(log, number, count)),
+    }
+}
+
+impl Region<'_> {
+    /// Whether a state is one of the region's.
+    pub(crate) fn holds(&self, x: &State) -> bool
+        requires { IsRegion (length x.now) (seen self.now) }
+        ensures { result ≡ has (states_of (seen self.now)) x.now }
+    {
+        match self {
+            Region::Box(bounds) => bounds.holds(x),
+            Region::Set(set) => set.holds(x),
+        }
+    }
+
+    /// Whether no state has more customers than a queue has room for.
+    pub(crate) fn is_within(&self, caps: &State) -> bool
+        requires { IsRegion (length caps.now) (seen self.now) }
+        ensures { result ≡ is_within caps.now (seen self.now) }
+    {
+        match self {
+            Region::Box(bounds) => box_is_within(bounds, caps),
+            Region::Set(set) => set_is_within(set, caps),
+        }
+    }
+
+    /// Whether the region may be followed by another: a box that is followed by a set has at most 4,096 states.
+    pub(crate) fn is_small(&self, after: &Region<'_>) -> bool
+        ensures { result ≡ is_small (seen self.now) (seen after.now) }
+    {
+        match (self, after) {
+            (Region::Box(bounds), Region::Set(_)) => bounds.volume_at_most(4096).is_some(),
+            _ => true,
+        }
+    }
+
+    /// Whether the region has one state.
+    pub(crate) fn is_single(&self) -> bool
+        ensures { result ≡ (length (states_of (seen self.now)) == 1) }
+    {
+        match self {
+            Region::Box(bounds) => is_one_state(bounds),
+            Region::Set(set) => set.len() == 1,
+        }
+    }
+}
+
+// Whether no state of a box has more customers than a queue has room for.
+fn box_is_within(bounds: &Bounds, caps: &State) -> bool
+    requires { length bounds.now.lo ≡ length caps.now }
+    ensures { result ≡ is_within caps.now (in_box bounds.now) }
+{
+    bounds.hi().leq(caps)
+}
+
+// Whether no state of a set has more customers than a queue has room for.
+fn set_is_within(set: &Set<'_>, caps: &State) -> bool
+    requires { IsRegion (length caps.now) (in_set set.now) }
+    ensures { result ≡ is_within caps.now (in_set set.now) }
+{
+    for place in 0..set.len() {
+        if !set.get(place).leq(caps) {
+            return false;
+        }
+    }
+    true
+}
+
+// Whether a box has one state.
+fn is_one_state(bounds: &Bounds) -> bool
+    ensures { result ≡ (length (box bounds.now.lo bounds.now.hi) == 1) }
+{
+    // Called for its clause: the corners are in order, so there is a state.
+    let _queues = bounds.len();
+    bounds.volume_at_most(1).is_some()
+}

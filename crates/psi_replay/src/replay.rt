@@ -1,0 +1,55 @@
+//! The verdict on a log.
+
+ghost use Rattle.std.specs.Prelude.{◌≡◌};
+ghost use Rattle.psi_past.specs.SeedWord.{seed_word};
+ghost use Rattle.psi_rate.specs.Composition.{system_functions};
+ghost use Rattle.psi_replay.specs.Verdict.{judged, verdict_of, event_numbers, ReachesAccepted, AcceptsWithin};
+
+use crate::answers::Verdict;
+use crate::backward::Backward;
+use crate::judging::judged;
+use psi_event::EventLaw;
+use psi_log::Log;
+use psi_past::SeedPast;
+use psi_rate::System;
+
+/// The verdict on a log of a network: accepted where it breaks no rule, whoever wrote it, and rejected else, at
+/// the first line that breaks one.
+///
+/// The events of the steps are those of the words of the header's seed and stream. Where the log is accepted,
+/// every state within the capacities that starts at its horizon or earlier is its state at time zero, which is
+/// within the capacities too (coupling from the past, Propp and Wilson 1996). The rules, in the order in which
+/// they are judged:
+///
+/// | Line | Cause |
+/// |---|---|
+/// | 2 | `Header`: the queues aren't as many as the network's |
+/// | 5 | `Header`: the horizon is above 2 to the power of the network's limit |
+/// | 6, where the run begins | `OutsideBox`: a state of the region has more customers than a queue has room for. `NotCovered`: the region isn't all states |
+/// | 6 + i, the i-th step | `StepNumber`: its number isn't the horizon less i, plus 1. `WrongEvent`: its event isn't that of its time's word. `OutsideBox`, as above. `SplitTooLarge`: the region is a set, and the one before a box of more than 4,096 states. `NotCovered`: what the event makes of a state of the region before isn't in the region |
+/// | the last | `NotSingle`: the last region has more than one state. `WrongState`: its state isn't the one told |
+///
+/// A region may be larger than it needs to be, and a set may be followed by a box. No memory is taken. A step
+/// from a box to a box costs one envelope (Bušić, Gaujal and Vincent 2008); a step of a set, or from a box of
+/// at most 4,096 states to a set, looks at each state by itself.
+pub fn verdict<E: EventLaw>(system: &System<'_, E>, log: &Log) -> Verdict
+    ensures value { let words = seed_word log.now.header.seed log.now.header.stream in
+        result ≡ verdict_of log.now (judged system.now.caps system.now.limit (event_numbers system.now words) (system_functions E.function system.now words) log.now) }
+    ensures reached { ReachesAccepted (system_functions E.function system.now (seed_word log.now.header.seed log.now.header.stream)) system.now.caps result }
+    ensures within { AcceptsWithin system.now.caps result }
+{
+    // Called for its clause: the events fit the capacities.
+    let _caps = system.caps();
+    let header = log.header();
+    let mut past = Backward::new(SeedPast::new(header.seed, header.stream));
+    match judged(system, &mut past, log) {
+        Ok(()) => Verdict::Accepted {
+            horizon: header.horizon,
+            state: log.end(),
+        },
+        Err(rejection) => Verdict::Rejected {
+            line: rejection.line,
+            cause: rejection.cause.code(),
+        },
+    }
+}
