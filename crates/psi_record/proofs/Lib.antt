@@ -1,0 +1,8 @@
+-- The lemmas of this crate.
+pub mod SendingLemmas
+pub mod WalkingLemmas
+pub mod TextLemmas
+pub mod RoomLemmas
+pub mod RegionLemmas
+pub mod AcceptedLemmas
+mod Worked

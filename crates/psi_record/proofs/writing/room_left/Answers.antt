@@ -1,0 +1,118 @@
+-- Answers in the proof of `room_left`.
+use Rattle.std.proofs.Common.{◌≡◌, suc, ◌+◌, [], length, refl, sym, ◌∙◌, subst, add-one, arith}
+use Rattle.psi_rate.specs.Composition.{system_functions}
+use Rattle.psi_region.specs.Region.{start}
+use Rattle.psi_lines.specs.Text.{header_text, begin_text, end_text, log_text}
+use Rattle.psi_record.specs.Recorded.{region_of, log_of}
+use Rattle.psi_replay.specs.Verdict.{event_numbers}
+use Rattle.psi_record.specs.Walking.{front_of, line_of}
+use Rattle.psi_record.proofs.WalkingLemmas.{walking-begun, walking-before, walking-left, walking-next, walking-line}
+use Rattle.psi_record.proofs.TextLemmas.{front_text-zero, front_text-more, log_text-recorded, front_text-rest, header_text-rest}
+use Rattle.psi_record.proofs.RoomLemmas.{none-left, line-past, line-fits, line-last}
+use Rattle.psi_record.proofs.writing.room_left.Goals as goal
+
+pub returns-in_err-room-clause-room : goal.returns-in_err-room-clause-room
+returns-in_err-room-clause-room g c =
+    let system = c.args.plan.now.system in
+    let words = g.P.Past.words c.args.plan.now.past in
+    let h = c.args.header.now in
+    let rest = header_text-rest system.split (system_functions g.E.EventLaw.function system words) system.caps (event_numbers system words) h c.args.state.now c.requires.version in
+    let past = line-past 33554432 33554432 [] (header_text h) (header_text h) c.bytes.result.now (omega arith) (c.bytes.ensures ∙ c.header.ensures) refl c.in_err-room.ensures in
+    none-left c.from_residual.result 33554432 (header_text h) rest.0 (log_text (log_of g.E.EventLaw.function system words h c.args.state.now)) c.from_residual.ensures past rest.1
+
+pub returns-in_err-room-2-clause-room : goal.returns-in_err-room-2-clause-room
+returns-in_err-room-2-clause-room g c =
+    let system = c.args.plan.now.system in
+    let words = g.P.Past.words c.args.plan.now.past in
+    let f = system_functions g.E.EventLaw.function system words in
+    let h = c.args.header.now in
+    let front = front_of g.E.EventLaw.function system words h 0 in
+    let begin = begin_text (region_of (start system.caps)) in
+    let rest = front_text-rest system.split f system.caps (event_numbers system words) h c.args.state.now 0 c.requires.version (omega arith) in
+    let first = c.in_ok-room.ensures in
+    let left = line-fits 33554432 33554432 c.in_ok-room.room [] (header_text h) (header_text h) c.bytes.result.now (omega arith) (c.bytes.ensures ∙ c.header.ensures) refl first.0 (sym first.1) in
+    let past = line-past 33554432 c.in_ok-room.room (header_text h) begin front c.bytes-2.result.now left (c.bytes-2.ensures ∙ c.begin_line-before.ensures.line)
+    (front_text-zero system.split f system.caps (event_numbers system words) h) c.in_err-room-2.ensures in
+    none-left c.from_residual-in_err-room-2.result 33554432 front rest.0 (log_text (log_of g.E.EventLaw.function system words h c.args.state.now)) c.from_residual-in_err-room-2.ensures past rest.1
+
+pub loop-init : goal.loop-init
+loop-init g c =
+    let system = c.args.plan.now.system in
+    let words = g.P.Past.words c.args.plan.now.past in
+    let f = system_functions g.E.EventLaw.function system words in
+    let h = c.args.header.now in
+    let front = front_of g.E.EventLaw.function system words h 0 in
+    let begin = begin_text (region_of (start system.caps)) in
+    let first = c.in_ok-room.ensures in
+    let second = c.in_ok-room-2.ensures in
+    let left = line-fits 33554432 33554432 c.in_ok-room.room [] (header_text h) (header_text h) c.bytes.result.now (omega arith) (c.bytes.ensures ∙ c.header.ensures) refl first.0 (sym first.1) in
+    record {
+      walk = record {
+        run = c.begin_line-before.ensures.run;
+        system = c.begin_line-before.ensures.system;
+        same_words = c.begin_line-before.ensures.words;
+        region = c.begin_line-before.ensures.told;
+      };
+      room = line-fits 33554432 c.in_ok-room.room c.in_ok-room-2.room (header_text h) begin front c.bytes-2.result.now left (c.bytes-2.ensures ∙ c.begin_line-before.ensures.line)
+          (front_text-zero system.split f system.caps (event_numbers system words) h) second.0 (sym second.1);
+    }
+
+pub next_line-before-requires : goal.next_line-before-requires
+next_line-before-requires g c =
+    let walk = c.loop.invariant.walk in
+    record {
+      begun = walking-begun _ _ _ _ _ _ _ walk;
+      left = walking-left _ _ _ _ _ _ _ walk c.loop-test.true;
+      before = walking-before _ _ _ _ _ _ _ walk;
+    }
+
+pub returns-in_err-room-3-clause-room : goal.returns-in_err-room-3-clause-room
+returns-in_err-room-3-clause-room g c =
+    let system = c.args.plan.now.system in
+    let words = g.P.Past.words c.args.plan.now.past in
+    let f = system_functions g.E.EventLaw.function system words in
+    let h = c.args.header.now in
+    let done = c.loop.counter in
+    let small = c.loop-test.true in
+    let kept = c.loop.invariant in
+    let rest = front_text-rest system.split f system.caps (event_numbers system words) h c.args.state.now (suc done) c.requires.version (omega arith) in
+    let line = walking-line g.E.EventLaw.function g.P.Past.words c.args.plan.now c.loop.plan h.horizon done c.loop.before c.next_line-before.new.line kept.walk c.next_line-before.ensures.line in
+    let past = line-past 33554432 c.loop.room (front_of g.E.EventLaw.function system words h done) (line_of g.E.EventLaw.function system words h.horizon done)
+    (front_of g.E.EventLaw.function system words h (suc done)) c.bytes-in-loop.result.now kept.room (c.bytes-in-loop.ensures ∙ line)
+    (front_text-more system.split f system.caps (event_numbers system words) h done c.requires.version) c.in_err-room-3.ensures in
+    none-left c.from_residual-in_err-room-3.result 33554432 (front_of g.E.EventLaw.function system words h (suc done)) rest.0 (log_text (log_of g.E.EventLaw.function system words h c.args.state.now))
+    c.from_residual-in_err-room-3.ensures past rest.1
+
+pub loop-preserved : goal.loop-preserved
+loop-preserved g c =
+    let system = c.args.plan.now.system in
+    let words = g.P.Past.words c.args.plan.now.past in
+    let f = system_functions g.E.EventLaw.function system words in
+    let h = c.args.header.now in
+    let done = c.loop.counter in
+    let kept = c.loop.invariant in
+    let here = c.in_ok-room-3.ensures in
+    let line = walking-line g.E.EventLaw.function g.P.Past.words c.args.plan.now c.loop.plan h.horizon done c.loop.before c.next_line-before.new.line kept.walk c.next_line-before.ensures.line in
+    record {
+      walk = walking-next g.E.EventLaw.function g.P.Past.words c.args.plan.now c.loop.plan c.next_line-before.new.plan h.horizon done c.loop.before c.next_line-before.result kept.walk
+          c.next_line-before.ensures.run c.next_line-before.ensures.told;
+      room = subst (λ n. c.in_ok-room-3.room + length (front_of g.E.EventLaw.function system words h n) ≡ 33554432) (sym (add-one done))
+          (line-fits 33554432 c.loop.room c.in_ok-room-3.room (front_of g.E.EventLaw.function system words h done) (line_of g.E.EventLaw.function system words h.horizon done)
+          (front_of g.E.EventLaw.function system words h (suc done)) c.bytes-in-loop.result.now kept.room (c.bytes-in-loop.ensures ∙ line)
+          (front_text-more system.split f system.caps (event_numbers system words) h done c.requires.version) here.0 (sym here.1));
+    }
+
+pub returns-clause-room : goal.returns-clause-room
+returns-clause-room g c =
+    let system = c.args.plan.now.system in
+    let words = g.P.Past.words c.args.plan.now.past in
+    let f = system_functions g.E.EventLaw.function system words in
+    let h = c.args.header.now in
+    let state = c.args.state.now in
+    let kept = c.loop.invariant in
+    let past = c.loop-test.false in
+    let all : c.loop.counter ≡ h.horizon = omega arith in
+    let left = subst (λ n. c.loop.room + length (front_of g.E.EventLaw.function system words h n) ≡ 33554432) all kept.room in
+    line-last c.checked_sub-3.result 33554432 c.loop.room (front_of g.E.EventLaw.function system words h h.horizon) (end_text state)
+    (log_text (log_of g.E.EventLaw.function system words h state)) c.bytes-3.result.now left (c.bytes-3.ensures ∙ c.end.ensures)
+    (log_text-recorded system.split f system.caps (event_numbers system words) h state) c.checked_sub-3.ensures

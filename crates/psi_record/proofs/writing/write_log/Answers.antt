@@ -1,0 +1,35 @@
+-- Answers in the proof of `write_log`.
+use Rattle.std.proofs.Common.{◌<◌, ◌^◌, rules}
+use Rattle.psi_record.proofs.SendingLemmas.{sends-whole, sends-prefix, sends-failed, sends-counts, sends-taken, sends-spared, sends-takes_on}
+use Rattle.psi_record.proofs.AcceptedLemmas.{log-accepted}
+use Rattle.psi_record.proofs.writing.write_log.Goals as goal
+
+pub returns-clause-whole : goal.returns-clause-whole
+returns-clause-whole g c = sends-whole _ _ _ _ c.write_lines.ensures.sent
+
+pub returns-clause-prefix : goal.returns-clause-prefix
+returns-clause-prefix g c = sends-prefix _ _ _ _ c.write_lines.ensures.sent
+
+pub returns-clause-failed : goal.returns-clause-failed
+returns-clause-failed g c = sends-failed _ _ _ _ c.write_lines.ensures.sent
+
+pub returns-clause-counts : goal.returns-clause-counts
+returns-clause-counts g c = sends-counts _ _ _ _ c.write_lines.ensures.sent
+
+pub returns-clause-taken : goal.returns-clause-taken
+returns-clause-taken g c = sends-taken _ _ _ _ c.write_lines.ensures.sent
+
+pub returns-clause-spared : goal.returns-clause-spared
+returns-clause-spared g c = sends-spared _ _ _ _ c.write_lines.ensures.sent
+
+pub returns-clause-takes_on : goal.returns-clause-takes_on
+returns-clause-takes_on g c = sends-takes_on _ _ _ _ c.write_lines.ensures.sent
+
+pub returns-clause-accepted : goal.returns-clause-accepted
+returns-clause-accepted g c = λ queues ends.
+    let h = c.args.header.now in
+    let plan = c.args.plan.now in
+    let seed : h.seed < 2 ^ 64 = search rules in
+    let stream : h.stream < 2 ^ 64 = search rules in
+    log-accepted g.E.EventLaw.capacities g.E.EventLaw.function plan.system (g.P.Past.words plan.past) h c.args.state.now g.met.E.EventLaw.closed c.limit-limit.ensures.fit
+    c.requires.version queues seed stream c.requires.some c.requires.most ends

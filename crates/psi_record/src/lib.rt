@@ -1,0 +1,10 @@
+//! The writing of the log of a sample, the text that certifies it: the run is done step by step, and each
+//! line is written as soon as its step is done, so that no more than a block of the text is held.
+#![tactic(auto)]
+
+mod block;
+mod steps;
+mod writing;
+
+pub use block::{Block, OutOfMemory};
+pub use writing::{log_fits, write_log};

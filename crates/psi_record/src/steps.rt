@@ -1,0 +1,76 @@
+//! The lines of a run, one after another.
+
+ghost use Rattle.std.specs.Prelude.{◌≡◌, ◌^◌, ◌<◌, ◌≤◌, suc, Some, length, IsSome, IfSome};
+ghost use Rattle.psi_state.specs.State.{IsBelow};
+ghost use Rattle.psi_region.specs.Region.{start};
+ghost use Rattle.psi_lines.specs.Text.{begin_text, step_text};
+ghost use Rattle.psi_horizon.specs.Planned.{onward};
+ghost use Rattle.psi_record.specs.Recorded.{region_of};
+ghost use Rattle.psi_record.specs.Walking.{box_words, line_of, IsToldAfter};
+
+use psi_event::EventLaw;
+use psi_horizon::Plan;
+use psi_lines::LineBuf;
+use psi_past::Past;
+use psi_state::{Bounds, Step};
+
+/// Begins the run of a horizon, and holds the line of the box at which it begins, which is the answer.
+pub(crate) fn begin_line<E: EventLaw, P: Past + Drop>(
+    plan: &mut Plan<'_, E, P>,
+    horizon: u32,
+    line: &mut LineBuf,
+) -> Option<Bounds>
+    requires some { 1 ≤ horizon }
+    requires most { horizon ≤ 2 ^ plan.old.system.limit }
+    ensures line { line.new ≡ begin_text (region_of (start plan.old.system.caps)) }
+    ensures told { IsToldAfter E.function plan.old.system (P.words plan.old.past) horizon 0 result }
+    ensures run { plan.new.run ≡ Some (record { horizon = horizon; done = 0 }) }
+    ensures system { plan.new.system ≡ plan.old.system }
+    ensures words { P.words plan.new.past ≡ P.words plan.old.past }
+{
+    plan.begin(horizon);
+    let whole = plan.bounds()?;
+    line.begin(&whole);
+    Some(whole)
+}
+
+/// Does the next step of the run, and holds its line. `before` is the box of the region before the step,
+/// where it isn't split, and the answer is that of the region after it.
+pub(crate) fn next_line<E: EventLaw, P: Past + Drop>(
+    plan: &mut Plan<'_, E, P>,
+    before: Option<Bounds>,
+    line: &mut LineBuf,
+) -> Option<Bounds>
+    requires begun { IsSome plan.old.run }
+    requires left { IfSome plan.old.run (λ r. r.done < r.horizon) }
+    requires before { IfSome plan.old.run (λ r. IsToldAfter E.function plan.old.system (P.words plan.old.past) r.horizon r.done before) }
+    ensures line { IfSome plan.old.run (λ r. line.new ≡ line_of E.function plan.old.system (P.words plan.old.past) r.horizon r.done) }
+    ensures told { IfSome plan.old.run (λ r. IsToldAfter E.function plan.old.system (P.words plan.old.past) r.horizon (suc r.done) result) }
+    ensures run { plan.new ≡ record plan.old { run = onward plan.old.run } }
+{
+    // Called for its clause: the system's parts fit each other.
+    let _limit = plan.limit();
+    let step = plan.advance()?;
+    match plan.bounds() {
+        Some(after) => {
+            box_line(&step, &before, &after, line);
+            Some(after)
+        }
+        None => {
+            line.step_set(&step, plan.states());
+            None
+        }
+    }
+}
+
+// Holds the line of a step with the box after it: by what changed where the region before is a box, and
+// else whole.
+fn box_line(step: &Step, before: &Option<Bounds>, after: &Bounds, line: &mut LineBuf)
+    requires { IfSome before.now (λ b. length b.lo ≡ length after.now.lo) }
+    ensures { line.new ≡ step_text step.now (box_words before.now after.now) }
+{
+    match before {
+        Some(from) => line.step_move(step, from, after),
+        None => line.step_box(step, after),
+    }
+}

@@ -1,0 +1,171 @@
+//! A log, measured and written.
+
+ghost use Rattle.std.specs.Prelude.{◌≡◌, ℕ, ◌^◌, ◌+◌, ◌-◌, ◌<◌, ◌≤◌, ◌↔◌, Some, [], length, IsTrue, IsOk, OnOk, OnErr, MatchOption};
+ghost use Rattle.psi_io.specs.Counts.{Rose};
+ghost use Rattle.psi_io.specs.Sink.{appended, GrewByPrefix};
+ghost use Rattle.psi_rate.specs.Composition.{system_functions};
+ghost use Rattle.psi_horizon.specs.Runs.{ending_at};
+ghost use Rattle.psi_record.specs.Recorded.{log_of};
+ghost use Rattle.psi_replay.specs.Verdict.{event_numbers};
+ghost use Rattle.psi_record.specs.Accepted.{IsAccepted};
+ghost use Rattle.psi_record.specs.Sending.{Sends};
+ghost use Rattle.psi_lines.specs.Text.{log_text};
+
+use crate::block::Block;
+use crate::steps::{begin_line, next_line};
+use psi_event::EventLaw;
+use psi_horizon::Plan;
+use psi_io::{Sink, SinkFault};
+use psi_lines::{Header, LineBuf};
+use psi_past::Past;
+use psi_state::State;
+
+// The greatest number of bytes of a log.
+const MOST: usize = 33_554_432;
+
+/// Whether the log of the run of the header's horizon, with this state at its end, has at most 33,554,432
+/// bytes, so that it may be written.
+///
+/// The run is that of the plan's network and words, from the header's horizon, 1 to 2 to the power `limit`
+/// steps before time zero; the header tells version 2. The run is done at most once, and the lengths of its
+/// lines are added up; no line is kept. The plan's network and its past's words stay as they were. The call
+/// takes no memory.
+///
+/// Where the run ends with this state alone, and the header has as many queues as the network, the log is one
+/// that a checker accepts, with the horizon and the state: each of its regions holds what the step's event
+/// makes of the one before (Bušić, Gaujal and Vincent 2008), and the last one is the state alone (coupling from
+/// the past, Propp and Wilson 1996).
+pub fn log_fits<E: EventLaw, P: Past + Drop>(
+    plan: &mut Plan<'_, E, P>,
+    header: &Header,
+    state: &State,
+    line: &mut LineBuf,
+) -> bool
+    requires some { 1 ≤ header.now.horizon }
+    requires most { header.now.horizon ≤ 2 ^ plan.old.system.limit }
+    requires version { header.now.version ≡ 2 }
+    ensures fits { IsTrue result ↔ (length (log_text (log_of E.function plan.old.system (P.words plan.old.past) header.now state.now)) ≤ 33554432) }
+    ensures system { plan.new.system ≡ plan.old.system }
+    ensures words { P.words plan.new.past ≡ P.words plan.old.past }
+    // Where the run ends with this state, the log is one that its checker accepts.
+    ensures accepted { let f = system_functions E.function plan.old.system (P.words plan.old.past) in
+        header.now.queues ≡ length plan.old.system.caps → ending_at plan.old.system.split f plan.old.system.caps header.now.horizon ≡ Some state.now
+        → IsAccepted plan.old.system.caps plan.old.system.limit (event_numbers plan.old.system (P.words plan.old.past)) f
+        (log_of E.function plan.old.system (P.words plan.old.past) header.now state.now) }
+{
+    // Called for its clause: the system's parts fit each other.
+    let _limit = plan.limit();
+    // Read for their ranges.
+    let (_seed, _stream) = (header.seed, header.stream);
+    room_left(plan, header, state, line).is_some()
+}
+
+// How many bytes the log leaves of those that it may have, where it has no more.
+fn room_left<E: EventLaw, P: Past + Drop>(
+    plan: &mut Plan<'_, E, P>,
+    header: &Header,
+    state: &State,
+    line: &mut LineBuf,
+) -> Option<usize>
+    requires some { 1 ≤ header.now.horizon }
+    requires most { header.now.horizon ≤ 2 ^ plan.old.system.limit }
+    requires version { header.now.version ≡ 2 }
+    ensures room { let text = log_text (log_of E.function plan.old.system (P.words plan.old.past) header.now state.now) in
+        MatchOption result (33554432 < length text) (λ room. room + length text ≡ 33554432) }
+    ensures system { plan.new.system ≡ plan.old.system }
+    ensures words { P.words plan.new.past ≡ P.words plan.old.past }
+{
+    line.header(header);
+    let mut room = MOST.checked_sub(line.bytes().len())?;
+    let mut before = begin_line(plan, header.horizon, line);
+    room = room.checked_sub(line.bytes().len())?;
+    for _ in 0..header.horizon {
+        before = next_line(plan, before, line);
+        room = room.checked_sub(line.bytes().len())?;
+    }
+    line.end(state);
+    room.checked_sub(line.bytes().len())
+}
+
+/// Writes the log of the run of the header's horizon, with this state at its end, to a sink.
+///
+/// The run is that of the plan's network and words, from the header's horizon, 1 to 2 to the power `limit`
+/// steps before time zero; the header tells version 2. It is done once, and each line is put into the block as
+/// soon as its step is done; a block goes to the sink when it is full, and the last one at the end. What waited
+/// in the block before is let go. The plan's network and its past's words stay as they were. The call takes no
+/// memory. What a checker says of the log is told at [`log_fits`].
+///
+/// # Errors
+///
+/// [`SinkFault::Failed`] only where the sink's count rose in this call or stands at the greatest u64. What the
+/// sink holds then grew by a prefix of the log.
+pub fn write_log<E: EventLaw, P: Past + Drop, O: Sink>(
+    plan: &mut Plan<'_, E, P>,
+    header: &Header,
+    state: &State,
+    line: &mut LineBuf,
+    block: &mut Block,
+    out: &mut O,
+) -> Result<(), SinkFault>
+    requires some { 1 ≤ header.now.horizon }
+    requires most { header.now.horizon ≤ 2 ^ plan.old.system.limit }
+    requires version { header.now.version ≡ 2 }
+    ensures whole { let text = log_text (log_of E.function plan.old.system (P.words plan.old.past) header.now state.now) in
+        OnOk result (O.held out.new ≡ appended (O.held out.old) text) }
+    ensures prefix { let text = log_text (log_of E.function plan.old.system (P.words plan.old.past) header.now state.now) in
+        OnErr result (GrewByPrefix (O.held out.old) (O.held out.new) text) }
+    ensures failed { OnErr result (Rose (O.faults out.old) (O.faults out.new)) }
+    ensures counts { O.faults out.old ≤ O.faults out.new }
+    ensures taken { let text = log_text (log_of E.function plan.old.system (P.words plan.old.past) header.now state.now) in
+        (n : ℕ) → O.takes out.old n → length text ≤ n → IsOk result }
+    ensures spared { let text = log_text (log_of E.function plan.old.system (P.words plan.old.past) header.now state.now) in
+        (n : ℕ) → O.takes out.old n → length text ≤ n → O.faults out.new ≡ O.faults out.old }
+    ensures takes_on { let text = log_text (log_of E.function plan.old.system (P.words plan.old.past) header.now state.now) in
+        (n : ℕ) → O.takes out.old n → OnOk result (O.takes out.new (n - length text)) }
+    ensures system { plan.new.system ≡ plan.old.system }
+    ensures words { P.words plan.new.past ≡ P.words plan.old.past }
+    // Where the run ends with this state, the log is one that its checker accepts.
+    ensures accepted { let f = system_functions E.function plan.old.system (P.words plan.old.past) in
+        header.now.queues ≡ length plan.old.system.caps → ending_at plan.old.system.split f plan.old.system.caps header.now.horizon ≡ Some state.now
+        → IsAccepted plan.old.system.caps plan.old.system.limit (event_numbers plan.old.system (P.words plan.old.past)) f
+        (log_of E.function plan.old.system (P.words plan.old.past) header.now state.now) }
+{
+    // Called for its clause: the system's parts fit each other.
+    let _limit = plan.limit();
+    // Read for their ranges.
+    let (_seed, _stream) = (header.seed, header.stream);
+    write_lines(plan, header, state, line, block, out)
+}
+
+// Writes the log, line by line.
+fn write_lines<E: EventLaw, P: Past + Drop, O: Sink>(
+    plan: &mut Plan<'_, E, P>,
+    header: &Header,
+    state: &State,
+    line: &mut LineBuf,
+    block: &mut Block,
+    out: &mut O,
+) -> Result<(), SinkFault>
+    requires some { 1 ≤ header.now.horizon }
+    requires most { header.now.horizon ≤ 2 ^ plan.old.system.limit }
+    requires version { header.now.version ≡ 2 }
+    ensures sent { Sends result
+        (record { held = O.held out.old; faults = O.faults out.old; takes = O.takes out.old })
+        (record { held = O.held out.new; faults = O.faults out.new; takes = O.takes out.new })
+        [] (log_text (log_of E.function plan.old.system (P.words plan.old.past) header.now state.now)) }
+    ensures system { plan.new.system ≡ plan.old.system }
+    ensures words { P.words plan.new.past ≡ P.words plan.old.past }
+{
+    block.clear();
+    line.header(header);
+    block.put(line.bytes(), out)?;
+    let mut before = begin_line(plan, header.horizon, line);
+    block.put(line.bytes(), out)?;
+    for _ in 0..header.horizon {
+        before = next_line(plan, before, line);
+        block.put(line.bytes(), out)?;
+    }
+    line.end(state);
+    block.put(line.bytes(), out)?;
+    block.flush(out)
+}
