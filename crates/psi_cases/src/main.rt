@@ -11,7 +11,7 @@
 //! | File | Cases | What they want |
 //! |---|---|---|
 //! | `wrong.cases` | cases that are wrong in one place each, whose names must be printed | by hand |
-//! | `rows.cases`, `rows-report.cases`, `rows-couple.cases` | worked rows of each command, and a report of the most samples | worked out by hand, or by programs written apart, before the program was written; the report of the most by `tools/plain.py` |
+//! | `rows.cases`, `rows-report.cases`, `rows-couple.cases`, `rows-log.cases` | worked rows of each command, and a report of the most samples | worked out by hand, or by programs written apart, before the program was written; the report of the most by `tools/plain.py` |
 //! | `usage.cases` | words that are no command | by hand |
 //! | `faults.cases` | reads and writes that fail, sinks that take few bytes | by hand |
 //! | `networks.cases` | samples and descriptions, long tandems among them | by hand, or by two programs written apart |
@@ -19,7 +19,7 @@
 //! | `kinds.cases` | the marks of every kind of event on small networks | by `tools/all_kinds.py`, over all pairs of states |
 //! | `small.cases` | samples of 3,000 small networks | by `tools/small_networks.py`, which lists states |
 //! | `sweeps.cases` | marks and samples that tell events from the others of a list | by `tools/sweeps.py`, which lists states |
-//! | `check.cases`, `sample.cases`, `report.cases`, `trial.cases`, `couple.cases`, `reward.cases`, `refuse.cases`, `words.cases`, `read.cases` | random networks, whole and broken, words, and files that aren't there | by an independent program (`tools/cases_from_json.py`) |
+//! | `check.cases`, `sample.cases`, `report.cases`, `trial.cases`, `couple.cases`, `reward.cases`, `log.cases`, `replay.cases`, `refuse.cases`, `words.cases`, `read.cases` | random networks, whole and broken, logs, written, changed and broken, words, and files that aren't there | by an independent program (`tools/cases_from_json.py`) |
 //!
 //! It ends with 0 where all agree, with 1 where a case differs, and with 2 where a case file can't
 //! be read or there isn't enough memory, which a line on standard error tells.

@@ -25,13 +25,13 @@ use Rattle.psi_couple.proofs.ValuingLemmas.{value-reached}
 use Rattle.psi_network.specs.Network.{Network, NamedReward, caps_of, rates_of}
 use Rattle.psi_network.specs.Valid.{IsNetwork}
 use Rattle.psi_net.specs.Reading.{network_of}
-use Rattle.psi_run.specs.Command.{couple, reward}
+use Rattle.psi_run.specs.Command.{couple, reward, net_file}
 use Rattle.psi_run.specs.Sample.{functions_by_time}
 use Rattle.psi_run.specs.Networks.{IsSystemOf}
 use Rattle.psi_run.specs.Couple.{endings, coupling, coupling_status, coupling_text, IsCouplingOf}
 use Rattle.psi_run.specs.Reward.{kind_named, values, valuation, value_status, value_text, IsValueOf, IsRewardOf}
 use Rattle.psi_run.specs.Reply.{value_reply, reply_to}
-use Rattle.psi_run.proofs.Endings.{IsAbout}
+use Rattle.psi_run.proofs.Endings.{IsAbout, first_read}
 use Rattle.psi_run.proofs.Sampling.{functions_by_time-closed, functions-alike, of_network, accepted_kept}
 
 -- ---- the least coupling
@@ -85,9 +85,10 @@ coupling_printed before after bytes n seed stream is grew =
     }
 
 -- a coupling is about one network
-pub couple_about : (name : List ℕ) (seed stream : ℕ) → IsAbout (couple name seed stream) name (λ net before after result. IsCouplingOf before after result net seed stream)
+pub couple_about : (told : List ℕ → Option (List ℕ)) (name : List ℕ) (seed stream : ℕ)
+    → IsAbout told (couple name seed stream) name (λ net before after result. IsCouplingOf before after result net seed stream)
 unfolding reply_to
-couple_about name seed stream = record { files = refl; reply = λ told. refl; means = λ told before after result has. has }
+couple_about told name seed stream = record { reads = first_read (net_file name) []; reply = refl; means = λ before after result has. has }
 
 -- ---- the value of a reward
 
@@ -169,7 +170,7 @@ reward_printed before after bytes n seed stream None is grew = refl
 reward_printed before after bytes n seed stream (Some kind) is grew = value-printed before after n seed stream kind (accepted_kept bytes n is) grew
 
 -- the value of a reward is about one network
-pub reward_about : (file : List ℕ) (seed stream : ℕ) (name : List ℕ)
-    → IsAbout (reward file seed stream name) file (λ net before after result. IsRewardOf before after result net seed stream (kind_named name net.rewards))
+pub reward_about : (told : List ℕ → Option (List ℕ)) (file : List ℕ) (seed stream : ℕ) (name : List ℕ)
+    → IsAbout told (reward file seed stream name) file (λ net before after result. IsRewardOf before after result net seed stream (kind_named name net.rewards))
 unfolding reply_to
-reward_about file seed stream name = record { files = refl; reply = λ told. refl; means = λ told before after result has. has }
+reward_about told file seed stream name = record { reads = first_read (net_file file) []; reply = refl; means = λ before after result has. has }

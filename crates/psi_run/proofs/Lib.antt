@@ -7,6 +7,11 @@ pub mod Sampling
 pub mod Checking
 pub mod Reporting
 pub mod Coupling
+pub mod Judging
+pub mod Replaying
+pub mod Asked
+pub mod Finishing
+pub mod Certifying
 pub mod Written
 pub mod Running
 pub mod Sparing

@@ -12,12 +12,12 @@ use Rattle.psi_net.specs.Reading.{network_of}
 use Rattle.psi_report.specs.Samples.{IsSampleOf}
 use Rattle.psi_report.specs.Report.{report_text}
 use Rattle.psi_run.specs.declared.status.Status.TheVariants.{Done}
-use Rattle.psi_run.specs.Command.{report}
+use Rattle.psi_run.specs.Command.{report, net_file}
 use Rattle.psi_run.specs.Sample.{sampled, IsDrawn}
 use Rattle.psi_run.specs.Report.{samples_of, AreDrawn, IsReportOf}
 use Rattle.psi_run.specs.Trial.{trial_text, IsTrial}
 use Rattle.psi_run.specs.Reply.{reply_to}
-use Rattle.psi_run.proofs.Endings.{IsAbout}
+use Rattle.psi_run.proofs.Endings.{IsAbout, first_read}
 use Rattle.psi_run.proofs.Sampling.{sampled-drawn, accepted_kept}
 
 -- a sample that is met has a state within the capacities, and its horizon is a power of two of at most 2^22
@@ -67,10 +67,10 @@ report_printed before after bytes net seed first count is grew = record {
 }
 
 -- a report is about one network
-pub report_about : (name : List ℕ) (seed first count : ℕ)
-    → IsAbout (report name seed first count) name (λ net before after result. IsReportOf before after result net seed first count)
+pub report_about : (told : List ℕ → Option (List ℕ)) (name : List ℕ) (seed first count : ℕ)
+    → IsAbout told (report name seed first count) name (λ net before after result. IsReportOf before after result net seed first count)
 unfolding reply_to
-report_about name seed first count = record { files = refl; reply = λ told. refl; means = λ told before after result has. has }
+report_about told name seed first count = record { reads = first_read (net_file name) []; reply = refl; means = λ before after result has. has }
 
 -- what is printed of a trial is one
 pub trial_printed : (before after : Option (List ℕ)) (number : ℕ) → IsNetwork (generated_network number)

@@ -1,5 +1,5 @@
 -- What a call is seen to do, from how its work ended and how that was written.
-use Rattle.std.specs.Prelude.{◌≡◌, ℕ, zero, suc, List, [], ◌∷◌, Option, Some, None, Result, Ok, Err, IsOk, IsErr, IfOk, IfSome, ◌⊎◌, Contains, refl}
+use Rattle.std.specs.Prelude.{◌≡◌, ℕ, zero, suc, List, [], ◌∷◌, Option, Some, None, Result, Ok, Err, IsOk, IsErr, IsOkAnd, IfOk, IfSome, ◌⊎◌, Contains, refl}
 use Rattle.std.proofs.Common.{sym, ap, ◌∙◌, subst, arith, inl, inr}
 use Rattle.psi_io.specs.Sink.{appended}
 use Rattle.psi_io.proofs.SinkLemmas.{appended-nothing, grew-longer}
@@ -38,30 +38,33 @@ of-each P (Some r) each = each r
 
 -- ---- what is known of a reply's status
 
-command-replied : (status : Status) → IsOfCommand status → IsReplied status
-command-replied ending.Done k = tt
-command-replied ending.NotCoupled k = tt
-command-replied ending.NetRefused k = tt
-command-replied ending.UnknownReward k = tt
-command-replied s k = absurd k
+command-replied : (status : Status) (command : Command) → IsOfCommand status command → IsReplied status
+command-replied ending.Done command k = tt
+command-replied ending.NotCoupled command k = tt
+command-replied ending.NetRefused command k = tt
+command-replied ending.LogRefused command k = tt
+command-replied ending.LogTooLong command k = tt
+command-replied ending.UnknownReward command k = tt
+command-replied s command k = absurd k
 
 reply-replied : (command : Result Command ℕ) (reply : Reply) → IsReplyTo command reply → IsReplied reply.status
-reply-replied (Ok command) reply is = command-replied reply.status is.status
+reply-replied (Ok command) reply is = command-replied reply.status command is.status
 reply-replied (Err place) reply is = subst (λ (r : Reply). IsReplied r.status) (sym is) tt
 
 -- status 2 is the reply to words that aren't a command, and to no others
 reply-usage : (command : Result Command ℕ) (reply : Reply) → IsReplyTo command reply → reply.status ≡ ending.Usage → IsErr command
-reply-usage (Ok command) reply is usage = absurd (subst IsOfCommand usage is.status)
+reply-usage (Ok command) reply is usage = absurd (subst (λ (s : Status). IsOfCommand s command) usage is.status)
 reply-usage (Err place) reply is usage = refl
 
 reply-no_command : (command : Result Command ℕ) (reply : Reply) → IsReplyTo command reply → IsErr command → reply.status ≡ ending.Usage
 reply-no_command (Ok command) reply is wrong = absurd cc
 reply-no_command (Err place) reply is wrong = ap (λ (r : Reply). r.status) is
 
--- no reply has a status that no command has
-reply-not : (command : Result Command ℕ) (reply : Reply) (status : Status) → (IsOfCommand status → ⊥) → (ending.Usage ≡ status → ⊥) → IsReplyTo command reply → reply.status ≡ status → ⊥
-reply-not (Ok command) reply status other no_usage is same = other (subst IsOfCommand same is.status)
-reply-not (Err place) reply status other no_usage is same = no_usage (sym (ap (λ (r : Reply). r.status) is) ∙ same)
+-- a status other than that comes only with a command that has it
+reply-has : (command : Result Command ℕ) (reply : Reply) (status : Status) → (ending.Usage ≡ status → ⊥) → IsReplyTo command reply → reply.status ≡ status
+    → IsOkAnd command (IsOfCommand status)
+reply-has (Ok command) reply status no_usage is same = subst (λ (s : Status). IsOfCommand s command) same is.status
+reply-has (Err place) reply status no_usage is same = absurd (no_usage (sym (ap (λ (r : Reply). r.status) is) ∙ same))
 
 -- a reply has one text
 reply-out : (command : Result Command ℕ) (reply : Reply) → IsReplyTo command reply → IsReported reply.status → reply.out ≡ []
@@ -89,8 +92,8 @@ whole-run call (replied given) is whole =
       complete = λ out err read. inl kind;
       usage = reply-usage command given is.cause;
       no_command = λ wrong. inl (reply-no_command command given is.cause wrong);
-      no_log_refused = reply-not command given ending.LogRefused (λ k. k) (λ e. absurd cc) is.cause;
-      no_log_too_long = reply-not command given ending.LogTooLong (λ k. k) (λ e. absurd cc) is.cause;
+      log_refused = reply-has command given ending.LogRefused (λ e. absurd cc) is.cause;
+      log_too_long = reply-has command given ending.LogTooLong (λ e. absurd cc) is.cause;
       read_fault = λ e. absurd (subst IsReplied e kind);
       write_fault = λ e. absurd (subst IsReplied e kind);
       no_memory = λ e. absurd (subst IsReplied e kind);
@@ -101,13 +104,13 @@ whole-run call (unread file) is whole = record {
   status = of-each (λ r. IsReplied ending.ReadFault → ending.ReadFault ≡ r.status) (reply_to_call call) (λ r k. absurd k);
   out = of-each (λ r. IsReplied ending.ReadFault → Grew call.out r.out) (reply_to_call call) (λ r k. absurd k);
   err = of-each (λ r. IsReplied ending.ReadFault → Grew call.err r.err) (reply_to_call call) (λ r k. absurd k);
-  complete = λ out err read. absurd (read (record { file = file; read = is.cause.0; rose = is.cause.1 }));
+  complete = λ out err read. absurd (read (record { file = file; missed = is.cause }));
   usage = λ e. absurd cc;
-  no_command = λ wrong. absurd (read-command (command_of call.words) file is.cause.0 wrong);
-  no_log_refused = λ e. absurd cc;
-  no_log_too_long = λ e. absurd cc;
+  no_command = λ wrong. absurd (read-command (command_of call.words) file is.cause.read wrong);
+  log_refused = λ e. absurd cc;
+  log_too_long = λ e. absurd cc;
   read_fault = λ e. record {
-    cause = record { file = file; read = is.cause.0; rose = is.cause.1 };
+    cause = record { file = file; missed = is.cause };
     out = still call.out [] refl whole.printed;
     err = whole.reported;
   };
@@ -123,8 +126,8 @@ whole-run call no_memory is whole = record {
   complete = λ out err read. inr refl;
   usage = λ e. absurd cc;
   no_command = λ wrong. absurd (ok-not_err (command_of call.words) is.cause wrong);
-  no_log_refused = λ e. absurd cc;
-  no_log_too_long = λ e. absurd cc;
+  log_refused = λ e. absurd cc;
+  log_too_long = λ e. absurd cc;
   read_fault = λ e. absurd cc;
   write_fault = λ e. absurd cc;
   no_memory = λ e. record { cause = is.cause; out = still call.out [] refl whole.printed; err = whole.reported };
@@ -155,7 +158,7 @@ err-part : (call : Call) (end : Ending) → IsEnding call.shelf (command_of call
     → GrewByPart call.err (ending_reply end).err → IfSome (reply_to_call call) (EndsWithin call)
 err-part call (replied given) is part = of-same (EndsWithin call) (reply_to_call call) given is.reply (inl part)
 err-part call (unread file) is part =
-    of-each (EndsWithin call) (reply_to_call call) (λ r. inr (inl (record { file = file; read = is.cause.0; rose = is.cause.1 }, part)))
+    of-each (EndsWithin call) (reply_to_call call) (λ r. inr (inl (record { file = file; missed = is.cause }, part)))
 err-part call no_memory is part = of-each (EndsWithin call) (reply_to_call call) (λ r. inr (inr (is.cause, part)))
 
 -- a sink that failed
@@ -170,8 +173,8 @@ faulted-run call faulted = record {
   complete = λ out err read. elim (failed-sink call faulted) [ inl o ↦ absurd (out o) | inr e ↦ absurd (err e) ];
   usage = λ e. absurd cc;
   no_command = λ wrong. inr refl;
-  no_log_refused = λ e. absurd cc;
-  no_log_too_long = λ e. absurd cc;
+  log_refused = λ e. absurd cc;
+  log_too_long = λ e. absurd cc;
   read_fault = λ e. absurd cc;
   write_fault = λ e. faulted;
   no_memory = λ e. absurd cc;
@@ -214,7 +217,7 @@ sample-replied : (shelf : ShelfSeen) (words : Result Command ℕ) (end : Ending)
     → IsReplied (ending_reply end).status
 sample-replied shelf words (replied given) name seed stream is asked read memory = reply-replied words given is.cause
 sample-replied shelf words (unread file) name seed stream is asked read memory =
-    absurd (read (subst (λ f. IsUnread shelf (file_name f)) (sample-reads words name seed stream file asked is.cause.0) is.cause.1))
+    absurd (read (subst (λ f. IsUnread shelf (file_name f)) (sample-reads words name seed stream file asked is.cause.read) is.cause.rose))
 sample-replied shelf words no_memory name seed stream is asked read memory = absurd (memory refl)
 
 pub run_headline : (shelf : ShelfSeen) (words : Result Command ℕ) (end : Ending) (before after : Option (List ℕ)) (result : Status) → IsEnding shelf words end

@@ -24,12 +24,12 @@ use Rattle.psi_document.proofs.ReadingLemmas.{bind_ok}
 use Rattle.psi_network.proofs.QueueLemmas.{capacities_kept}
 use Rattle.psi_net.proofs.NetworkLemmas.{network_kept}
 use Rattle.psi_io.specs.Sink.{appended}
-use Rattle.psi_run.specs.Command.{sample}
+use Rattle.psi_run.specs.Command.{sample, net_file}
 use Rattle.psi_run.specs.Texts.{outcome_text}
 use Rattle.psi_run.specs.Sample.{functions_by_time, sampled, outcome_status, IsDrawn, IsSampled}
 use Rattle.psi_run.specs.Networks.{IsSystemOf}
 use Rattle.psi_run.specs.Reply.{reply_to}
-use Rattle.psi_run.proofs.Endings.{IsAbout}
+use Rattle.psi_run.proofs.Endings.{IsAbout, first_read}
 
 -- a network that is accepted can be sampled
 pub accepted_kept : (bytes : List ℕ) (n : Network) → network_of bytes ≡ Ok n → IsNetwork n
@@ -128,6 +128,7 @@ sampled_printed before after bytes n seed stream is grew =
     record { outcome = sampled n seed stream; drawn = sampled-drawn n seed stream (accepted_kept bytes n is); status = refl; text = grew }
 
 -- a sample is about one network
-pub sample_about : (name : List ℕ) (seed stream : ℕ) → IsAbout (sample name seed stream) name (λ net before after result. IsSampled before after result net seed stream)
+pub sample_about : (told : List ℕ → Option (List ℕ)) (name : List ℕ) (seed stream : ℕ)
+    → IsAbout told (sample name seed stream) name (λ net before after result. IsSampled before after result net seed stream)
 unfolding reply_to
-sample_about name seed stream = record { files = refl; reply = λ told. refl; means = λ told before after result has. has }
+sample_about told name seed stream = record { reads = first_read (net_file name) []; reply = refl; means = λ before after result has. has }

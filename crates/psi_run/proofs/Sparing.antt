@@ -1,12 +1,16 @@
 -- A call whose reads and writes are not to fail ends with its reply, or for want of memory.
-use Rattle.std.specs.Prelude.{◌≡◌, ℕ, zero, List, [], ◌∷◌, Contains, Option, Some, Result, Ok, IfSome, ◌⊎◌, refl}
+use Rattle.std.specs.Prelude.{◌≡◌, ℕ, List, [], ◌∷◌, Option, Some, Result, Ok, IfSome, ◌⊎◌}
 use Rattle.std.proofs.Common.{sym, ap, ◌∙◌, subst, arith, inl, inr}
 use Rattle.psi_run.specs.declared.status.Status.{Status}
 use Rattle.psi_run.specs.declared.status.Status.TheVariants.{OutOfMemory}
-use Rattle.psi_run.specs.Command.{Command, File, net_file, files_of}
+use Rattle.psi_run.specs.Command.{Command, certify, replay, net_file, log_file, file_name}
 use Rattle.psi_run.specs.Reply.{Reply, reply_to}
 use Rattle.psi_run.specs.Seen.{ShelfSeen}
 use Rattle.psi_run.specs.Ending.{Ending, replied, unread, no_memory, ending_reply, MayReply, EndsWith, IsEnding}
+use Rattle.psi_run.specs.declared.words.Question.{Question}
+use Rattle.psi_run.specs.declared.words.Question.TheVariants as question
+use Rattle.psi_run.specs.Request.{asked}
+use Rattle.psi_run.proofs.Endings.{first_read, second_read}
 use Rattle.psi_run.specs.Spared.{AreGiven, IsTaken, AreTaken, HasRead}
 
 -- work that ends with its reply, unless memory ran out, had no failed read
@@ -15,12 +19,25 @@ ends-read (replied given) reply ends = tt
 ends-read (unread file) reply ends = ends
 ends-read no_memory reply ends = tt
 
--- the file of a command that reads it alone is given
-pub net_given : (gives : List ℕ → Type 0) (words : Result Command ℕ) (command : Command) (name : List ℕ) → files_of command ≡ net_file name ∷ []
-    → words ≡ Ok command → AreGiven gives words → gives name
-net_given gives words command name files asked given =
-    let alone : Contains (net_file name ∷ []) (net_file name) = (zero, omega arith, refl) in
-    subst (λ w. AreGiven gives w) asked given (net_file name) (subst (λ (fs : List File). Contains fs (net_file name)) (sym files) alone)
+-- the network's file is given, where the shelf gives each file that is asked about it
+pub net_given : (gives : List ℕ → Type 0) (name : List ℕ) (question : Question) → AreGiven gives (Ok (asked name question)) → gives name
+net_given gives name (question.Sample seed stream) given = given (net_file name) (first_read (net_file name) [])
+net_given gives name question.Check given = given (net_file name) (first_read (net_file name) [])
+net_given gives name (question.Report seed first count) given = given (net_file name) (first_read (net_file name) [])
+net_given gives name (question.Couple seed stream) given = given (net_file name) (first_read (net_file name) [])
+net_given gives name (question.Reward seed stream reward) given = given (net_file name) (first_read (net_file name) [])
+net_given gives name (question.Replay log) given = given (net_file name) (first_read (net_file name) (log_file log.now ∷ []))
+
+pub certify_given : (gives : List ℕ → Type 0) (name : List ℕ) (seed stream : ℕ) → AreGiven gives (Ok (certify name seed stream)) → gives name
+certify_given gives name seed stream given = given (net_file name) (first_read (net_file name) [])
+
+-- and so is a log's
+pub log_given : (gives : List ℕ → Type 0) (name log : List ℕ) → AreGiven gives (Ok (replay name log)) → gives log
+log_given gives name log given = given (log_file log) (second_read (net_file name) (log_file log) [])
+
+-- a shelf that gives what it gave still gives each file
+pub given_on : (gives gives_on : List ℕ → Type 0) (command : Result Command ℕ) → ((other : List ℕ) → gives other → gives_on other) → AreGiven gives command → AreGiven gives_on command
+given_on gives gives_on command on given file read = on (file_name file) (given file read)
 
 -- a sink that takes a text takes none
 nothing-taken : (takes : ℕ → Type 0) (text : List ℕ) → IsTaken takes text → IsTaken takes []

@@ -1,8 +1,8 @@
 -- What a call of the program is seen to do.
-use Rattle.std.specs.Prelude.{◌≡◌, ◌≢◌, ℕ, List, Option, IsOk, IsErr, IfSome, ◌⊎◌}
+use Rattle.std.specs.Prelude.{◌≡◌, ℕ, List, Option, IsOk, IsErr, IsOkAnd, IfSome, ◌⊎◌}
 use Rattle.psi_run.specs.declared.status.Status.{Status}
 use Rattle.psi_run.specs.declared.status.Status.TheVariants.{Usage, LogRefused, LogTooLong, ReadFault, WriteFault, OutOfMemory}
-use Rattle.psi_run.specs.Status.{IsPrinted, IsReported, IsReplied}
+use Rattle.psi_run.specs.Status.{IsReplay, IsCertify, IsPrinted, IsReported, IsReplied}
 use Rattle.psi_run.specs.Words.{command_of}
 use Rattle.psi_run.specs.Texts.{unread_line, memory_line}
 use Rattle.psi_run.specs.Reply.{Reply, reply_to}
@@ -23,7 +23,7 @@ reply_to_call call = reply_to (command_of call.words) call.shelf.told
 abbrev pub IsCommand : Call → Type 0
 IsCommand call = IsOk (command_of call.words)
 
--- a read failed of a file that the words name
+-- a read failed of a file that the words name and that is needed
 abbrev pub ReadFailed : Call → Type 0
 ReadFailed call = HasUnread call.shelf (command_of call.words)
 
@@ -69,9 +69,9 @@ pub record IsRun (call : Call) (result : Status) : Type 0 where
   -- status 2 comes only where the words aren't a command, and where they aren't, it comes unless err fails
   pub usage : result ≡ Usage → IsErr (command_of call.words)
   pub no_command : IsErr (command_of call.words) → (result ≡ Usage) ⊎ (result ≡ WriteFault)
-  -- no command gives these yet
-  pub no_log_refused : result ≢ LogRefused
-  pub no_log_too_long : result ≢ LogTooLong
+  -- status 4 comes only where the words are a replay, and status 5 only where they ask for the log of a sample
+  pub log_refused : result ≡ LogRefused → IsOkAnd (command_of call.words) IsReplay
+  pub log_too_long : result ≡ LogTooLong → IsOkAnd (command_of call.words) IsCertify
   -- the causes of the statuses 6, 7 and 8, with what was written
   pub read_fault : result ≡ ReadFault → ReadFaulted call
   pub write_fault : result ≡ WriteFault → OutFaulted call ⊎ ErrFaulted call

@@ -15,15 +15,22 @@ pub data Command : Type 0 where
   couple : (net : List ℕ) (seed stream : ℕ) → Command
   -- the value of the reward of this name at time zero, under the words of this seed and stream, as soon as all states have one
   reward : (net : List ℕ) (seed stream : ℕ) (name : List ℕ) → Command
+  -- the log of a sample of the network in this file, drawn from the words of this seed and stream
+  certify : (net : List ℕ) (seed stream : ℕ) → Command
+  -- the verdict on the log in the second file, for the network in the first
+  replay : (net log : List ℕ) → Command
 
 -- a file, by what it is to hold and its name
 pub data File : Type 0 where
   -- a network
   net_file : (name : List ℕ) → File
+  -- a log
+  log_file : (name : List ℕ) → File
 
 -- the name of a file
 abbrev pub file_name : File → List ℕ
 file_name (net_file name) = name
+file_name (log_file name) = name
 
 -- the files that a command reads, in this order; the first, if there is one, is that of its network
 abbrev pub files_of : Command → List File
@@ -33,3 +40,5 @@ files_of (report net seed first count) = net_file net ∷ []
 files_of (trial number) = []
 files_of (couple net seed stream) = net_file net ∷ []
 files_of (reward net seed stream name) = net_file net ∷ []
+files_of (certify net seed stream) = net_file net ∷ []
+files_of (replay net log) = net_file net ∷ log_file log ∷ []

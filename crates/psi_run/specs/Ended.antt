@@ -1,23 +1,29 @@
--- The program's own ending, as the definition's, and what a network file gives.
+-- The program's own ending, as the definition's, and what a file gives.
 use Rattle.std.specs.Prelude.{◌≡◌, ℕ, List, Option, Ok, Err, IfSome}
+use Rattle.psi_lines.specs.Log.{Certificate}
+use Rattle.psi_log.specs.Reading.{read}
 use Rattle.psi_network.specs.Network.{Network}
 use Rattle.psi_net.specs.Reading.{network_of}
 use Rattle.psi_run.specs.declared.ending.Ending.{Ending as Ended}
-use Rattle.psi_run.specs.declared.ending.Ending.TheVariants.{Printed, Usage, NetRefused, UnknownReward, NetUnread, OutOfMemory}
-use Rattle.psi_run.specs.declared.status.Status.TheVariants.{UnknownReward as Unknown}
-use Rattle.psi_run.specs.Command.{net_file}
-use Rattle.psi_run.specs.Texts.{unknown_line}
+use Rattle.psi_run.specs.declared.ending.Ending.TheVariants.{Printed, Usage, NetRefused, LogRefused, LogRejected, LogTooLong, UnknownReward, NetUnread, LogUnread, OutOfMemory}
+use Rattle.psi_run.specs.declared.status.Status.TheVariants as status
+use Rattle.psi_run.specs.Command.{net_file, log_file}
+use Rattle.psi_run.specs.Texts.{unknown_line, log_refused_line, log_rejected_line, too_long_line}
 use Rattle.psi_run.specs.Reply.{text_reply, line_reply, usage_reply, refused_reply}
 use Rattle.psi_run.specs.Ending.{Ending, replied, unread, no_memory}
 use Rattle.psi_run.specs.Seen.{ShelfSeen, IsUnread}
 
 -- the ending that the program's own is
 abbrev pub ending_of : Ended → Ending
-ending_of (Printed status text) = replied (text_reply status text.items)
+ending_of (Printed code text) = replied (text_reply code text.items)
 ending_of (Usage place) = replied (usage_reply place)
 ending_of (NetRefused refusal) = replied (refused_reply refusal)
-ending_of UnknownReward = replied (line_reply Unknown unknown_line)
+ending_of (LogRefused line cause) = replied (line_reply status.LogRefused (log_refused_line line cause))
+ending_of (LogRejected line cause) = replied (line_reply status.LogRefused (log_rejected_line line cause))
+ending_of LogTooLong = replied (line_reply status.LogTooLong too_long_line)
+ending_of UnknownReward = replied (line_reply status.UnknownReward unknown_line)
 ending_of (NetUnread name) = unread (net_file name.now)
+ending_of (LogUnread name) = unread (log_file name.now)
 ending_of OutOfMemory = no_memory
 
 -- the network is that in the file of the name, where the shelf tells it
@@ -30,3 +36,14 @@ IsNoNet shelf name (NetRefused refusal) = IfSome (shelf.told name) (λ bytes. ne
 IsNoNet shelf name (NetUnread own) = (own.now ≡ name) × IsUnread shelf name
 IsNoNet shelf name OutOfMemory = Unit {0}
 IsNoNet shelf name ended = ⊥
+
+-- the log is that in the file of the name, where the shelf tells it
+abbrev pub IsLogAt : (List ℕ → Option (List ℕ)) → List ℕ → Certificate → Type 0
+IsLogAt told name log = IfSome (told name) (λ bytes. read bytes ≡ Ok log)
+
+-- how the work ends where no log is had from the file of the name: it is refused, a read of it failed, or memory ran out
+abbrev pub IsNoLog : ShelfSeen → List ℕ → Ended → Type 0
+IsNoLog shelf name (LogRefused line cause) = IfSome (shelf.told name) (λ bytes. read bytes ≡ Err (record { line = line; cause = cause }))
+IsNoLog shelf name (LogUnread own) = (own.now ≡ name) × IsUnread shelf name
+IsNoLog shelf name OutOfMemory = Unit {0}
+IsNoLog shelf name ended = ⊥

@@ -2,10 +2,10 @@
 use Rattle.std.specs.Prelude.{◌≡◌, ℕ, List, Option, Result, IsOk, IfOk, IfSome}
 use Rattle.psi_io.specs.Sink.{appended}
 use Rattle.psi_run.specs.declared.status.Status.TheVariants.{ReadFault, OutOfMemory}
-use Rattle.psi_run.specs.Command.{Command, File, file_name}
+use Rattle.psi_run.specs.Command.{Command, File}
 use Rattle.psi_run.specs.Texts.{unread_line, memory_line}
 use Rattle.psi_run.specs.Reply.{Reply, line_reply, reply_to, IsReplyTo}
-use Rattle.psi_run.specs.Seen.{ShelfSeen, IsUnread, IsRead}
+use Rattle.psi_run.specs.Seen.{ShelfSeen, IsMissed}
 use Rattle.psi_run.specs.Means.{Means}
 
 -- how the work ends
@@ -39,11 +39,10 @@ abbrev pub HasReplied : Ending → Type 0
 HasReplied (replied reply) = Unit {0}
 HasReplied ending = ⊥
 
--- the cause of each ending: a reply is one that the words can have, a read of a file failed that the words name, or memory ran out
--- in the work for a command
+-- the cause of each ending: a reply is one that the words can have, a file is missed, or memory ran out in the work for a command
 abbrev pub IsCaused : ShelfSeen → Result Command ℕ → Ending → Type 0
 IsCaused shelf command (replied reply) = IsReplyTo command reply
-IsCaused shelf command (unread file) = IsRead command file × IsUnread shelf (file_name file)
+IsCaused shelf command (unread file) = IsMissed shelf command file
 IsCaused shelf command no_memory = IsOk command
 
 -- once the reply's text is in out, it means what the command says

@@ -11,11 +11,15 @@ pub mod Trial
 pub mod Couple
 pub mod Reward
 pub mod Networks
+pub mod Replay
+pub mod Certify
 pub mod Reply
+pub mod Certified
 pub mod Means
 pub mod Seen
 pub mod Ending
 pub mod Ended
 pub mod Written
 pub mod Spared
+pub mod Finished
 pub mod Call

@@ -1,21 +1,32 @@
 -- What the program answers: a status with a text for out and a text for err.
-use Rattle.std.specs.Prelude.{◌≡◌, ℕ, List, [], ◌∷◌, Option, Some, None, option_map, Result, Ok, Err}
+use Rattle.std.specs.Prelude.{◌≡◌, ℕ, List, [], ◌∷◌, length, nat_le, if◌then◌else◌, Option, Some, None, option_map, option_and_then, Result, Ok, Err}
+use Rattle.psi_state.specs.declared.Outcome.{Outcome}
+use Rattle.psi_state.specs.declared.Outcome.TheVariants.{Met, NotMet}
+use Rattle.psi_lines.specs.Log.{Certificate}
+use Rattle.psi_lines.specs.Text.{log_text}
+use Rattle.psi_log.specs.Refusal.{Refusal}
+use Rattle.psi_log.specs.Reading.{read}
+use Rattle.psi_replay.specs.declared.answers.Verdict.{Verdict}
+use Rattle.psi_replay.specs.declared.answers.Verdict.TheVariants.{Accepted, Rejected}
+use Rattle.psi_replay.specs.Verdict.{verdict_of}
 use Rattle.psi_network.specs.Network.{Network}
 use Rattle.psi_network.specs.Generated.{generated_network}
 use Rattle.psi_net.specs.Reading.{network_of}
 use Rattle.psi_document.specs.declared.refusals.NetRefusal.{NetRefusal}
 use Rattle.psi_run.specs.declared.status.Status.{Status}
-use Rattle.psi_run.specs.declared.status.Status.TheVariants.{Done, Usage, NetRefused, UnknownReward}
+use Rattle.psi_run.specs.declared.status.Status.TheVariants.{Done, NotCoupled, Usage, NetRefused, LogRefused, LogTooLong, UnknownReward}
 use Rattle.psi_run.specs.Status.{IsPrinted, IsReported, IsOfCommand}
 use Rattle.psi_report.specs.Report.{report_text}
-use Rattle.psi_run.specs.Command.{Command, sample, check, report, trial, couple, reward, File, file_name, files_of}
-use Rattle.psi_run.specs.Texts.{outcome_text, usage_line, refused_line, unknown_line}
+use Rattle.psi_run.specs.Command.{Command, sample, check, report, trial, couple, reward, certify, replay, File, file_name, files_of}
+use Rattle.psi_run.specs.Texts.{outcome_text, usage_line, refused_line, unknown_line, log_refused_line, log_rejected_line, too_long_line}
 use Rattle.psi_run.specs.Sample.{sampled, outcome_status}
 use Rattle.psi_run.specs.Check.{check_text}
 use Rattle.psi_run.specs.Report.{samples_of}
 use Rattle.psi_run.specs.Trial.{trial_text}
 use Rattle.psi_run.specs.Couple.{coupling, coupling_status, coupling_text}
 use Rattle.psi_run.specs.Reward.{kind_named, valuation, value_status, value_text}
+use Rattle.psi_run.specs.Replay.{judgement, accepted_text}
+use Rattle.psi_run.specs.Certify.{certificate}
 use Rattle.psi_reward.specs.declared.kinds.RewardKind.{RewardKind}
 
 -- a status with a text for out and a text for err
@@ -45,19 +56,44 @@ abbrev pub value_reply : Network → (seed stream : ℕ) → Option RewardKind �
 value_reply net seed stream None = line_reply UnknownReward unknown_line
 value_reply net seed stream (Some kind) = text_reply (value_status (valuation net seed stream kind)) (value_text (valuation net seed stream kind))
 
--- the reply to a command, for its network
-abbrev pub reply_of : Command → Network → Reply
-reply_of (sample name seed stream) net = text_reply (outcome_status (sampled net seed stream)) (outcome_text (sampled net seed stream))
-reply_of (check name) net = text_reply Done (check_text net)
-reply_of (report name seed first count) net = text_reply Done (report_text net (samples_of net seed first count))
-reply_of (couple file seed stream) net = text_reply (coupling_status (coupling net seed stream)) (coupling_text (coupling net seed stream))
-reply_of (reward file seed stream name) net = value_reply net seed stream (kind_named name net.rewards)
-reply_of (trial number) net = text_reply Done (trial_text number net (samples_of net number 0 4))
+-- the reply with a log's text, which may have at most 33,554,432 bytes
+abbrev pub log_reply : List ℕ → Reply
+log_reply text = if nat_le (length text) 33554432 then text_reply Done text else line_reply LogTooLong too_long_line
+
+-- the reply on the log of an outcome: the log of the run of its horizon, where it is met
+abbrev pub certify_reply : Network → (seed stream : ℕ) → Outcome → Reply
+certify_reply net seed stream (Met horizon state) = log_reply (log_text (certificate net seed stream horizon state))
+certify_reply net seed stream (NotMet limit) = text_reply NotCoupled (outcome_text (NotMet limit))
+
+-- the reply on a verdict: the horizon and the state, or the line that breaks a rule
+abbrev pub verdict_reply : Verdict → Reply
+verdict_reply (Accepted horizon state) = text_reply Done (accepted_text horizon state)
+verdict_reply (Rejected line cause) = line_reply LogRefused (log_rejected_line line cause)
+
+-- the reply on what a log file is read as
+abbrev pub judged_log : Network → Result Certificate Refusal → Reply
+judged_log net (Ok log) = verdict_reply (verdict_of log (judgement net log))
+judged_log net (Err refusal) = line_reply LogRefused (log_refused_line refusal.line refusal.cause)
+
+-- the reply on a log file
+abbrev pub replay_reply : Network → List ℕ → Reply
+replay_reply net bytes = judged_log net (read bytes)
+
+-- the reply to a command, for its network, where the shelf tells what else it reads
+abbrev pub reply_of : Command → (List ℕ → Option (List ℕ)) → Network → Option Reply
+reply_of (sample name seed stream) told net = Some (text_reply (outcome_status (sampled net seed stream)) (outcome_text (sampled net seed stream)))
+reply_of (check name) told net = Some (text_reply Done (check_text net))
+reply_of (report name seed first count) told net = Some (text_reply Done (report_text net (samples_of net seed first count)))
+reply_of (couple file seed stream) told net = Some (text_reply (coupling_status (coupling net seed stream)) (coupling_text (coupling net seed stream)))
+reply_of (reward file seed stream name) told net = Some (value_reply net seed stream (kind_named name net.rewards))
+reply_of (trial number) told net = Some (text_reply Done (trial_text number net (samples_of net number 0 4)))
+reply_of (certify file seed stream) told net = Some (certify_reply net seed stream (sampled net seed stream))
+reply_of (replay file log) told net = option_map (replay_reply net) (told log)
 
 -- the reply once the network file is judged
-abbrev pub judged_reply : (Network → Reply) → Result Network NetRefusal → Reply
+abbrev pub judged_reply : (Network → Option Reply) → Result Network NetRefusal → Option Reply
 judged_reply reply (Ok net) = reply net
-judged_reply reply (Err refusal) = refused_reply refusal
+judged_reply reply (Err refusal) = Some (refused_reply refusal)
 
 -- the bytes of the first of the files, where there is one and the shelf tells it
 abbrev pub first_told : (List ℕ → Option (List ℕ)) → List File → Option (List ℕ)
@@ -67,21 +103,21 @@ first_told told (file ∷ files) = told (file_name file)
 -- the reply to a command: the network of a trial is made from its number; that of any other is in the first file that it reads, where
 -- the shelf tells it
 abbrev pub reply_for : Command → (List ℕ → Option (List ℕ)) → Option Reply
-reply_for (trial number) told = Some (reply_of (trial number) (generated_network number))
-reply_for command told = option_map (λ bytes. judged_reply (reply_of command) (network_of bytes)) (first_told told (files_of command))
+reply_for (trial number) told = reply_of (trial number) told (generated_network number)
+reply_for command told = option_and_then (λ bytes. judged_reply (reply_of command told) (network_of bytes)) (first_told told (files_of command))
 
--- the reply to words, where the shelf tells the file that it needs
+-- the reply to words, where the shelf tells the files that it needs
 unfoldable pub reply_to : Result Command ℕ → (List ℕ → Option (List ℕ)) → Option Reply
 reply_to (Err place) told = Some (usage_reply place)
 reply_to (Ok command) told = reply_for command told
 
--- a reply that a command can have, whatever its files hold: a text for out alone, or else a line for err alone
-pub record IsReply (reply : Reply) : Type 0 where
-  pub status : IsOfCommand reply.status
+-- a reply that the command can have, whatever its files hold: a text for out alone, or else a line for err alone
+pub record IsReply (command : Command) (reply : Reply) : Type 0 where
+  pub status : IsOfCommand reply.status command
   pub printed : IsPrinted reply.status → reply.err ≡ []
   pub reported : IsReported reply.status → reply.out ≡ []
 
 -- a reply that the words can have, whatever files hold
 abbrev pub IsReplyTo : Result Command ℕ → Reply → Type 0
-IsReplyTo (Ok command) reply = IsReply reply
+IsReplyTo (Ok command) reply = IsReply command reply
 IsReplyTo (Err place) reply = reply ≡ usage_reply place

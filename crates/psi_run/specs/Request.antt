@@ -1,22 +1,35 @@
 -- The program's own command, as the definition's.
-use Rattle.std.specs.Prelude.{◌≡◌, ℕ, ◌+◌, ◌^◌, ◌≤◌, Result, MatchResult, Ok, Err}
-use Rattle.psi_run.specs.Command.{Command, sample, check, report, trial, couple, reward}
+use Rattle.std.specs.Prelude.{◌≡◌, ℕ, ◌+◌, ◌^◌, ◌≤◌, List, Result, MatchResult, Ok, Err}
+use Rattle.psi_run.specs.Command.{Command, sample, check, report, trial, couple, reward, certify, replay}
+use Rattle.psi_run.specs.declared.words.Question.{Question}
+use Rattle.psi_run.specs.declared.words.Question.TheVariants.{Sample, Check, Report, Couple, Reward, Replay}
 use Rattle.psi_run.specs.declared.words.Request.{Request}
-use Rattle.psi_run.specs.declared.words.Request.TheVariants.{Sample, Check, Report, Trial, Couple, Reward}
+use Rattle.psi_run.specs.declared.words.Request.TheVariants.{About, Trial, Certify}
+
+-- the command that asks a question about the network in a file
+abbrev pub asked : List ℕ → Question → Command
+asked net (Sample seed stream) = sample net seed stream
+asked net Check = check net
+asked net (Report seed first count) = report net seed first count
+asked net (Couple seed stream) = couple net seed stream
+asked net (Reward seed stream name) = reward net seed stream name.now
+asked net (Replay log) = replay net log.now
 
 -- the command that a request is
 abbrev pub requested : Request → Command
-requested (Sample net seed stream) = sample net.now seed stream
-requested (Check net) = check net.now
-requested (Report net seed first count) = report net.now seed first count
+requested (About net question) = asked net.now question
 requested (Trial number) = trial number
-requested (Couple net seed stream) = couple net.now seed stream
-requested (Reward net seed stream name) = reward net.now seed stream name.now
+requested (Certify net seed stream) = certify net.now seed stream
 
 -- the streams of a report are 1 to 65,536, and the last of them is one
-abbrev pub HasStreams : Request → Type 0
-HasStreams (Report net seed first count) = (1 ≤ count) × (count ≤ 65536) × (first + count ≤ 2 ^ 64)
-HasStreams request = Unit {0}
+abbrev pub HasStreams : Question → Type 0
+HasStreams (Report seed first count) = (1 ≤ count) × (count ≤ 65536) × (first + count ≤ 2 ^ 64)
+HasStreams question = Unit {0}
+
+-- and so it is where a request is a report
+abbrev pub AsksStreams : Request → Type 0
+AsksStreams (About net question) = HasStreams question
+AsksStreams request = Unit {0}
 
 -- the answer is the command, or the place of the word that offends
 abbrev pub GivesCommand : Result Request ℕ → Result Command ℕ → Type 0

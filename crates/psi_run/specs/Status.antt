@@ -2,6 +2,7 @@
 use Rattle.std.specs.Prelude.{ℕ}
 use Rattle.psi_run.specs.declared.status.Status.{Status}
 use Rattle.psi_run.specs.declared.status.Status.TheVariants.{Done, NotCoupled, Usage, NetRefused, LogRefused, LogTooLong, ReadFault, WriteFault, OutOfMemory, UnknownReward}
+use Rattle.psi_run.specs.Command.{Command, certify, replay}
 
 -- the number with which the program ends
 abbrev pub status_code : Status → ℕ
@@ -42,10 +43,22 @@ IsReplied ReadFault = ⊥
 IsReplied WriteFault = ⊥
 IsReplied OutOfMemory = ⊥
 
--- the statuses of a reply to a command; no command gives a log's yet
-abbrev pub IsOfCommand : Status → Type 0
-IsOfCommand Done = Unit {0}
-IsOfCommand NotCoupled = Unit {0}
-IsOfCommand NetRefused = Unit {0}
-IsOfCommand UnknownReward = Unit {0}
-IsOfCommand status = ⊥
+-- the command is a replay
+abbrev pub IsReplay : Command → Type 0
+IsReplay (replay net log) = Unit {0}
+IsReplay command = ⊥
+
+-- the command asks for the log of a sample
+abbrev pub IsCertify : Command → Type 0
+IsCertify (certify net seed stream) = Unit {0}
+IsCertify command = ⊥
+
+-- the statuses of a reply to a command: only a replay's log is refused, and only the log of a sample is too long
+abbrev pub IsOfCommand : Status → Command → Type 0
+IsOfCommand Done command = Unit {0}
+IsOfCommand NotCoupled command = Unit {0}
+IsOfCommand NetRefused command = Unit {0}
+IsOfCommand LogRefused command = IsReplay command
+IsOfCommand LogTooLong command = IsCertify command
+IsOfCommand UnknownReward command = Unit {0}
+IsOfCommand status command = ⊥

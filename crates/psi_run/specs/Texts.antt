@@ -7,7 +7,7 @@ use Rattle.psi_state.specs.declared.Outcome.TheVariants.{Met, NotMet}
 use Rattle.psi_document.specs.declared.refusals.NetRefusal.{NetRefusal}
 use Rattle.psi_document.specs.declared.refusals.Section.{Section}
 use Rattle.psi_document.specs.declared.refusals.Section.TheVariants.{Top, Queue, Event, Reward}
-use Rattle.psi_run.specs.Command.{File, net_file}
+use Rattle.psi_run.specs.Command.{File, net_file, log_file}
 
 -- a word and a number
 unfoldable pub number_line : List ℕ → ℕ → List ℕ
@@ -79,10 +79,51 @@ refused_line refusal =
 -- a file can't be read
 abbrev pub unread_line : File → List ℕ
 unread_line (net_file name) = codes "psi: cannot read network\n"
+unread_line (log_file name) = codes "psi: cannot read log\n"
 
 -- no reward has the name
 abbrev pub unknown_line : List ℕ
 unknown_line = codes "psi: unknown reward\n"
+
+-- the name of a cause for which a text is refused as a log
+abbrev pub grammar_name : ℕ → List ℕ
+grammar_name cause =
+    if cause == 1 then codes "NotLog"
+    else if cause == 2 then codes "Version"
+    else if cause == 3 then codes "Number"
+    else if cause == 4 then codes "Shape"
+    else if cause == 5 then codes "Truncated"
+    else if cause == 6 then codes "TrailingText"
+    else codes "TooLong"
+
+-- the name of a cause for which a log is rejected
+abbrev pub verdict_name : ℕ → List ℕ
+verdict_name cause =
+    if cause == 1 then codes "Header"
+    else if cause == 2 then codes "StepNumber"
+    else if cause == 3 then codes "WrongEvent"
+    else if cause == 4 then codes "OutsideBox"
+    else if cause == 5 then codes "NotCovered"
+    else if cause == 6 then codes "SplitTooLarge"
+    else if cause == 7 then codes "NotSingle"
+    else codes "WrongState"
+
+-- what became of a log, the number and the name of the cause, and its line
+unfoldable pub log_line : (word : List ℕ) (cause : ℕ) (name : List ℕ) (line : ℕ) → List ℕ
+log_line word cause name line =
+    codes "psi: log " ++ word ++ codes " " ++ decimal cause ++ codes " " ++ name ++ codes " line " ++ decimal line ++ codes "\n"
+
+-- a text is no log, by its first line that isn't as the grammar has it; line 0 is the text as a whole
+abbrev pub log_refused_line : (line cause : ℕ) → List ℕ
+log_refused_line line cause = log_line (codes "refused") cause (grammar_name cause) line
+
+-- a log isn't accepted, by its first line that breaks a rule
+abbrev pub log_rejected_line : (line cause : ℕ) → List ℕ
+log_rejected_line line cause = log_line (codes "rejected") cause (verdict_name cause) line
+
+-- the log of a sample would be too long
+abbrev pub too_long_line : List ℕ
+too_long_line = codes "psi: log too long\n"
 
 -- there is no memory
 abbrev pub memory_line : List ℕ

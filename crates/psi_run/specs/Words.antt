@@ -3,7 +3,7 @@ use Rattle.std.specs.Prelude.{ℕ, ◌+◌, ◌-◌, List, [], ◌∷◌, length
 use Rattle.std.specs.List.{list_all}
 use Rattle.std.specs.Str.{bytes_eq}
 use Rattle.std.specs.Str.Parse.{digits_value}
-use Rattle.psi_run.specs.Command.{Command, sample, check, report, trial, couple, reward}
+use Rattle.psi_run.specs.Command.{Command, sample, check, report, trial, couple, reward, certify, replay}
 
 -- a decimal digit of ASCII
 abbrev pub is_digit : ℕ → Bool
@@ -67,14 +67,28 @@ counted first (Some count) = if is_count first count then Some count else None
 abbrev pub count_word : ℕ → (ℕ → ℕ → List (List ℕ) → Result Command ℕ) → ℕ → List (List ℕ) → Result Command ℕ
 count_word first next place words = or_offends (counted first (number_in 65536 (first_text words))) next place words
 
+-- whether a word is left: none is, or this one is the first; another offends
+abbrev pub follows : List ℕ → List (List ℕ) → Option Bool
+follows last [] = Some false
+follows last (word ∷ words) = if bytes_eq word last then Some true else None
+
+-- at this place this word may stand, or none
+abbrev pub last_word : List ℕ → (Bool → ℕ → List (List ℕ) → Result Command ℕ) → ℕ → List (List ℕ) → Result Command ℕ
+last_word last next place words = or_offends (follows last words) next place words
+
 -- at this place no word may stand: one that does is one too many
 abbrev pub no_word : Command → ℕ → List (List ℕ) → Result Command ℕ
 no_word command place words = if is_over words then Ok command else Err place
 
--- the words of a sample after the first: NET, SEED and STREAM
+-- a sample, or its log
+abbrev pub sampling : (net : List ℕ) (seed stream : ℕ) → Bool → Command
+sampling net seed stream false = sample net seed stream
+sampling net seed stream true = certify net seed stream
+
+-- the words of a sample after the first: NET, SEED and STREAM, and then `log` where its log is asked for
 abbrev pub sample_words : ℕ → List (List ℕ) → Result Command ℕ
 sample_words =
-    text_word (λ net. number_word greatest_number (λ seed. number_word greatest_number (λ stream. no_word (sample net seed stream))))
+    text_word (λ net. number_word greatest_number (λ seed. number_word greatest_number (λ stream. last_word (codes "log") (λ log. no_word (sampling net seed stream log)))))
 
 -- the words of a description after the first: NET
 abbrev pub check_words : ℕ → List (List ℕ) → Result Command ℕ
@@ -99,6 +113,10 @@ abbrev pub reward_words : ℕ → List (List ℕ) → Result Command ℕ
 reward_words =
     text_word (λ net. number_word greatest_number (λ seed. number_word greatest_number (λ stream. text_word (λ name. no_word (reward net seed stream name)))))
 
+-- the words of a replay after the first: NET and LOG
+abbrev pub replay_words : ℕ → List (List ℕ) → Result Command ℕ
+replay_words = text_word (λ net. text_word (λ log. no_word (replay net log)))
+
 -- the command that the words are, by the first of them, or the place that offends
 unfoldable pub command_of : List (List ℕ) → Result Command ℕ
 command_of [] = Err 1
@@ -109,4 +127,5 @@ command_of (word ∷ words) =
     else if bytes_eq word (codes "trial") then trial_words 2 words
     else if bytes_eq word (codes "couple") then couple_words 2 words
     else if bytes_eq word (codes "reward") then reward_words 2 words
+    else if bytes_eq word (codes "replay") then replay_words 2 words
     else Err 1

@@ -1,53 +1,102 @@
-//! The work of a call: everything before its first byte is written.
+//! What a call does for its words: the work before the first byte, and the writing.
 
-ghost use Rattle.std.specs.Prelude.{◌≡◌, map, string_bytes};
+ghost use Rattle.std.specs.Prelude.{◌≡◌, ℕ, List, Ok, map, string_bytes};
 ghost use Rattle.psi_run.specs.Words.{command_of};
+ghost use Rattle.psi_run.specs.Request.{asked, HasStreams};
+ghost use Rattle.psi_run.specs.Seen.{ShelfSeen};
 ghost use Rattle.psi_run.specs.Ending.{IsEnding};
 ghost use Rattle.psi_run.specs.Spared.{AreGiven, HasRead};
-ghost use Rattle.psi_run.specs.Ended.{ending_of};
+ghost use Rattle.psi_run.specs.Finished.{IsFinished};
+ghost use Rattle.psi_run.specs.Ended.{ending_of, IsNetAt};
 
+mod certify;
 mod check;
 mod couple;
+mod replay;
 mod report;
 mod reward;
 mod sample;
 mod trial;
 
 use crate::ending::Ending;
-use crate::words::{Request, command_of};
-use psi_io::Shelf;
+use crate::files::network_at;
+use crate::status::Status;
+use crate::words::{Question, Request, command_of};
+use crate::writing::finish;
+use psi_io::{Shelf, Sink};
+use psi_net::Net;
 use std::alloc::Global;
 
-/// The work for the words: that of their command, or the place of the word that offends. Words that aren't
-/// a command take no memory.
-pub(crate) fn work<'w, F: Shelf>(alloc: Global, words: &'w [String], shelf: &mut F) -> Ending<'w>
-    ensures ending { IsEnding (record { told = F.told shelf.old; faults_before = F.faults shelf.old; faults_after = F.faults shelf.new })
-        (command_of (map string_bytes words.now)) (ending_of result) }
-    // Where the shelf gives each file that the words name, no read failed, and no count rose.
-    ensures read { AreGiven (F.gives shelf.old) (command_of (map string_bytes words.now)) → HasRead (ending_of result) }
+/// Does what the words ask for: the work for their command, before the first byte is written, and then the
+/// writing. Words that aren't a command take no memory.
+pub(crate) fn perform<F: Shelf, O: Sink, E: Sink>(
+    alloc: Global,
+    words: &[String],
+    shelf: &mut F,
+    out: &mut O,
+    err: &mut E,
+) -> Status
+    // The work has an ending; where the shelf gives each file that the words name, no read failed.
+    ensures finished { let command = command_of (map string_bytes words.now) in
+        let seen : ShelfSeen = record { told = F.told shelf.old; faults_before = F.faults shelf.old; faults_after = F.faults shelf.new } in
+        IsFinished (λ ending. IsEnding seen command ending × (AreGiven (F.gives shelf.old) command → HasRead ending)) (O.takes out.old) (E.takes err.old)
+        (record { before = O.held out.old; after = O.held out.new; faults_before = O.faults out.old; faults_after = O.faults out.new })
+        (record { before = E.held err.old; after = E.held err.new; faults_before = E.faults err.old; faults_after = E.faults err.new })
+        result }
+    // And no count rose there.
     ensures spared { AreGiven (F.gives shelf.old) (command_of (map string_bytes words.now)) → F.faults shelf.new ≡ F.faults shelf.old }
 {
     match command_of(words) {
-        Ok(Request::Sample { net, seed, stream }) => sample::work(alloc, shelf, net, seed, stream),
-        Ok(Request::Check { net }) => check::work(alloc, shelf, net),
-        Ok(
-            Request::Report {
-                net,
-                seed,
-                first,
-                count,
-            },
-        ) => report::work(alloc, shelf, net, seed, first, count),
-        Ok(Request::Trial { number }) => trial::work(alloc, number),
-        Ok(Request::Couple { net, seed, stream }) => couple::work(alloc, shelf, net, seed, stream),
-        Ok(
-            Request::Reward {
-                net,
-                seed,
-                stream,
-                name,
-            },
-        ) => reward::work(alloc, shelf, net, seed, stream, name),
-        Err(place) => Ending::Usage(place),
+        Ok(Request::About { net, question }) => {
+            finish(&work(alloc, shelf, net, question), out, err)
+        }
+        Ok(Request::Trial { number }) => finish(&trial::work(alloc, number), out, err),
+        Ok(Request::Certify { net, seed, stream }) => {
+            certify::perform(alloc, shelf, net, seed, stream, out, err)
+        }
+        Err(place) => finish(&Ending::Usage(place), out, err),
+    }
+}
+
+// The work for a question about a network: the network is read, and the question answered.
+fn work<'w, F: Shelf>(
+    alloc: Global,
+    shelf: &mut F,
+    name: &'w str,
+    question: Question<'w>,
+) -> Ending<'w>
+    requires { HasStreams question }
+    ensures ending { IsEnding (record { told = F.told shelf.old; faults_before = F.faults shelf.old; faults_after = F.faults shelf.new })
+        (Ok (asked name.now question.entry)) (ending_of result) }
+    ensures read { AreGiven (F.gives shelf.old) (Ok (asked name.now question.entry)) → HasRead (ending_of result) }
+    ensures spared { AreGiven (F.gives shelf.old) (Ok (asked name.now question.entry)) → F.faults shelf.new ≡ F.faults shelf.old }
+{
+    match network_at(alloc, shelf, name) {
+        Ok(net) => answer(alloc, shelf, &net, question),
+        Err(ending) => ending,
+    }
+}
+
+// The work on the network of a file.
+fn answer<'w, F: Shelf>(
+    alloc: Global,
+    shelf: &mut F,
+    net: &Net,
+    question: Question<'w>,
+) -> Ending<'w>
+    requires { HasStreams question }
+    ensures ending { (name : List ℕ) → IsNetAt (F.told shelf.old) name net.now
+        → IsEnding (record { told = F.told shelf.old; faults_before = F.faults shelf.old; faults_after = F.faults shelf.new })
+        (Ok (asked name question.entry)) (ending_of result) }
+    ensures read { (name : List ℕ) → AreGiven (F.gives shelf.old) (Ok (asked name question.entry)) → HasRead (ending_of result) }
+    ensures spared { (name : List ℕ) → AreGiven (F.gives shelf.old) (Ok (asked name question.entry)) → F.faults shelf.new ≡ F.faults shelf.old }
+{
+    match question {
+        Question::Sample { seed, stream } => sample::work(alloc, net, seed, stream),
+        Question::Check => check::work(alloc, net),
+        Question::Report { seed, first, count } => { report::work(alloc, net, seed, first, count) }
+        Question::Couple { seed, stream } => couple::work(alloc, net, seed, stream),
+        Question::Reward { seed, stream, name } => { reward::work(alloc, net, seed, stream, name) }
+        Question::Replay { log } => replay::work(alloc, shelf, net, log),
     }
 }

@@ -19,10 +19,28 @@ pub(crate) enum Ending<'w> {
     Usage(u8),
     /// The network file is refused.
     NetRefused(NetRefusal),
+    /// The text is no log.
+    LogRefused {
+        /// The first line that is refused, counted from 1; 0 where the text is too long.
+        line: u32,
+        /// The number of the line's first cause, 1 to 7.
+        cause: u8,
+    },
+    /// The log breaks a rule.
+    LogRejected {
+        /// The first line that breaks one, counted from 1.
+        line: u32,
+        /// The number of the line's first cause, 1 to 8.
+        cause: u8,
+    },
+    /// The log of a sample would be too long.
+    LogTooLong,
     /// The network has no reward of the name.
     UnknownReward,
     /// The network file of this name couldn't be read.
     NetUnread(&'w str),
+    /// The log file of this name couldn't be read.
+    LogUnread(&'w str),
     /// There was not enough memory.
     OutOfMemory,
 }
@@ -39,8 +57,12 @@ impl<'w> Ending<'w> {
             Ending::Printed { status, .. } => *status,
             Ending::Usage(_) => Status::Usage,
             Ending::NetRefused(_) => Status::NetRefused,
+            Ending::LogRefused { .. } => Status::LogRefused,
+            Ending::LogRejected { .. } => Status::LogRefused,
+            Ending::LogTooLong => Status::LogTooLong,
             Ending::UnknownReward => Status::UnknownReward,
             Ending::NetUnread(_) => Status::ReadFault,
+            Ending::LogUnread(_) => Status::ReadFault,
             Ending::OutOfMemory => Status::OutOfMemory,
         }
     }

@@ -1,16 +1,20 @@
 //! Reading the files that a command names.
 
-ghost use Rattle.std.specs.Prelude.{◌≡◌, IfOk, IfErr};
+ghost use Rattle.std.specs.Prelude.{◌≡◌, ◌≤◌, ℕ, List, IfOk, IfErr};
 ghost use Rattle.psi_run.specs.Spared.{HasRead};
-ghost use Rattle.psi_run.specs.Ended.{ending_of, IsNetAt, IsNoNet};
+ghost use Rattle.psi_run.specs.Ended.{ending_of, IsNetAt, IsNoNet, IsLogAt, IsNoLog};
 
 use crate::ending::Ending;
 use psi_io::{Shelf, ShelfFault};
+use psi_log::{Log, LogError, read_log};
 use psi_net::{Net, NetError, net_of};
 use std::alloc::Global;
 
 /// The most bytes that a network file may have.
 const MOST_NET_BYTES: u32 = 1_048_576;
+
+/// The most bytes that a log may have.
+const MOST_LOG_BYTES: u32 = 33_554_432;
 
 /// The network in the file of this name. Where there is none, the work ends the same whichever command
 /// names the file: it is refused, a read of it failed in this call, or there was not enough memory.
@@ -25,6 +29,10 @@ pub(crate) fn network_at<'w, F: Shelf>(
     // Where the shelf gives the file, no read of it failed, and no count rose.
     ensures read { F.gives shelf.old name.now → IfErr result (λ ending. HasRead (ending_of ending)) }
     ensures spared { F.gives shelf.old name.now → F.faults shelf.new ≡ F.faults shelf.old }
+    // The shelf tells and gives what it did, and no count fell.
+    ensures told { F.told shelf.new ≡ F.told shelf.old }
+    ensures gives { (other : List ℕ) → F.gives shelf.old other → F.gives shelf.new other }
+    ensures counts { (other : List ℕ) → F.faults shelf.old other ≤ F.faults shelf.new other }
 {
     let bytes = match shelf.read(alloc, name, MOST_NET_BYTES) {
         Ok(bytes) => bytes,
@@ -35,5 +43,31 @@ pub(crate) fn network_at<'w, F: Shelf>(
         Ok(net) => Ok(net),
         Err(NetError::Refused(refusal)) => Err(Ending::NetRefused(refusal)),
         Err(NetError::OutOfMemory) => Err(Ending::OutOfMemory),
+    }
+}
+
+/// The log in the file of this name. Where there is none, it is refused, a read of it failed in this call,
+/// or there was not enough memory.
+pub(crate) fn log_at<'w, F: Shelf>(
+    alloc: Global,
+    shelf: &mut F,
+    name: &'w str,
+) -> Result<Log, Ending<'w>>
+    ensures log { IfOk result (IsLogAt (F.told shelf.old) name.now) }
+    ensures none { IfErr result (IsNoLog (record { told = F.told shelf.old; faults_before = F.faults shelf.old; faults_after = F.faults shelf.new })
+        name.now) }
+    // Where the shelf gives the file, no read of it failed, and no count rose.
+    ensures read { F.gives shelf.old name.now → IfErr result (λ ending. HasRead (ending_of ending)) }
+    ensures spared { F.gives shelf.old name.now → F.faults shelf.new ≡ F.faults shelf.old }
+{
+    let bytes = match shelf.read(alloc, name, MOST_LOG_BYTES) {
+        Ok(bytes) => bytes,
+        Err(ShelfFault::Failed) => return Err(Ending::LogUnread(name)),
+        Err(ShelfFault::OutOfMemory) => return Err(Ending::OutOfMemory),
+    };
+    match read_log(alloc, bytes.as_slice()) {
+        Ok(log) => Ok(log),
+        Err(LogError::Refused { line, cause }) => Err(Ending::LogRefused { line, cause }),
+        Err(LogError::OutOfMemory) => Err(Ending::OutOfMemory),
     }
 }

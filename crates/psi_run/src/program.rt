@@ -14,9 +14,8 @@ ghost use Rattle.psi_run.specs.Means.{Means};
 ghost use Rattle.psi_run.specs.Spared.{AreGiven, AreTaken};
 ghost use Rattle.psi_run.specs.Call.{IsRun};
 
-use crate::commands::work;
+use crate::commands::perform;
 use crate::status::Status;
-use crate::writing::write_ending;
 use psi_io::{Shelf, Sink};
 use std::alloc::Global;
 
@@ -30,8 +29,10 @@ use std::alloc::Global;
 /// | `trial NUMBER` | makes the network of NUMBER, samples it with the seed NUMBER and the streams 0 to 3, and prints the report |
 /// | `couple NET SEED STREAM` | prints the least horizon, of any length, at which this seed and stream couple the network in the file NET |
 /// | `reward NET SEED STREAM NAME` | prints the value of the reward NAME at time zero, as soon as all states have one |
+/// | `sample NET SEED STREAM log` | writes the log of the sample that this seed and stream draw of the network in the file NET |
+/// | `replay NET LOG` | checks the log in the file LOG, whoever wrote it, for the network in the file NET |
 ///
-/// NET and NAME are any texts. Numbers are `0` or digits without a leading zero: SEED, STREAM and FIRST are
+/// NET, NAME and LOG are any texts. Numbers are `0` or digits without a leading zero: SEED, STREAM and FIRST are
 /// at most 18,446,744,073,709,551,615, COUNT is 1 to 65,536 and the last stream is no greater than they may
 /// be, and NUMBER is at most 65,535. The words are judged from the left; the offending word is the first place,
 /// counted from 1, at which the word is missing, isn't the command or number that must stand there, or is
@@ -44,11 +45,17 @@ use std::alloc::Global;
 /// | `Done` | the samples are counted | out: the report |
 /// | `Done` | there is a least horizon | out: `coupled T`, `state S` |
 /// | `Done` | the reward has one value | out: `reward-met T`, `value V` |
+/// | `Done` | the sample is met, and its log has at most 33,554,432 bytes | out: the log |
+/// | `Done` | the log is accepted | out: `accepted T`, `state S` |
 /// | `NotCoupled` | the sample isn't met, or there is no least horizon, within N = 2 to the power `limit` steps | out: `not coupled within N` |
 /// | `NotCoupled` | the reward hasn't one value within N steps | out: `reward not coupled within N` |
 /// | `Usage` | the words aren't a command | err: `psi: usage word N` |
 /// | `NetRefused` | the network file is refused | err: `psi: network refused CODE NAME SECTION NUMBER KEY` |
+/// | `LogRefused` | LOG isn't the text of a log | err: `psi: log refused CAUSE NAME line N` |
+/// | `LogRefused` | the log breaks a rule | err: `psi: log rejected CAUSE NAME line N` |
+/// | `LogTooLong` | the sample is met, and its log would be longer | err: `psi: log too long` |
 /// | `ReadFault` | the shelf's count of NET rose in this call | err: `psi: cannot read network` |
+/// | `ReadFault` | the shelf's count of LOG rose in this call, and the network is accepted | err: `psi: cannot read log` |
 /// | `WriteFault` | the count of out or of err rose in this call | a prefix of the text |
 /// | `OutOfMemory` | there was not enough memory | err: `psi: out of memory` |
 /// | `UnknownReward` | the network has no reward NAME | err: `psi: unknown reward` |
@@ -79,9 +86,18 @@ use std::alloc::Global;
 /// 1, 2, 4, .., N: T is the least of them at which all states of the region have one value, V. In either
 /// case every longer run ends with that state, or with states of that value.
 ///
+/// The log is the run of the sample's horizon, in version 2 of its grammar: all states at its begin, for each
+/// step its event and the region after it, and S. It certifies S: a log is accepted where it begins with all
+/// states, each step has the event of its word under the log's own seed and stream, each region has all that
+/// the event makes of the one before, and the last has one state, that of its last line. Then every state
+/// that starts at the log's horizon T or earlier is S at time zero, whoever wrote the log. CAUSE, NAME and N
+/// are the number and the name of the first cause, and the line, counted from 1; line 0 is the text as a
+/// whole. A log that this call writes is accepted with the sample's T and S. It is written in pieces as its
+/// lines come, after the run was done once to see how long it is.
+///
 /// All memory is taken before the first byte is written. Words that aren't a command take none.
 ///
-/// Where the shelf gives NET, and out and err take their texts, no count rises, and the status is
+/// Where the shelf gives NET and LOG, and out and err take their texts, no count rises, and the status is
 /// neither `ReadFault` nor `WriteFault`.
 pub fn run<F: Shelf, O: Sink, E: Sink>(
     alloc: Global,
@@ -120,9 +136,5 @@ pub fn run<F: Shelf, O: Sink, E: Sink>(
         → (F.faults shelf.new ≡ F.faults shelf.old) × (O.faults out.new ≡ O.faults out.old) × (E.faults err.new ≡ E.faults err.old)
         × ((result ≡ reply.status) ⊎ (result ≡ Status.OutOfMemory)) }
 {
-    let ending = work(alloc, words, shelf);
-    match write_ending(&ending, out, err) {
-        Ok(()) => ending.status(),
-        Err(_) => Status::WriteFault,
-    }
+    perform(alloc, words, shelf, out, err)
 }

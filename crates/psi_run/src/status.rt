@@ -6,7 +6,8 @@ ghost use Rattle.psi_run.specs.Status.{status_code};
 /// How a call of the program ends.
 #[derive(Clone, Copy, PartialEq, Eq, Debug)]
 pub enum Status {
-    /// What was asked for is printed: a sample or a value that is met, a description, a report.
+    /// What was asked for is printed: a sample or a value that is met, a description, a report, a log, or
+    /// the verdict that a log is accepted.
     Done,
     /// A sample, a least horizon or a value isn't met within the network's greatest horizon, and that is
     /// printed.
@@ -15,11 +16,14 @@ pub enum Status {
     Usage,
     /// The network file is refused; the refusal is told.
     NetRefused,
-    /// A log is refused or rejected. No command gives this yet.
+    /// A text is refused as a log, or a log is rejected; the line and the cause are told. Only `replay` gives
+    /// this.
     LogRefused,
-    /// A log would be too long. No command gives this yet.
+    /// The log of a sample would have more than 33,554,432 bytes, and nothing of it is written. Only
+    /// `sample` with the word `log` gives this.
     LogTooLong,
-    /// The network file couldn't be read. It comes only where the shelf's count of its name rose.
+    /// The network file or the log file couldn't be read, which is told. It comes only where the shelf's
+    /// count of that name rose.
     ReadFault,
     /// A text couldn't be written whole. It comes only where the count of out or of err rose, and nothing
     /// more is written to either.

@@ -1,4 +1,4 @@
-//! The text of a sample, and how texts are written: piece by piece, a number by its decimal digits.
+//! The texts of a sample, a coupling, a value and a verdict, and how texts are written: piece by piece, a number by its decimal digits.
 
 ghost use Rattle.std.specs.Prelude.{◌≡◌, ◌++◌, decimal, IfOk, OnOk};
 ghost use Rattle.std.specs.List.{flat_map};
@@ -6,6 +6,7 @@ ghost use Rattle.psi_run.specs.Texts.{number_line, state_text, outcome_text, IsW
 ghost use Rattle.psi_run.specs.Couple.{coupling_text};
 ghost use Rattle.psi_run.specs.Couple.{HasLimit as HasCouplingLimit};
 ghost use Rattle.psi_run.specs.Reward.{value_text};
+ghost use Rattle.psi_run.specs.Replay.{accepted_text};
 ghost use Rattle.psi_run.specs.Reward.{HasLimit as HasValueLimit};
 
 use itoa::Buffer;
@@ -122,5 +123,22 @@ pub(crate) fn value_text(alloc: Global, valued: &Valued) -> Result<Vec<u8>, Allo
             push_number_line(&mut text, b"reward not coupled within ", horizon)?;
         }
     }
+    Ok(text)
+}
+
+/// What is printed of a log that is accepted: a line with its horizon and a line with its state.
+#[tactic(auto, unfolding(crate::specs::Replay::accepted_text, crate::specs::Texts::number_line))]
+pub(crate) fn accepted_text(
+    alloc: Global,
+    horizon: u32,
+    state: &State,
+) -> Result<Vec<u8>, AllocError>
+    ensures { IfOk result (λ text. text.items ≡ accepted_text horizon state.now) }
+{
+    let mut text = Vec::new(alloc);
+    push_number_line(&mut text, b"accepted ", horizon)?;
+    text.extend_from_slice(b"state ")?;
+    push_state(&mut text, state)?;
+    text.push(b'\n')?;
     Ok(text)
 }

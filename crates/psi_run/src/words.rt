@@ -1,35 +1,28 @@
 //! The command of the program's words.
 
 ghost use Rattle.std.specs.Prelude.{◌≡◌, ◌+◌, ◌<◌, map, string_bytes, IfOk};
-ghost use Rattle.psi_run.specs.Words.{sample_words, check_words, report_words, trial_words, couple_words, reward_words, command_of};
-ghost use Rattle.psi_run.specs.Request.{GivesCommand, HasStreams};
+ghost use Rattle.psi_run.specs.Words.{sample_words, check_words, report_words, trial_words, couple_words, reward_words, replay_words, command_of};
+ghost use Rattle.psi_run.specs.Request.{GivesCommand, AsksStreams};
 
 mod cursor;
 mod numeral;
 
 use cursor::Cursor;
 
-/// What the words ask for.
+/// What is asked about the network in a file, with one text as the answer.
 #[derive(Clone, Copy, Debug)]
-pub(crate) enum Request<'w> {
-    /// A sample of the network in the file of this name, drawn from the words of this seed and stream.
+pub(crate) enum Question<'w> {
+    /// A sample, drawn from the words of this seed and stream.
     Sample {
-        /// The name of the network file.
-        net: &'w str,
         /// The seed of the random words.
         seed: u64,
         /// The number of the stream of random words.
         stream: u64,
     },
-    /// The description of the network in the file of this name.
-    Check {
-        /// The name of the network file.
-        net: &'w str,
-    },
-    /// A report over samples of the network in the file of this name, one for each of several streams.
+    /// The description of the network.
+    Check,
+    /// A report over samples, one for each of several streams.
     Report {
-        /// The name of the network file.
-        net: &'w str,
         /// The seed of the random words.
         seed: u64,
         /// The number of the first stream of random words.
@@ -37,24 +30,15 @@ pub(crate) enum Request<'w> {
         /// The number of streams, 1 to 65,536; the last of them is at most 2 to the power 64 less 1.
         count: u32,
     },
-    /// Four samples of the network that is made from this number.
-    Trial {
-        /// The number of the network, which is the seed of its samples too.
-        number: u16,
-    },
-    /// The least horizon of any length at which the runs of the network in the file of this name couple.
+    /// The least horizon of any length at which the network's runs couple.
     Couple {
-        /// The name of the network file.
-        net: &'w str,
         /// The seed of the random words.
         seed: u64,
         /// The number of the stream of random words.
         stream: u64,
     },
-    /// The value of a reward of the network in the file of this name.
+    /// The value of a reward of the network.
     Reward {
-        /// The name of the network file.
-        net: &'w str,
         /// The seed of the random words.
         seed: u64,
         /// The number of the stream of random words.
@@ -62,56 +46,90 @@ pub(crate) enum Request<'w> {
         /// The name of the reward.
         name: &'w str,
     },
+    /// The verdict on a log.
+    Replay {
+        /// The name of the log file.
+        log: &'w str,
+    },
 }
 
-// The sample that the words after `sample` ask for, or the place of the word that offends.
+/// What the words ask for.
+#[derive(Clone, Copy, Debug)]
+pub(crate) enum Request<'w> {
+    /// An answer about the network in the file of this name.
+    About {
+        /// The name of the network file.
+        net: &'w str,
+        /// What is asked.
+        question: Question<'w>,
+    },
+    /// Four samples of the network that is made from this number.
+    Trial {
+        /// The number of the network, which is the seed of its samples too.
+        number: u16,
+    },
+    /// The log of a sample of the network in the file of this name, drawn from the words of this seed and
+    /// stream.
+    Certify {
+        /// The name of the network file.
+        net: &'w str,
+        /// The seed of the random words.
+        seed: u64,
+        /// The number of the stream of random words.
+        stream: u64,
+    },
+}
+
+// The sample, or its log, that the words after `sample` ask for, or the place of the word that offends.
 fn sample_of<'w>(words: &mut Cursor<'w>) -> Result<Request<'w>, u8>
     requires { words.now.place ≡ 2 }
     ensures command { GivesCommand result (sample_words words.old.place (map string_bytes words.old.left.now)) }
-    ensures streams { IfOk result HasStreams }
+    ensures streams { IfOk result AsksStreams }
 {
     let net = words.next_text()?;
     let seed = words.next_number(u64::MAX)?;
     let stream = words.next_number(u64::MAX)?;
+    let log = words.next_last("log")?;
     words.finish()?;
-    Ok(Request::Sample { net, seed, stream })
+    if log {
+        return Ok(Request::Certify { net, seed, stream });
+    }
+    let question = Question::Sample { seed, stream };
+    Ok(Request::About { net, question })
 }
 
 // The description that the words after `check` ask for, or the place of the word that offends.
 fn check_of<'w>(words: &mut Cursor<'w>) -> Result<Request<'w>, u8>
     requires { words.now.place ≡ 2 }
     ensures command { GivesCommand result (check_words words.old.place (map string_bytes words.old.left.now)) }
-    ensures streams { IfOk result HasStreams }
+    ensures streams { IfOk result AsksStreams }
 {
     let net = words.next_text()?;
     words.finish()?;
-    Ok(Request::Check { net })
+    let question = Question::Check;
+    Ok(Request::About { net, question })
 }
 
 // The report that the words after `report` ask for, or the place of the word that offends.
 fn report_of<'w>(words: &mut Cursor<'w>) -> Result<Request<'w>, u8>
     requires { words.now.place ≡ 2 }
     ensures command { GivesCommand result (report_words words.old.place (map string_bytes words.old.left.now)) }
-    ensures streams { IfOk result HasStreams }
+    ensures streams { IfOk result AsksStreams }
 {
     let net = words.next_text()?;
     let seed = words.next_number(u64::MAX)?;
     let first = words.next_number(u64::MAX)?;
     let count = words.next_count(first)?;
     words.finish()?;
-    Ok(Request::Report {
-        net,
-        seed,
-        first,
-        count,
-    })
+    let question = Question::Report { seed, first, count };
+    Ok(Request::About { net, question })
 }
 
 // The trial that the words after `trial` ask for, or the place of the word that offends.
 fn trial_of<'w>(words: &mut Cursor<'w>) -> Result<Request<'w>, u8>
     requires { words.now.place ≡ 2 }
     ensures command { GivesCommand result (trial_words words.old.place (map string_bytes words.old.left.now)) }
-    ensures streams { IfOk result HasStreams }
+    ensures streams { IfOk result AsksStreams }
 {
     let number = words.next_number(65_535)?;
     words.finish()?;
@@ -124,39 +142,49 @@ fn trial_of<'w>(words: &mut Cursor<'w>) -> Result<Request<'w>, u8>
 fn couple_of<'w>(words: &mut Cursor<'w>) -> Result<Request<'w>, u8>
     requires { words.now.place ≡ 2 }
     ensures command { GivesCommand result (couple_words words.old.place (map string_bytes words.old.left.now)) }
-    ensures streams { IfOk result HasStreams }
+    ensures streams { IfOk result AsksStreams }
 {
     let net = words.next_text()?;
     let seed = words.next_number(u64::MAX)?;
     let stream = words.next_number(u64::MAX)?;
     words.finish()?;
-    Ok(Request::Couple { net, seed, stream })
+    let question = Question::Couple { seed, stream };
+    Ok(Request::About { net, question })
 }
 
 // The reward's value that the words after `reward` ask for, or the place of the word that offends.
 fn reward_of<'w>(words: &mut Cursor<'w>) -> Result<Request<'w>, u8>
     requires { words.now.place ≡ 2 }
     ensures command { GivesCommand result (reward_words words.old.place (map string_bytes words.old.left.now)) }
-    ensures streams { IfOk result HasStreams }
+    ensures streams { IfOk result AsksStreams }
 {
     let net = words.next_text()?;
     let seed = words.next_number(u64::MAX)?;
     let stream = words.next_number(u64::MAX)?;
     let name = words.next_text()?;
     words.finish()?;
-    Ok(Request::Reward {
-        net,
-        seed,
-        stream,
-        name,
-    })
+    let question = Question::Reward { seed, stream, name };
+    Ok(Request::About { net, question })
+}
+
+// The verdict that the words after `replay` ask for, or the place of the word that offends.
+fn replay_of<'w>(words: &mut Cursor<'w>) -> Result<Request<'w>, u8>
+    requires { words.now.place ≡ 2 }
+    ensures command { GivesCommand result (replay_words words.old.place (map string_bytes words.old.left.now)) }
+    ensures streams { IfOk result AsksStreams }
+{
+    let net = words.next_text()?;
+    let log = words.next_text()?;
+    words.finish()?;
+    let question = Question::Replay { log };
+    Ok(Request::About { net, question })
 }
 
 /// The command of the words, or the place of the word that offends, counted from 1. It takes no memory.
 #[tactic(auto, unfolding(crate::specs::Words::command_of))]
 pub(crate) fn command_of(words: &[String]) -> Result<Request<'_>, u8>
     ensures command { GivesCommand result (command_of (map string_bytes words.now)) }
-    ensures streams { IfOk result HasStreams }
+    ensures streams { IfOk result AsksStreams }
 {
     let mut words = Cursor::new(words);
     let command = words.next_text()?;
@@ -177,6 +205,9 @@ pub(crate) fn command_of(words: &[String]) -> Result<Request<'_>, u8>
     }
     if command == "reward" {
         return reward_of(&mut words);
+    }
+    if command == "replay" {
+        return replay_of(&mut words);
     }
     Err(1)
 }

@@ -5,18 +5,20 @@ ghost use Rattle.psi_run.specs.Ending.{ending_reply};
 ghost use Rattle.psi_run.specs.Ended.{ending_of};
 ghost use Rattle.psi_run.specs.Written.{IsWritten};
 ghost use Rattle.psi_run.specs.Spared.{IsTaken};
+ghost use Rattle.psi_run.specs.Finished.{IsFinished};
 
 mod line;
 
 use crate::ending::Ending;
-use line::{refused_line, usage_line};
+use crate::status::Status;
+use line::{log_refused_line, log_rejected_line, refused_line, usage_line};
 use psi_io::{Sink, SinkFault, write_all};
 
-/// Writes the text of an ending to out, or its line to err, as one piece. It takes no memory.
-///
-/// The error comes only where the count of the sink that was written to rose. What that sink holds then
-/// grew by a prefix of its text.
-pub(crate) fn write_ending<O: Sink, E: Sink>(
+// Writes the text of an ending to out, or its line to err, as one piece.
+//
+// The error comes only where the count of the sink that was written to rose. What that sink holds then
+// grew by a prefix of its text.
+fn write_ending<O: Sink, E: Sink>(
     ending: &Ending<'_>,
     out: &mut O,
     err: &mut E,
@@ -33,8 +35,30 @@ pub(crate) fn write_ending<O: Sink, E: Sink>(
         Ending::Printed { text, .. } => write_all(out, text.as_slice()),
         Ending::Usage(place) => write_all(err, usage_line(*place).as_slice()),
         Ending::NetRefused(refusal) => write_all(err, refused_line(refusal).as_slice()),
+        Ending::LogRefused { line, cause } => {
+            write_all(err, log_refused_line(*line, *cause).as_slice())
+        }
+        Ending::LogRejected { line, cause } => {
+            write_all(err, log_rejected_line(*line, *cause).as_slice())
+        }
+        Ending::LogTooLong => write_all(err, b"psi: log too long\n"),
         Ending::UnknownReward => write_all(err, b"psi: unknown reward\n"),
         Ending::NetUnread(_) => write_all(err, b"psi: cannot read network\n"),
+        Ending::LogUnread(_) => write_all(err, b"psi: cannot read log\n"),
         Ending::OutOfMemory => write_all(err, b"psi: out of memory\n"),
+    }
+}
+
+/// Writes the text of an ending to out, or its line to err, and answers the status of the call: that of the
+/// ending, or `WriteFault` where the text couldn't be written whole. It takes no memory.
+pub(crate) fn finish<O: Sink, E: Sink>(ending: &Ending<'_>, out: &mut O, err: &mut E) -> Status
+    ensures { IsFinished (λ end. end ≡ ending_of ending.now) (O.takes out.old) (E.takes err.old)
+        (record { before = O.held out.old; after = O.held out.new; faults_before = O.faults out.old; faults_after = O.faults out.new })
+        (record { before = E.held err.old; after = E.held err.new; faults_before = E.faults err.old; faults_after = E.faults err.new })
+        result }
+{
+    match write_ending(ending, out, err) {
+        Ok(()) => ending.status(),
+        Err(_) => Status::WriteFault,
     }
 }

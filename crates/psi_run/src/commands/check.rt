@@ -1,22 +1,19 @@
 //! `check NET`: the description of a network.
 
-ghost use Rattle.std.specs.Prelude.{◌≡◌, ◌++◌, ℕ, List, OnOk, IfOk, Ok, is_none};
+ghost use Rattle.std.specs.Prelude.{◌≡◌, ◌++◌, OnOk, IfOk, is_none};
 ghost use Rattle.std.specs.List.{list_all};
 ghost use Rattle.psi_network.specs.Network.{marks_of};
-ghost use Rattle.psi_run.specs.Command.{check};
+ghost use Rattle.psi_run.specs.declared.status.Status.TheVariants.{Done};
 ghost use Rattle.psi_run.specs.Check.{queue_line, mark_text, event_line, monotone_line, queue_lines, event_lines, check_text, AreMarked};
-ghost use Rattle.psi_run.specs.Reply.{reply_of};
-ghost use Rattle.psi_run.specs.Ending.{EndsWith, HasReplied, IsEnding};
-ghost use Rattle.psi_run.specs.Spared.{HasRead};
+ghost use Rattle.psi_run.specs.Reply.{text_reply};
+ghost use Rattle.psi_run.specs.Ending.{EndsWith, HasReplied};
 ghost use Rattle.psi_run.specs.Ended.{ending_of};
 
 use crate::ending::Ending;
-use crate::files::network_at;
 use crate::status::Status;
 use crate::texts::{push_number_line, push_pieces, push_state};
 use itoa::Buffer;
 use psi_event::EventLaw;
-use psi_io::Shelf;
 use psi_net::Net;
 use psi_state::State;
 use std::alloc::{AllocError, Global};
@@ -145,9 +142,9 @@ fn check_text(alloc: Global, net: &Net) -> Result<Vec<u8>, AllocError>
     Ok(text)
 }
 
-// The work on the network: its description.
-fn work_on<'w>(alloc: Global, net: &Net) -> Ending<'w>
-    ensures reply { (name : List ℕ) → EndsWith (ending_of result) (reply_of (check name) net.now) }
+/// The work for a description of the network.
+pub(crate) fn work<'w>(alloc: Global, net: &Net) -> Ending<'w>
+    ensures reply { EndsWith (ending_of result) (text_reply Done (check_text net.now)) }
     ensures marks { HasReplied (ending_of result) → AreMarked net.now }
 {
     match check_text(alloc, net) {
@@ -156,18 +153,5 @@ fn work_on<'w>(alloc: Global, net: &Net) -> Ending<'w>
             text,
         },
         Err(_) => Ending::OutOfMemory,
-    }
-}
-
-/// The work for a description: the network is read and described.
-pub(crate) fn work<'w, F: Shelf>(alloc: Global, shelf: &mut F, net: &'w str) -> Ending<'w>
-    ensures ending { IsEnding (record { told = F.told shelf.old; faults_before = F.faults shelf.old; faults_after = F.faults shelf.new })
-        (Ok (check net.now)) (ending_of result) }
-    ensures read { F.gives shelf.old net.now → HasRead (ending_of result) }
-    ensures spared { F.gives shelf.old net.now → F.faults shelf.new ≡ F.faults shelf.old }
-{
-    match network_at(alloc, shelf, net) {
-        Ok(net) => work_on(alloc, &net),
-        Err(ending) => ending,
     }
 }

@@ -1,20 +1,16 @@
 //! `couple NET SEED STREAM`: the least horizon of any length at which a network's runs couple.
 
-ghost use Rattle.std.specs.Prelude.{◌≡◌, ℕ, List, IfOk, Ok};
-ghost use Rattle.psi_run.specs.Command.{couple};
-ghost use Rattle.psi_run.specs.Couple.{coupling, coupling_status, HasLimit};
-ghost use Rattle.psi_run.specs.Reply.{reply_of};
-ghost use Rattle.psi_run.specs.Ending.{EndsWith, IsEnding};
-ghost use Rattle.psi_run.specs.Spared.{HasRead};
+ghost use Rattle.std.specs.Prelude.{◌≡◌, IfOk};
+ghost use Rattle.psi_run.specs.Couple.{coupling, coupling_status, coupling_text, HasLimit};
+ghost use Rattle.psi_run.specs.Reply.{text_reply};
+ghost use Rattle.psi_run.specs.Ending.{EndsWith};
 ghost use Rattle.psi_run.specs.Ended.{ending_of};
 
 use crate::ending::Ending;
-use crate::files::network_at;
 use crate::status::Status;
 use crate::texts::coupling_text;
 use psi_couple::{Coupled, least_horizon};
 use psi_horizon::{OutOfMemory, Plan};
-use psi_io::Shelf;
 use psi_net::Net;
 use psi_past::SeedPast;
 use std::alloc::Global;
@@ -43,9 +39,9 @@ fn coupling_status(coupled: &Coupled) -> Status
     }
 }
 
-// The work on the network: its least coupling.
-fn work_on<'w>(alloc: Global, net: &Net, seed: u64, stream: u64) -> Ending<'w>
-    ensures { (name : List ℕ) → EndsWith (ending_of result) (reply_of (couple name seed stream) net.now) }
+/// The work for the least coupling of the network.
+pub(crate) fn work<'w>(alloc: Global, net: &Net, seed: u64, stream: u64) -> Ending<'w>
+    ensures { EndsWith (ending_of result) (text_reply (coupling_status (coupling net.now seed stream)) (coupling_text (coupling net.now seed stream))) }
 {
     let Ok(coupled) = coupling_of(alloc, net, seed, stream) else {
         return Ending::OutOfMemory;
@@ -56,24 +52,5 @@ fn work_on<'w>(alloc: Global, net: &Net, seed: u64, stream: u64) -> Ending<'w>
             text,
         },
         Err(_) => Ending::OutOfMemory,
-    }
-}
-
-/// The work for a coupling: the network is read, and its least horizon is looked for.
-pub(crate) fn work<'w, F: Shelf>(
-    alloc: Global,
-    shelf: &mut F,
-    net: &'w str,
-    seed: u64,
-    stream: u64,
-) -> Ending<'w>
-    ensures ending { IsEnding (record { told = F.told shelf.old; faults_before = F.faults shelf.old; faults_after = F.faults shelf.new })
-        (Ok (couple net.now seed stream)) (ending_of result) }
-    ensures read { F.gives shelf.old net.now → HasRead (ending_of result) }
-    ensures spared { F.gives shelf.old net.now → F.faults shelf.new ≡ F.faults shelf.old }
-{
-    match network_at(alloc, shelf, net) {
-        Ok(net) => work_on(alloc, &net, seed, stream),
-        Err(ending) => ending,
     }
 }

@@ -1,24 +1,21 @@
 //! `report NET SEED FIRST COUNT`: a report over samples of a network, one for each of several streams.
 
-ghost use Rattle.std.specs.Prelude.{◌≡◌, ◌+◌, ◌^◌, ◌≤◌, ℕ, List, IfSome, Ok};
+ghost use Rattle.std.specs.Prelude.{◌≡◌, ◌+◌, ◌^◌, ◌≤◌, IfSome};
 ghost use Rattle.psi_report.specs.Samples.{IsSampleOf};
 ghost use Rattle.psi_report.specs.Report.{report_text};
 ghost use Rattle.psi_report.specs.Totals.{StandsFor};
-ghost use Rattle.psi_run.specs.Command.{report};
+ghost use Rattle.psi_run.specs.declared.status.Status.TheVariants.{Done};
 ghost use Rattle.psi_run.specs.Sample.{sampled};
 ghost use Rattle.psi_run.specs.Report.{samples_of};
 ghost use Rattle.psi_run.specs.Networks.{IsSystemOf};
-ghost use Rattle.psi_run.specs.Reply.{reply_of};
-ghost use Rattle.psi_run.specs.Ending.{EndsWith, IsEnding};
-ghost use Rattle.psi_run.specs.Spared.{HasRead};
+ghost use Rattle.psi_run.specs.Reply.{text_reply};
+ghost use Rattle.psi_run.specs.Ending.{EndsWith};
 ghost use Rattle.psi_run.specs.Ended.{ending_of};
 
 use crate::ending::Ending;
-use crate::files::network_at;
 use crate::status::Status;
 use psi_event::EventLaw;
 use psi_horizon::Plan;
-use psi_io::Shelf;
 use psi_kinds::Event;
 use psi_net::Net;
 use psi_past::SeedPast;
@@ -73,11 +70,11 @@ pub(crate) fn report_of(
     Some(text)
 }
 
-// The work on the network: the report.
-fn work_on<'w>(alloc: Global, net: &Net, seed: u64, first: u64, count: u32) -> Ending<'w>
+/// The work for a report over samples of the network.
+pub(crate) fn work<'w>(alloc: Global, net: &Net, seed: u64, first: u64, count: u32) -> Ending<'w>
     requires few { count ≤ 65536 }
     requires streams { first + count ≤ 2 ^ 64 }
-    ensures { (name : List ℕ) → EndsWith (ending_of result) (reply_of (report name seed first count) net.now) }
+    ensures { EndsWith (ending_of result) (text_reply Done (report_text net.now (samples_of net.now seed first count))) }
 {
     match report_of(alloc, net, seed, first, count) {
         Some(text) => Ending::Printed {
@@ -85,27 +82,5 @@ fn work_on<'w>(alloc: Global, net: &Net, seed: u64, first: u64, count: u32) -> E
             text,
         },
         None => Ending::OutOfMemory,
-    }
-}
-
-/// The work for a report: the network is read, and a sample of each stream is drawn and counted.
-pub(crate) fn work<'w, F: Shelf>(
-    alloc: Global,
-    shelf: &mut F,
-    net: &'w str,
-    seed: u64,
-    first: u64,
-    count: u32,
-) -> Ending<'w>
-    requires few { count ≤ 65536 }
-    requires streams { first + count ≤ 2 ^ 64 }
-    ensures ending { IsEnding (record { told = F.told shelf.old; faults_before = F.faults shelf.old; faults_after = F.faults shelf.new })
-        (Ok (report net.now seed first count)) (ending_of result) }
-    ensures read { F.gives shelf.old net.now → HasRead (ending_of result) }
-    ensures spared { F.gives shelf.old net.now → F.faults shelf.new ≡ F.faults shelf.old }
-{
-    match network_at(alloc, shelf, net) {
-        Ok(net) => work_on(alloc, &net, seed, first, count),
-        Err(ending) => ending,
     }
 }

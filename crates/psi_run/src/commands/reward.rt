@@ -1,22 +1,18 @@
 //! `reward NET SEED STREAM NAME`: the value of a reward at time zero, as soon as all states have one.
 
-ghost use Rattle.std.specs.Prelude.{◌≡◌, ℕ, List, Some, None, IfOk, IfSome, Ok};
+ghost use Rattle.std.specs.Prelude.{◌≡◌, Some, None, IfOk, IfSome};
 ghost use Rattle.psi_reward.specs.Rewards.{reward_caps, reward_kind};
 ghost use Rattle.psi_network.specs.Network.{caps_of};
-ghost use Rattle.psi_run.specs.Command.{reward};
 ghost use Rattle.psi_run.specs.Reward.{kind_named, valuation, value_status, HasLimit};
-ghost use Rattle.psi_run.specs.Reply.{reply_of};
-ghost use Rattle.psi_run.specs.Ending.{EndsWith, IsEnding};
-ghost use Rattle.psi_run.specs.Spared.{HasRead};
+ghost use Rattle.psi_run.specs.Reply.{value_reply};
+ghost use Rattle.psi_run.specs.Ending.{EndsWith};
 ghost use Rattle.psi_run.specs.Ended.{ending_of};
 
 use crate::ending::Ending;
-use crate::files::network_at;
 use crate::status::Status;
 use crate::texts::value_text;
 use psi_couple::{Valued, value_horizon};
 use psi_horizon::{OutOfMemory, Plan};
-use psi_io::Shelf;
 use psi_net::Net;
 use psi_past::SeedPast;
 use psi_reward::Reward;
@@ -67,9 +63,9 @@ fn value_status(valued: &Valued) -> Status
     }
 }
 
-// The work on the network: the value of the reward of this name.
-fn work_on<'w>(alloc: Global, net: &Net, seed: u64, stream: u64, name: &str) -> Ending<'w>
-    ensures { (file : List ℕ) → EndsWith (ending_of result) (reply_of (reward file seed stream name.now) net.now) }
+/// The work for the value of the network's reward of this name.
+pub(crate) fn work<'w>(alloc: Global, net: &Net, seed: u64, stream: u64, name: &str) -> Ending<'w>
+    ensures { EndsWith (ending_of result) (value_reply net.now seed stream (kind_named name.now net.now.rewards)) }
 {
     let Some(reward) = reward_at(net, name) else {
         return Ending::UnknownReward;
@@ -83,26 +79,5 @@ fn work_on<'w>(alloc: Global, net: &Net, seed: u64, stream: u64, name: &str) -> 
             text,
         },
         Err(_) => Ending::OutOfMemory,
-    }
-}
-
-/// The work for a reward's value: the network is read, the reward is looked up, and its value is looked
-/// for.
-pub(crate) fn work<'w, F: Shelf>(
-    alloc: Global,
-    shelf: &mut F,
-    net: &'w str,
-    seed: u64,
-    stream: u64,
-    name: &str,
-) -> Ending<'w>
-    ensures ending { IsEnding (record { told = F.told shelf.old; faults_before = F.faults shelf.old; faults_after = F.faults shelf.new })
-        (Ok (reward net.now seed stream name.now)) (ending_of result) }
-    ensures read { F.gives shelf.old net.now → HasRead (ending_of result) }
-    ensures spared { F.gives shelf.old net.now → F.faults shelf.new ≡ F.faults shelf.old }
-{
-    match network_at(alloc, shelf, net) {
-        Ok(net) => work_on(alloc, &net, seed, stream, name),
-        Err(ending) => ending,
     }
 }

@@ -1,20 +1,16 @@
 //! `sample NET SEED STREAM`: a sample of a network.
 
-ghost use Rattle.std.specs.Prelude.{◌≡◌, ℕ, List, IfOk, Ok};
-ghost use Rattle.psi_run.specs.Command.{sample};
-ghost use Rattle.psi_run.specs.Texts.{IsWithinLimit};
+ghost use Rattle.std.specs.Prelude.{◌≡◌, IfOk};
+ghost use Rattle.psi_run.specs.Texts.{outcome_text, IsWithinLimit};
 ghost use Rattle.psi_run.specs.Sample.{sampled, outcome_status};
-ghost use Rattle.psi_run.specs.Reply.{reply_of};
-ghost use Rattle.psi_run.specs.Ending.{EndsWith, IsEnding};
-ghost use Rattle.psi_run.specs.Spared.{HasRead};
+ghost use Rattle.psi_run.specs.Reply.{text_reply};
+ghost use Rattle.psi_run.specs.Ending.{EndsWith};
 ghost use Rattle.psi_run.specs.Ended.{ending_of};
 
 use crate::ending::Ending;
-use crate::files::network_at;
 use crate::status::Status;
 use crate::texts::outcome_text;
 use psi_horizon::{OutOfMemory, Plan};
-use psi_io::Shelf;
 use psi_net::Net;
 use psi_past::SeedPast;
 use psi_state::Outcome;
@@ -44,9 +40,9 @@ fn outcome_status(outcome: &Outcome) -> Status
     }
 }
 
-// The work on the network: its sample.
-fn work_on<'w>(alloc: Global, net: &Net, seed: u64, stream: u64) -> Ending<'w>
-    ensures { (name : List ℕ) → EndsWith (ending_of result) (reply_of (sample name seed stream) net.now) }
+/// The work for a sample of the network.
+pub(crate) fn work<'w>(alloc: Global, net: &Net, seed: u64, stream: u64) -> Ending<'w>
+    ensures { EndsWith (ending_of result) (text_reply (outcome_status (sampled net.now seed stream)) (outcome_text (sampled net.now seed stream))) }
 {
     let Ok(outcome) = sample_of(alloc, net, seed, stream) else {
         return Ending::OutOfMemory;
@@ -57,24 +53,5 @@ fn work_on<'w>(alloc: Global, net: &Net, seed: u64, stream: u64) -> Ending<'w>
             text,
         },
         Err(_) => Ending::OutOfMemory,
-    }
-}
-
-/// The work for a sample: the network is read, and a sample of it is drawn.
-pub(crate) fn work<'w, F: Shelf>(
-    alloc: Global,
-    shelf: &mut F,
-    net: &'w str,
-    seed: u64,
-    stream: u64,
-) -> Ending<'w>
-    ensures ending { IsEnding (record { told = F.told shelf.old; faults_before = F.faults shelf.old; faults_after = F.faults shelf.new })
-        (Ok (sample net.now seed stream)) (ending_of result) }
-    ensures read { F.gives shelf.old net.now → HasRead (ending_of result) }
-    ensures spared { F.gives shelf.old net.now → F.faults shelf.new ≡ F.faults shelf.old }
-{
-    match network_at(alloc, shelf, net) {
-        Ok(net) => work_on(alloc, &net, seed, stream),
-        Err(ending) => ending,
     }
 }

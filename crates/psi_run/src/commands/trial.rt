@@ -1,15 +1,13 @@
 //! `trial NUMBER`: four samples of a network that is made from a number.
 
-ghost use Rattle.std.specs.Prelude.{◌≡◌, ℕ, List, IfSome, IsSome, Ok};
+ghost use Rattle.std.specs.Prelude.{◌≡◌, IfSome, IsSome};
 ghost use Rattle.psi_network.specs.Generated.{generated_network};
 ghost use Rattle.psi_network.specs.Valid.{IsNetwork};
-ghost use Rattle.psi_run.specs.Command.{trial};
+ghost use Rattle.psi_run.specs.declared.status.Status.TheVariants.{Done};
 ghost use Rattle.psi_run.specs.Report.{samples_of};
 ghost use Rattle.psi_run.specs.Trial.{trial_text};
-ghost use Rattle.psi_run.specs.Reply.{reply_of};
-ghost use Rattle.psi_run.specs.Seen.{ShelfSeen};
-ghost use Rattle.psi_run.specs.Ending.{EndsWith, IsEnding};
-ghost use Rattle.psi_run.specs.Spared.{HasRead};
+ghost use Rattle.psi_run.specs.Reply.{text_reply};
+ghost use Rattle.psi_run.specs.Ending.{EndsWith, HasReplied};
 ghost use Rattle.psi_run.specs.Ended.{ending_of};
 
 use crate::commands::report::report_of;
@@ -47,8 +45,8 @@ fn text_of(alloc: Global, number: u16) -> Option<Vec<u8>>
 
 /// The work for a trial: the network is made, and four samples of it are drawn and counted. No file is read.
 pub(crate) fn work<'w>(alloc: Global, number: u16) -> Ending<'w>
-    ensures ending { (shelf : ShelfSeen) → IsEnding shelf (Ok (trial number)) (ending_of result) }
-    ensures read { HasRead (ending_of result) }
+    ensures reply { let net = generated_network number in EndsWith (ending_of result) (text_reply Done (trial_text number net (samples_of net number 0 4))) }
+    ensures kept { HasReplied (ending_of result) → IsNetwork (generated_network number) }
 {
     match text_of(alloc, number) {
         Some(text) => Ending::Printed {

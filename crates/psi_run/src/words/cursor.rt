@@ -1,7 +1,7 @@
 //! The words that are left, read one after another.
 
 ghost use Rattle.std.specs.Prelude.{◌≡◌, ◌+◌, ◌^◌, ◌<◌, ◌≤◌, Some, None, true, false, drop, map, string_bytes, IfOk, IfErr, OnOk, OnErr};
-ghost use Rattle.psi_run.specs.Words.{greatest_number, first_text, number_in, counted, is_over};
+ghost use Rattle.psi_run.specs.Words.{greatest_number, first_text, number_in, counted, follows, is_over};
 
 use crate::words::numeral::number;
 
@@ -77,6 +77,28 @@ impl<'w> Cursor<'w> {
             return Err(place);
         }
         Ok(count as u32)
+    }
+
+    /// Whether a word is left, which is then no longer left: it has to be this one. Where it is another, the
+    /// answer is its place.
+    pub(crate) fn next_last(&mut self, last: &str) -> Result<bool, u8>
+        requires { self.now.place < 255 }
+        ensures word { IfOk result (λ found. follows last.now (map string_bytes self.old.left.now) ≡ Some found) }
+        ensures rest { OnOk result (map string_bytes self.new.left.now ≡ drop 1 (map string_bytes self.old.left.now)) }
+        ensures place { OnOk result (self.new.place ≡ self.old.place + 1) }
+        ensures wrong { OnErr result (follows last.now (map string_bytes self.old.left.now) ≡ None) }
+        ensures offends { IfErr result (λ place. place ≡ self.old.place) }
+    {
+        let place = self.place;
+        self.place += 1;
+        let [word, rest @ ..] = self.left else {
+            return Ok(false);
+        };
+        if word.as_str() != last {
+            return Err(place);
+        }
+        self.left = rest;
+        Ok(true)
     }
 
     /// Nothing, where no word is left; or the place of the first that is one too many.

@@ -2,7 +2,7 @@
 
 ghost use Rattle.std.specs.Prelude.{◌≡◌, ◌+◌, ◌≤◌, ◌++◌, [], length};
 ghost use Rattle.arrayvec.specs.ArrayVec.{array_vec_len};
-ghost use Rattle.psi_run.specs.Texts.{refusal_name, section_name, key_text, usage_line, refused_line};
+ghost use Rattle.psi_run.specs.Texts.{refusal_name, section_name, key_text, usage_line, refused_line, grammar_name, verdict_name, log_line, log_refused_line, log_rejected_line};
 
 use arrayvec::ArrayVec;
 use itoa::Buffer;
@@ -105,4 +105,73 @@ pub(crate) fn refused_line(refusal: &NetRefusal) -> Line
     push(&mut line, key_text(&refusal.key));
     push(&mut line, b"\n");
     line
+}
+
+// The name of a cause for which a text is refused as a log.
+fn grammar_name(cause: u8) -> &'static str
+    ensures name { result.now ≡ grammar_name cause }
+    ensures short { length result.now ≤ 13 }
+{
+    match cause {
+        1 => "NotLog",
+        2 => "Version",
+        3 => "Number",
+        4 => "Shape",
+        5 => "Truncated",
+        6 => "TrailingText",
+        _ => "TooLong",
+    }
+}
+
+// The name of a cause for which a log is rejected.
+fn verdict_name(cause: u8) -> &'static str
+    ensures name { result.now ≡ verdict_name cause }
+    ensures short { length result.now ≤ 13 }
+{
+    match cause {
+        1 => "Header",
+        2 => "StepNumber",
+        3 => "WrongEvent",
+        4 => "OutsideBox",
+        5 => "NotCovered",
+        6 => "SplitTooLarge",
+        7 => "NotSingle",
+        _ => "WrongState",
+    }
+}
+
+// The line with what became of a log, the cause, and its line.
+#[tactic(auto, unfolding(crate::specs::Texts::log_line))]
+fn log_line(word: &[u8], cause: u8, name: &str, number: u32) -> Line
+    requires word { length word.now ≤ 8 }
+    requires name { length name.now ≤ 13 }
+    ensures { result.items ≡ log_line word.now cause name.now number }
+{
+    let mut cause_digits = Buffer::new();
+    let mut number_digits = Buffer::new();
+    let mut line = Line::new();
+    push(&mut line, b"psi: log ");
+    push(&mut line, word);
+    push(&mut line, b" ");
+    push(&mut line, cause_digits.format(cause).as_bytes());
+    push(&mut line, b" ");
+    push(&mut line, name.as_bytes());
+    push(&mut line, b" line ");
+    push(&mut line, number_digits.format(number).as_bytes());
+    push(&mut line, b"\n");
+    line
+}
+
+/// The line with the first line of a text that is no log, and the cause.
+pub(crate) fn log_refused_line(line: u32, cause: u8) -> Line
+    ensures { result.items ≡ log_refused_line line cause }
+{
+    log_line(b"refused", cause, grammar_name(cause), line)
+}
+
+/// The line with the first line of a log that breaks a rule, and the cause.
+pub(crate) fn log_rejected_line(line: u32, cause: u8) -> Line
+    ensures { result.items ≡ log_rejected_line line cause }
+{
+    log_line(b"rejected", cause, verdict_name(cause), line)
 }

@@ -1,33 +1,20 @@
 -- Answers in the proof of `run`.
 use Rattle.psi_run.proofs.Asking.{sample_asked}
-use Rattle.psi_run.proofs.Running.{run_whole, run_cut, run_means, run_headline}
-use Rattle.psi_run.proofs.Sparing.{where-taken, spared-status}
+use Rattle.psi_run.proofs.Finishing.{finished_run, finished_means, finished_headline, finished_spared}
 use Rattle.psi_run.proofs.program.run.Goals as goal
 
-pub returns-in-Ok-clause-call : goal.returns-in-Ok-clause-call
-returns-in-Ok-clause-call g c = run_whole _ _ c.status.result c.work-ending.ensures.ending c.in-Ok.ensures.written c.status.ensures
-
-pub returns-in-Ok-clause-headline : goal.returns-in-Ok-clause-headline
-returns-in-Ok-clause-headline g c name seed stream bytes net are small less there accepted read out err memory =
-    run_headline _ _ _ _ _ c.status.result c.work-ending.ensures.ending c.in-Ok.ensures.written.printed c.status.ensures name seed stream bytes net
-    (sample_asked _ name seed stream are small less) there accepted read memory
-
-pub returns-in-Ok-clause-means : goal.returns-in-Ok-clause-means
-returns-in-Ok-clause-means g c command asked kind =
-    run_means _ _ _ _ _ c.status.result command c.work-ending.ensures.ending c.in-Ok.ensures.written.printed c.status.ensures asked kind
-
 pub returns-clause-call : goal.returns-clause-call
-returns-clause-call g c = run_cut _ _ c.work-ending.ensures.ending c.in-Err.ensures.written
+returns-clause-call g c = finished_run _ c.perform.result (g.F.Shelf.gives c.args.shelf.now) _ _ c.perform.ensures.finished
 
-pub returns-in-Ok-clause-spared : goal.returns-in-Ok-clause-spared
-returns-in-Ok-clause-spared g c reply there given taken =
-    let worked = c.work-ending.ensures in
-    let read = worked.read given in
-    let written = where-taken _ _ reply _ _ _ worked.ending read there taken c.in-Ok.ensures.taken in
-    (worked.spared given, written.1, written.2, spared-status _ _ reply _ c.status.result worked.ending read there c.status.ensures)
+pub returns-clause-headline : goal.returns-clause-headline
+returns-clause-headline g c name seed stream bytes net are small less there accepted read out err memory =
+    finished_headline _ c.perform.result (g.F.Shelf.gives c.args.shelf.now) _ _ c.perform.ensures.finished name seed stream bytes net
+    (sample_asked _ name seed stream are small less) there accepted read out err memory
+
+pub returns-clause-means : goal.returns-clause-means
+returns-clause-means g c command asked kind = finished_means _ c.perform.result (g.F.Shelf.gives c.args.shelf.now) _ _ c.perform.ensures.finished command asked kind
 
 pub returns-clause-spared : goal.returns-clause-spared
 returns-clause-spared g c reply there given taken =
-    let worked = c.work-ending.ensures in
-    let written = where-taken _ _ reply _ _ _ worked.ending (worked.read given) there taken c.in-Err.ensures.taken in
-    let whole = written.0 in absurd cc
+    let sinks = finished_spared _ c.perform.result (g.F.Shelf.gives c.args.shelf.now) _ _ c.perform.ensures.finished reply there given taken in
+    (c.perform.ensures.spared given, sinks.0, sinks.1, sinks.2)

@@ -26,3 +26,11 @@ returns-in-UnknownReward-clause-written g c = let written = c.write_all-in-Unkno
 pub returns-in-UnknownReward-clause-taken : goal.returns-in-UnknownReward-clause-taken
 returns-in-UnknownReward-clause-taken g c = let written = c.write_all-in-UnknownReward.ensures in
     rw c.in-UnknownReward.is (λ out err. (written.taken err.room err.taken err.fits, refl, written.spared err.room err.taken err.fits))
+
+pub returns-in-LogTooLong-clause-written : goal.returns-in-LogTooLong-clause-written
+returns-in-LogTooLong-clause-written g c = let written = c.write_all-in-LogTooLong in
+    rw c.in-LogTooLong.is (line_written _ _ _ written.result refl refl written.ensures.whole written.ensures.prefix written.ensures.failed)
+
+pub returns-in-LogUnread-clause-written : goal.returns-in-LogUnread-clause-written
+returns-in-LogUnread-clause-written g c = let written = c.write_all-in-LogUnread in
+    rw c.in-LogUnread.is (line_written _ _ _ written.result refl refl written.ensures.whole written.ensures.prefix written.ensures.failed)

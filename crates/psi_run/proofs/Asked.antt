@@ -1,0 +1,49 @@
+-- The work for a question about a network, from the work on the network.
+use Rattle.std.specs.Prelude.{ℕ, ◌≤◌, List, Option, Ok}
+use Rattle.std.proofs.Common.{arith}
+use Rattle.psi_io.specs.Counts.{Rose}
+use Rattle.psi_run.specs.declared.ending.Ending.{Ending as Ended}
+use Rattle.psi_run.specs.declared.words.Question.{Question}
+use Rattle.psi_run.specs.declared.words.Question.TheVariants.{Sample, Check, Report, Couple, Reward, Replay}
+use Rattle.psi_run.specs.Command.{Command, sample, check, report, couple, reward, replay}
+use Rattle.psi_run.specs.Request.{asked}
+use Rattle.psi_run.specs.Seen.{ShelfSeen}
+use Rattle.psi_run.specs.Ending.{Ending, replied, unread, no_memory, IsEnding}
+use Rattle.psi_run.specs.Ended.{ending_of, IsNoNet}
+use Rattle.psi_run.proofs.Endings.{no_net}
+use Rattle.psi_run.proofs.Sampling.{sample_about}
+use Rattle.psi_run.proofs.Checking.{check_about}
+use Rattle.psi_run.proofs.Reporting.{report_about}
+use Rattle.psi_run.proofs.Coupling.{couple_about, reward_about}
+use Rattle.psi_run.proofs.Replaying.{replay_about}
+
+-- the work for a question where no network was had
+pub asked_none : (shelf : ShelfSeen) (name : List ℕ) (question : Question) (ended : Ended) → IsNoNet shelf name ended → IsEnding shelf (Ok (asked name question)) (ending_of ended)
+asked_none shelf name (Sample seed stream) ended none = no_net (sample name seed stream) name _ shelf ended (sample_about shelf.told name seed stream) none
+asked_none shelf name Check ended none = no_net (check name) name _ shelf ended (check_about shelf.told name) none
+asked_none shelf name (Report seed first count) ended none = no_net (report name seed first count) name _ shelf ended (report_about shelf.told name seed first count) none
+asked_none shelf name (Couple seed stream) ended none = no_net (couple name seed stream) name _ shelf ended (couple_about shelf.told name seed stream) none
+asked_none shelf name (Reward seed stream reward-name) ended none =
+    no_net (reward name seed stream reward-name.now) name _ shelf ended (reward_about shelf.told name seed stream reward-name.now) none
+asked_none shelf name (Replay log) ended none = no_net (replay name log.now) name _ shelf ended (replay_about shelf.told name log.now) none
+
+-- what is seen of a shelf over one call after another: the second tells what the first did
+module _ (told : List ℕ → Option (List ℕ)) (before between after : List ℕ → ℕ) where
+  abbrev late : ShelfSeen
+  late = record { told = told; faults_before = between; faults_after = after }
+
+  abbrev whole : ShelfSeen
+  whole = record { told = told; faults_before = before; faults_after = after }
+
+  rose-earlier : (name : List ℕ) → ((other : List ℕ) → before other ≤ between other) → Rose (between name) (after name) → Rose (before name) (after name)
+  rose-earlier name counts rose = (let least = counts name in omega (arith, least, rose))
+
+  -- an ending by what was seen late is one by all that was seen
+  pub ended_earlier : (command : Command) (ending : Ending) → ((other : List ℕ) → before other ≤ between other) → IsEnding late (Ok command) ending → IsEnding whole (Ok command) ending
+  ended_earlier command (replied reply) counts is = record { reply = is.reply; cause = is.cause; means = is.means }
+  ended_earlier command (unread file) counts is = record {
+    reply = is.reply;
+    cause = record { read = is.cause.read; needed = is.cause.needed; rose = rose-earlier _ counts is.cause.rose };
+    means = is.means;
+  }
+  ended_earlier command no_memory counts is = record { reply = is.reply; cause = is.cause; means = is.means }

@@ -1,0 +1,245 @@
+-- The log of a sample.
+use Rattle.std.specs.Prelude.{◌≡◌, ℕ, zero, suc, ◌-◌, ◌%◌, ◌^◌, ◌<◌, ◌≤◌, List, [], ◌∷◌, length, map, Bool, true, false, nat_le, if◌then◌else◌, Option, Some, Result, Ok, refl}
+use Rattle.std.proofs.Common.{inl, inr, ap, sym, ◌∙◌, subst, arith}
+use Rattle.std.proofs.lemmas.Bool.{cases_lt, le-leb, lt-leb, leb-true}
+use Rattle.std.proofs.lemmas.List.{length-map}
+use Rattle.psi_io.specs.Sink.{appended}
+use Rattle.psi_io.proofs.SinkLemmas.{appended-nothing}
+use Rattle.psi_state.specs.State.{numbers_from}
+use Rattle.psi_state.specs.declared.Outcome.{Outcome}
+use Rattle.psi_state.specs.declared.Outcome.TheVariants.{Met, NotMet}
+use Rattle.psi_past.specs.SeedWord.{seed_word}
+use Rattle.psi_rate.specs.Rates.{total, least_power, event_of}
+use Rattle.psi_rate.specs.Composition.{Parts, Functions, AreClosed, function_at}
+use Rattle.psi_rate.specs.Doubling.{IsFirst}
+use Rattle.psi_rate.proofs.RatesLemmas.{event_at-below}
+use Rattle.psi_rate.proofs.PowersLemmas.{pow-order}
+use Rattle.psi_region.specs.Region.{Area, start, step, IsArea}
+use Rattle.psi_region.proofs.RegionLemmas.{start-area, step-area}
+use Rattle.psi_horizon.specs.Runs.{region_after, ending_at}
+use Rattle.psi_horizon.specs.Agreeing.{Agree}
+use Rattle.psi_horizon.proofs.AgreeingLemmas.{step-agree}
+use Rattle.psi_lines.specs.declared.header.Header.{Header}
+use Rattle.psi_lines.specs.Log.{Entry, Certificate, IsLog}
+use Rattle.psi_lines.specs.Text.{log_text, IsLogOf}
+use Rattle.psi_log.specs.Refusal.{Refusal}
+use Rattle.psi_log.proofs.ReadLaws.{read_again}
+use Rattle.psi_record.specs.Recorded.{region_of, entry_after, recorded, header_of, log_of}
+use Rattle.psi_record.proofs.AcceptedLemmas.{recorded-log, recorded-judged}
+use Rattle.psi_replay.specs.Verdict.{verdict_of}
+use Rattle.psi_network.proofs.QueueLemmas.{capacities_kept}
+use Rattle.psi_network.specs.Network.{Network, caps_of, rates_of}
+use Rattle.psi_network.specs.Valid.{IsNetwork}
+use Rattle.psi_network.specs.declared.entries.Queue.{Queue}
+use Rattle.psi_net.specs.Reading.{network_of}
+use Rattle.psi_run.specs.declared.status.Status.{Status}
+use Rattle.psi_run.specs.declared.status.Status.TheVariants as status
+use Rattle.psi_run.specs.Command.{certify, net_file}
+use Rattle.psi_run.specs.Texts.{too_long_line}
+use Rattle.psi_run.specs.Sample.{functions_by_time, sampled, IsDrawn}
+use Rattle.psi_run.specs.Networks.{IsSystemOf}
+use Rattle.psi_run.specs.Replay.{events_by_time, judgement, accepted_text}
+use Rattle.psi_run.specs.Certify.{certificate}
+use Rattle.psi_run.specs.Reply.{Reply, text_reply, line_reply, log_reply, certify_reply, verdict_reply, judged_log, reply_to}
+use Rattle.psi_run.specs.Certified.{IsWrittenOf, IsCertified}
+use Rattle.psi_run.specs.Seen.{SinkSeen, Grew, GrewByPart, HasFailed}
+use Rattle.psi_run.specs.Ending.{Ending, replied, EndsWith}
+use Rattle.psi_run.specs.Finished.{IsFinished}
+use Rattle.psi_run.proofs.Endings.{IsAbout, first_read}
+use Rattle.psi_run.proofs.Sampling.{functions_by_time-closed, functions-alike, sampled-drawn, accepted_kept}
+use Rattle.psi_run.proofs.Finishing.{finished_with, finished_whole, finished_cut}
+
+-- ---- functions that agree on the states within the capacities
+
+module _ (split : ℕ) (caps : List ℕ) (f g : Functions) (closed : AreClosed caps f) (agree : (k : ℕ) → Agree caps (f k) (g k)) where
+  after-area : (horizon done : ℕ) → IsArea caps (region_after split f caps horizon done)
+  after-area horizon zero = start-area caps
+  after-area horizon (suc done) = step-area split caps (f (horizon - done)) (region_after split f caps horizon done) (closed.each (horizon - done)) (after-area horizon done)
+
+  after-agree : (horizon done : ℕ) → region_after split f caps horizon done ≡ region_after split g caps horizon done
+  after-agree horizon zero = refl
+  after-agree horizon (suc done) =
+      step-agree split caps (f (horizon - done)) (g (horizon - done)) (region_after split f caps horizon done) (agree (horizon - done)) (after-area horizon done)
+      ∙ ap (λ (a : Area). step split (g (horizon - done)) a) (after-agree horizon done)
+
+  entries-agree : (events : ℕ → ℕ) (horizon first count : ℕ) → map (entry_after split f caps events horizon) (numbers_from first count) ≡ map (entry_after split g caps events horizon) (numbers_from first count)
+  entries-agree events horizon first zero = refl
+  entries-agree events horizon first (suc count) =
+      ap (λ (a : Area). Entry-of a ∷ map (entry_after split f caps events horizon) (numbers_from (suc first) count)) (after-agree horizon (suc first))
+      ∙ ap (λ (es : List Entry). entry_after split g caps events horizon first ∷ es) (entries-agree events horizon (suc first) count)
+    where
+      Entry-of : Area → Entry
+      Entry-of a = record { step = record { number = horizon - first; event = events (horizon - first) }; region = region_of a }
+
+  recorded-agree : (events : ℕ → ℕ) (h : Header) (state : List ℕ) → recorded split f caps events h state ≡ recorded split g caps events h state
+  unfolding recorded
+  recorded-agree events h state =
+      ap (λ (es : List Entry). record { header = h; begin = region_of (start caps); entries = es; final = state }) (entries-agree events h.horizon 0 h.horizon)
+
+-- the log of a system that is the network's is that of the network
+log-by : {E : Type 0} (function : E → List ℕ → List ℕ) (system : Parts E) (n : Network) (seed stream horizon : ℕ) (state : List ℕ) → IsNetwork n → IsSystemOf function n system
+    → log_of function system (seed_word seed stream) (header_of (caps_of n) seed stream horizon) state ≡ certificate n seed stream horizon state
+unfolding certificate events_by_time
+log-by function system n seed stream horizon state kept of =
+    let fs = map function system.events in
+    let words = seed_word seed stream in
+    let alike = functions-alike n seed stream fs kept of.functions in
+    let h = header_of (caps_of n) seed stream horizon in
+    let At : ℕ → List ℕ → List ℕ → Certificate = λ split caps rates. recorded split (function_at fs rates words) caps (λ t. event_of rates (words (t - 1))) h state in
+    ap (λ k. At k system.caps system.rates) of.split ∙ ap (λ cs. At n.split cs system.rates) of.caps ∙ ap (λ rs. At n.split (caps_of n) rs) of.rates
+    ∙ recorded-agree n.split (caps_of n) (function_at fs (rates_of n) words) (functions_by_time n seed stream) alike.0 alike.1 (λ t. event_of (rates_of n) (words (t - 1))) h state
+
+-- so the reply with it is the network's
+pub certified_by : {E : Type 0} (function : E → List ℕ → List ℕ) (system : Parts E) (n : Network) (seed stream horizon : ℕ) (state : List ℕ) (queues : ℕ) (o : Outcome)
+    → IsNetwork n → IsSystemOf function n system → queues ≡ length (caps_of n) → o ≡ sampled n seed stream → o ≡ Met horizon state
+    → log_reply (log_text (log_of function system (seed_word seed stream) (record { version = 2; queues = queues; seed = seed; stream = stream; horizon = horizon }) state))
+    ≡ certify_reply n seed stream (sampled n seed stream)
+certified_by function system n seed stream horizon state queues o kept of count is met =
+    ap (λ q. log_reply (log_text (log_of function system (seed_word seed stream) (record { version = 2; queues = q; seed = seed; stream = stream; horizon = horizon }) state))) count
+    ∙ ap (λ (c : Certificate). log_reply (log_text c)) (log-by function system n seed stream horizon state kept of)
+    ∙ ap (λ (p : Outcome). certify_reply n seed stream p) (sym met ∙ is)
+
+-- what a sample needs of its log: the horizon is within the limit, and a header has as many queues as there are
+pub first_within : {A : Type 0} (run : ℕ → Option A) (limit t : ℕ) (a : A) → IsFirst run limit t a → t ≤ 2 ^ limit
+first_within run limit t a first = (let order : 2 ^ first.exponent ≤ 2 ^ limit = pow-order first.exponent limit first.within in rw first.power order)
+
+pub queues_counted : (n : Network) (queues : ℕ) → queues ≡ length n.queues → queues ≡ length (caps_of n)
+queues_counted n queues is = is ∙ sym (length-map n.queues (λ (q : Queue). q.capacity))
+
+-- ---- what is written means
+
+-- the reply with a text, by whether it may be written
+abbrev chosen : List ℕ → Bool → Reply
+chosen text fitting = if fitting then text_reply status.Done text else line_reply status.LogTooLong too_long_line
+
+-- a power of two of at most the greatest horizon is one of the horizons of a log
+horizon-fits : (exponent limit horizon : ℕ) → exponent ≤ limit → limit ≤ 22 → horizon ≡ 2 ^ exponent → (1 ≤ horizon) × (horizon ≤ 2 ^ limit) × (horizon ≤ 4194304)
+horizon-fits exponent limit horizon within few power =
+    let low : 2 ^ exponent ≤ 2 ^ limit = pow-order exponent limit within in
+    let high : 2 ^ exponent ≤ 4194304 = pow-order exponent 22 (omega arith) in
+    let some : 1 ≤ 2 ^ exponent = pow-order 0 exponent (omega arith) in
+    (rw power some, rw power low, rw power high)
+
+-- the log of the run of a sample that is met is one, and it breaks no rule of the network
+module _ (n : Network) (seed stream : ℕ) (kept : IsNetwork n) (small : seed < 2 ^ 64) (less : stream < 2 ^ 64) (horizon : ℕ) (state : List ℕ)
+    (drawn : IsDrawn n seed stream (Met horizon state)) where
+  ends : ending_at n.split (functions_by_time n seed stream) (caps_of n) horizon ≡ Some state
+  unfolding functions_by_time
+  ends = drawn.least.answer
+
+  fits : (1 ≤ horizon) × (horizon ≤ 2 ^ n.limit) × (horizon ≤ 4194304)
+  fits = horizon-fits drawn.least.exponent n.limit horizon drawn.least.within kept.limit drawn.least.power
+
+  few-events : (t : ℕ) → events_by_time n seed stream t ≤ 1024
+  unfolding events_by_time event_of
+  few-events t =
+      few-of (event_of (rates_of n) (seed_word seed stream (t - 1))) (length (rates_of n))
+      (event_at-below (rates_of n) (seed_word seed stream (t - 1) % least_power (total (rates_of n)))) kept.rates.few
+    where
+      few-of : (e count : ℕ) → e ≤ count → count ≤ 1024 → e ≤ 1024
+      few-of e count below few = omega arith
+
+  certificate-log : IsLog (certificate n seed stream horizon state)
+  unfolding certificate
+  certificate-log =
+      recorded-log (caps_of n) n.limit (events_by_time n seed stream) (functions_by_time n seed stream) n.split (header_of (caps_of n) seed stream horizon) state
+      (capacities_kept n.queues kept.queues) kept.most_split (functions_by_time-closed n seed stream kept) few-events refl refl small less fits.0 fits.2 ends
+
+  certificate-kept : judgement n (certificate n seed stream horizon state) ≡ Ok tt
+  unfolding judgement certificate recorded
+  certificate-kept =
+      recorded-judged (caps_of n) n.limit (events_by_time n seed stream) (functions_by_time n seed stream) n.split (header_of (caps_of n) seed stream horizon) state
+      kept.most_split (functions_by_time-closed n seed stream kept) refl fits.1 ends
+
+  certificate-told : verdict_reply (verdict_of (certificate n seed stream horizon state) (Ok tt)) ≡ text_reply status.Done (accepted_text horizon state)
+  unfolding certificate recorded
+  certificate-told = refl
+
+  certificate-replayed : judged_log n (Ok (certificate n seed stream horizon state)) ≡ text_reply status.Done (accepted_text horizon state)
+  certificate-replayed =
+      ap (λ (r : Result (Unit {0}) Refusal). verdict_reply (verdict_of (certificate n seed stream horizon state) r)) certificate-kept ∙ certificate-told
+
+  past : (count : ℕ) → nat_le count 33554432 ≡ false → 33554432 < count
+  past count fails = elim (cases_lt 33554432 count) [
+    | inl more ↦ more
+    | inr few ↦ (let holds = le-leb count 33554432 (omega arith) in absurd cc)
+  ]
+
+  logged-as : (before after : Option (List ℕ)) (text : List ℕ) (fitting : Bool) → text ≡ log_text (certificate n seed stream horizon state) → nat_le (length text) 33554432 ≡ fitting
+      → after ≡ appended before (chosen text fitting).out → IsWrittenOf before after (chosen text fitting).status n seed stream (Met horizon state)
+  logged-as before after text true written fitting grew =
+      let is : IsLogOf text (certificate n seed stream horizon state) =
+      record { log = certificate-log; text = written; few = leb-true (length text) 33554432 fitting } in
+      inl (record {
+        text = text;
+        grew = grew;
+        is = is;
+        replayed = ap (judged_log n) (read_again text (certificate n seed stream horizon state) is) ∙ certificate-replayed;
+        status = refl;
+      })
+  logged-as before after text false written fitting grew = inr (record {
+    text = grew ∙ appended-nothing before;
+    longer = subst (λ (t : List ℕ). 33554432 < length t) written (past (length text) fitting);
+    status = refl;
+  })
+
+-- what is written of an outcome means what it says
+written-of : (n : Network) (seed stream : ℕ) → IsNetwork n → seed < 2 ^ 64 → stream < 2 ^ 64 → (o : Outcome) → IsDrawn n seed stream o → (before after : Option (List ℕ))
+    → after ≡ appended before (certify_reply n seed stream o).out → IsWrittenOf before after (certify_reply n seed stream o).status n seed stream o
+written-of n seed stream kept small less (Met horizon state) drawn before after grew =
+    let text = log_text (certificate n seed stream horizon state) in
+    logged-as n seed stream kept small less horizon state drawn before after text (nat_le (length text) 33554432) refl refl grew
+written-of n seed stream kept small less (NotMet limit) drawn before after grew = record { text = grew; status = refl }
+
+pub certified_printed : (before after : Option (List ℕ)) (bytes : List ℕ) (n : Network) (seed stream : ℕ) → network_of bytes ≡ Ok n → seed < 2 ^ 64 → stream < 2 ^ 64
+    → after ≡ appended before (certify_reply n seed stream (sampled n seed stream)).out
+    → IsCertified before after (certify_reply n seed stream (sampled n seed stream)).status n seed stream
+certified_printed before after bytes n seed stream is small less grew =
+    let kept = accepted_kept bytes n is in
+    let drawn = sampled-drawn n seed stream kept in
+    record {
+      outcome = sampled n seed stream;
+      drawn = drawn;
+      written = written-of n seed stream kept small less (sampled n seed stream) drawn before after grew;
+    }
+
+-- the log of a sample is about one network
+pub certify_about : (told : List ℕ → Option (List ℕ)) (name : List ℕ) (seed stream : ℕ)
+    → IsAbout told (certify name seed stream) name (λ net before after result. IsCertified before after result net seed stream)
+unfolding reply_to
+certify_about told name seed stream = record { reads = first_read (net_file name) []; reply = refl; means = λ before after result has. has }
+
+-- ---- a log that was written in pieces
+
+module _ (text : List ℕ) (out_takes err_takes : ℕ → Type 0) (out err : SinkSeen) where
+  abbrev WithLog : Ending → Type 0
+  WithLog ending = EndsWith ending (log_reply text)
+
+  fits-reply : length text ≤ 33554432 → text_reply status.Done text ≡ log_reply text
+  fits-reply few = rw (le-leb (length text) 33554432 few) refl
+
+  -- whole
+  pub log_written : (result : Status) → result ≡ status.Done → length text ≤ 33554432 → Grew out text → err.after ≡ err.before → err.faults_after ≡ err.faults_before
+      → ((room : ℕ) → out_takes room → length text ≤ room → out.faults_after ≡ out.faults_before) → IsFinished WithLog out_takes err_takes out err result
+  log_written result done few grew still spared taken =
+      finished_with (replied (text_reply status.Done text)) WithLog out_takes err_takes out err result
+      (finished_whole (replied (text_reply status.Done text)) out_takes err_takes out err result
+      (record { printed = grew; reported = still ∙ sym (appended-nothing err.before) })
+      (λ o e. (taken o.room o.taken o.fits, spared)) done)
+      (fits-reply few)
+
+  -- or in part
+  pub log_cut : length text ≤ 33554432 → GrewByPart out text → HasFailed out → err.after ≡ err.before
+      → ((room : ℕ) → out_takes room → length text ≤ room → ⊥) → IsFinished WithLog out_takes err_takes out err status.WriteFault
+  log_cut few part failed still never =
+      finished_with (replied (text_reply status.Done text)) WithLog out_takes err_takes out err status.WriteFault
+      (finished_cut (replied (text_reply status.Done text)) out_takes err_takes out err (inl (record { cause = failed; part = part; rest = still }))
+      (λ o e. never o.room o.taken o.fits))
+      (fits-reply few)
+
+  -- a log that is too long has its line
+  pub log_long : (length text ≤ 33554432 → ⊥) → WithLog (replied (line_reply status.LogTooLong too_long_line))
+  log_long long = elim (cases_lt 33554432 (length text)) [
+    | inl more ↦ rw (lt-leb (length text) 33554432 more) refl
+    | inr few ↦ absurd (long (omega arith))
+  ]

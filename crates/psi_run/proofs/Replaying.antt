@@ -1,0 +1,135 @@
+-- The verdict on a log, from the bytes of its file.
+use Rattle.std.specs.Prelude.{◌≡◌, ℕ, ◌+◌, ◌<◌, List, [], ◌∷◌, length, take, Option, Some, None, option_map, Result, Ok, Err, IsOk, IsErr, IfSome, refl}
+use Rattle.std.proofs.Common.{inl, inr, ap, sym, ◌∙◌, subst, arith}
+use Rattle.std.proofs.lemmas.Bool.{cases_lt, lt-leb}
+use Rattle.std.proofs.lemmas.List.{take_all, length-take-le}
+use Rattle.psi_io.specs.Sink.{appended}
+use Rattle.psi_io.proofs.SinkLemmas.{appended-nothing}
+use Rattle.psi_lines.specs.Log.{Certificate}
+use Rattle.psi_log.specs.Refusal.{Refusal, refused}
+use Rattle.psi_log.specs.declared.refusals.Cause.TheVariants.{TooLong}
+use Rattle.psi_log.specs.Reading.{read}
+use Rattle.psi_log.proofs.ReadLaws.{read_found}
+use Rattle.psi_replay.specs.Verdict.{verdict_of}
+use Rattle.psi_network.specs.Network.{Network}
+use Rattle.psi_network.specs.Valid.{IsNetwork}
+use Rattle.psi_net.specs.Reading.{network_of}
+use Rattle.psi_run.specs.declared.status.Status.TheVariants as status
+use Rattle.psi_run.specs.declared.ending.Ending.{Ending as Ended}
+use Rattle.psi_run.specs.declared.ending.Ending.TheVariants.{Printed, Usage, NetRefused, LogRefused, LogRejected, LogTooLong, UnknownReward, NetUnread, LogUnread, OutOfMemory}
+use Rattle.psi_run.specs.Command.{replay, net_file, log_file}
+use Rattle.psi_run.specs.Texts.{log_refused_line}
+use Rattle.psi_run.specs.Replay.{judgement, IsReplayed}
+use Rattle.psi_run.specs.Reply.{line_reply, verdict_reply, judged_log, replay_reply, reply_to}
+use Rattle.psi_run.specs.Seen.{ShelfSeen, IsMissed}
+use Rattle.psi_run.specs.Ending.{Ending, replied, unread, no_memory, EndsWith, IsEnding}
+use Rattle.psi_run.specs.Ended.{ending_of, IsNetAt, IsLogAt, IsNoLog}
+use Rattle.psi_run.proofs.Endings.{IsAbout, first_read, second_read, verdict_replied, line_replied, of_any, replied_on}
+use Rattle.psi_run.proofs.Sampling.{accepted_kept}
+use Rattle.psi_run.proofs.Judging.{judged_certifies}
+
+-- ---- a log is read from its first 33,554,433 bytes
+
+-- a text of more bytes than a log may have is too long, whatever they are
+read-long : (bytes : List ℕ) → 33554432 < length bytes → read bytes ≡ Err (refused 0 TooLong)
+unfolding read
+read-long bytes long = rw (lt-leb (length bytes) 33554432 long) refl
+
+read-take : (bytes : List ℕ) → read bytes ≡ read (take 33554433 bytes)
+read-take bytes =
+    elim (cases_lt (length bytes) 33554433) [
+      | inl short ↦ sym (ap read (take_all 33554433 bytes (omega arith)))
+      | inr long ↦ (let count : length (take 33554433 bytes) ≡ 33554433 = length-take-le 33554433 bytes long in
+          read-long bytes (omega arith) ∙ sym (read-long (take 33554433 bytes) (omega arith)))
+    ]
+
+-- what the front of a file is read as, the file is
+pub read_whole : (most : ℕ) → most ≡ 33554432 → (told : Option (List ℕ)) (front : List ℕ) (answer : Result Certificate Refusal)
+    → IfSome told (λ bytes. front ≡ take (most + 1) bytes) → read front ≡ answer → IfSome told (λ bytes. read bytes ≡ answer)
+read_whole most is None front answer cut reads = tt
+read_whole most is (Some bytes) front answer cut reads =
+    let count : most + 1 ≡ 33554433 = omega arith in
+    read-take bytes ∙ sym (ap read (cut ∙ ap (λ n. take n bytes) count)) ∙ reads
+
+-- ---- what is told of a log
+
+-- what is told of a log that was read and judged so is the network's verdict
+verdict-told : (net : Network) (bytes : List ℕ) (c : Certificate) (judged : Result (Unit {0}) Refusal) → IsNetwork net → read bytes ≡ Ok c → judgement net c ≡ judged
+    → (before after : Option (List ℕ)) → after ≡ appended before (verdict_reply (verdict_of c judged)).out
+    → IsReplayed before after (verdict_reply (verdict_of c judged)).status net bytes
+verdict-told net bytes c (Ok kept) network reads judges before after grew =
+    let is = read_found bytes c reads in
+    inl (record { log = c; is = is; certifies = judged_certifies net c network is.log judges; status = refl; text = grew })
+verdict-told net bytes c (Err refusal) network reads judges before after grew =
+    inr (record {
+      cause = inr (record { log = c; is = read_found bytes c reads; broken = subst (λ (j : Result (Unit {0}) Refusal). IsErr j) (sym judges) refl });
+      status = refl;
+      text = grew ∙ appended-nothing before;
+    })
+
+-- and so it is with a text that is no log
+refusal-told : (net : Network) (bytes : List ℕ) (refusal : Refusal) → read bytes ≡ Err refusal → (before after : Option (List ℕ)) → after ≡ appended before []
+    → IsReplayed before after status.LogRefused net bytes
+refusal-told net bytes refusal reads before after grew = inr (record {
+  cause = inl (subst (λ (r : Result Certificate Refusal). IsErr r) (sym reads) refl);
+  status = refl;
+  text = grew ∙ appended-nothing before;
+})
+
+-- a replay is about one network
+pub replay_about : (told : List ℕ → Option (List ℕ)) (name log : List ℕ)
+    → IsAbout told (replay name log) name (λ net before after result. (bytes : List ℕ) → told log ≡ Some bytes → IsReplayed before after result net bytes)
+unfolding reply_to
+replay_about told name log = record { reads = first_read (net_file name) (log_file log ∷ []); reply = refl; means = λ before after result has. has }
+
+-- what the front of a log file was judged to be, the file is, where the shelf tells it
+one-log : (told : List ℕ → Option (List ℕ)) (log bytes : List ℕ) (answer : Result Certificate Refusal) → IfSome (told log) (λ b. read b ≡ answer) → told log ≡ Some bytes → read bytes ≡ answer
+one-log told log bytes answer at there = subst (λ (o : Option (List ℕ)). IfSome o (λ b. read b ≡ answer)) there at
+
+-- the reply to what was read is that to the file
+log-replied : (net : Network) (told : Option (List ℕ)) (answer : Result Certificate Refusal) → IfSome told (λ bytes. read bytes ≡ answer)
+    → IfSome (option_map (replay_reply net) told) (λ reply. judged_log net answer ≡ reply)
+log-replied net None answer at = tt
+log-replied net (Some bytes) answer at = sym (ap (judged_log net) at)
+
+-- ---- the work of a replay on its network
+
+module _ (shelf : ShelfSeen) (name log : List ℕ) (net : Network) where
+  has-network : (told : Option (List ℕ)) → IfSome told (λ bytes. network_of bytes ≡ Ok net) → IfSome told (λ bytes. IsOk (network_of bytes))
+  has-network None at = tt
+  has-network (Some bytes) at = subst (λ n. IsOk n) (sym at) refl
+
+  -- the work where no log was had
+  pub no_log : (ended : Ended) → IsNetAt shelf.told name net → IsNoLog shelf log ended → IsEnding shelf (Ok (replay name log)) (ending_of ended)
+  no_log (Printed own text) at none = absurd none
+  no_log (Usage place) at none = absurd none
+  no_log (NetRefused refusal) at none = absurd none
+  no_log (LogRejected line cause) at none = absurd none
+  no_log LogTooLong at none = absurd none
+  no_log UnknownReward at none = absurd none
+  no_log (NetUnread own) at none = absurd none
+  no_log (LogRefused line cause) at none =
+      let refusal : Refusal = record { line = line; cause = cause } in
+      replied_on (replay name log) name _ shelf net (line_reply status.LogRefused (log_refused_line line cause)) (replay_about shelf.told name log) at
+      (log-replied net (shelf.told log) (Err refusal) none) (line_replied name log (log_refused_line line cause))
+      (λ _ accepted before after grew bytes there. refusal-told net bytes refusal (one-log shelf.told log bytes (Err refusal) none there) before after grew)
+  no_log (LogUnread own) at none = record {
+    reply = of_any (reply_to (Ok (replay name log)) shelf.told);
+    cause = subst (λ (n : List ℕ). IsMissed shelf (Ok (replay name log)) (log_file n)) (sym none.0)
+        (let missed : IsMissed shelf (Ok (replay name log)) (log_file log) =
+        record { read = second_read (net_file name) (log_file log) []; needed = has-network (shelf.told name) at; rose = none.1 } in missed);
+    means = tt;
+  }
+  no_log OutOfMemory at none = record { reply = of_any (reply_to (Ok (replay name log)) shelf.told); cause = refl; means = tt }
+
+  -- the work on the log that was had
+  pub on_log : (c : Certificate) (ending : Ending) → IsNetAt shelf.told name net → IsLogAt shelf.told log c
+      → EndsWith ending (verdict_reply (verdict_of c (judgement net c))) → IsEnding shelf (Ok (replay name log)) ending
+  on_log c (replied given) at is ends =
+      subst (λ r. IsEnding shelf (Ok (replay name log)) (replied r)) (sym ends)
+      (replied_on (replay name log) name _ shelf net (verdict_reply (verdict_of c (judgement net c))) (replay_about shelf.told name log) at
+      (log-replied net (shelf.told log) (Ok c) is) (verdict_replied name log (verdict_of c (judgement net c)))
+      (λ own accepted before after grew bytes there.
+      verdict-told net bytes c (judgement net c) (accepted_kept own net accepted) (one-log shelf.told log bytes (Ok c) is there) refl before after grew))
+  on_log c (unread file) at is ends = absurd ends
+  on_log c no_memory at is ends = record { reply = of_any (reply_to (Ok (replay name log)) shelf.told); cause = refl; means = tt }

@@ -1,0 +1,143 @@
+//! `sample NET SEED STREAM log`: the log of a sample.
+
+ghost use Rattle.std.specs.Prelude.{◌≡◌, ◌^◌, ◌≤◌, Ok};
+ghost use Rattle.psi_state.specs.declared.Outcome.TheVariants.{NotMet};
+ghost use Rattle.psi_lines.specs.Text.{log_text};
+ghost use Rattle.psi_record.specs.Recorded.{log_of};
+ghost use Rattle.psi_run.specs.declared.status.Status.TheVariants.{NotCoupled};
+ghost use Rattle.psi_run.specs.Command.{certify};
+ghost use Rattle.psi_run.specs.Texts.{outcome_text};
+ghost use Rattle.psi_run.specs.Sample.{sampled};
+ghost use Rattle.psi_run.specs.Reply.{text_reply, log_reply, certify_reply};
+ghost use Rattle.psi_run.specs.Seen.{ShelfSeen};
+ghost use Rattle.psi_run.specs.Ending.{EndsWith, IsEnding};
+ghost use Rattle.psi_run.specs.Spared.{HasRead};
+ghost use Rattle.psi_run.specs.Ended.{ending_of};
+ghost use Rattle.psi_run.specs.Finished.{IsFinished};
+
+use crate::ending::Ending;
+use crate::files::network_at;
+use crate::status::Status;
+use crate::texts::outcome_text;
+use crate::writing::finish;
+use psi_event::EventLaw;
+use psi_horizon::Plan;
+use psi_io::{Shelf, Sink};
+use psi_log::{Header, LineBuf};
+use psi_net::Net;
+use psi_past::{Past, SeedPast};
+use psi_record::{Block, log_fits, write_log};
+use psi_state::{Outcome, State};
+use std::alloc::Global;
+
+// Writes the log of the run of the header's horizon, which ends with this state, or the line on one that is
+// too long. The memory is taken first; then the run is done once for the length of its log, and once more
+// for its text, which is written as the lines come.
+fn write_run<L: EventLaw, P: Past + Drop, O: Sink, E: Sink>(
+    alloc: Global,
+    plan: &mut Plan<'_, L, P>,
+    header: &Header,
+    state: &State,
+    out: &mut O,
+    err: &mut E,
+) -> Status
+    requires some { 1 ≤ header.now.horizon }
+    requires most { header.now.horizon ≤ 2 ^ plan.old.system.limit }
+    requires version { header.now.version ≡ 2 }
+    ensures { let text = log_text (log_of L.function plan.old.system (P.words plan.old.past) header.now state.now) in
+        IsFinished (λ ending. EndsWith ending (log_reply text)) (O.takes out.old) (E.takes err.old)
+        (record { before = O.held out.old; after = O.held out.new; faults_before = O.faults out.old; faults_after = O.faults out.new })
+        (record { before = E.held err.old; after = E.held err.new; faults_before = E.faults err.old; faults_after = E.faults err.new })
+        result }
+{
+    let Ok(mut line) = LineBuf::reserve(alloc) else {
+        return finish(&Ending::OutOfMemory, out, err);
+    };
+    let Ok(mut block) = Block::reserve(alloc) else {
+        return finish(&Ending::OutOfMemory, out, err);
+    };
+    let fits = log_fits(plan, header, state, &mut line);
+    if !fits {
+        return finish(&Ending::LogTooLong, out, err);
+    }
+    match write_log(plan, header, state, &mut line, &mut block, out) {
+        Ok(()) => Status::Done,
+        Err(_) => Status::WriteFault,
+    }
+}
+
+// What is told of an outcome that isn't met within 2 to the power `limit` steps, at most 2 to the power 22.
+fn unmet<'w>(alloc: Global, limit: u8) -> Ending<'w>
+    requires { limit ≤ 22 }
+    ensures { EndsWith (ending_of result) (text_reply NotCoupled (outcome_text (NotMet limit))) }
+{
+    match outcome_text(alloc, &Outcome::NotMet { limit }) {
+        Ok(text) => Ending::Printed {
+            status: Status::NotCoupled,
+            text,
+        },
+        Err(_) => Ending::OutOfMemory,
+    }
+}
+
+// The log of a sample of the network, written, or what is told in its place.
+fn write_sample<O: Sink, E: Sink>(
+    alloc: Global,
+    net: &Net,
+    seed: u64,
+    stream: u64,
+    out: &mut O,
+    err: &mut E,
+) -> Status
+    ensures { IsFinished (λ ending. EndsWith ending (certify_reply net.now seed stream (sampled net.now seed stream))) (O.takes out.old) (E.takes err.old)
+        (record { before = O.held out.old; after = O.held out.new; faults_before = O.faults out.old; faults_after = O.faults out.new })
+        (record { before = E.held err.old; after = E.held err.new; faults_before = E.faults err.old; faults_after = E.faults err.new })
+        result }
+{
+    let queues = net.queues();
+    let system = net.system();
+    // Called for its clause: the limit is at most 22.
+    let _limit = system.limit();
+    let Ok(mut plan) = Plan::new(alloc, system, SeedPast::new(seed, stream)) else {
+        return finish(&Ending::OutOfMemory, out, err);
+    };
+    match plan.sample() {
+        Outcome::Met { horizon, state } => {
+            let header = Header {
+                version: 2,
+                queues,
+                seed,
+                stream,
+                horizon,
+            };
+            write_run(alloc, &mut plan, &header, &state, out, err)
+        }
+        Outcome::NotMet { limit } => finish(&unmet(alloc, limit), out, err),
+    }
+}
+
+/// The log of a sample: the network is read, a sample of it is drawn, and the run of its horizon is written.
+///
+/// The log goes to out in pieces, so it is no text of an ending. It is as if it were: there is an ending
+/// whose text was written, whole or in part.
+pub(crate) fn perform<F: Shelf, O: Sink, E: Sink>(
+    alloc: Global,
+    shelf: &mut F,
+    net: &str,
+    seed: u64,
+    stream: u64,
+    out: &mut O,
+    err: &mut E,
+) -> Status
+    ensures finished { let seen : ShelfSeen = record { told = F.told shelf.old; faults_before = F.faults shelf.old; faults_after = F.faults shelf.new } in
+        IsFinished (λ ending. IsEnding seen (Ok (certify net.now seed stream)) ending × (F.gives shelf.old net.now → HasRead ending)) (O.takes out.old) (E.takes err.old)
+        (record { before = O.held out.old; after = O.held out.new; faults_before = O.faults out.old; faults_after = O.faults out.new })
+        (record { before = E.held err.old; after = E.held err.new; faults_before = E.faults err.old; faults_after = E.faults err.new })
+        result }
+    ensures spared { F.gives shelf.old net.now → F.faults shelf.new ≡ F.faults shelf.old }
+{
+    match network_at(alloc, shelf, net) {
+        Ok(net) => write_sample(alloc, &net, seed, stream, out, err),
+        Err(ending) => finish(&ending, out, err),
+    }
+}
