@@ -3,6 +3,7 @@
 mod covering;
 mod events;
 mod generated;
+mod images;
 mod plans;
 mod pools;
 mod queues;
@@ -10,3 +11,4 @@ mod refusals;
 mod regions;
 mod reports;
 mod rewards;
+mod sweeps;
