@@ -9,7 +9,9 @@ crates/psi/out/psi where it isn't given. It looks at
 - each run in README.md and docs/*.md: a block of one line `./psi WORDS`, prose that ends with
   'prints', and a block with the text; or a block that begins with `$ ./psi WORDS`, with the text
   behind it;
-- each whole network in docs/*.md, a block of TOML that begins with its version: `check` takes it.
+- each whole network in docs/*.md, a block of TOML that begins with its version: `check` takes it;
+- each log in docs/*.md, a block that begins with `psi-log`: `replay` accepts it for the network
+  before it.
 
 A run is made in the folder of its gallery file, or at the top, and must end with the status that
 its text says. A text whose last line is `...` shows the first lines of what is printed. Each that
@@ -52,11 +54,15 @@ def runs_of_document(file):
                 yield file, TOP, shlex.split(first)[1:], following[2]
 
 
-def networks_of_document(file):
-    """The whole networks that a document shows."""
+def files_of_document(file):
+    """The whole networks and the logs that a document shows, each with the words that take it."""
+    network = None
     for block in BLOCK.finditer(file.read_text()):
         if block[1] == "toml" and block[2].startswith("version"):
-            yield file, block[2]
+            network = block[2]
+            yield file, ["check", "net.toml"], {"net.toml": network}
+        if block[2].startswith("psi-log "):
+            yield file, ["replay", "net.toml", "log"], {"net.toml": network, "log": block[2]}
 
 
 def wanted_statuses(text):
@@ -103,13 +109,15 @@ def differing(program):
             differs += 1
             tell(file, f"psi {shlex.join(words or [])} (status {status})", text, got)
     with tempfile.TemporaryDirectory() as room:
-        for file, network in (found for file in documents for found in networks_of_document(file)):
+        shown = [found for file in documents for found in files_of_document(file)]
+        for file, words, files in shown:
             compared += 1
-            pathlib.Path(room, "net.toml").write_text(network)
-            status, got = answer(program, room, ["check", "net.toml"])
+            for name, text in files.items():
+                pathlib.Path(room, name).write_text(text)
+            status, got = answer(program, room, words)
             if status != 0:
                 differs += 1
-                tell(file, "a network that is refused", network, got)
+                tell(file, f"psi {shlex.join(words)} (status {status})", [*files.values()][-1], got)
     return compared, differs
 
 
