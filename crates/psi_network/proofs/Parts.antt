@@ -1,5 +1,5 @@
 -- The parts of a network, as loops make them.
-use Rattle.std.proofs.Common.{◌≡◌, ℕ, suc, ◌+◌, ◌<◌, ◌≤◌, List, [], ◌∷◌, ◌++◌, length, map, take, slice_index, slice_set, get_or, Option, Some, None, inl, inr, ap, sym, ◌∙◌, subst, arith, get_or-set_same, get_or-set_other, refl}
+use Rattle.std.proofs.Common.{◌≡◌, ℕ, suc, ◌+◌, ◌<◌, ◌≤◌, List, [], ◌∷◌, ◌++◌, length, map, take, slice_index, slice_set, get_or, Option, Some, inl, inr, ap, ◌∙◌, subst, arith, get_or-set_same, get_or-set_other, refl}
 use Rattle.std.specs.List.{slice_get}
 use Rattle.std.specs.Option.{option_map}
 use Rattle.std.proofs.lemmas.Option.{slice_get-map}
@@ -10,8 +10,6 @@ use Rattle.psi_rate.specs.Rates.{AreRates, PassesAt, total, greatest_total}
 use Rattle.psi_rate.proofs.TotalsLemmas.{total-take_order}
 use Rattle.psi_kinds.specs.Kinds.{Does}
 use Rattle.psi_kinds.specs.Forms.{upset_of}
-use Rattle.psi_kinds.specs.declared.Kind.{Kind}
-use Rattle.psi_network.specs.Valid.{IsAccepted}
 use Rattle.psi_network.specs.Made.{EachDoes, AreMade}
 use Rattle.psi_network.specs.Draft.{named}
 use Rattle.psi_network.specs.declared.entries.Queue.{Queue}
