@@ -10,10 +10,14 @@ pub mod LineLemmas
 pub mod HeaderLemmas
 pub mod ReadLaws
 mod ValueLemmas
+mod NumeralLemmas
+mod PieceLemmas
+mod PieceTurns
+mod LineWords
+mod MovedLemmas
 mod RowsLemmas
 pub mod ToldLemmas
 pub mod StepLemmas
-mod ChangeLemmas
 mod OrderLemmas
 pub mod TurnLemmas
 mod Worked

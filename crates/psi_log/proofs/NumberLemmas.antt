@@ -24,7 +24,7 @@ numeral_parts (d ∷ e ∷ ds) h =
     let parts = and_parts (not (d == 48)) (list_all is_digit (d ∷ e ∷ ds)) h in
     (parts.1, omega arith, λ is. absurd (eqb-false d 48 (not-true (d == 48) parts.0) is))
 
-numeral_from : (word : List ℕ) → list_all is_digit word ≡ true → 0 < length word → (get_or word 0 0 ≡ 48 → length word ≡ 1) → is_numeral word ≡ true
+pub numeral_from : (word : List ℕ) → list_all is_digit word ≡ true → 0 < length word → (get_or word 0 0 ≡ 48 → length word ≡ 1) → is_numeral word ≡ true
 numeral_from [] digits some first = absurd (omega arith)
 numeral_from (d ∷ []) digits some first = (and_parts (is_digit d) true digits).0
 numeral_from (d ∷ e ∷ ds) digits some first =

@@ -1,8 +1,8 @@
 -- Reading the members of a list one after another, as a loop does.
 use Rattle.std.specs.Prelude.{◌≡◌, ℕ, zero, suc, ◌+◌, ◌<◌, ◌≤◌, List, [], ◌∷◌, ◌++◌, length, map, take, drop, true, false, Result, Ok, Err, refl}
 use Rattle.std.specs.List.{list_all}
-use Rattle.std.proofs.Common.{get_or, set, ap, sym, ◌∙◌, append_assoc, arith}
-use Rattle.std.proofs.lemmas.List.{drop_more, append-nil, drop-append-le, take-append-le, take_more_set, map-append, take_all, length-drop}
+use Rattle.std.proofs.Common.{get_or, ap, sym, ◌∙◌, append_assoc, arith}
+use Rattle.std.proofs.lemmas.List.{drop_more, append-nil, drop-append-le, take-append-le, take_all, length-drop}
 use Rattle.psi_log.proofs.WordLemmas.{bind_ok, ok_same}
 use Rattle.std.proofs.lemmas.Bool.{eqb-true, and_parts}
 use Rattle.std.proofs.Math.ListN.{drop_of_length-le}
@@ -32,7 +32,7 @@ pub onto_none : {B : Type 0} (r : Result (List B) Refusal) → onto [] r ≡ r
 onto_none (Ok rest) = refl
 onto_none (Err refusal) = refl
 
-onto_more : {B : Type 0} (front : List B) (b : B) (r : Result (List B) Refusal) → onto front (r >>= (λ (bs : List B). Ok (b ∷ bs))) ≡ onto (front ++ b ∷ []) r
+pub onto_more : {B : Type 0} (front : List B) (b : B) (r : Result (List B) Refusal) → onto front (r >>= (λ (bs : List B). Ok (b ∷ bs))) ≡ onto (front ++ b ∷ []) r
 onto_more front b (Ok rest) = ap (λ (xs : List _). Ok xs) (sym (append_assoc front (b ∷ []) rest))
 onto_more front b (Err refusal) = refl
 
@@ -65,15 +65,7 @@ front_push xs ys n small = take-append-le n xs ys small
 pub pieces_long : (count : ℕ) (word : List ℕ) → has_pieces count word ≡ true → length (pieces_of word) ≡ count
 pieces_long count word is = eqb-true (length (pieces_of word)) count is
 
--- a loop that sets what it has read at its place
-pub turn_set : {V : Type 0} (view : V → List ℕ) (reading : List ℕ → Result ℕ Refusal) (old new : List ℕ) (i : ℕ) (vs : List V) (d : V) (b : ℕ) (whole : Result (List ℕ) Refusal)
-    → new ≡ set old i b → i < length old → i < length vs → onto (take i old) (each reading (map view (drop i vs))) ≡ whole → reading (view (get_or vs i d)) ≡ Ok b
-    → onto (take (i + 1) new) (each reading (map view (drop (i + 1) vs))) ≡ whole
-turn_set view reading old new i vs d b whole is room small same read =
-    ap (λ (front : List ℕ). onto front (each reading (map view (drop (i + 1) vs)))) (ap (take (i + 1)) is ∙ take_more_set old i b room)
-    ∙ sym (turn view reading (take i old) i vs d b small read) ∙ same
-
--- and one that puts it behind a list
+-- a loop that puts what it has read behind a list
 pub turn_push : {V A B : Type 0} (view : V → A) (reading : A → Result B Refusal) (old new : List B) (n i : ℕ) (vs : List V) (d : V) (b : B) (whole : Result (List B) Refusal)
     → new ≡ old ++ b ∷ [] → n ≤ length old → i < length vs → onto (drop n old) (each reading (map view (drop i vs))) ≡ whole → reading (view (get_or vs i d)) ≡ Ok b
     → onto (drop n new) (each reading (map view (drop (i + 1) vs))) ≡ whole
@@ -91,14 +83,6 @@ shaped_rest view count zero (v ∷ vs) small all = (and_parts (has_pieces count 
 shaped_rest view count (suc i) (v ∷ vs) small all =
     let next : suc i + 1 ≡ suc (i + 1) = omega arith in
     rw next (shaped_rest view count i vs (omega arith) all)
-
--- and one that pushes what is seen as what it has read
-pub turn_map : {V A X B : Type 0} (view : V → A) (seen : X → B) (reading : A → Result B Refusal) (old new : List X) (i : ℕ) (vs : List V) (d : V) (x : X) (whole : Result (List B) Refusal)
-    → new ≡ old ++ x ∷ [] → i < length vs → onto (map seen old) (each reading (map view (drop i vs))) ≡ whole → reading (view (get_or vs i d)) ≡ Ok (seen x)
-    → onto (map seen new) (each reading (map view (drop (i + 1) vs))) ≡ whole
-turn_map {B = B} view seen reading old new i vs d x whole is small same read =
-    ap (λ (front : List B). onto front (each reading (map view (drop (i + 1) vs)))) (ap (map seen) is ∙ map-append seen old (x ∷ []))
-    ∙ sym (turn view reading (map seen old) i vs d (seen x) small read) ∙ same
 
 -- as many values are read as there are members
 pub each_length : {A B : Type 0} (reading : A → Result B Refusal) (members : List A) (bs : List B) → each reading members ≡ Ok bs → length bs ≡ length members

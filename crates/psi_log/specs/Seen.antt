@@ -10,10 +10,10 @@ use Rattle.psi_log.specs.declared.forms.Given.TheVariants.{Box, Set, Move}
 abbrev pub given : Words → Given
 given (Box lo hi) = given_box lo.now hi.now
 given (Set states) = given_set (map (λ word. word.now) states.now)
-given (Move from changes) = given_move from (map (λ word. word.now) changes.now)
+given (Move from changes) = given_move from.now (map (λ word. word.now) changes.now)
 
--- each word of a form has its pieces, and a box before the words has as many queues
+-- each word of a form has its pieces, and a box before the words has so many queues
 abbrev pub HasForm : ℕ → Words → Type 0
 HasForm queues (Box lo hi) = (has_pieces queues lo.now ≡ true) × (has_pieces queues hi.now ≡ true)
 HasForm queues (Set states) = (length states.now ≤ 4096) × (list_all (has_pieces queues) (map (λ word. word.now) states.now) ≡ true)
-HasForm queues (Move from changes) = length from.lo ≡ queues
+HasForm queues (Move from changes) = (length from.now.lo ≡ queues) × (list_all (has_pieces 3) (map (λ word. word.now) changes.now) ≡ true)

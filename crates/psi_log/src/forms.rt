@@ -1,6 +1,6 @@
 //! The words of a region in their form: the fixed words, the number of words, and the number of pieces of each.
 
-ghost use Rattle.std.specs.Prelude.{◌≡◌, ◌≤◌, map, length, true, IfOk, IfSome};
+ghost use Rattle.std.specs.Prelude.{◌≡◌, ◌≤◌, map, length, true, IfOk, IfSome, option_copied};
 ghost use Rattle.std.specs.List.{list_all};
 ghost use Rattle.psi_log.specs.Refusal.{Gives};
 ghost use Rattle.psi_log.specs.Words.{has_pieces};
@@ -19,7 +19,7 @@ pub(crate) enum Given<'w> {
     /// A set, by the words of its states.
     Set(&'w [&'w [u8]]),
     /// A box, by the box before it and the words of what changed.
-    Move(Bounds, &'w [&'w [u8]]),
+    Move(&'w Bounds, &'w [&'w [u8]]),
 }
 
 // Whether each word has so many pieces.
@@ -68,9 +68,9 @@ fn set_form<'w>(line: u32, queues: u8, words: &'w [&'w [u8]]) -> Result<Given<'w
 
 // The words behind `move`: at most 32, each of three pieces.
 #[tactic(auto, unfolding(crate::specs::Regions::move_form))]
-fn move_form<'w>(line: u32, from: Bounds, words: &'w [&'w [u8]]) -> Result<Given<'w>, LogError>
-    ensures value { Gives given result (move_form line from (map (λ word. word.now) words.now)) }
-    ensures form { IfOk result (λ given. HasForm (length from.lo) given) }
+fn move_form<'w>(line: u32, from: &'w Bounds, words: &'w [&'w [u8]]) -> Result<Given<'w>, LogError>
+    ensures value { Gives given result (move_form line from.now (map (λ word. word.now) words.now)) }
+    ensures form { IfOk result (λ given. HasForm (length from.now.lo) given) }
 {
     if words.len() <= 32 && are_shaped(3, words) {
         Ok(Given::Move(from, words))
@@ -89,11 +89,11 @@ fn move_form<'w>(line: u32, from: Bounds, words: &'w [&'w [u8]]) -> Result<Given
 pub(crate) fn form_of<'w>(
     line: u32,
     queues: u8,
-    before: Option<Bounds>,
+    before: Option<&'w Bounds>,
     words: &'w [&'w [u8]],
 ) -> Result<Given<'w>, LogError>
-    requires { IfSome before (λ from. length from.lo ≡ queues) }
-    ensures value { Gives given result (form_of line queues before (map (λ word. word.now) words.now)) }
+    requires { IfSome before (λ from. length from.now.lo ≡ queues) }
+    ensures value { Gives given result (form_of line queues (option_copied before.entry) (map (λ word. word.now) words.now)) }
     ensures form { IfOk result (λ given. HasForm queues given) }
 {
     let [name, words @ ..] = words else {

@@ -6,9 +6,8 @@ ghost use Rattle.psi_log.specs.Refusal.{Gives};
 ghost use Rattle.psi_log.specs.Reading.{named_line, read_header};
 
 use crate::refusals::LogError;
-use crate::words::{line_of, read_named, read_version, words_of};
+use crate::words::{line_of, read_named, read_version, read_words};
 use psi_lines::Header;
-use std::alloc::Global;
 
 /// The greatest horizon of a version, which is also the greatest number of a step.
 pub(crate) fn greatest_horizon(version: u8) -> u32
@@ -21,29 +20,32 @@ pub(crate) fn greatest_horizon(version: u8) -> u32
 // The number from `least` to `most` that a line names, and what follows the line.
 #[tactic(auto, unfolding(crate::specs::Reading::named_line))]
 fn named_line<'t>(
-    alloc: Global,
     line: u32,
     name: &[u8],
     least: u64,
     most: u64,
     text: &'t [u8],
+    words: &mut Vec<&'t [u8]>,
 ) -> Result<(u64, &'t [u8]), LogError>
     ensures value { Gives (λ read. (read.0, read.1.now)) result (named_line line name.now least most text.now) }
     ensures range { IfOk result (λ read. (least ≤ read.0) × (read.0 ≤ most)) }
 {
-    let (own, rest) = line_of(line, text)?;
-    let words = words_of(alloc, own)?;
-    let number = read_named(line, name, least, most, &words)?;
+    let rest = read_words(line, text, words)?;
+    let number = read_named(line, name, least, most, words)?;
     Ok((number, rest))
 }
 
-/// The header at the beginning of a text, and what follows its five lines.
+/// The header at the beginning of a text, and what follows its five lines. The vector holds the words of one line
+/// after another.
 ///
 /// # Errors
 ///
 /// The first refusal of one of the five lines; `OutOfMemory`.
 #[tactic(auto, unfolding(crate::specs::Reading::read_header))]
-pub(crate) fn read_header(alloc: Global, text: &[u8]) -> Result<(Header, &[u8]), LogError>
+pub(crate) fn read_header<'t>(
+    text: &'t [u8],
+    words: &mut Vec<&'t [u8]>,
+) -> Result<(Header, &'t [u8]), LogError>
     ensures value { Gives (λ read. (read.0, read.1.now)) result (read_header text.now) }
     ensures some { IfOk result (λ read. 1 ≤ read.0.queues) }
     ensures few { IfOk result (λ read. read.0.queues ≤ 32) }
@@ -51,11 +53,11 @@ pub(crate) fn read_header(alloc: Global, text: &[u8]) -> Result<(Header, &[u8]),
 {
     let (first, rest) = line_of(1, text)?;
     let version = read_version(first)?;
-    let (queues, rest) = named_line(alloc, 2, b"queues", 1, 32, rest)?;
-    let (seed, rest) = named_line(alloc, 3, b"seed", 0, u64::MAX, rest)?;
-    let (stream, rest) = named_line(alloc, 4, b"stream", 0, u64::MAX, rest)?;
+    let (queues, rest) = named_line(2, b"queues", 1, 32, rest, words)?;
+    let (seed, rest) = named_line(3, b"seed", 0, u64::MAX, rest, words)?;
+    let (stream, rest) = named_line(4, b"stream", 0, u64::MAX, rest, words)?;
     let most = greatest_horizon(version) as u64;
-    let (horizon, rest) = named_line(alloc, 5, b"horizon", 1, most, rest)?;
+    let (horizon, rest) = named_line(5, b"horizon", 1, most, rest, words)?;
     let header = Header {
         version,
         queues: queues as u8,

@@ -7,6 +7,7 @@ mod forms;
 mod header;
 mod log;
 mod moves;
+mod numbers;
 mod parts;
 mod refusals;
 mod regions;

@@ -12,7 +12,7 @@ use crate::refusals::{Cause, LogError};
 use crate::regions::{Kept, box_before, read_given, read_state};
 use crate::state_list::StateList;
 use crate::steps::{Line, read_steps};
-use crate::words::{has_pieces, line_of, words_of};
+use crate::words::{has_pieces, read_words};
 use psi_lines::Header;
 use psi_state::State;
 use std::alloc::Global;
@@ -29,12 +29,7 @@ pub(crate) struct Parts {
 
 // The words of the region at which the run begins; the states of a set are put behind those of the list.
 #[tactic(auto, unfolding(crate::specs::Reading::read_begin))]
-fn read_begin(
-    alloc: Global,
-    queues: u8,
-    words: &[&[u8]],
-    states: &mut StateList,
-) -> Result<Kept, LogError>
+fn read_begin(queues: u8, words: &[&[u8]], states: &mut StateList) -> Result<Kept, LogError>
     requires some { 1 ≤ queues }
     requires few { queues ≤ 32 }
     requires queues { states.old.queues ≡ queues }
@@ -50,14 +45,14 @@ fn read_begin(
         return Err(Cause::Shape.at(6));
     }
     match form_of(6, queues, None, region) {
-        Ok(form) => read_given(alloc, 6, queues, form, states),
+        Ok(form) => read_given(6, queues, form, states),
         Err(error) => Err(error),
     }
 }
 
 // The words of the state at time zero.
 #[tactic(auto, unfolding(crate::specs::Reading::read_end))]
-fn read_end(alloc: Global, line: u32, queues: u8, words: &[&[u8]]) -> Result<State, LogError>
+fn read_end(line: u32, queues: u8, words: &[&[u8]]) -> Result<State, LogError>
     requires some { 1 ≤ queues }
     requires few { queues ≤ 32 }
     ensures { Gives (λ x. x) result (read_end line queues (map (λ word. word.now) words.now)) }
@@ -65,7 +60,7 @@ fn read_end(alloc: Global, line: u32, queues: u8, words: &[&[u8]]) -> Result<Sta
     match words {
         [first, state] => {
             if *first == b"end".as_slice() && has_pieces(queues as usize, state) {
-                read_state(alloc, line, queues, state)
+                read_state(line, queues, state)
             } else {
                 Err(Cause::Shape.at(line))
             }
@@ -74,9 +69,14 @@ fn read_end(alloc: Global, line: u32, queues: u8, words: &[&[u8]]) -> Result<Sta
     }
 }
 
-// The parts of the log behind its header.
+// The parts of the log behind its header. The vector holds the words of one line after another.
 #[tactic(auto, unfolding(crate::specs::Reading::after_header), using(crate::proofs::StepLemmas::region_kept))]
-fn parts_of(alloc: Global, header: Header, text: &[u8]) -> Result<Parts, LogError>
+fn parts_of<'t>(
+    alloc: Global,
+    header: Header,
+    text: &'t [u8],
+    words: &mut Vec<&'t [u8]>,
+) -> Result<Parts, LogError>
     requires some { 1 ≤ header.queues }
     requires few { header.queues ≤ 32 }
     requires horizon { header.horizon ≤ 4194304 }
@@ -84,18 +84,16 @@ fn parts_of(alloc: Global, header: Header, text: &[u8]) -> Result<Parts, LogErro
     ensures whole { IfOk result (λ parts. IsWhole parts) }
 {
     let mut states = StateList::new(alloc, header.queues);
-    let (own, rest) = line_of(6, text)?;
-    let words = words_of(alloc, own)?;
-    let begin = read_begin(alloc, header.queues, &words, &mut states)?;
+    let rest = read_words(6, text, words)?;
+    let begin = read_begin(header.queues, words, &mut states)?;
     let before = box_before(header.version, &begin);
-    let (lines, rest) = match read_steps(alloc, &header, before, rest, &mut states) {
+    let (lines, rest) = match read_steps(alloc, &header, before, rest, words, &mut states) {
         Ok(read) => read,
         Err(error) => return Err(error),
     };
     let last = 7 + header.horizon;
-    let (own, rest) = line_of(last, rest)?;
-    let words = words_of(alloc, own)?;
-    let end = read_end(alloc, last, header.queues, &words)?;
+    let rest = read_words(last, rest, words)?;
+    let end = read_end(last, header.queues, words)?;
     if !rest.is_empty() {
         return Err(Cause::TrailingText.at(last + 1));
     }
@@ -121,6 +119,7 @@ pub(crate) fn read_parts(alloc: Global, text: &[u8]) -> Result<Parts, LogError>
     if text.len() > 33_554_432 {
         return Err(Cause::TooLong.at(0));
     }
-    let (header, rest) = read_header(alloc, text)?;
-    parts_of(alloc, header, rest)
+    let mut words = Vec::new(alloc);
+    let (header, rest) = read_header(text, &mut words)?;
+    parts_of(alloc, header, rest, &mut words)
 }

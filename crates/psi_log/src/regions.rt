@@ -12,11 +12,10 @@ ghost use Rattle.psi_lines.specs.Log.{in_box};
 
 use crate::forms::Given;
 use crate::moves::read_move;
+use crate::numbers::piece_in;
 use crate::refusals::{Cause, LogError};
 use crate::state_list::StateList;
-use crate::words::{number_in, pieces_of};
 use psi_state::{Bounds, State};
-use std::alloc::Global;
 
 /// A region as it is read: a box, or a set of states by their places in a list.
 #[derive(Clone, Copy, Debug)]
@@ -27,49 +26,32 @@ pub(crate) enum Kept {
     Set { first: usize, count: u16 },
 }
 
-// The state whose numbers are the pieces, one for each queue.
-#[tactic(auto, using(crate::proofs::TurnLemmas::onto_none))]
-fn state_of(line: u32, queues: u8, pieces: &[&[u8]]) -> Result<State, LogError>
-    requires some { 1 ≤ queues }
-    requires few { queues ≤ 32 }
-    requires count { length pieces.now ≡ queues }
-    ensures value { Gives (λ x. x) result (each (number_in line 0 65535) (map (λ piece. piece.now) pieces.now)) }
-    ensures count { IfOk result (λ x. length x ≡ queues) }
-{
-    let mut x = State::zero(queues);
-    for (queue, piece) in pieces.iter().enumerate() {
-        let number = number_in(line, 0, 65_535, piece)?;
-        x.set(queue as u8, number as u16);
-    }
-    Ok(x)
-}
-
 /// The numbers of a state, of a word that has one piece for each queue.
 ///
 /// # Errors
 ///
-/// `Number` where a piece isn't a number from 0 to 65,535; `OutOfMemory`.
-#[tactic(auto, unfolding(crate::specs::Regions::read_state), using(crate::proofs::TurnLemmas::pieces_long))]
-pub(crate) fn read_state(
-    alloc: Global,
-    line: u32,
-    queues: u8,
-    word: &[u8],
-) -> Result<State, LogError>
+/// `Number` where a piece isn't a number from 0 to 65,535.
+#[tactic(auto, unfolding(crate::specs::Regions::read_state))]
+pub(crate) fn read_state(line: u32, queues: u8, word: &[u8]) -> Result<State, LogError>
     requires some { 1 ≤ queues }
     requires few { queues ≤ 32 }
     requires shaped { has_pieces queues word.now ≡ true }
     ensures value { Gives (λ x. x) result (read_state line word.now) }
     ensures count { IfOk result (λ x. length x ≡ queues) }
 {
-    let pieces = pieces_of(alloc, word)?;
-    state_of(line, queues, &pieces)
+    let mut x = State::zero(queues);
+    let mut rest = word;
+    for queue in 0..queues {
+        let (number, after) = piece_in(line, 65_535, rest)?;
+        x.set(queue, number as u16);
+        rest = after;
+    }
+    Ok(x)
 }
 
 // The states of words, put behind those of the list.
 #[tactic(auto, using(crate::proofs::TurnLemmas::onto_none, crate::proofs::TurnLemmas::turn_ends))]
 fn read_states(
-    alloc: Global,
     line: u32,
     queues: u8,
     words: &[&[u8]],
@@ -86,7 +68,7 @@ fn read_states(
     ensures refused { IfErr result (λ error. IsLogError error (each (read_state line) (map (λ word. word.now) words.now))) }
 {
     for word in words {
-        let x = read_state(alloc, line, queues, word)?;
+        let x = read_state(line, queues, word)?;
         states.push(&x)?;
     }
     Ok(())
@@ -120,7 +102,7 @@ fn ascends(states: &StateList, first: usize) -> bool
 
 // The two corners of a box, of words that have one piece for each queue.
 #[tactic(auto, unfolding(crate::specs::Regions::read_given), using(crate::proofs::StateLemmas::below_again, crate::proofs::StateLemmas::below_no))]
-fn read_box(alloc: Global, line: u32, queues: u8, lo: &[u8], hi: &[u8]) -> Result<Bounds, LogError>
+fn read_box(line: u32, queues: u8, lo: &[u8], hi: &[u8]) -> Result<Bounds, LogError>
     requires some { 1 ≤ queues }
     requires few { queues ≤ 32 }
     requires low { has_pieces queues lo.now ≡ true }
@@ -128,8 +110,8 @@ fn read_box(alloc: Global, line: u32, queues: u8, lo: &[u8], hi: &[u8]) -> Resul
     ensures value { Gives in_box result (read_given line queues (given_box lo.now hi.now)) }
     ensures count { IfOk result (λ bounds. length bounds.lo ≡ queues) }
 {
-    let lo = read_state(alloc, line, queues, lo)?;
-    let hi = read_state(alloc, line, queues, hi)?;
+    let lo = read_state(line, queues, lo)?;
+    let hi = read_state(line, queues, hi)?;
     if !lo.leq(&hi) {
         return Err(Cause::Shape.at(line));
     }
@@ -139,7 +121,6 @@ fn read_box(alloc: Global, line: u32, queues: u8, lo: &[u8], hi: &[u8]) -> Resul
 // The states of a set, put behind those of the list, of words that have one piece for each queue.
 #[tactic(auto, unfolding(crate::specs::Regions::read_given), using(crate::proofs::TurnLemmas::each_length, crate::proofs::TurnLemmas::rest_whole, crate::proofs::TurnLemmas::rest_there))]
 fn read_set(
-    alloc: Global,
     line: u32,
     queues: u8,
     words: &[&[u8]],
@@ -158,7 +139,7 @@ fn read_set(
     ensures more { OnOk result (length states.old.states ≤ length states.new.states) }
 {
     let first = states.len();
-    read_states(alloc, line, queues, words, states)?;
+    read_states(line, queues, words, states)?;
     if !ascends(states, first) {
         return Err(Cause::Shape.at(line));
     }
@@ -175,7 +156,6 @@ fn read_set(
 /// `Number` where a number isn't of its form or range; then `Shape` where a box, a set or a move isn't in its
 /// order; `OutOfMemory`.
 pub(crate) fn read_given(
-    alloc: Global,
     line: u32,
     queues: u8,
     given: Given<'_>,
@@ -193,9 +173,9 @@ pub(crate) fn read_given(
     ensures more { OnOk result (length states.old.states ≤ length states.new.states) }
 {
     match given {
-        Given::Box(lo, hi) => Ok(Kept::Box(read_box(alloc, line, queues, lo, hi)?)),
-        Given::Set(words) => read_set(alloc, line, queues, words, states),
-        Given::Move(from, words) => { Ok(Kept::Box(read_move(alloc, line, queues, from, words)?)) }
+        Given::Box(lo, hi) => Ok(Kept::Box(read_box(line, queues, lo, hi)?)),
+        Given::Set(words) => read_set(line, queues, words, states),
+        Given::Move(from, words) => { Ok(Kept::Box(read_move(line, queues, from, words)?)) }
     }
 }
 

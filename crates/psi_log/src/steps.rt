@@ -1,6 +1,6 @@
 //! The lines of steps.
 
-ghost use Rattle.std.specs.Prelude.{◌≡◌, ◌+◌, ◌-◌, ◌≤◌, length, map, take, Ok, IfOk, IfErr, IfSome, OnOk};
+ghost use Rattle.std.specs.Prelude.{◌≡◌, ◌+◌, ◌-◌, ◌≤◌, length, map, take, Ok, IfOk, IfErr, IfSome, OnOk, option_copied};
 ghost use Rattle.std.specs.List.{All};
 ghost use Rattle.psi_log.specs.Refusal.{IsLogError};
 ghost use Rattle.psi_log.specs.Reading.{read_step, read_steps};
@@ -8,10 +8,11 @@ ghost use Rattle.psi_log.specs.Lines.{entry_of, HasRegion};
 
 use crate::forms::form_of;
 use crate::header::greatest_horizon;
+use crate::numbers::number_in;
 use crate::refusals::{Cause, LogError};
 use crate::regions::{Kept, box_before, read_given};
 use crate::state_list::StateList;
-use crate::words::{line_of, number_in, words_of};
+use crate::words::read_words;
 use psi_lines::Header;
 use psi_state::{Bounds, Step};
 use std::alloc::Global;
@@ -26,20 +27,19 @@ pub(crate) struct Line {
 // The words of a step and of the region after it; the states of a set are put behind those of the list.
 #[tactic(auto, unfolding(crate::specs::Reading::read_step))]
 fn read_step(
-    alloc: Global,
     header: &Header,
     line: u32,
-    before: Option<Bounds>,
+    before: Option<&Bounds>,
     words: &[&[u8]],
     states: &mut StateList,
 ) -> Result<Line, LogError>
     requires some { 1 ≤ header.now.queues }
     requires few { header.now.queues ≤ 32 }
-    requires before { IfSome before (λ from. length from.lo ≡ header.now.queues) }
+    requires before { IfSome before (λ from. length from.now.lo ≡ header.now.queues) }
     requires queues { states.old.queues ≡ header.now.queues }
     ensures queues { states.new.queues ≡ header.now.queues }
-    ensures value { IfOk result (λ read. read_step header.now line before (map (λ word. word.now) words.now) ≡ Ok (entry_of states.new.states read)) }
-    ensures refused { IfErr result (λ error. IsLogError error (read_step header.now line before (map (λ word. word.now) words.now))) }
+    ensures value { IfOk result (λ read. read_step header.now line (option_copied before.entry) (map (λ word. word.now) words.now) ≡ Ok (entry_of states.new.states read)) }
+    ensures refused { IfErr result (λ error. IsLogError error (read_step header.now line (option_copied before.entry) (map (λ word. word.now) words.now))) }
     ensures there { IfOk result (λ read. HasRegion header.now.queues states.new.states read) }
     ensures kept { OnOk result (take (length states.old.states) states.new.states ≡ states.old.states) }
     ensures more { OnOk result (length states.old.states ≤ length states.new.states) }
@@ -57,7 +57,7 @@ fn read_step(
     let most = greatest_horizon(header.version) as u64;
     let number = number_in(line, 1, most, number)? as u32;
     let event = number_in(line, 0, 1024, event)? as u16;
-    let region = read_given(alloc, line, header.queues, form, states)?;
+    let region = read_given(line, header.queues, form, states)?;
     Ok(Line {
         step: Step { number, event },
         region,
@@ -65,7 +65,7 @@ fn read_step(
 }
 
 /// As many lines of steps as the horizon, from line 7 on, and what follows them; the states of their sets are
-/// put behind those of the list.
+/// put behind those of the list. The vector holds the words of one line after another.
 ///
 /// # Errors
 ///
@@ -75,6 +75,7 @@ pub(crate) fn read_steps<'t>(
     header: &Header,
     before: Option<Bounds>,
     text: &'t [u8],
+    words: &mut Vec<&'t [u8]>,
     states: &mut StateList,
 ) -> Result<(Vec<Line>, &'t [u8]), LogError>
     requires some { 1 ≤ header.now.queues }
@@ -93,11 +94,9 @@ pub(crate) fn read_steps<'t>(
     let mut from = before;
     let mut rest = text;
     for line in 7..7 + header.horizon {
-        let (own, after) = line_of(line, rest)?;
-        let words = words_of(alloc, own)?;
-        let read = read_step(alloc, header, line, from, &words, states)?;
+        rest = read_words(line, rest, words)?;
+        let read = read_step(header, line, from.as_ref(), words, states)?;
         from = box_before(header.version, &read.region);
-        rest = after;
         lines.push(read)?;
     }
     Ok((lines, rest))
