@@ -2,4 +2,5 @@
 pub mod RunsLemmas
 pub mod AgreeingLemmas
 pub mod SampleLemmas
+mod CornersLemmas
 mod Running

@@ -1,6 +1,7 @@
 -- What every plan keeps.
-use Rattle.std.specs.Prelude.{◌≡◌, ℕ, ◌≤◌, ◌^◌, List, Option, IfSome, option_map}
+use Rattle.std.specs.Prelude.{◌≡◌, ℕ, ◌≤◌, ◌^◌, List, Bool, IsTrue, All, Option, IfSome, option_map}
 use Rattle.psi_past.specs.Keeping.{Keeping}
+use Rattle.psi_event.specs.Law.{IsMonotone}
 use Rattle.psi_rate.specs.Composition.{Functions, Parts}
 use Rattle.psi_region.specs.Region.{Regional}
 use Rattle.psi_horizon.specs.declared.plan.Progress.{Progress}
@@ -17,9 +18,12 @@ pub record IsUnderway (f : Functions) (split : ℕ) (caps : List ℕ) (count : �
   pub done : r.done ≤ r.horizon
   pub area : region.area ≡ region_after split f caps r.horizon r.done
 
--- there is room for the words of the greatest horizon, which no run passes, and for a split region
-pub record IsPlan {E P : Type 0} (f : Functions) (system : Parts E) (words : Keeping P) (region : Regional) (progress : Option Progress) : Type 0 where
+-- there is room for the words of the greatest horizon, which no run passes, and for a split region; where the plan is marked monotone, each of
+-- the events' functions is
+pub record IsPlan {E P : Type 0} (functions : List (List ℕ → List ℕ)) (f : Functions) (system : Parts E) (words : Keeping P) (region : Regional)
+    (is_monotone : Bool) (progress : Option Progress) : Type 0 where
   pub room : 2 ^ system.limit ≤ words.most
   pub split : region.split ≡ system.split
+  pub monotone : IsTrue is_monotone → All (λ g. IsMonotone system.caps g) functions
   pub within : IfSome progress (λ r. r.horizon ≤ 2 ^ system.limit)
   pub run : IfSome progress (λ r. IsUnderway f system.split system.caps words.count region r)

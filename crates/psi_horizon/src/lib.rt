@@ -2,6 +2,7 @@
 //! followed through the events (Bušić, Gaujal and Vincent 2008).
 #![tactic(auto)]
 
+mod corners;
 mod doubling;
 mod plan;
 

@@ -1,15 +1,16 @@
 //! The plan to sample a network.
 
-ghost use Rattle.std.specs.Prelude.{◌≡◌, ◌-◌, ◌+◌, ◌^◌, ◌≤◌, ◌↔◌, ⊤, ℕ, List, true, Some, None, [], length, map, IfOk, IfSome, IsSome};
+ghost use Rattle.std.specs.Prelude.{◌≡◌, ◌-◌, ◌+◌, ◌^◌, ◌≤◌, ◌↔◌, ⊤, ℕ, List, true, Some, None, [], length, map, All, IfOk, IfSome, IsSome, IsTrue};
 ghost use Rattle.std.specs.Borrow.{sem, follows_so};
 ghost use mathlib.Core.Option.{none};
 ghost use Rattle.psi_state.specs.State.{IsBelow, all_states};
 ghost use Rattle.psi_state.specs.Members.{In};
 ghost use Rattle.psi_state.specs.Sets.{single};
 ghost use Rattle.psi_state.specs.Ascending.{IsRising};
+ghost use Rattle.psi_event.specs.Law.{IsMonotone};
 ghost use Rattle.psi_rate.specs.Rates.{event_of};
 ghost use Rattle.psi_rate.specs.Composition.{system_functions};
-ghost use Rattle.psi_rate.specs.Outcomes.{outcome_within};
+ghost use Rattle.psi_rate.specs.Outcomes.{outcome_within, IsOutcome};
 ghost use Rattle.psi_rate.specs.System.{IsSystem};
 ghost use Rattle.psi_region.specs.Region.{ShowsBox};
 ghost use Rattle.psi_horizon.specs.Runs.{region_at, ending_at, region_after, AreOrdered, AreExact};
@@ -18,6 +19,7 @@ ghost use Rattle.psi_horizon.specs.Planned.{IsOver, onward};
 ghost use Rattle.psi_horizon.specs.contracts.plan.Plan.{the_row};
 ghost use mir.Syntax.{named};
 
+use crate::corners::{are_monotone, first_meeting};
 use crate::doubling::{first_ending, follow_word};
 use psi_event::EventLaw;
 use psi_past::{Kept, Past};
@@ -59,10 +61,13 @@ pub struct Plan<'n, E: EventLaw, P: Past + Drop> {
     system: System<'n, E>,
     words: Kept<P>,
     region: Region,
+    // Whether each event is monotone.
+    is_monotone: bool,
     run: Option<Progress>,
 }
 
 impl<'n, E: EventLaw, P: Past + Drop> Model for Plan<'n, E, P> {
+    ghost use Rattle.std.specs.Prelude.{map};
     ghost use Rattle.psi_rate.specs.Composition.{system_functions};
     ghost use Rattle.psi_horizon.specs.Planned.{Planned};
     ghost use Rattle.psi_horizon.specs.Invariant.{running_of, IsPlan};
@@ -71,7 +76,8 @@ impl<'n, E: EventLaw, P: Past + Drop> Model for Plan<'n, E, P> {
 
     ghost view = { λ p. record { system = p.system; past = p.words.past; run = running_of p.run } };
 
-    ghost invariant = { λ p. IsPlan (system_functions E.function p.system (P.words p.words.past)) p.system p.words p.region p.run };
+    ghost invariant = { λ p.
+        IsPlan (map E.function p.system.events) (system_functions E.function p.system (P.words p.words.past)) p.system p.words p.region p.is_monotone p.run };
 }
 
 impl<'n, E: EventLaw, P: Past + Drop> Plan<'n, E, P> {
@@ -86,10 +92,12 @@ impl<'n, E: EventLaw, P: Past + Drop> Plan<'n, E, P> {
         let most = 1 << system.limit();
         let words = Kept::reserve(alloc, past, most)?;
         let region = Region::reserve(alloc, system.split())?;
+        let is_monotone = are_monotone(&system);
         Ok(Plan {
             system,
             words,
             region,
+            is_monotone,
             run: None,
         })
     }
@@ -104,8 +112,9 @@ impl<'n, E: EventLaw, P: Past + Drop> Plan<'n, E, P> {
     /// each horizon (Propp and Wilson 1996), so a longer run's region is within a shorter run's.
     ///
     /// Where every event is monotone, and also where there are at most `split` states, it is met exactly
-    /// where all states have met at one of these horizons, and at the least of them. Afterwards no run is
-    /// begun.
+    /// where all states have met at one of these horizons, and at the least of them. Under monotone events
+    /// no region is followed: all states have met exactly where the least and the greatest state have.
+    /// Afterwards no run is begun.
     pub fn sample(&mut self) -> Outcome
         ensures outcome { let f = system_functions E.function self.old.system (P.words self.old.past) in
             result ≡ outcome_within (ending_at self.old.system.split f self.old.system.caps) self.old.system.limit }
@@ -123,7 +132,12 @@ impl<'n, E: EventLaw, P: Past + Drop> Plan<'n, E, P> {
         // Called for its clause: the events fit the capacities.
         let _caps = self.system.caps();
         self.run = None;
-        first_ending(&self.system, &mut self.words, &mut self.region)
+        first_outcome(
+            &self.system,
+            &mut self.words,
+            &mut self.region,
+            self.is_monotone,
+        )
     }
 
     /// The exponent of the greatest horizon, 0 to 22.
@@ -243,5 +257,29 @@ impl<'n, E: EventLaw, P: Past + Drop> Plan<'n, E, P> {
         // Called for its clause: the events fit the capacities.
         let _caps = self.system.caps();
         self.region.states()
+    }
+}
+
+// The least horizon among 1, 2, 4, .., 2^limit whose run ends with one state, with that state. Where each event is
+// known to be monotone, a run is followed by its corners, and otherwise by the region.
+fn first_outcome<E: EventLaw, P: Past + Drop>(
+    system: &System<'_, E>,
+    words: &mut Kept<P>,
+    region: &mut Region,
+    is_monotone: bool,
+) -> Outcome
+    requires room { 2 ^ system.now.limit ≤ words.old.most }
+    requires split { region.old.split ≡ system.now.split }
+    requires monotone { IsTrue is_monotone → All (λ f. IsMonotone system.now.caps f) (map E.function system.now.events) }
+    ensures least { let f = system_functions E.function system.now (P.words words.old.past) in
+        IsOutcome (ending_at system.now.split f system.now.caps) system.now.limit result }
+    ensures words { P.words words.new.past ≡ P.words words.old.past }
+    ensures most { words.new.most ≡ words.old.most }
+    ensures split { region.new.split ≡ region.old.split }
+{
+    if is_monotone {
+        first_meeting(system, words)
+    } else {
+        first_ending(system, words, region)
     }
 }
