@@ -1,21 +1,11 @@
 -- The run of a monotone network by its least and its greatest state.
-use Rattle.std.specs.Prelude.{◌≡◌, ℕ, zero, suc, ◌-◌, ◌≤◌, List, Some, None}
-use Rattle.std.proofs.Common.{ap, sym, ◌∙◌, arith}
+use Rattle.std.specs.Prelude.{◌≡◌, ℕ, List, Some, None}
+use Rattle.std.proofs.Common.{sym, ◌∙◌}
 use Rattle.psi_state.specs.State.{zeros}
 use Rattle.psi_rate.specs.Composition.{compose, AreClosed, AreMonotone}
 use Rattle.psi_rate.proofs.CompositionLemmas.{corners-meet, corners-apart}
 use Rattle.psi_horizon.specs.Runs.{ending_at}
 use Rattle.psi_horizon.proofs.RunsLemmas.{run-monotone}
-
--- a step takes the oldest function off what is left of the run
-pub compose-step : (f : ℕ → List ℕ → List ℕ) (t : ℕ) (x y end : List ℕ) → 1 ≤ t → compose f t x ≡ end → y ≡ f t x → compose f (t - 1) y ≡ end
-compose-step f zero x y end some is stepped = absurd (omega arith)
-compose-step f (suc t) x y end some is stepped =
-    let e : suc t - 1 ≡ t = omega arith in ap (λ n. compose f n y) e ∙ (ap (λ (z : List ℕ). compose f t z) stepped ∙ is)
-
--- with no step left, it is the state with which the run ends
-pub compose-ends : (f : ℕ → List ℕ → List ℕ) (t : ℕ) (x end : List ℕ) → t ≡ 0 → compose f t x ≡ end → x ≡ end
-compose-ends f t x end none is = ap (λ n. compose f n x) (sym none) ∙ is
 
 -- under monotone events a run ends with one state where the least and the greatest state have met
 pub corners-ending : (split : ℕ) (caps : List ℕ) (f : ℕ → List ℕ → List ℕ) (t : ℕ) (low high : List ℕ) → AreClosed caps f → AreMonotone caps f

@@ -3,4 +3,5 @@ pub mod RunsLemmas
 pub mod AgreeingLemmas
 pub mod SampleLemmas
 mod CornersLemmas
+mod NumbersLemmas
 mod Running

@@ -3,4 +3,5 @@ pub mod Runs
 pub mod Agreeing
 pub mod Sample
 pub mod Planned
+pub mod Numbers
 pub mod Invariant

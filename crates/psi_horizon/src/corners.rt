@@ -1,12 +1,13 @@
 //! Runs of monotone networks: of all states only the least and the greatest are followed, and the others stay
 //! between the two (Propp and Wilson 1996).
 
-ghost use Rattle.std.specs.Prelude.{◌≡◌, ◌^◌, ◌≤◌, ◌↔◌, IsTrue, All, map};
-ghost use Rattle.psi_state.specs.State.{IsBelow};
+ghost use Rattle.std.specs.Prelude.{◌≡◌, ◌^◌, ◌<◌, ◌≤◌, ◌↔◌, IsTrue, All, map, length, vec_capacity};
+ghost use Rattle.psi_state.specs.State.{zeros};
 ghost use Rattle.psi_event.specs.Law.{IsMonotone};
-ghost use Rattle.psi_rate.specs.Composition.{picked, system_functions};
+ghost use Rattle.psi_rate.specs.Composition.{system_functions};
 ghost use Rattle.psi_rate.specs.Outcomes.{IsOutcome};
 ghost use Rattle.psi_horizon.specs.Runs.{ending_at};
+ghost use Rattle.psi_horizon.specs.Numbers.{numbers_below, follow_numbers, AreEvents, IsOne};
 
 use psi_event::EventLaw;
 use psi_past::{Kept, Past};
@@ -29,68 +30,102 @@ pub(crate) fn are_monotone<E: EventLaw>(system: &System<'_, E>) -> bool
 }
 
 // The least horizon among 1, 2, 4, .., 2^limit whose run ends with one state, with that state, where each event is
-// monotone.
+// monotone. The numbers of the events of one horizon are kept for the next, so that each word is picked once.
 pub(crate) fn first_meeting<E: EventLaw, P: Past + Drop>(
     system: &System<'_, E>,
     words: &mut Kept<P>,
+    numbers: &mut Vec<u16>,
 ) -> Outcome
     requires room { 2 ^ system.now.limit ≤ words.old.most }
+    requires number_room { 2 ^ system.now.limit ≤ vec_capacity numbers.old }
     requires monotone { All (λ f. IsMonotone system.now.caps f) (map E.function system.now.events) }
     ensures least { let f = system_functions E.function system.now (P.words words.old.past) in
         IsOutcome (ending_at system.now.split f system.now.caps) system.now.limit result }
     ensures words { P.words words.new.past ≡ P.words words.old.past }
     ensures most { words.new.most ≡ words.old.most }
+    ensures capacity { vec_capacity numbers.new ≡ vec_capacity numbers.old }
 {
     let limit = system.limit();
+    let mut reached = 0;
+    numbers.clear();
     for exponent in 0..limit + 1 {
         let horizon = 1 << exponent;
-        if let Some(state) = meeting(system, words, horizon) {
+        let found = ending(system, words, numbers, reached, horizon);
+        if let Some(state) = found {
             return Outcome::Met { horizon, state };
         }
+        reached = horizon;
     }
     Outcome::NotMet { limit }
 }
 
-// The one state with which the run of a horizon ends, if it ends with one, where each event is monotone: then it
-// ends with one exactly where the least and the greatest state have met.
-fn meeting<E: EventLaw, P: Past + Drop>(
+// The one state with which the run of a horizon ends, if it ends with one, where each event is monotone. The numbers of
+// the shorter horizon `reached` are kept, and those of this one then.
+fn ending<E: EventLaw, P: Past + Drop>(
     system: &System<'_, E>,
     words: &mut Kept<P>,
+    numbers: &mut Vec<u16>,
+    reached: u32,
     horizon: u32,
 ) -> Option<State>
+    requires longer { reached ≤ horizon }
     requires room { horizon ≤ words.old.most }
+    requires number_room { horizon ≤ vec_capacity numbers.old }
+    requires kept { numbers.old.items ≡ numbers_below system.now.rates (P.words words.old.past) reached }
     requires monotone { All (λ f. IsMonotone system.now.caps f) (map E.function system.now.events) }
     ensures ending { result ≡ ending_at system.now.split (system_functions E.function system.now (P.words words.old.past)) system.now.caps horizon }
+    ensures kept { numbers.new.items ≡ numbers_below system.now.rates (P.words words.old.past) horizon }
     ensures words { P.words words.new.past ≡ P.words words.old.past }
     ensures most { words.new.most ≡ words.old.most }
-{
-    words.extend_to(horizon);
-    let mut greatest = system.caps();
-    let mut least = State::zero(greatest.len());
-    for place in (0..horizon).rev() {
-        follow_corners(system, words.at(place), &mut least, &mut greatest);
-    }
-    if least == greatest { Some(least) } else { None }
-}
-
-// Follows the two states through the event of a word.
-#[inline]
-fn follow_corners<E: EventLaw>(
-    system: &System<'_, E>,
-    word: u32,
-    least: &mut State,
-    greatest: &mut State,
-)
-    requires least { IsBelow least.old system.now.caps }
-    requires greatest { IsBelow greatest.old system.now.caps }
-    ensures least { least.new ≡ picked (map E.function system.now.events) system.now.rates word least.old }
-    ensures greatest { greatest.new ≡ picked (map E.function system.now.events) system.now.rates word greatest.old }
+    ensures capacity { vec_capacity numbers.new ≡ vec_capacity numbers.old }
 {
     // Called for its clause: the events fit the capacities.
     let _caps = system.caps();
-    let (_number, event) = system.pick(word);
-    if let Some(event) = event {
-        event.apply(least);
-        event.apply(greatest);
+    keep_numbers(system, words, numbers, reached, horizon);
+    meeting(system, numbers.as_slice())
+}
+
+// Keeps the numbers of the places from `reached` to `horizon` too.
+fn keep_numbers<E: EventLaw, P: Past + Drop>(
+    system: &System<'_, E>,
+    words: &mut Kept<P>,
+    numbers: &mut Vec<u16>,
+    reached: u32,
+    horizon: u32,
+)
+    requires longer { reached ≤ horizon }
+    requires room { horizon ≤ words.old.most }
+    requires number_room { horizon ≤ vec_capacity numbers.old }
+    requires kept { numbers.old.items ≡ numbers_below system.now.rates (P.words words.old.past) reached }
+    ensures kept { numbers.new.items ≡ numbers_below system.now.rates (P.words words.old.past) horizon }
+    ensures words { P.words words.new.past ≡ P.words words.old.past }
+    ensures most { words.new.most ≡ words.old.most }
+    ensures capacity { vec_capacity numbers.new ≡ vec_capacity numbers.old }
+{
+    words.extend_to(horizon);
+    // Called for its clause: there are as many rates as events.
+    let _caps = system.caps();
+    for place in reached..horizon {
+        let (number, event) = system.pick(words.at(place));
+        if event.is_some() {
+            numbers.push_reserved(number);
+        }
     }
+}
+
+// The state in which the least and the greatest state have met after the events of the numbers, the last first, if
+// they have.
+fn meeting<E: EventLaw>(system: &System<'_, E>, numbers: &[u16]) -> Option<State>
+    requires { AreEvents (length system.now.events) numbers.now }
+    ensures { let functions = map E.function system.now.events in
+        IsOne (follow_numbers functions numbers.now (zeros system.now.caps)) (follow_numbers functions numbers.now system.now.caps) result }
+{
+    let mut greatest = system.caps();
+    let mut least = State::zero(greatest.len());
+    for place in (0..numbers.len()).rev() {
+        let event = system.event(numbers[place]);
+        event.apply(&mut least);
+        event.apply(&mut greatest);
+    }
+    if least == greatest { Some(least) } else { None }
 }

@@ -1,6 +1,6 @@
 //! The plan to sample a network.
 
-ghost use Rattle.std.specs.Prelude.{◌≡◌, ◌-◌, ◌+◌, ◌^◌, ◌≤◌, ◌↔◌, ⊤, ℕ, List, true, Some, None, [], length, map, All, IfOk, IfSome, IsSome, IsTrue};
+ghost use Rattle.std.specs.Prelude.{◌≡◌, ◌-◌, ◌+◌, ◌^◌, ◌≤◌, ◌↔◌, ⊤, ℕ, List, true, Some, None, [], length, map, vec_capacity, All, IfOk, IfSome, IsSome, IsTrue};
 ghost use Rattle.std.specs.Borrow.{sem, follows_so};
 ghost use mathlib.Core.Option.{none};
 ghost use Rattle.psi_state.specs.State.{IsBelow, all_states};
@@ -26,12 +26,18 @@ use psi_past::{Kept, Past};
 use psi_rate::System;
 use psi_region::Region;
 use psi_state::{Bounds, Outcome, State, Step};
-use std::alloc::Global;
+use std::alloc::{AllocError, Global};
 use std::marker::Model;
 
 /// Memory ran out.
 #[derive(Clone, Copy, Debug, PartialEq, Eq)]
 pub struct OutOfMemory;
+
+impl From<AllocError> for OutOfMemory {
+    fn from(_error: AllocError) -> OutOfMemory {
+        OutOfMemory
+    }
+}
 
 impl From<psi_past::OutOfMemory> for OutOfMemory {
     fn from(_error: psi_past::OutOfMemory) -> OutOfMemory {
@@ -63,11 +69,13 @@ pub struct Plan<'n, E: EventLaw, P: Past + Drop> {
     region: Region,
     // Whether each event is monotone.
     is_monotone: bool,
+    // Where each is: the room for the numbers of the events of the greatest horizon.
+    numbers: Vec<u16>,
     run: Option<Progress>,
 }
 
 impl<'n, E: EventLaw, P: Past + Drop> Model for Plan<'n, E, P> {
-    ghost use Rattle.std.specs.Prelude.{map};
+    ghost use Rattle.std.specs.Prelude.{map, vec_capacity};
     ghost use Rattle.psi_rate.specs.Composition.{system_functions};
     ghost use Rattle.psi_horizon.specs.Planned.{Planned};
     ghost use Rattle.psi_horizon.specs.Invariant.{running_of, IsPlan};
@@ -77,13 +85,14 @@ impl<'n, E: EventLaw, P: Past + Drop> Model for Plan<'n, E, P> {
     ghost view = { λ p. record { system = p.system; past = p.words.past; run = running_of p.run } };
 
     ghost invariant = { λ p.
-        IsPlan (map E.function p.system.events) (system_functions E.function p.system (P.words p.words.past)) p.system p.words p.region p.is_monotone p.run };
+        IsPlan (map E.function p.system.events) (system_functions E.function p.system (P.words p.words.past)) p.system p.words p.region p.is_monotone (vec_capacity p.numbers) p.run };
 }
 
 impl<'n, E: EventLaw, P: Past + Drop> Plan<'n, E, P> {
     /// The plan to sample the network from this past. It takes the room for the 2 to the power `limit`
-    /// words of the greatest horizon, of 4 bytes each, and for a region of `split` states; no other call
-    /// takes memory.
+    /// words of the greatest horizon, of 4 bytes each, and for a region of `split` states; where every event
+    /// is monotone, also for the numbers of the events of these words, of 2 bytes each. No other call takes
+    /// memory.
     ///
     /// `OutOfMemory` is the answer where there is no memory for it; no clause says when that is.
     pub fn new(alloc: Global, system: System<'n, E>, past: P) -> Result<Plan<'n, E, P>, OutOfMemory>
@@ -93,11 +102,13 @@ impl<'n, E: EventLaw, P: Past + Drop> Plan<'n, E, P> {
         let words = Kept::reserve(alloc, past, most)?;
         let region = Region::reserve(alloc, system.split())?;
         let is_monotone = are_monotone(&system);
+        let numbers = room_for_numbers(alloc, is_monotone, most)?;
         Ok(Plan {
             system,
             words,
             region,
             is_monotone,
+            numbers,
             run: None,
         })
     }
@@ -137,6 +148,7 @@ impl<'n, E: EventLaw, P: Past + Drop> Plan<'n, E, P> {
             &mut self.words,
             &mut self.region,
             self.is_monotone,
+            &mut self.numbers,
         )
     }
 
@@ -260,6 +272,14 @@ impl<'n, E: EventLaw, P: Past + Drop> Plan<'n, E, P> {
     }
 }
 
+// Room for so many event numbers where each event is monotone, and for none otherwise.
+fn room_for_numbers(alloc: Global, is_monotone: bool, most: u32) -> Result<Vec<u16>, AllocError>
+    ensures { IfOk result (λ numbers. IsTrue is_monotone → most ≤ vec_capacity numbers) }
+{
+    let room = if is_monotone { most } else { 0 };
+    Vec::with_capacity(alloc, room as usize)
+}
+
 // The least horizon among 1, 2, 4, .., 2^limit whose run ends with one state, with that state. Where each event is
 // known to be monotone, a run is followed by its corners, and otherwise by the region.
 fn first_outcome<E: EventLaw, P: Past + Drop>(
@@ -267,18 +287,21 @@ fn first_outcome<E: EventLaw, P: Past + Drop>(
     words: &mut Kept<P>,
     region: &mut Region,
     is_monotone: bool,
+    numbers: &mut Vec<u16>,
 ) -> Outcome
     requires room { 2 ^ system.now.limit ≤ words.old.most }
     requires split { region.old.split ≡ system.now.split }
     requires monotone { IsTrue is_monotone → All (λ f. IsMonotone system.now.caps f) (map E.function system.now.events) }
+    requires number_room { IsTrue is_monotone → 2 ^ system.now.limit ≤ vec_capacity numbers.old }
     ensures least { let f = system_functions E.function system.now (P.words words.old.past) in
         IsOutcome (ending_at system.now.split f system.now.caps) system.now.limit result }
     ensures words { P.words words.new.past ≡ P.words words.old.past }
     ensures most { words.new.most ≡ words.old.most }
     ensures split { region.new.split ≡ region.old.split }
+    ensures capacity { vec_capacity numbers.new ≡ vec_capacity numbers.old }
 {
     if is_monotone {
-        first_meeting(system, words)
+        first_meeting(system, words, numbers)
     } else {
         first_ending(system, words, region)
     }

@@ -1,16 +1,16 @@
 -- Invariants of the loops of `meeting`.
-use Rattle.std.proofs.Common.{◌≡◌}
+use Rattle.std.proofs.Common.{◌≡◌, map, take}
 use Rattle.psi_state.specs.State.{IsBelow, zeros}
-use Rattle.psi_rate.specs.Composition.{compose, system_functions}
+use Rattle.psi_horizon.specs.Numbers.{follow_numbers}
 use Rattle.psi_horizon.proofs.corners.meeting.Given as goal
 
--- what is left of the run makes of the two states what the whole run makes of the least and the greatest state
+-- the numbers that are left make of the two states what all numbers make of the least and the greatest state
 abbrev pub invariant-loop-place : goal.invariant-loop-place
 invariant-loop-place g l = record {
   least_within : IsBelow l.least l.system.caps;
   greatest_within : IsBelow l.greatest l.system.caps;
-  least_left : compose (system_functions g.E.EventLaw.function l.system (g.P.Past.words l.words.past)) l.place l.least
-      ≡ compose (system_functions g.E.EventLaw.function l.system (g.P.Past.words l.words.past)) l.horizon (zeros l.system.caps);
-  greatest_left : compose (system_functions g.E.EventLaw.function l.system (g.P.Past.words l.words.past)) l.place l.greatest
-      ≡ compose (system_functions g.E.EventLaw.function l.system (g.P.Past.words l.words.past)) l.horizon l.system.caps;
+  least_left : follow_numbers (map g.E.EventLaw.function l.system.events) (take l.place l.numbers) l.least
+      ≡ follow_numbers (map g.E.EventLaw.function l.system.events) l.numbers (zeros l.system.caps);
+  greatest_left : follow_numbers (map g.E.EventLaw.function l.system.events) (take l.place l.numbers) l.greatest
+      ≡ follow_numbers (map g.E.EventLaw.function l.system.events) l.numbers l.system.caps;
 }
