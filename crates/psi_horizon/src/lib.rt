@@ -1,5 +1,6 @@
 //! Samples of a network by coupling from the past (Propp and Wilson 1996), by regions of states that are
-//! followed through the events (Bušić, Gaujal and Vincent 2008).
+//! followed through the events (Bušić, Gaujal and Vincent 2008). A sample of a monotone network follows the
+//! least and the greatest state alone.
 #![tactic(auto)]
 
 mod corners;

@@ -59,7 +59,8 @@ struct Progress {
 }
 
 /// A network with the past that its samples are drawn from, the room for the words of the greatest
-/// horizon, and the room for a split region.
+/// horizon and, where every event is monotone, for the numbers of their events, and the room for a split
+/// region.
 ///
 /// It is seen as the network, the past, and the run that was begun, if one was.
 #[derive(Drop)]
