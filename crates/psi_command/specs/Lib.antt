@@ -1,0 +1,5 @@
+-- The definitions of this crate.
+pub mod Command
+pub mod Words
+pub mod Request
+pub mod Status

@@ -1,0 +1,17 @@
+//! The texts that the program writes, for out and for err, and the pieces that they are put together from.
+//!
+//! A text for out is a vector of bytes, so that it may fail for want of memory. A line for err is built on the
+//! stack: it takes no memory, and it is written as one piece.
+#![tactic(auto)]
+
+mod lines;
+mod pieces;
+mod surveys;
+mod texts;
+
+pub use lines::{
+    Line, log_refused_line, log_rejected_line, not_closed_line, refused_line, usage_line,
+};
+pub use pieces::{push_number_line, push_pieces, push_state};
+pub use surveys::survey_text;
+pub use texts::{accepted_text, coupling_text, outcome_text, value_text};
