@@ -3,10 +3,10 @@ use Rattle.std.specs.Prelude.{ℕ, ◌≤◌, List, Option, Ok}
 use Rattle.std.proofs.Common.{arith}
 use Rattle.psi_io.specs.Counts.{Rose}
 use Rattle.psi_run.specs.declared.ending.Ending.{Ending as Ended}
-use Rattle.psi_run.specs.declared.words.Question.{Question}
-use Rattle.psi_run.specs.declared.words.Question.TheVariants.{Sample, Check, Report, Couple, Reward, Replay}
-use Rattle.psi_run.specs.Command.{Command, sample, check, report, couple, reward, replay}
-use Rattle.psi_run.specs.Request.{asked}
+use Rattle.psi_command.specs.declared.words.Question.{Question}
+use Rattle.psi_command.specs.declared.words.Question.TheVariants.{Sample, Check, Report, Couple, Reward, Exact, Closed, Replay}
+use Rattle.psi_command.specs.Command.{Command, sample, check, report, couple, reward, exact, closed, replay}
+use Rattle.psi_command.specs.Request.{asked}
 use Rattle.psi_run.specs.Seen.{ShelfSeen}
 use Rattle.psi_run.specs.Ending.{Ending, replied, unread, no_memory, IsEnding}
 use Rattle.psi_run.specs.Ended.{ending_of, IsNoNet}
@@ -15,6 +15,8 @@ use Rattle.psi_run.proofs.Sampling.{sample_about}
 use Rattle.psi_run.proofs.Checking.{check_about}
 use Rattle.psi_run.proofs.Reporting.{report_about}
 use Rattle.psi_run.proofs.Coupling.{couple_about, reward_about}
+use Rattle.psi_run.proofs.Surveying.{exact_about}
+use Rattle.psi_run.proofs.Closing.{closed_about}
 use Rattle.psi_run.proofs.Replaying.{replay_about}
 
 -- the work for a question where no network was had
@@ -25,6 +27,9 @@ asked_none shelf name (Report seed first count) ended none = no_net (report name
 asked_none shelf name (Couple seed stream) ended none = no_net (couple name seed stream) name _ shelf ended (couple_about shelf.told name seed stream) none
 asked_none shelf name (Reward seed stream reward-name) ended none =
     no_net (reward name seed stream reward-name.now) name _ shelf ended (reward_about shelf.told name seed stream reward-name.now) none
+asked_none shelf name (Exact seed stream h) ended none = no_net (exact name seed stream h) name _ shelf ended (exact_about shelf.told name seed stream h) none
+asked_none shelf name (Closed seed stream total) ended none =
+    no_net (closed name seed stream total) name _ shelf ended (closed_about shelf.told name seed stream total) none
 asked_none shelf name (Replay log) ended none = no_net (replay name log.now) name _ shelf ended (replay_about shelf.told name log.now) none
 
 -- what is seen of a shelf over one call after another: the second tells what the first did

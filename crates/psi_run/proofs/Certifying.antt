@@ -32,13 +32,14 @@ use Rattle.psi_network.specs.Network.{Network, caps_of, rates_of}
 use Rattle.psi_network.specs.Valid.{IsNetwork}
 use Rattle.psi_network.specs.declared.entries.Queue.{Queue}
 use Rattle.psi_net.specs.Reading.{network_of}
-use Rattle.psi_run.specs.declared.status.Status.{Status}
-use Rattle.psi_run.specs.declared.status.Status.TheVariants as status
-use Rattle.psi_run.specs.Command.{certify, net_file}
-use Rattle.psi_run.specs.Texts.{too_long_line}
+use Rattle.psi_command.specs.declared.status.Status.{Status}
+use Rattle.psi_command.specs.declared.status.Status.TheVariants as status
+use Rattle.psi_command.specs.Command.{certify, net_file}
+use Rattle.psi_texts.specs.Lines.{too_long_line}
 use Rattle.psi_run.specs.Sample.{functions_by_time, sampled, IsDrawn}
 use Rattle.psi_run.specs.Networks.{IsSystemOf}
-use Rattle.psi_run.specs.Replay.{events_by_time, judgement, accepted_text}
+use Rattle.psi_run.specs.Replay.{events_by_time, judgement}
+use Rattle.psi_texts.specs.Texts.{accepted_text}
 use Rattle.psi_run.specs.Certify.{certificate}
 use Rattle.psi_run.specs.Reply.{Reply, text_reply, line_reply, log_reply, certify_reply, verdict_reply, judged_log, reply_to}
 use Rattle.psi_run.specs.Certified.{IsWrittenOf, IsCertified}

@@ -2,8 +2,8 @@
 use Rattle.std.specs.Prelude.{◌≡◌, List, [], ℕ, Option, refl}
 use Rattle.psi_io.specs.Sink.{appended}
 use Rattle.psi_network.specs.Network.{Network}
-use Rattle.psi_run.specs.declared.status.Status.TheVariants.{Done}
-use Rattle.psi_run.specs.Command.{check, net_file}
+use Rattle.psi_command.specs.declared.status.Status.TheVariants.{Done}
+use Rattle.psi_command.specs.Command.{check, net_file}
 use Rattle.psi_run.specs.Check.{check_text, AreMarked, IsChecked}
 use Rattle.psi_run.specs.Reply.{reply_to}
 use Rattle.psi_run.proofs.Endings.{IsAbout, first_read}

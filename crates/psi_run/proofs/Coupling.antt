@@ -25,11 +25,13 @@ use Rattle.psi_couple.proofs.ValuingLemmas.{value-reached}
 use Rattle.psi_network.specs.Network.{Network, NamedReward, caps_of, rates_of}
 use Rattle.psi_network.specs.Valid.{IsNetwork}
 use Rattle.psi_net.specs.Reading.{network_of}
-use Rattle.psi_run.specs.Command.{couple, reward, net_file}
+use Rattle.psi_command.specs.Command.{couple, reward, net_file}
 use Rattle.psi_run.specs.Sample.{functions_by_time}
 use Rattle.psi_run.specs.Networks.{IsSystemOf}
-use Rattle.psi_run.specs.Couple.{endings, coupling, coupling_status, coupling_text, IsCouplingOf}
-use Rattle.psi_run.specs.Reward.{kind_named, values, valuation, value_status, value_text, IsValueOf, IsRewardOf}
+use Rattle.psi_run.specs.Couple.{endings, coupling, coupling_status, IsCouplingOf}
+use Rattle.psi_texts.specs.Couplings.{coupling_text}
+use Rattle.psi_run.specs.Reward.{kind_named, values, valuation, value_status, IsValueOf, IsRewardOf}
+use Rattle.psi_texts.specs.Values.{value_text}
 use Rattle.psi_run.specs.Reply.{value_reply, reply_to}
 use Rattle.psi_run.proofs.Endings.{IsAbout, first_read}
 use Rattle.psi_run.proofs.Sampling.{functions_by_time-closed, functions-alike, of_network, accepted_kept}
@@ -47,7 +49,7 @@ coupled_by function system n seed stream c kept of is =
     coupled_within-agree n.split (caps_of n) (function_at fs (rates_of n) (seed_word seed stream)) (functions_by_time n seed stream) n.limit c alike.0 alike.1
     (of_network function system n seed stream (λ k f cs l. IsCoupled (ending_at k f cs) l c) of is)
 
-coupled_of-is : (run : ℕ → Option (List ℕ)) (limit : ℕ) (found : Option (ℕ × List ℕ)) → TellsLeast run (2 ^ limit) found → IsCoupled run limit (coupled_of limit found)
+pub coupled_of-is : (run : ℕ → Option (List ℕ)) (limit : ℕ) (found : Option (ℕ × List ℕ)) → TellsLeast run (2 ^ limit) found → IsCoupled run limit (coupled_of limit found)
 coupled_of-is run limit None tells = (refl, tells)
 coupled_of-is run limit (Some found) tells = tells
 

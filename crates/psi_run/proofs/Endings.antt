@@ -1,15 +1,18 @@
 -- How the work of a call ends, from what was read.
 use Rattle.std.specs.Prelude.{◌≡◌, ℕ, zero, ◌+◌, Contains, List, ◌∷◌, take, length, Bool, true, false, nat_le, codes, if◌then◌else◌, Option, Some, None, option_map, option_and_then, Result, Ok, Err, IfSome, refl}
 use Rattle.std.proofs.Common.{sym, ap, ◌∙◌, subst, arith}
-use Rattle.psi_network.specs.Network.{Network}
+use Rattle.psi_network.specs.Network.{Network, caps_of}
+use Rattle.psi_arcs.specs.Walks.{customers}
+use Rattle.psi_exact.specs.declared.answers.Meeting.{Meeting}
+use Rattle.psi_exact.specs.declared.answers.Meeting.TheVariants.{Constant, NotConstant}
 use Rattle.psi_net.specs.Reading.{network_of}
 use Rattle.psi_document.specs.declared.refusals.NetRefusal.{NetRefusal}
 use Rattle.psi_net.proofs.FrontLemmas.{network_of-take}
 use Rattle.psi_io.specs.Sink.{appended}
-use Rattle.psi_run.specs.declared.status.Status.{Status}
-use Rattle.psi_run.specs.declared.status.Status.TheVariants as status
+use Rattle.psi_command.specs.declared.status.Status.{Status}
+use Rattle.psi_command.specs.declared.status.Status.TheVariants as status
 use Rattle.psi_run.specs.declared.ending.Ending.{Ending as Ended}
-use Rattle.psi_run.specs.declared.ending.Ending.TheVariants.{Printed, Usage, NetRefused, LogRefused, LogRejected, LogTooLong, UnknownReward, NetUnread, LogUnread, OutOfMemory}
+use Rattle.psi_run.specs.declared.ending.Ending.TheVariants.{Printed, Usage, NetRefused, LogRefused, LogRejected, LogTooLong, UnknownReward, TooManyStates, NotClosed, NoSuchTotal, NetUnread, LogUnread, OutOfMemory}
 use Rattle.psi_state.specs.declared.Outcome.{Outcome}
 use Rattle.psi_state.specs.declared.Outcome.TheVariants.{Met, NotMet}
 use Rattle.psi_lines.specs.Log.{Certificate}
@@ -19,21 +22,25 @@ use Rattle.psi_log.specs.Reading.{read}
 use Rattle.psi_replay.specs.declared.answers.Verdict.{Verdict}
 use Rattle.psi_replay.specs.declared.answers.Verdict.TheVariants.{Accepted, Rejected}
 use Rattle.psi_replay.specs.Verdict.{verdict_of}
-use Rattle.psi_run.specs.Command.{Command, sample, check, report, trial, couple, reward, certify, replay, File, net_file}
+use Rattle.psi_command.specs.Command.{Command, sample, check, report, trial, couple, reward, exact, closed, certify, replay, File, net_file}
 use Rattle.psi_network.specs.Generated.{generated_network}
-use Rattle.psi_run.specs.Texts.{outcome_text}
+use Rattle.psi_texts.specs.Texts.{outcome_text}
 use Rattle.psi_reward.specs.declared.kinds.RewardKind.{RewardKind}
 use Rattle.psi_couple.specs.declared.answers.Coupled.{Coupled}
 use Rattle.psi_couple.specs.declared.answers.Valued.{Valued}
 use Rattle.psi_couple.specs.declared.answers.Coupled.TheVariants as coupled
 use Rattle.psi_couple.specs.declared.answers.Valued.TheVariants as valued
-use Rattle.psi_run.specs.Couple.{coupling, coupling_status, coupling_text}
-use Rattle.psi_run.specs.Reward.{kind_named, valuation, value_status, value_text}
+use Rattle.psi_run.specs.Couple.{coupling, coupling_status}
+use Rattle.psi_texts.specs.Couplings.{coupling_text}
+use Rattle.psi_run.specs.Reward.{kind_named, valuation, value_status}
+use Rattle.psi_texts.specs.Values.{value_text}
+use Rattle.psi_run.specs.Exact.{state_count, meeting, meeting_status, exact_text}
+use Rattle.psi_run.specs.Closed.{first_other, closed_sampled}
 use Rattle.psi_run.specs.Certify.{certificate}
 use Rattle.psi_run.specs.Replay.{judgement}
 use Rattle.psi_run.specs.Means.{OfNetwork, Means}
 use Rattle.psi_run.specs.Sample.{sampled, outcome_status}
-use Rattle.psi_run.specs.Reply.{Reply, text_reply, line_reply, value_reply, log_reply, certify_reply, verdict_reply, judged_log, replay_reply, usage_reply, refused_reply, reply_of, judged_reply, reply_to, IsReply}
+use Rattle.psi_run.specs.Reply.{Reply, text_reply, line_reply, value_reply, survey_reply, outcome_reply, closed_reply, log_reply, certify_reply, verdict_reply, judged_log, replay_reply, usage_reply, refused_reply, reply_of, judged_reply, reply_to, IsReply}
 use Rattle.psi_run.specs.Seen.{ShelfSeen, IsRead, IsMissed}
 use Rattle.psi_run.specs.Ending.{Ending, replied, unread, no_memory, MayReply, EndsWith, HasReplied, IsMeant, IsEnding}
 use Rattle.psi_run.specs.Ended.{ending_of, IsNetAt, IsNoNet}
@@ -75,9 +82,31 @@ valued-reply command (valued.At horizon value) = record { status = tt; printed =
 valued-reply command (valued.NotAt limit) = record { status = tt; printed = λ k. refl; reported = λ k. absurd k }
 
 -- and a line on a reward that there isn't
-value-reply : (command : Command) (net : Network) (seed stream : ℕ) (kind : Option RewardKind) → IsReply command (value_reply net seed stream kind)
-value-reply command net seed stream None = record { status = tt; printed = λ k. absurd k; reported = λ k. refl }
-value-reply command net seed stream (Some kind) = valued-reply command (valuation net seed stream kind)
+value-reply : (file : List ℕ) (seed stream : ℕ) (name : List ℕ) (net : Network) (kind : Option RewardKind)
+    → IsReply (reward file seed stream name) (value_reply net seed stream kind)
+value-reply file seed stream name net None = record { status = tt; printed = λ k. absurd k; reported = λ k. refl }
+value-reply file seed stream name net (Some kind) = valued-reply (reward file seed stream name) (valuation net seed stream kind)
+
+-- what is told of the composed map, or a line on too many states, is a reply of the command that asks for it
+survey-reply : (file : List ℕ) (seed stream h : ℕ) (net : Network) → IsReply (exact file seed stream h) (survey_reply net seed stream h)
+survey-reply file seed stream h net = chosen (meeting net seed stream h) (exact_text net seed stream h) (nat_le (state_count net) 65536)
+  where
+    chosen : (met : Meeting) (text : List ℕ) (few : Bool)
+        → IsReply (exact file seed stream h) (if few then text_reply (meeting_status met) text else line_reply status.TooManyStates (codes "psi: too many states\n"))
+    chosen (Constant horizon state) text true = record { status = tt; printed = λ k. refl; reported = λ k. absurd k }
+    chosen (NotConstant exponent) text true = record { status = tt; printed = λ k. refl; reported = λ k. absurd k }
+    chosen met text false = record { status = tt; printed = λ k. absurd k; reported = λ k. refl }
+
+-- a sample, or a line on an event that is no move or on too many customers, is a reply of the command that asks for a closed network
+closed-reply : (file : List ℕ) (seed stream total : ℕ) (net : Network) (other : Option ℕ)
+    → IsReply (closed file seed stream total) (closed_reply net seed stream total other)
+closed-reply file seed stream total net (Some event) = record { status = tt; printed = λ k. absurd k; reported = λ k. refl }
+closed-reply file seed stream total net None = chosen (closed_sampled net seed stream total) (nat_le total (customers (caps_of net)))
+  where
+    chosen : (outcome : Outcome) (fits : Bool)
+        → IsReply (closed file seed stream total) (if fits then outcome_reply outcome else line_reply status.NoSuchTotal (codes "psi: no state with this total\n"))
+    chosen outcome true = text-reply (closed file seed stream total) outcome
+    chosen outcome false = record { status = tt; printed = λ k. absurd k; reported = λ k. refl }
 
 refused-reply : (command : Command) (refusal : NetRefusal) → IsReply command (refused_reply refusal)
 refused-reply command refusal = record { status = tt; printed = λ k. absurd k; reported = λ k. refl }
@@ -113,7 +142,9 @@ reply-of (sample name seed stream) told net = text-reply (sample name seed strea
 reply-of (check name) told net = record { status = tt; printed = λ k. refl; reported = λ k. absurd k }
 reply-of (report name seed first count) told net = record { status = tt; printed = λ k. refl; reported = λ k. absurd k }
 reply-of (couple file seed stream) told net = coupling-reply (couple file seed stream) (coupling net seed stream)
-reply-of (reward file seed stream name) told net = value-reply (reward file seed stream name) net seed stream (kind_named name net.rewards)
+reply-of (reward file seed stream name) told net = value-reply file seed stream name net (kind_named name net.rewards)
+reply-of (exact file seed stream h) told net = survey-reply file seed stream h net
+reply-of (closed file seed stream total) told net = closed-reply file seed stream total net (first_other net)
 reply-of (trial number) told net = record { status = tt; printed = λ k. refl; reported = λ k. absurd k }
 reply-of (certify file seed stream) told net = certify-reply file seed stream net (sampled net seed stream)
 reply-of (replay file log) told net = mapped (told log)
@@ -148,6 +179,9 @@ module _ (command : Command) (name : List ℕ) (Has : Network → Option (List �
   no_net (LogRejected line cause) about none = absurd none
   no_net LogTooLong about none = absurd none
   no_net UnknownReward about none = absurd none
+  no_net TooManyStates about none = absurd none
+  no_net (NotClosed event) about none = absurd none
+  no_net NoSuchTotal about none = absurd none
   no_net (LogUnread own) about none = absurd none
   no_net (NetRefused refusal) about none = record {
     reply = judged-reply (Err refusal) (replied (refused_reply refusal)) about none refl;

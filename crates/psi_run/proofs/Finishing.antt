@@ -3,11 +3,11 @@ use Rattle.std.specs.Prelude.{◌≡◌, ℕ, List, Some, Ok, ◌⊎◌, refl}
 use Rattle.std.proofs.Common.{inl, inr, sym, subst}
 use Rattle.psi_network.specs.Network.{Network}
 use Rattle.psi_net.specs.Reading.{network_of}
-use Rattle.psi_run.specs.declared.status.Status.{Status}
-use Rattle.psi_run.specs.declared.status.Status.TheVariants as status
-use Rattle.psi_run.specs.Status.{IsReplied}
-use Rattle.psi_run.specs.Command.{Command, sample}
-use Rattle.psi_run.specs.Words.{command_of}
+use Rattle.psi_command.specs.declared.status.Status.{Status}
+use Rattle.psi_command.specs.declared.status.Status.TheVariants as status
+use Rattle.psi_command.specs.Status.{IsReplied}
+use Rattle.psi_command.specs.Command.{Command, sample}
+use Rattle.psi_command.specs.Words.{command_of}
 use Rattle.psi_run.specs.Sample.{IsSampled}
 use Rattle.psi_run.specs.Reply.{Reply, reply_to}
 use Rattle.psi_run.specs.Means.{Means}

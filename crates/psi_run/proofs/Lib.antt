@@ -1,12 +1,11 @@
 -- The lemmas of this crate.
-pub mod Numerals
-pub mod Asking
-pub mod Listing
 pub mod Endings
 pub mod Sampling
 pub mod Checking
 pub mod Reporting
 pub mod Coupling
+pub mod Surveying
+pub mod Closing
 pub mod Judging
 pub mod Replaying
 pub mod Asked

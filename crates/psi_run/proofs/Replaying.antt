@@ -14,11 +14,11 @@ use Rattle.psi_replay.specs.Verdict.{verdict_of}
 use Rattle.psi_network.specs.Network.{Network}
 use Rattle.psi_network.specs.Valid.{IsNetwork}
 use Rattle.psi_net.specs.Reading.{network_of}
-use Rattle.psi_run.specs.declared.status.Status.TheVariants as status
+use Rattle.psi_command.specs.declared.status.Status.TheVariants as status
 use Rattle.psi_run.specs.declared.ending.Ending.{Ending as Ended}
-use Rattle.psi_run.specs.declared.ending.Ending.TheVariants.{Printed, Usage, NetRefused, LogRefused, LogRejected, LogTooLong, UnknownReward, NetUnread, LogUnread, OutOfMemory}
-use Rattle.psi_run.specs.Command.{replay, net_file, log_file}
-use Rattle.psi_run.specs.Texts.{log_refused_line}
+use Rattle.psi_run.specs.declared.ending.Ending.TheVariants.{Printed, Usage, NetRefused, LogRefused, LogRejected, LogTooLong, UnknownReward, TooManyStates, NotClosed, NoSuchTotal, NetUnread, LogUnread, OutOfMemory}
+use Rattle.psi_command.specs.Command.{replay, net_file, log_file}
+use Rattle.psi_texts.specs.Lines.{log_refused_line}
 use Rattle.psi_run.specs.Replay.{judgement, IsReplayed}
 use Rattle.psi_run.specs.Reply.{line_reply, verdict_reply, judged_log, replay_reply, reply_to}
 use Rattle.psi_run.specs.Seen.{ShelfSeen, IsMissed}
@@ -107,6 +107,9 @@ module _ (shelf : ShelfSeen) (name log : List ℕ) (net : Network) where
   no_log (LogRejected line cause) at none = absurd none
   no_log LogTooLong at none = absurd none
   no_log UnknownReward at none = absurd none
+  no_log TooManyStates at none = absurd none
+  no_log (NotClosed event) at none = absurd none
+  no_log NoSuchTotal at none = absurd none
   no_log (NetUnread own) at none = absurd none
   no_log (LogRefused line cause) at none =
       let refusal : Refusal = record { line = line; cause = cause } in

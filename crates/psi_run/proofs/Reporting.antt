@@ -11,8 +11,8 @@ use Rattle.psi_network.specs.Valid.{IsNetwork}
 use Rattle.psi_net.specs.Reading.{network_of}
 use Rattle.psi_report.specs.Samples.{IsSampleOf}
 use Rattle.psi_report.specs.Report.{report_text}
-use Rattle.psi_run.specs.declared.status.Status.TheVariants.{Done}
-use Rattle.psi_run.specs.Command.{report, net_file}
+use Rattle.psi_command.specs.declared.status.Status.TheVariants.{Done}
+use Rattle.psi_command.specs.Command.{report, net_file}
 use Rattle.psi_run.specs.Sample.{sampled, IsDrawn}
 use Rattle.psi_run.specs.Report.{samples_of, AreDrawn, IsReportOf}
 use Rattle.psi_run.specs.Trial.{trial_text, IsTrial}

@@ -5,11 +5,11 @@ use Rattle.psi_io.specs.Sink.{appended}
 use Rattle.psi_io.proofs.SinkLemmas.{appended-nothing, grew-longer}
 use Rattle.psi_network.specs.Network.{Network}
 use Rattle.psi_net.specs.Reading.{network_of}
-use Rattle.psi_run.specs.declared.status.Status.{Status}
-use Rattle.psi_run.specs.declared.status.Status.TheVariants as ending
-use Rattle.psi_run.specs.Status.{IsPrinted, IsReported, IsReplied, IsOfCommand}
-use Rattle.psi_run.specs.Command.{Command, sample, File, net_file, file_name}
-use Rattle.psi_run.specs.Words.{command_of}
+use Rattle.psi_command.specs.declared.status.Status.{Status}
+use Rattle.psi_command.specs.declared.status.Status.TheVariants as ending
+use Rattle.psi_command.specs.Status.{IsPrinted, IsReported, IsReplied, IsOfCommand}
+use Rattle.psi_command.specs.Command.{Command, sample, File, net_file, file_name}
+use Rattle.psi_command.specs.Words.{command_of}
 use Rattle.psi_run.specs.Sample.{IsSampled}
 use Rattle.psi_run.specs.Reply.{Reply, IsReplyTo}
 use Rattle.psi_run.specs.Means.{Means}
@@ -45,6 +45,9 @@ command-replied ending.NetRefused command k = tt
 command-replied ending.LogRefused command k = tt
 command-replied ending.LogTooLong command k = tt
 command-replied ending.UnknownReward command k = tt
+command-replied ending.TooManyStates command k = tt
+command-replied ending.NotClosed command k = tt
+command-replied ending.NoSuchTotal command k = tt
 command-replied s command k = absurd k
 
 reply-replied : (command : Result Command ℕ) (reply : Reply) → IsReplyTo command reply → IsReplied reply.status
@@ -94,6 +97,10 @@ whole-run call (replied given) is whole =
       no_command = λ wrong. inl (reply-no_command command given is.cause wrong);
       log_refused = reply-has command given ending.LogRefused (λ e. absurd cc) is.cause;
       log_too_long = reply-has command given ending.LogTooLong (λ e. absurd cc) is.cause;
+      unknown_reward = reply-has command given ending.UnknownReward (λ e. absurd cc) is.cause;
+      too_many_states = reply-has command given ending.TooManyStates (λ e. absurd cc) is.cause;
+      not_closed = reply-has command given ending.NotClosed (λ e. absurd cc) is.cause;
+      no_such_total = reply-has command given ending.NoSuchTotal (λ e. absurd cc) is.cause;
       read_fault = λ e. absurd (subst IsReplied e kind);
       write_fault = λ e. absurd (subst IsReplied e kind);
       no_memory = λ e. absurd (subst IsReplied e kind);
@@ -109,6 +116,10 @@ whole-run call (unread file) is whole = record {
   no_command = λ wrong. absurd (read-command (command_of call.words) file is.cause.read wrong);
   log_refused = λ e. absurd cc;
   log_too_long = λ e. absurd cc;
+  unknown_reward = λ e. absurd cc;
+  too_many_states = λ e. absurd cc;
+  not_closed = λ e. absurd cc;
+  no_such_total = λ e. absurd cc;
   read_fault = λ e. record {
     cause = record { file = file; missed = is.cause };
     out = still call.out [] refl whole.printed;
@@ -128,6 +139,10 @@ whole-run call no_memory is whole = record {
   no_command = λ wrong. absurd (ok-not_err (command_of call.words) is.cause wrong);
   log_refused = λ e. absurd cc;
   log_too_long = λ e. absurd cc;
+  unknown_reward = λ e. absurd cc;
+  too_many_states = λ e. absurd cc;
+  not_closed = λ e. absurd cc;
+  no_such_total = λ e. absurd cc;
   read_fault = λ e. absurd cc;
   write_fault = λ e. absurd cc;
   no_memory = λ e. record { cause = is.cause; out = still call.out [] refl whole.printed; err = whole.reported };
@@ -175,6 +190,10 @@ faulted-run call faulted = record {
   no_command = λ wrong. inr refl;
   log_refused = λ e. absurd cc;
   log_too_long = λ e. absurd cc;
+  unknown_reward = λ e. absurd cc;
+  too_many_states = λ e. absurd cc;
+  not_closed = λ e. absurd cc;
+  no_such_total = λ e. absurd cc;
   read_fault = λ e. absurd cc;
   write_fault = λ e. faulted;
   no_memory = λ e. absurd cc;

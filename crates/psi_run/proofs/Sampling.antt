@@ -24,8 +24,8 @@ use Rattle.psi_document.proofs.ReadingLemmas.{bind_ok}
 use Rattle.psi_network.proofs.QueueLemmas.{capacities_kept}
 use Rattle.psi_net.proofs.NetworkLemmas.{network_kept}
 use Rattle.psi_io.specs.Sink.{appended}
-use Rattle.psi_run.specs.Command.{sample, net_file}
-use Rattle.psi_run.specs.Texts.{outcome_text}
+use Rattle.psi_command.specs.Command.{sample, net_file}
+use Rattle.psi_texts.specs.Texts.{outcome_text}
 use Rattle.psi_run.specs.Sample.{functions_by_time, sampled, outcome_status, IsDrawn, IsSampled}
 use Rattle.psi_run.specs.Networks.{IsSystemOf}
 use Rattle.psi_run.specs.Reply.{reply_to}

@@ -1,15 +1,15 @@
 -- A call whose reads and writes are not to fail ends with its reply, or for want of memory.
 use Rattle.std.specs.Prelude.{◌≡◌, ℕ, List, [], ◌∷◌, Option, Some, Result, Ok, IfSome, ◌⊎◌}
 use Rattle.std.proofs.Common.{sym, ap, ◌∙◌, subst, arith, inl, inr}
-use Rattle.psi_run.specs.declared.status.Status.{Status}
-use Rattle.psi_run.specs.declared.status.Status.TheVariants.{OutOfMemory}
-use Rattle.psi_run.specs.Command.{Command, certify, replay, net_file, log_file, file_name}
+use Rattle.psi_command.specs.declared.status.Status.{Status}
+use Rattle.psi_command.specs.declared.status.Status.TheVariants.{OutOfMemory}
+use Rattle.psi_command.specs.Command.{Command, certify, replay, net_file, log_file, file_name}
 use Rattle.psi_run.specs.Reply.{Reply, reply_to}
 use Rattle.psi_run.specs.Seen.{ShelfSeen}
 use Rattle.psi_run.specs.Ending.{Ending, replied, unread, no_memory, ending_reply, MayReply, EndsWith, IsEnding}
-use Rattle.psi_run.specs.declared.words.Question.{Question}
-use Rattle.psi_run.specs.declared.words.Question.TheVariants as question
-use Rattle.psi_run.specs.Request.{asked}
+use Rattle.psi_command.specs.declared.words.Question.{Question}
+use Rattle.psi_command.specs.declared.words.Question.TheVariants as question
+use Rattle.psi_command.specs.Request.{asked}
 use Rattle.psi_run.proofs.Endings.{first_read, second_read}
 use Rattle.psi_run.specs.Spared.{AreGiven, IsTaken, AreTaken, HasRead}
 
@@ -26,6 +26,8 @@ net_given gives name question.Check given = given (net_file name) (first_read (n
 net_given gives name (question.Report seed first count) given = given (net_file name) (first_read (net_file name) [])
 net_given gives name (question.Couple seed stream) given = given (net_file name) (first_read (net_file name) [])
 net_given gives name (question.Reward seed stream reward) given = given (net_file name) (first_read (net_file name) [])
+net_given gives name (question.Exact seed stream h) given = given (net_file name) (first_read (net_file name) [])
+net_given gives name (question.Closed seed stream total) given = given (net_file name) (first_read (net_file name) [])
 net_given gives name (question.Replay log) given = given (net_file name) (first_read (net_file name) (log_file log.now ∷ []))
 
 pub certify_given : (gives : List ℕ → Type 0) (name : List ℕ) (seed stream : ℕ) → AreGiven gives (Ok (certify name seed stream)) → gives name

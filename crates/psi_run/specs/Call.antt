@@ -1,10 +1,10 @@
 -- What a call of the program is seen to do.
 use Rattle.std.specs.Prelude.{◌≡◌, ℕ, List, Option, IsOk, IsErr, IsOkAnd, IfSome, ◌⊎◌}
-use Rattle.psi_run.specs.declared.status.Status.{Status}
-use Rattle.psi_run.specs.declared.status.Status.TheVariants.{Usage, LogRefused, LogTooLong, ReadFault, WriteFault, OutOfMemory}
-use Rattle.psi_run.specs.Status.{IsReplay, IsCertify, IsPrinted, IsReported, IsReplied}
-use Rattle.psi_run.specs.Words.{command_of}
-use Rattle.psi_run.specs.Texts.{unread_line, memory_line}
+use Rattle.psi_command.specs.declared.status.Status.{Status}
+use Rattle.psi_command.specs.declared.status.Status.TheVariants.{Usage, LogRefused, LogTooLong, ReadFault, WriteFault, OutOfMemory, UnknownReward, TooManyStates, NotClosed, NoSuchTotal}
+use Rattle.psi_command.specs.Status.{IsReplay, IsCertify, IsReward, IsExact, IsClosed, IsPrinted, IsReported, IsReplied}
+use Rattle.psi_command.specs.Words.{command_of}
+use Rattle.psi_texts.specs.Lines.{unread_line, memory_line}
 use Rattle.psi_run.specs.Reply.{Reply, reply_to}
 use Rattle.psi_run.specs.Seen.{ShelfSeen, HasUnread, SinkSeen, Grew, GrewByPart, IsUnchanged, HasFailed}
 
@@ -59,7 +59,7 @@ pub record MemoryLacked (call : Call) : Type 0 where
 
 -- what the status of a call says of it
 pub record IsRun (call : Call) (result : Status) : Type 0 where
-  -- where the shelf tells the file needed, a status of a reply, that is one from 0 to 5 or 9, is the reply's, whatever counts rose
+  -- where the shelf tells the file needed, a status of a reply, that is one from 0 to 5 or 9 to 12, is the reply's, whatever counts rose
   pub status : IfSome (reply_to_call call) (λ reply. IsReplied result → result ≡ reply.status)
   -- and with such a status each sink that tells what it holds grew by exactly the reply's text
   pub out : IfSome (reply_to_call call) (λ reply. IsReplied result → Grew call.out reply.out)
@@ -72,10 +72,16 @@ pub record IsRun (call : Call) (result : Status) : Type 0 where
   -- status 4 comes only where the words are a replay, and status 5 only where they ask for the log of a sample
   pub log_refused : result ≡ LogRefused → IsOkAnd (command_of call.words) IsReplay
   pub log_too_long : result ≡ LogTooLong → IsOkAnd (command_of call.words) IsCertify
+  -- status 9 comes only where the words ask for the value of a reward, status 10 only where they ask for the composed map of all states, and
+  -- the statuses 11 and 12 only where they ask for a sample of a closed network
+  pub unknown_reward : result ≡ UnknownReward → IsOkAnd (command_of call.words) IsReward
+  pub too_many_states : result ≡ TooManyStates → IsOkAnd (command_of call.words) IsExact
+  pub not_closed : result ≡ NotClosed → IsOkAnd (command_of call.words) IsClosed
+  pub no_such_total : result ≡ NoSuchTotal → IsOkAnd (command_of call.words) IsClosed
   -- the causes of the statuses 6, 7 and 8, with what was written
   pub read_fault : result ≡ ReadFault → ReadFaulted call
   pub write_fault : result ≡ WriteFault → OutFaulted call ⊎ ErrFaulted call
   pub no_memory : result ≡ OutOfMemory → MemoryLacked call
-  -- with the statuses 2 to 6, 8 and 9 nothing is written to out, and with 0 and 1 nothing to err
+  -- with the statuses 2 to 6 and 8 to 12 nothing is written to out, and with 0 and 1 nothing to err
   pub silent_out : IsReported result → IsUnchanged call.out
   pub silent_err : IsPrinted result → IsUnchanged call.err

@@ -5,11 +5,11 @@ use Rattle.psi_state.specs.declared.Outcome.{Outcome}
 use Rattle.psi_state.specs.declared.Outcome.TheVariants.{Met, NotMet}
 use Rattle.psi_lines.specs.Text.{log_text, IsLogOf}
 use Rattle.psi_network.specs.Network.{Network}
-use Rattle.psi_run.specs.declared.status.Status.{Status}
-use Rattle.psi_run.specs.declared.status.Status.TheVariants.{Done, NotCoupled, LogTooLong}
-use Rattle.psi_run.specs.Texts.{outcome_text}
+use Rattle.psi_command.specs.declared.status.Status.{Status}
+use Rattle.psi_command.specs.declared.status.Status.TheVariants.{Done, NotCoupled, LogTooLong}
+use Rattle.psi_texts.specs.Texts.{outcome_text}
 use Rattle.psi_run.specs.Sample.{IsDrawn}
-use Rattle.psi_run.specs.Replay.{accepted_text}
+use Rattle.psi_texts.specs.Texts.{accepted_text}
 use Rattle.psi_run.specs.Certify.{certificate}
 use Rattle.psi_run.specs.Reply.{text_reply, replay_reply}
 

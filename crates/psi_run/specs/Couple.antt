@@ -1,16 +1,15 @@
 -- The least coupling of a network, and what is printed of it.
-use Rattle.std.specs.Prelude.{◌≡◌, ℕ, ◌^◌, ◌≤◌, List, ◌++◌, codes, Option}
-use Rattle.std.specs.Fmt.{decimal}
+use Rattle.std.specs.Prelude.{◌≡◌, ℕ, List, Option}
 use Rattle.psi_io.specs.Sink.{appended}
 use Rattle.psi_horizon.specs.Runs.{ending_at}
 use Rattle.psi_couple.specs.declared.answers.Coupled.{Coupled}
 use Rattle.psi_couple.specs.declared.answers.Coupled.TheVariants.{At, NotAt}
 use Rattle.psi_couple.specs.Coupling.{coupled_within, IsCoupled, ReachesCoupled, CouplesWithin}
 use Rattle.psi_network.specs.Network.{Network, caps_of}
-use Rattle.psi_run.specs.declared.status.Status.{Status}
-use Rattle.psi_run.specs.declared.status.Status.TheVariants.{Done, NotCoupled}
+use Rattle.psi_command.specs.declared.status.Status.{Status}
+use Rattle.psi_command.specs.declared.status.Status.TheVariants.{Done, NotCoupled}
 use Rattle.psi_run.specs.Sample.{functions_by_time}
-use Rattle.psi_run.specs.Texts.{state_text}
+use Rattle.psi_texts.specs.Couplings.{coupling_text}
 
 -- the state with which the region run of each horizon ends, if it ends with one, under the words of a seed and a stream
 unfoldable pub endings : Network → (seed stream : ℕ) → ℕ → Option (List ℕ)
@@ -24,17 +23,6 @@ coupling net seed stream = coupled_within (endings net seed stream) net.limit
 abbrev pub coupling_status : Coupled → Status
 coupling_status (At horizon state) = Done
 coupling_status (NotAt limit) = NotCoupled
-
--- the least horizon and its state, or the greatest horizon within which there is none
-unfoldable pub coupling_text : Coupled → List ℕ
-coupling_text (At horizon state) =
-    codes "coupled " ++ decimal horizon ++ codes "\nstate " ++ state_text state ++ codes "\n"
-coupling_text (NotAt limit) = codes "not coupled within " ++ decimal (2 ^ limit) ++ codes "\n"
-
--- the exponent of a greatest horizon is at most 22
-abbrev pub HasLimit : Coupled → Type 0
-HasLimit (At horizon state) = Unit {0}
-HasLimit (NotAt limit) = limit ≤ 22
 
 -- what is printed is the least coupling of the network's events under the words of the seed and the stream
 pub record IsCouplingOf (before after : Option (List ℕ)) (result : Status) (net : Network) (seed stream : ℕ) : Type 0 where

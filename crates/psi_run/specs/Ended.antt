@@ -5,10 +5,10 @@ use Rattle.psi_log.specs.Reading.{read}
 use Rattle.psi_network.specs.Network.{Network}
 use Rattle.psi_net.specs.Reading.{network_of}
 use Rattle.psi_run.specs.declared.ending.Ending.{Ending as Ended}
-use Rattle.psi_run.specs.declared.ending.Ending.TheVariants.{Printed, Usage, NetRefused, LogRefused, LogRejected, LogTooLong, UnknownReward, NetUnread, LogUnread, OutOfMemory}
-use Rattle.psi_run.specs.declared.status.Status.TheVariants as status
-use Rattle.psi_run.specs.Command.{net_file, log_file}
-use Rattle.psi_run.specs.Texts.{unknown_line, log_refused_line, log_rejected_line, too_long_line}
+use Rattle.psi_run.specs.declared.ending.Ending.TheVariants.{Printed, Usage, NetRefused, LogRefused, LogRejected, LogTooLong, UnknownReward, TooManyStates, NotClosed, NoSuchTotal, NetUnread, LogUnread, OutOfMemory}
+use Rattle.psi_command.specs.declared.status.Status.TheVariants as status
+use Rattle.psi_command.specs.Command.{net_file, log_file}
+use Rattle.psi_texts.specs.Lines.{unknown_line, log_refused_line, log_rejected_line, too_long_line, too_many_line, not_closed_line, no_total_line}
 use Rattle.psi_run.specs.Reply.{text_reply, line_reply, usage_reply, refused_reply}
 use Rattle.psi_run.specs.Ending.{Ending, replied, unread, no_memory}
 use Rattle.psi_run.specs.Seen.{ShelfSeen, IsUnread}
@@ -22,6 +22,9 @@ ending_of (LogRefused line cause) = replied (line_reply status.LogRefused (log_r
 ending_of (LogRejected line cause) = replied (line_reply status.LogRefused (log_rejected_line line cause))
 ending_of LogTooLong = replied (line_reply status.LogTooLong too_long_line)
 ending_of UnknownReward = replied (line_reply status.UnknownReward unknown_line)
+ending_of TooManyStates = replied (line_reply status.TooManyStates too_many_line)
+ending_of (NotClosed event) = replied (line_reply status.NotClosed (not_closed_line event))
+ending_of NoSuchTotal = replied (line_reply status.NoSuchTotal no_total_line)
 ending_of (NetUnread name) = unread (net_file name.now)
 ending_of (LogUnread name) = unread (log_file name.now)
 ending_of OutOfMemory = no_memory

@@ -1,9 +1,9 @@
 -- How the work of a call ends, before anything is written.
 use Rattle.std.specs.Prelude.{◌≡◌, ℕ, List, Option, Result, IsOk, IfOk, IfSome}
 use Rattle.psi_io.specs.Sink.{appended}
-use Rattle.psi_run.specs.declared.status.Status.TheVariants.{ReadFault, OutOfMemory}
-use Rattle.psi_run.specs.Command.{Command, File}
-use Rattle.psi_run.specs.Texts.{unread_line, memory_line}
+use Rattle.psi_command.specs.declared.status.Status.TheVariants.{ReadFault, OutOfMemory}
+use Rattle.psi_command.specs.Command.{Command, File}
+use Rattle.psi_texts.specs.Lines.{unread_line, memory_line}
 use Rattle.psi_run.specs.Reply.{Reply, line_reply, reply_to, IsReplyTo}
 use Rattle.psi_run.specs.Seen.{ShelfSeen, IsMissed}
 use Rattle.psi_run.specs.Means.{Means}

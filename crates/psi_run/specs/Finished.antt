@@ -1,7 +1,7 @@
 -- How the work of a call ended, together with how that was written.
 use Rattle.std.specs.Prelude.{◌≡◌, ℕ, ◌⊎◌}
-use Rattle.psi_run.specs.declared.status.Status.{Status}
-use Rattle.psi_run.specs.declared.status.Status.TheVariants.{WriteFault}
+use Rattle.psi_command.specs.declared.status.Status.{Status}
+use Rattle.psi_command.specs.declared.status.Status.TheVariants.{WriteFault}
 use Rattle.psi_run.specs.Reply.{Reply}
 use Rattle.psi_run.specs.Seen.{SinkSeen}
 use Rattle.psi_run.specs.Ending.{Ending, ending_reply}

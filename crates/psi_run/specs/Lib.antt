@@ -1,15 +1,12 @@
 -- The definitions of this crate, and the laws that clauses rest on.
-pub mod Status
-pub mod Command
-pub mod Words
-pub mod Request
-pub mod Texts
 pub mod Sample
 pub mod Check
 pub mod Report
 pub mod Trial
 pub mod Couple
 pub mod Reward
+pub mod Exact
+pub mod Closed
 pub mod Networks
 pub mod Replay
 pub mod Certify

@@ -2,14 +2,16 @@
 use Rattle.std.specs.Prelude.{◌≡◌, ℕ, List, Option, Some, Ok}
 use Rattle.psi_network.specs.Network.{Network}
 use Rattle.psi_net.specs.Reading.{network_of}
-use Rattle.psi_run.specs.declared.status.Status.{Status}
-use Rattle.psi_run.specs.Command.{Command, sample, check, report, trial, couple, reward, certify, replay}
+use Rattle.psi_command.specs.declared.status.Status.{Status}
+use Rattle.psi_command.specs.Command.{Command, sample, check, report, trial, couple, reward, exact, closed, certify, replay}
 use Rattle.psi_run.specs.Sample.{IsSampled}
 use Rattle.psi_run.specs.Check.{IsChecked}
 use Rattle.psi_run.specs.Report.{IsReportOf}
 use Rattle.psi_run.specs.Trial.{IsTrial}
 use Rattle.psi_run.specs.Couple.{IsCouplingOf}
 use Rattle.psi_run.specs.Reward.{kind_named, IsRewardOf}
+use Rattle.psi_run.specs.Exact.{IsSurveyed}
+use Rattle.psi_run.specs.Closed.{IsClosedSampled}
 use Rattle.psi_run.specs.Replay.{IsReplayed}
 use Rattle.psi_run.specs.Certified.{IsCertified}
 
@@ -18,8 +20,8 @@ abbrev pub OfNetwork : (List ℕ → Option (List ℕ)) → List ℕ → (Networ
 OfNetwork told name Has = (bytes : List ℕ) (net : Network) → told name ≡ Some bytes → network_of bytes ≡ Ok net → Has net
 
 -- what the status says together with what out holds before and after: a sample is drawn, a description is right, a report is that of
--- samples, a trial is one, a horizon is the least, a value is that of a reward, a log is that of a sample and would be accepted, or the
--- verdict on a log is right
+-- samples, a trial is one, a horizon is the least, a value is that of a reward, a survey is that of the composed map, a closed
+-- network is sampled, a log is that of a sample and would be accepted, or the verdict on a log is right
 abbrev pub Means : Command → (List ℕ → Option (List ℕ)) → Option (List ℕ) → Option (List ℕ) → Status → Type 0
 Means (sample name seed stream) told before after result = OfNetwork told name (λ net. IsSampled before after result net seed stream)
 Means (check name) told before after result = OfNetwork told name (λ net. IsChecked before after result net)
@@ -28,6 +30,9 @@ Means (trial number) told before after result = IsTrial before after result numb
 Means (couple name seed stream) told before after result = OfNetwork told name (λ net. IsCouplingOf before after result net seed stream)
 Means (reward file seed stream name) told before after result =
     OfNetwork told file (λ net. IsRewardOf before after result net seed stream (kind_named name net.rewards))
+Means (exact file seed stream h) told before after result = OfNetwork told file (λ net. IsSurveyed before after result net seed stream h)
+Means (closed file seed stream total) told before after result =
+    OfNetwork told file (λ net. IsClosedSampled before after result net seed stream total)
 Means (certify file seed stream) told before after result = OfNetwork told file (λ net. IsCertified before after result net seed stream)
 Means (replay file log) told before after result =
     OfNetwork told file (λ net. (bytes : List ℕ) → told log ≡ Some bytes → IsReplayed before after result net bytes)

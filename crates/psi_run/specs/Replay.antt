@@ -1,6 +1,5 @@
 -- The verdict of a network on a log, and what is printed of it.
-use Rattle.std.specs.Prelude.{◌≡◌, ℕ, ◌-◌, List, ◌++◌, codes, Option, Result, Ok, IsErr, ◌⊎◌}
-use Rattle.std.specs.Fmt.{decimal}
+use Rattle.std.specs.Prelude.{◌≡◌, ℕ, ◌-◌, List, Option, Result, Ok, IsErr, ◌⊎◌}
 use Rattle.psi_io.specs.Sink.{appended}
 use Rattle.psi_state.specs.State.{IsBelow}
 use Rattle.psi_past.specs.SeedWord.{seed_word}
@@ -12,10 +11,10 @@ use Rattle.psi_log.specs.Refusal.{Refusal}
 use Rattle.psi_log.specs.Reading.{read}
 use Rattle.psi_replay.specs.Verdict.{judged}
 use Rattle.psi_network.specs.Network.{Network, caps_of, rates_of}
-use Rattle.psi_run.specs.declared.status.Status.{Status}
-use Rattle.psi_run.specs.declared.status.Status.TheVariants.{Done, LogRefused}
+use Rattle.psi_command.specs.declared.status.Status.{Status}
+use Rattle.psi_command.specs.declared.status.Status.TheVariants.{Done, LogRefused}
 use Rattle.psi_run.specs.Sample.{functions_by_time}
-use Rattle.psi_run.specs.Texts.{state_text}
+use Rattle.psi_texts.specs.Texts.{accepted_text}
 
 -- the numbers of a network's events by the time before zero, under the words of a seed and a stream
 unfoldable pub events_by_time : Network → (seed stream : ℕ) → ℕ → ℕ
@@ -25,10 +24,6 @@ events_by_time net seed stream t = event_of (rates_of net) (seed_word seed strea
 unfoldable pub judgement : Network → Certificate → Result (Unit {0}) Refusal
 judgement net log =
     judged (caps_of net) net.limit (events_by_time net log.header.seed log.header.stream) (functions_by_time net log.header.seed log.header.stream) log
-
--- the horizon and the state of a log that is accepted
-unfoldable pub accepted_text : (horizon : ℕ) (state : List ℕ) → List ℕ
-accepted_text horizon state = codes "accepted " ++ decimal horizon ++ codes "\nstate " ++ state_text state ++ codes "\n"
 
 -- a log that is accepted: every state that starts at its horizon or earlier is its state at time zero, under the words of its seed and
 -- stream, whoever wrote it

@@ -9,23 +9,30 @@ use Rattle.psi_log.specs.Reading.{read}
 use Rattle.psi_replay.specs.declared.answers.Verdict.{Verdict}
 use Rattle.psi_replay.specs.declared.answers.Verdict.TheVariants.{Accepted, Rejected}
 use Rattle.psi_replay.specs.Verdict.{verdict_of}
-use Rattle.psi_network.specs.Network.{Network}
+use Rattle.psi_arcs.specs.Walks.{customers}
+use Rattle.psi_network.specs.Network.{Network, caps_of}
 use Rattle.psi_network.specs.Generated.{generated_network}
 use Rattle.psi_net.specs.Reading.{network_of}
 use Rattle.psi_document.specs.declared.refusals.NetRefusal.{NetRefusal}
-use Rattle.psi_run.specs.declared.status.Status.{Status}
-use Rattle.psi_run.specs.declared.status.Status.TheVariants.{Done, NotCoupled, Usage, NetRefused, LogRefused, LogTooLong, UnknownReward}
-use Rattle.psi_run.specs.Status.{IsPrinted, IsReported, IsOfCommand}
+use Rattle.psi_command.specs.declared.status.Status.{Status}
+use Rattle.psi_command.specs.declared.status.Status.TheVariants.{Done, NotCoupled, Usage, NetRefused, LogRefused, LogTooLong, UnknownReward, TooManyStates, NotClosed, NoSuchTotal}
+use Rattle.psi_command.specs.Status.{IsPrinted, IsReported, IsOfCommand}
 use Rattle.psi_report.specs.Report.{report_text}
-use Rattle.psi_run.specs.Command.{Command, sample, check, report, trial, couple, reward, certify, replay, File, file_name, files_of}
-use Rattle.psi_run.specs.Texts.{outcome_text, usage_line, refused_line, unknown_line, log_refused_line, log_rejected_line, too_long_line}
+use Rattle.psi_command.specs.Command.{Command, sample, check, report, trial, couple, reward, exact, closed, certify, replay, File, file_name, files_of}
+use Rattle.psi_texts.specs.Texts.{outcome_text}
+use Rattle.psi_texts.specs.Lines.{usage_line, refused_line, unknown_line, log_refused_line, log_rejected_line, too_long_line, too_many_line, not_closed_line, no_total_line}
 use Rattle.psi_run.specs.Sample.{sampled, outcome_status}
 use Rattle.psi_run.specs.Check.{check_text}
 use Rattle.psi_run.specs.Report.{samples_of}
 use Rattle.psi_run.specs.Trial.{trial_text}
-use Rattle.psi_run.specs.Couple.{coupling, coupling_status, coupling_text}
-use Rattle.psi_run.specs.Reward.{kind_named, valuation, value_status, value_text}
-use Rattle.psi_run.specs.Replay.{judgement, accepted_text}
+use Rattle.psi_run.specs.Couple.{coupling, coupling_status}
+use Rattle.psi_texts.specs.Couplings.{coupling_text}
+use Rattle.psi_run.specs.Reward.{kind_named, valuation, value_status}
+use Rattle.psi_texts.specs.Values.{value_text}
+use Rattle.psi_run.specs.Replay.{judgement}
+use Rattle.psi_texts.specs.Texts.{accepted_text}
+use Rattle.psi_run.specs.Exact.{state_count, meeting, meeting_status, exact_text}
+use Rattle.psi_run.specs.Closed.{first_other, closed_sampled}
 use Rattle.psi_run.specs.Certify.{certificate}
 use Rattle.psi_reward.specs.declared.kinds.RewardKind.{RewardKind}
 
@@ -56,6 +63,29 @@ abbrev pub value_reply : Network → (seed stream : ℕ) → Option RewardKind �
 value_reply net seed stream None = line_reply UnknownReward unknown_line
 value_reply net seed stream (Some kind) = text_reply (value_status (valuation net seed stream kind)) (value_text (valuation net seed stream kind))
 
+-- the reply on the composed map, where there are at most 65,536 states
+abbrev pub survey_reply : Network → (seed stream h : ℕ) → Reply
+survey_reply net seed stream h =
+    if nat_le (state_count net) 65536
+    then text_reply (meeting_status (meeting net seed stream h)) (exact_text net seed stream h)
+    else line_reply TooManyStates too_many_line
+
+-- the reply on an outcome
+abbrev pub outcome_reply : Outcome → Reply
+outcome_reply outcome = text_reply (outcome_status outcome) (outcome_text outcome)
+
+-- the reply on a closed network: its sample, where its queues can hold so many customers
+abbrev pub total_reply : Network → (seed stream total : ℕ) → Reply
+total_reply net seed stream total =
+    if nat_le total (customers (caps_of net))
+    then outcome_reply (closed_sampled net seed stream total)
+    else line_reply NoSuchTotal no_total_line
+
+-- the reply on a network of which an event isn't a move, or each is one
+abbrev pub closed_reply : Network → (seed stream total : ℕ) → Option ℕ → Reply
+closed_reply net seed stream total (Some event) = line_reply NotClosed (not_closed_line event)
+closed_reply net seed stream total None = total_reply net seed stream total
+
 -- the reply with a log's text, which may have at most 33,554,432 bytes
 abbrev pub log_reply : List ℕ → Reply
 log_reply text = if nat_le (length text) 33554432 then text_reply Done text else line_reply LogTooLong too_long_line
@@ -81,11 +111,13 @@ replay_reply net bytes = judged_log net (read bytes)
 
 -- the reply to a command, for its network, where the shelf tells what else it reads
 abbrev pub reply_of : Command → (List ℕ → Option (List ℕ)) → Network → Option Reply
-reply_of (sample name seed stream) told net = Some (text_reply (outcome_status (sampled net seed stream)) (outcome_text (sampled net seed stream)))
+reply_of (sample name seed stream) told net = Some (outcome_reply (sampled net seed stream))
 reply_of (check name) told net = Some (text_reply Done (check_text net))
 reply_of (report name seed first count) told net = Some (text_reply Done (report_text net (samples_of net seed first count)))
 reply_of (couple file seed stream) told net = Some (text_reply (coupling_status (coupling net seed stream)) (coupling_text (coupling net seed stream)))
 reply_of (reward file seed stream name) told net = Some (value_reply net seed stream (kind_named name net.rewards))
+reply_of (exact file seed stream h) told net = Some (survey_reply net seed stream h)
+reply_of (closed file seed stream total) told net = Some (closed_reply net seed stream total (first_other net))
 reply_of (trial number) told net = Some (text_reply Done (trial_text number net (samples_of net number 0 4)))
 reply_of (certify file seed stream) told net = Some (certify_reply net seed stream (sampled net seed stream))
 reply_of (replay file log) told net = option_map (replay_reply net) (told log)

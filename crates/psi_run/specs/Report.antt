@@ -5,8 +5,8 @@ use Rattle.psi_state.specs.State.{numbers_from}
 use Rattle.psi_state.specs.declared.Outcome.{Outcome}
 use Rattle.psi_network.specs.Network.{Network}
 use Rattle.psi_report.specs.Report.{report_text}
-use Rattle.psi_run.specs.declared.status.Status.{Status}
-use Rattle.psi_run.specs.declared.status.Status.TheVariants.{Done}
+use Rattle.psi_command.specs.declared.status.Status.{Status}
+use Rattle.psi_command.specs.declared.status.Status.TheVariants.{Done}
 use Rattle.psi_run.specs.Sample.{sampled, IsDrawn}
 
 -- the samples that a seed and so many streams, from the first on, draw of a network

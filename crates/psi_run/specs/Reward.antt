@@ -1,7 +1,6 @@
 -- The value of a reward at time zero, and what is printed of it.
-use Rattle.std.specs.Prelude.{◌≡◌, ℕ, ℤ, ◌^◌, ◌≤◌, List, [], ◌∷◌, ◌++◌, codes, Option, Some, None, if◌then◌else◌}
+use Rattle.std.specs.Prelude.{◌≡◌, ℕ, ℤ, List, [], ◌∷◌, Option, Some, None, if◌then◌else◌}
 use Rattle.std.specs.Str.{bytes_eq}
-use Rattle.std.specs.Fmt.{decimal, signed_decimal}
 use Rattle.psi_io.specs.Sink.{appended}
 use Rattle.psi_reward.specs.declared.kinds.RewardKind.{RewardKind}
 use Rattle.psi_reward.specs.Worth.{worth_of}
@@ -9,8 +8,9 @@ use Rattle.psi_couple.specs.declared.answers.Valued.{Valued}
 use Rattle.psi_couple.specs.declared.answers.Valued.TheVariants.{At, NotAt}
 use Rattle.psi_couple.specs.Valuing.{value_at, valued_within, IsValued, ReachesValued}
 use Rattle.psi_network.specs.Network.{Network, NamedReward, caps_of}
-use Rattle.psi_run.specs.declared.status.Status.{Status}
-use Rattle.psi_run.specs.declared.status.Status.TheVariants.{Done, NotCoupled, UnknownReward}
+use Rattle.psi_command.specs.declared.status.Status.{Status}
+use Rattle.psi_command.specs.declared.status.Status.TheVariants.{Done, NotCoupled, UnknownReward}
+use Rattle.psi_texts.specs.Values.{value_text}
 use Rattle.psi_run.specs.Sample.{functions_by_time}
 
 -- the kind of the first reward of this name, if there is one
@@ -31,16 +31,6 @@ valuation net seed stream kind = valued_within (values net seed stream kind) net
 abbrev pub value_status : Valued → Status
 value_status (At horizon value) = Done
 value_status (NotAt limit) = NotCoupled
-
--- the horizon and the value, or the greatest horizon within which there is none
-unfoldable pub value_text : Valued → List ℕ
-value_text (At horizon value) = codes "reward-met " ++ decimal horizon ++ codes "\nvalue " ++ signed_decimal value ++ codes "\n"
-value_text (NotAt limit) = codes "reward not coupled within " ++ decimal (2 ^ limit) ++ codes "\n"
-
--- the exponent of a greatest horizon is at most 22
-abbrev pub HasLimit : Valued → Type 0
-HasLimit (At horizon value) = Unit {0}
-HasLimit (NotAt limit) = limit ≤ 22
 
 -- what is printed is the first value of a reward of this kind under the words of the seed and the stream
 pub record IsValueOf (before after : Option (List ℕ)) (result : Status) (net : Network) (seed stream : ℕ) (kind : RewardKind) : Type 0 where

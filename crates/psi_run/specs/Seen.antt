@@ -3,7 +3,7 @@ use Rattle.std.specs.Prelude.{◌≡◌, ℕ, List, Option, Result, Ok, Err, IsO
 use Rattle.psi_io.specs.Counts.{Rose}
 use Rattle.psi_io.specs.Sink.{appended, GrewByPrefix}
 use Rattle.psi_net.specs.Reading.{network_of}
-use Rattle.psi_run.specs.Command.{Command, replay, File, net_file, log_file, file_name, files_of}
+use Rattle.psi_command.specs.Command.{Command, replay, File, net_file, log_file, file_name, files_of}
 
 -- what is seen of a shelf: the bytes that it tells of each name, and each name's count of faults before and after
 pub record ShelfSeen : Type 0 where

@@ -6,9 +6,9 @@ use Rattle.psi_rate.specs.Rates.{total, least_power}
 use Rattle.psi_network.specs.Network.{Network, rates_of}
 use Rattle.psi_network.specs.Generated.{generated_network}
 use Rattle.psi_report.specs.Report.{report_text}
-use Rattle.psi_run.specs.declared.status.Status.{Status}
-use Rattle.psi_run.specs.declared.status.Status.TheVariants.{Done}
-use Rattle.psi_run.specs.Texts.{number_line}
+use Rattle.psi_command.specs.declared.status.Status.{Status}
+use Rattle.psi_command.specs.declared.status.Status.TheVariants.{Done}
+use Rattle.psi_texts.specs.Texts.{number_line}
 use Rattle.psi_run.specs.Report.{AreDrawn}
 
 -- what a trial prints: its number, the numbers of queues and of events, the modulus of the wheel, and the report of the samples

@@ -1,8 +1,8 @@
 //! What a call does for its words: the work before the first byte, and the writing.
 
 ghost use Rattle.std.specs.Prelude.{◌≡◌, ℕ, List, Ok, map, string_bytes};
-ghost use Rattle.psi_run.specs.Words.{command_of};
-ghost use Rattle.psi_run.specs.Request.{asked, HasStreams};
+ghost use Rattle.psi_command.specs.Words.{command_of};
+ghost use Rattle.psi_command.specs.Request.{asked, IsInRange};
 ghost use Rattle.psi_run.specs.Seen.{ShelfSeen};
 ghost use Rattle.psi_run.specs.Ending.{IsEnding};
 ghost use Rattle.psi_run.specs.Spared.{AreGiven, HasRead};
@@ -11,7 +11,9 @@ ghost use Rattle.psi_run.specs.Ended.{ending_of, IsNetAt};
 
 mod certify;
 mod check;
+mod closed;
 mod couple;
+mod exact;
 mod replay;
 mod report;
 mod reward;
@@ -20,9 +22,8 @@ mod trial;
 
 use crate::ending::Ending;
 use crate::files::network_at;
-use crate::status::Status;
-use crate::words::{Question, Request, command_of};
 use crate::writing::finish;
+use psi_command::{Question, Request, Status, command_of};
 use psi_io::{Shelf, Sink};
 use psi_net::Net;
 use std::alloc::Global;
@@ -65,7 +66,7 @@ fn work<'w, F: Shelf>(
     name: &'w str,
     question: Question<'w>,
 ) -> Ending<'w>
-    requires { HasStreams question }
+    requires { IsInRange question }
     ensures ending { IsEnding (record { told = F.told shelf.old; faults_before = F.faults shelf.old; faults_after = F.faults shelf.new })
         (Ok (asked name.now question.entry)) (ending_of result) }
     ensures read { AreGiven (F.gives shelf.old) (Ok (asked name.now question.entry)) → HasRead (ending_of result) }
@@ -84,7 +85,7 @@ fn answer<'w, F: Shelf>(
     net: &Net,
     question: Question<'w>,
 ) -> Ending<'w>
-    requires { HasStreams question }
+    requires { IsInRange question }
     ensures ending { (name : List ℕ) → IsNetAt (F.told shelf.old) name net.now
         → IsEnding (record { told = F.told shelf.old; faults_before = F.faults shelf.old; faults_after = F.faults shelf.new })
         (Ok (asked name question.entry)) (ending_of result) }
@@ -97,6 +98,12 @@ fn answer<'w, F: Shelf>(
         Question::Report { seed, first, count } => { report::work(alloc, net, seed, first, count) }
         Question::Couple { seed, stream } => couple::work(alloc, net, seed, stream),
         Question::Reward { seed, stream, name } => { reward::work(alloc, net, seed, stream, name) }
+        Question::Exact { seed, stream, h } => exact::work(alloc, net, seed, stream, h),
+        Question::Closed {
+            seed,
+            stream,
+            total,
+        } => closed::work(alloc, net, seed, stream, total),
         Question::Replay { log } => replay::work(alloc, shelf, net, log),
     }
 }

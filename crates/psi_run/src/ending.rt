@@ -2,7 +2,7 @@
 
 ghost use Rattle.std.specs.Prelude.{◌≡◌};
 
-use crate::status::Status;
+use psi_command::Status;
 use psi_net::NetRefusal;
 
 /// How the work of a call ends, once its memory is taken and before anything is written.
@@ -37,6 +37,12 @@ pub(crate) enum Ending<'w> {
     LogTooLong,
     /// The network has no reward of the name.
     UnknownReward,
+    /// The network has more than 65,536 states.
+    TooManyStates,
+    /// The event of this number isn't a move of one customer, and those before it are.
+    NotClosed(u16),
+    /// The queues can't hold as many customers.
+    NoSuchTotal,
     /// The network file of this name couldn't be read.
     NetUnread(&'w str),
     /// The log file of this name couldn't be read.
@@ -61,6 +67,9 @@ impl<'w> Ending<'w> {
             Ending::LogRejected { .. } => Status::LogRefused,
             Ending::LogTooLong => Status::LogTooLong,
             Ending::UnknownReward => Status::UnknownReward,
+            Ending::TooManyStates => Status::TooManyStates,
+            Ending::NotClosed(_) => Status::NotClosed,
+            Ending::NoSuchTotal => Status::NoSuchTotal,
             Ending::NetUnread(_) => Status::ReadFault,
             Ending::LogUnread(_) => Status::ReadFault,
             Ending::OutOfMemory => Status::OutOfMemory,

@@ -5,9 +5,9 @@ ghost use Rattle.std.specs.Fmt.{decimal};
 ghost use Rattle.psi_io.specs.Counts.{Rose};
 ghost use Rattle.psi_network.specs.Network.{Network};
 ghost use Rattle.psi_net.specs.Reading.{network_of};
-ghost use Rattle.psi_run.specs.Status.{IsReplied};
-ghost use Rattle.psi_run.specs.Command.{Command};
-ghost use Rattle.psi_run.specs.Words.{command_of};
+ghost use Rattle.psi_command.specs.Status.{IsReplied};
+ghost use Rattle.psi_command.specs.Command.{Command};
+ghost use Rattle.psi_command.specs.Words.{command_of};
 ghost use Rattle.psi_run.specs.Sample.{IsSampled};
 ghost use Rattle.psi_run.specs.Reply.{Reply, reply_to};
 ghost use Rattle.psi_run.specs.Means.{Means};
@@ -15,7 +15,7 @@ ghost use Rattle.psi_run.specs.Spared.{AreGiven, AreTaken};
 ghost use Rattle.psi_run.specs.Call.{IsRun};
 
 use crate::commands::perform;
-use crate::status::Status;
+use psi_command::Status;
 use psi_io::{Shelf, Sink};
 use std::alloc::Global;
 
@@ -29,14 +29,16 @@ use std::alloc::Global;
 /// | `trial NUMBER` | makes the network of NUMBER, samples it with the seed NUMBER and the streams 0 to 3, and prints the report |
 /// | `couple NET SEED STREAM` | prints the least horizon, of any length, at which this seed and stream couple the network in the file NET |
 /// | `reward NET SEED STREAM NAME` | prints the value of the reward NAME at time zero, as soon as all states have one |
+/// | `exact NET SEED STREAM H` | follows all states of the network in the file NET through the last 2 to the power H steps, and prints how many are left and when one is |
+/// | `closed NET SEED STREAM TOTAL` | prints the sample that this seed and stream draw of the closed network in the file NET among its states with TOTAL customers |
 /// | `sample NET SEED STREAM log` | writes the log of the sample that this seed and stream draw of the network in the file NET |
 /// | `replay NET LOG` | checks the log in the file LOG, whoever wrote it, for the network in the file NET |
 ///
 /// NET, NAME and LOG are any texts. Numbers are `0` or digits without a leading zero: SEED, STREAM and FIRST are
 /// at most 18,446,744,073,709,551,615, COUNT is 1 to 65,536 and the last stream is no greater than they may
-/// be, and NUMBER is at most 65,535. The words are judged from the left; the offending word is the first place,
-/// counted from 1, at which the word is missing, isn't the command or number that must stand there, or is
-/// one too many.
+/// be, NUMBER is at most 65,535, H at most 12, and TOTAL at most 256. The words are judged from the left; the
+/// offending word is the first place, counted from 1, at which the word is missing, isn't the command or number
+/// that must stand there, or is one too many.
 ///
 /// | Status | Comes | Text |
 /// |---|---|---|
@@ -45,10 +47,14 @@ use std::alloc::Global;
 /// | `Done` | the samples are counted | out: the report |
 /// | `Done` | there is a least horizon | out: `coupled T`, `state S` |
 /// | `Done` | the reward has one value | out: `reward-met T`, `value V` |
+/// | `Done` | all states have met within M = 2 to the power H steps | out: `states N`, `image T N` for each T of 1, 2, 4, .., M, `constant T S`, and `region T` or `region none` |
+/// | `Done` | the sample of the closed network is met | out: `met T`, `state S` |
 /// | `Done` | the sample is met, and its log has at most 33,554,432 bytes | out: the log |
 /// | `Done` | the log is accepted | out: `accepted T`, `state S` |
 /// | `NotCoupled` | the sample isn't met, or there is no least horizon, within N = 2 to the power `limit` steps | out: `not coupled within N` |
 /// | `NotCoupled` | the reward hasn't one value within N steps | out: `reward not coupled within N` |
+/// | `NotCoupled` | not all states have met within M steps | out: the same lines, with `not constant within M` in the place of `constant T S` |
+/// | `NotCoupled` | the sample of the closed network isn't met within N steps | out: `not coupled within N` |
 /// | `Usage` | the words aren't a command | err: `psi: usage word N` |
 /// | `NetRefused` | the network file is refused | err: `psi: network refused CODE NAME SECTION NUMBER KEY` |
 /// | `LogRefused` | LOG isn't the text of a log | err: `psi: log refused CAUSE NAME line N` |
@@ -59,6 +65,9 @@ use std::alloc::Global;
 /// | `WriteFault` | the count of out or of err rose in this call | a prefix of the text |
 /// | `OutOfMemory` | there was not enough memory | err: `psi: out of memory` |
 /// | `UnknownReward` | the network has no reward NAME | err: `psi: unknown reward` |
+/// | `TooManyStates` | the words are `exact`, and the network has more than 65,536 states | err: `psi: too many states` |
+/// | `NotClosed` | the words are `closed`, and the network isn't closed: its event E, counted from 0, is the first that doesn't move one customer from a queue to another | err: `psi: not closed event E` |
+/// | `NoSuchTotal` | the words are `closed`, the network is closed, and its capacities add up to less than TOTAL | err: `psi: no state with this total` |
 ///
 /// The description has, in this order: `queues Q`; for each queue `queue NAME CAPACITY SERVERS`; `events E`,
 /// the events after their expansion over servers; for each of these `event NAME K RATE monotone`, K being
@@ -85,6 +94,21 @@ use std::alloc::Global;
 /// one state, and no shorter one does; S is that state. The value of a reward is looked for at the horizons
 /// 1, 2, 4, .., N: T is the least of them at which all states of the region have one value, V. In either
 /// case every longer run ends with that state, or with states of that value.
+///
+/// `exact` follows each state by itself, so it tells what regions of states lose. N is the number of all
+/// states, then for each T the number of states in which they are after the last T steps. In `constant T S`,
+/// T is the least from 1 to M, a power of two or not, such that all states that start T steps before time
+/// zero have met, and S is the state in which they met; every state that starts there or earlier is in S at
+/// time zero. In `region T`, T is the least from 1 to M such that the region run of T ends with one state.
+/// Where there is such a T, all states have met by then, and in a monotone network the two horizons are one.
+/// M stands in the place of the network's greatest horizon, which `exact` doesn't ask for.
+///
+/// A network is closed where each event, after the expansion over servers, is a service with one target at
+/// which a customer stays where the target is full: then no step changes the number of all customers. Its
+/// states with TOTAL customers are followed as a diagram of arcs, not one by one. T is the least of 1, 2, 4, ..,
+/// N such that the run that begins with all of them T steps before time zero ends with one state, and S is
+/// that state; every state with TOTAL customers that starts there or earlier is in S at time zero. Where none
+/// of the runs ends with one state, the states may still have met.
 ///
 /// The log is the run of the sample's horizon, in version 2 of its grammar: all states at its begin, for each
 /// step its event and the region after it, and S. It certifies S: a log is accepted where it begins with all

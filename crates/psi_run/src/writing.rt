@@ -7,12 +7,10 @@ ghost use Rattle.psi_run.specs.Written.{IsWritten};
 ghost use Rattle.psi_run.specs.Spared.{IsTaken};
 ghost use Rattle.psi_run.specs.Finished.{IsFinished};
 
-mod line;
-
 use crate::ending::Ending;
-use crate::status::Status;
-use line::{log_refused_line, log_rejected_line, refused_line, usage_line};
+use psi_command::Status;
 use psi_io::{Sink, SinkFault, write_all};
+use psi_texts::{log_refused_line, log_rejected_line, not_closed_line, refused_line, usage_line};
 
 // Writes the text of an ending to out, or its line to err, as one piece.
 //
@@ -43,6 +41,9 @@ fn write_ending<O: Sink, E: Sink>(
         }
         Ending::LogTooLong => write_all(err, b"psi: log too long\n"),
         Ending::UnknownReward => write_all(err, b"psi: unknown reward\n"),
+        Ending::TooManyStates => write_all(err, b"psi: too many states\n"),
+        Ending::NotClosed(event) => write_all(err, not_closed_line(*event).as_slice()),
+        Ending::NoSuchTotal => write_all(err, b"psi: no state with this total\n"),
         Ending::NetUnread(_) => write_all(err, b"psi: cannot read network\n"),
         Ending::LogUnread(_) => write_all(err, b"psi: cannot read log\n"),
         Ending::OutOfMemory => write_all(err, b"psi: out of memory\n"),

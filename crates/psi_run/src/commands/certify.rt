@@ -4,9 +4,9 @@ ghost use Rattle.std.specs.Prelude.{◌≡◌, ◌^◌, ◌≤◌, Ok};
 ghost use Rattle.psi_state.specs.declared.Outcome.TheVariants.{NotMet};
 ghost use Rattle.psi_lines.specs.Text.{log_text};
 ghost use Rattle.psi_record.specs.Recorded.{log_of};
-ghost use Rattle.psi_run.specs.declared.status.Status.TheVariants.{NotCoupled};
-ghost use Rattle.psi_run.specs.Command.{certify};
-ghost use Rattle.psi_run.specs.Texts.{outcome_text};
+ghost use Rattle.psi_command.specs.declared.status.Status.TheVariants.{NotCoupled};
+ghost use Rattle.psi_command.specs.Command.{certify};
+ghost use Rattle.psi_texts.specs.Texts.{outcome_text};
 ghost use Rattle.psi_run.specs.Sample.{sampled};
 ghost use Rattle.psi_run.specs.Reply.{text_reply, log_reply, certify_reply};
 ghost use Rattle.psi_run.specs.Seen.{ShelfSeen};
@@ -17,9 +17,8 @@ ghost use Rattle.psi_run.specs.Finished.{IsFinished};
 
 use crate::ending::Ending;
 use crate::files::network_at;
-use crate::status::Status;
-use crate::texts::outcome_text;
 use crate::writing::finish;
+use psi_command::Status;
 use psi_event::EventLaw;
 use psi_horizon::Plan;
 use psi_io::{Shelf, Sink};
@@ -28,6 +27,7 @@ use psi_net::Net;
 use psi_past::{Past, SeedPast};
 use psi_record::{Block, log_fits, write_log};
 use psi_state::{Outcome, State};
+use psi_texts::outcome_text;
 use std::alloc::Global;
 
 // Writes the log of the run of the header's horizon, which ends with this state, or the line on one that is

@@ -3,19 +3,19 @@
 ghost use Rattle.std.specs.Prelude.{◌≡◌, ◌++◌, OnOk, IfOk, is_none};
 ghost use Rattle.std.specs.List.{list_all};
 ghost use Rattle.psi_network.specs.Network.{marks_of};
-ghost use Rattle.psi_run.specs.declared.status.Status.TheVariants.{Done};
+ghost use Rattle.psi_command.specs.declared.status.Status.TheVariants.{Done};
 ghost use Rattle.psi_run.specs.Check.{queue_line, mark_text, event_line, monotone_line, queue_lines, event_lines, check_text, AreMarked};
 ghost use Rattle.psi_run.specs.Reply.{text_reply};
 ghost use Rattle.psi_run.specs.Ending.{EndsWith, HasReplied};
 ghost use Rattle.psi_run.specs.Ended.{ending_of};
 
 use crate::ending::Ending;
-use crate::status::Status;
-use crate::texts::{push_number_line, push_pieces, push_state};
 use itoa::Buffer;
+use psi_command::Status;
 use psi_event::EventLaw;
 use psi_net::Net;
 use psi_state::State;
+use psi_texts::{push_number_line, push_pieces, push_state};
 use std::alloc::{AllocError, Global};
 
 // Appends the line of a queue.

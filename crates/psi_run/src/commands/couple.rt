@@ -1,18 +1,19 @@
 //! `couple NET SEED STREAM`: the least horizon of any length at which a network's runs couple.
 
 ghost use Rattle.std.specs.Prelude.{◌≡◌, IfOk};
-ghost use Rattle.psi_run.specs.Couple.{coupling, coupling_status, coupling_text, HasLimit};
+ghost use Rattle.psi_run.specs.Couple.{coupling, coupling_status};
+ghost use Rattle.psi_texts.specs.Couplings.{coupling_text, HasLimit};
 ghost use Rattle.psi_run.specs.Reply.{text_reply};
 ghost use Rattle.psi_run.specs.Ending.{EndsWith};
 ghost use Rattle.psi_run.specs.Ended.{ending_of};
 
 use crate::ending::Ending;
-use crate::status::Status;
-use crate::texts::coupling_text;
+use psi_command::Status;
 use psi_couple::{Coupled, least_horizon};
 use psi_horizon::{OutOfMemory, Plan};
 use psi_net::Net;
 use psi_past::SeedPast;
+use psi_texts::coupling_text;
 use std::alloc::Global;
 
 // The least coupling of a network under the words of a seed and a stream.

@@ -2,7 +2,7 @@
 
 ghost use Rattle.std.specs.Prelude.{◌≡◌, ℕ, List, Ok};
 ghost use Rattle.psi_replay.specs.Verdict.{verdict_of};
-ghost use Rattle.psi_run.specs.Command.{replay};
+ghost use Rattle.psi_command.specs.Command.{replay};
 ghost use Rattle.psi_run.specs.Replay.{judgement};
 ghost use Rattle.psi_run.specs.Reply.{verdict_reply};
 ghost use Rattle.psi_run.specs.Ending.{EndsWith, IsEnding};
@@ -11,12 +11,12 @@ ghost use Rattle.psi_run.specs.Ended.{ending_of, IsNetAt};
 
 use crate::ending::Ending;
 use crate::files::log_at;
-use crate::status::Status;
-use crate::texts::accepted_text;
+use psi_command::Status;
 use psi_io::Shelf;
 use psi_log::Log;
 use psi_net::Net;
 use psi_replay::{Verdict, verdict};
+use psi_texts::accepted_text;
 use std::alloc::Global;
 
 // The verdict of the network on a log.

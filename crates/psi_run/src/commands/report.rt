@@ -4,7 +4,7 @@ ghost use Rattle.std.specs.Prelude.{◌≡◌, ◌+◌, ◌^◌, ◌≤◌, IfSo
 ghost use Rattle.psi_report.specs.Samples.{IsSampleOf};
 ghost use Rattle.psi_report.specs.Report.{report_text};
 ghost use Rattle.psi_report.specs.Totals.{StandsFor};
-ghost use Rattle.psi_run.specs.declared.status.Status.TheVariants.{Done};
+ghost use Rattle.psi_command.specs.declared.status.Status.TheVariants.{Done};
 ghost use Rattle.psi_run.specs.Sample.{sampled};
 ghost use Rattle.psi_run.specs.Report.{samples_of};
 ghost use Rattle.psi_run.specs.Networks.{IsSystemOf};
@@ -13,7 +13,7 @@ ghost use Rattle.psi_run.specs.Ending.{EndsWith};
 ghost use Rattle.psi_run.specs.Ended.{ending_of};
 
 use crate::ending::Ending;
-use crate::status::Status;
+use psi_command::Status;
 use psi_event::EventLaw;
 use psi_horizon::Plan;
 use psi_kinds::Event;

@@ -3,19 +3,20 @@
 ghost use Rattle.std.specs.Prelude.{◌≡◌, Some, None, IfOk, IfSome};
 ghost use Rattle.psi_reward.specs.Rewards.{reward_caps, reward_kind};
 ghost use Rattle.psi_network.specs.Network.{caps_of};
-ghost use Rattle.psi_run.specs.Reward.{kind_named, valuation, value_status, HasLimit};
+ghost use Rattle.psi_run.specs.Reward.{kind_named, valuation, value_status};
+ghost use Rattle.psi_texts.specs.Values.{HasLimit};
 ghost use Rattle.psi_run.specs.Reply.{value_reply};
 ghost use Rattle.psi_run.specs.Ending.{EndsWith};
 ghost use Rattle.psi_run.specs.Ended.{ending_of};
 
 use crate::ending::Ending;
-use crate::status::Status;
-use crate::texts::value_text;
+use psi_command::Status;
 use psi_couple::{Valued, value_horizon};
 use psi_horizon::{OutOfMemory, Plan};
 use psi_net::Net;
 use psi_past::SeedPast;
 use psi_reward::Reward;
+use psi_texts::value_text;
 use std::alloc::Global;
 
 // The reward of this name, if the network has one.

@@ -1,19 +1,19 @@
 //! `sample NET SEED STREAM`: a sample of a network.
 
 ghost use Rattle.std.specs.Prelude.{◌≡◌, IfOk};
-ghost use Rattle.psi_run.specs.Texts.{outcome_text, IsWithinLimit};
+ghost use Rattle.psi_texts.specs.Texts.{outcome_text, IsWithinLimit};
 ghost use Rattle.psi_run.specs.Sample.{sampled, outcome_status};
 ghost use Rattle.psi_run.specs.Reply.{text_reply};
 ghost use Rattle.psi_run.specs.Ending.{EndsWith};
 ghost use Rattle.psi_run.specs.Ended.{ending_of};
 
 use crate::ending::Ending;
-use crate::status::Status;
-use crate::texts::outcome_text;
+use psi_command::Status;
 use psi_horizon::{OutOfMemory, Plan};
 use psi_net::Net;
 use psi_past::SeedPast;
 use psi_state::Outcome;
+use psi_texts::outcome_text;
 use std::alloc::Global;
 
 // The sample of a network under the words of a seed and a stream.
@@ -30,8 +30,8 @@ fn sample_of(alloc: Global, net: &Net, seed: u64, stream: u64) -> Result<Outcome
     Ok(plan.sample())
 }
 
-// The status of a sample, once it is printed.
-fn outcome_status(outcome: &Outcome) -> Status
+/// The status of a sample, once it is printed.
+pub(crate) fn outcome_status(outcome: &Outcome) -> Status
     ensures { result ≡ outcome_status outcome.now }
 {
     match outcome {

@@ -3,7 +3,7 @@
 ghost use Rattle.std.specs.Prelude.{◌≡◌, IfSome, IsSome};
 ghost use Rattle.psi_network.specs.Generated.{generated_network};
 ghost use Rattle.psi_network.specs.Valid.{IsNetwork};
-ghost use Rattle.psi_run.specs.declared.status.Status.TheVariants.{Done};
+ghost use Rattle.psi_command.specs.declared.status.Status.TheVariants.{Done};
 ghost use Rattle.psi_run.specs.Report.{samples_of};
 ghost use Rattle.psi_run.specs.Trial.{trial_text};
 ghost use Rattle.psi_run.specs.Reply.{text_reply};
@@ -12,9 +12,9 @@ ghost use Rattle.psi_run.specs.Ended.{ending_of};
 
 use crate::commands::report::report_of;
 use crate::ending::Ending;
-use crate::status::Status;
-use crate::texts::push_number_line;
+use psi_command::Status;
 use psi_net::{Net, generated};
+use psi_texts::push_number_line;
 use std::alloc::Global;
 
 // The text of the trial of a network; none where there is not enough memory.

@@ -1,13 +1,16 @@
 -- Answers in the proof of `answer`.
 use Rattle.std.specs.Prelude.{refl}
-use Rattle.psi_run.specs.Command.{sample, check, report, couple, reward}
+use Rattle.psi_command.specs.Command.{sample, check, report, couple, reward, exact, closed}
 use Rattle.psi_run.specs.Reward.{kind_named}
+use Rattle.psi_run.specs.Closed.{first_other}
 use Rattle.psi_run.proofs.Endings.{on_net}
 use Rattle.psi_run.proofs.Sparing.{log_given}
 use Rattle.psi_run.proofs.Sampling.{sampled_printed, sample_about}
 use Rattle.psi_run.proofs.Checking.{checked_printed, check_about}
 use Rattle.psi_run.proofs.Reporting.{report_printed, report_about}
 use Rattle.psi_run.proofs.Coupling.{coupling_printed, couple_about, reward_printed, reward_about}
+use Rattle.psi_run.proofs.Surveying.{exact_printed, exact_about}
+use Rattle.psi_run.proofs.Closing.{closed_printed, closed_about}
 use Rattle.psi_run.proofs.commands.answer.Goals as goal
 
 pub returns-in-Sample-clause-ending : goal.returns-in-Sample-clause-ending
@@ -39,6 +42,19 @@ returns-in-Reward-clause-ending g c name at =
     rw c.in-Reward.is (on_net (reward name asked.seed asked.stream asked.name.now) name _ _ c.args.net.now _ _ refl (reward_about _ name asked.seed asked.stream asked.name.now) at c.work-in-Reward.ensures
     (λ has bytes accepted before after grew.
     reward_printed before after bytes c.args.net.now asked.seed asked.stream (kind_named asked.name.now c.args.net.now.rewards) accepted grew))
+
+pub returns-in-Exact-clause-ending : goal.returns-in-Exact-clause-ending
+returns-in-Exact-clause-ending g c name at =
+    let asked = c.in-Exact in
+    rw c.in-Exact.is (on_net (exact name asked.seed asked.stream asked.h) name _ _ c.args.net.now _ _ refl (exact_about _ name asked.seed asked.stream asked.h) at c.work-in-Exact.ensures
+    (λ has bytes accepted before after grew. exact_printed before after bytes c.args.net.now asked.seed asked.stream asked.h accepted grew))
+
+pub returns-in-Closed-clause-ending : goal.returns-in-Closed-clause-ending
+returns-in-Closed-clause-ending g c name at =
+    let asked = c.in-Closed in
+    rw c.in-Closed.is (on_net (closed name asked.seed asked.stream asked.total) name _ _ c.args.net.now _ _ refl (closed_about _ name asked.seed asked.stream asked.total) at c.work-in-Closed.ensures
+    (λ has bytes accepted before after grew.
+    closed_printed before after bytes c.args.net.now asked.seed asked.stream asked.total (first_other c.args.net.now) refl accepted grew))
 
 pub returns-in-Replay-clause-read : goal.returns-in-Replay-clause-read
 returns-in-Replay-clause-read g c name given =

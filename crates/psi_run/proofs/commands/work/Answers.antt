@@ -1,7 +1,7 @@
 -- Answers in the proof of `work`.
 use Rattle.std.proofs.Common.{◌∙◌}
 use Rattle.std.specs.Prelude.{Ok}
-use Rattle.psi_run.specs.Request.{asked}
+use Rattle.psi_command.specs.Request.{asked}
 use Rattle.psi_run.proofs.Asked.{asked_none, ended_earlier}
 use Rattle.psi_run.proofs.Sparing.{net_given, given_on}
 use Rattle.psi_run.proofs.commands.work.Goals as goal

@@ -1,5 +1,5 @@
 -- Answers in the proof of `run`.
-use Rattle.psi_run.proofs.Asking.{sample_asked}
+use Rattle.psi_command.proofs.Asking.{sample_asked}
 use Rattle.psi_run.proofs.Finishing.{finished_run, finished_means, finished_headline, finished_spared}
 use Rattle.psi_run.proofs.program.run.Goals as goal
 

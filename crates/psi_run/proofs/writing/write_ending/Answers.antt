@@ -34,3 +34,19 @@ returns-in-LogTooLong-clause-written g c = let written = c.write_all-in-LogTooLo
 pub returns-in-LogUnread-clause-written : goal.returns-in-LogUnread-clause-written
 returns-in-LogUnread-clause-written g c = let written = c.write_all-in-LogUnread in
     rw c.in-LogUnread.is (line_written _ _ _ written.result refl refl written.ensures.whole written.ensures.prefix written.ensures.failed)
+
+pub returns-in-TooManyStates-clause-written : goal.returns-in-TooManyStates-clause-written
+returns-in-TooManyStates-clause-written g c = let written = c.write_all-in-TooManyStates in
+    rw c.in-TooManyStates.is (line_written _ _ _ written.result refl refl written.ensures.whole written.ensures.prefix written.ensures.failed)
+
+pub returns-in-TooManyStates-clause-taken : goal.returns-in-TooManyStates-clause-taken
+returns-in-TooManyStates-clause-taken g c = let written = c.write_all-in-TooManyStates.ensures in
+    rw c.in-TooManyStates.is (λ out err. (written.taken err.room err.taken err.fits, refl, written.spared err.room err.taken err.fits))
+
+pub returns-in-NoSuchTotal-clause-written : goal.returns-in-NoSuchTotal-clause-written
+returns-in-NoSuchTotal-clause-written g c = let written = c.write_all-in-NoSuchTotal in
+    rw c.in-NoSuchTotal.is (line_written _ _ _ written.result refl refl written.ensures.whole written.ensures.prefix written.ensures.failed)
+
+pub returns-in-NoSuchTotal-clause-taken : goal.returns-in-NoSuchTotal-clause-taken
+returns-in-NoSuchTotal-clause-taken g c = let written = c.write_all-in-NoSuchTotal.ensures in
+    rw c.in-NoSuchTotal.is (λ out err. (written.taken err.room err.taken err.fits, refl, written.spared err.room err.taken err.fits))

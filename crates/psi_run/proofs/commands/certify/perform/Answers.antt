@@ -1,6 +1,6 @@
 -- Answers in the proof of `certify::perform`.
 use Rattle.std.specs.Prelude.{refl}
-use Rattle.psi_run.specs.Command.{certify}
+use Rattle.psi_command.specs.Command.{certify}
 use Rattle.psi_run.proofs.Endings.{no_net, on_net}
 use Rattle.psi_run.proofs.Sparing.{ends-read}
 use Rattle.psi_run.proofs.Certifying.{certified_printed, certify_about}

@@ -1,0 +1,123 @@
+//! `closed NET SEED STREAM TOTAL`: a sample of a closed network among the states of so many customers.
+
+ghost use Rattle.std.specs.Prelude.{◌≡◌, ◌≤◌, ℕ, IfOk, IfErr};
+ghost use Rattle.psi_arcs.specs.Walks.{customers};
+ghost use Rattle.psi_closed.specs.Diagram.{IsTotal};
+ghost use Rattle.psi_network.specs.Network.{caps_of};
+ghost use Rattle.psi_texts.specs.Texts.{IsWithinLimit};
+ghost use Rattle.psi_run.specs.Closed.{first_other, AreMovesOf, closed_sampled};
+ghost use Rattle.psi_run.specs.Reply.{total_reply, closed_reply};
+ghost use Rattle.psi_run.specs.Ending.{EndsWith};
+ghost use Rattle.psi_run.specs.Ended.{ending_of};
+
+use crate::commands::sample::outcome_status;
+use crate::ending::Ending;
+use psi_closed::{ClosedPlan, OutOfMemory};
+use psi_kinds::Move;
+use psi_net::Net;
+use psi_past::SeedPast;
+use psi_state::Outcome;
+use psi_texts::outcome_text;
+use std::alloc::Global;
+
+// The moves that the events are, in their order. Where there are none, the work ends the same for every number of
+// customers: an event isn't a move, or there was not enough memory.
+fn moves_of<'w>(alloc: Global, net: &Net) -> Result<Vec<Move>, Ending<'w>>
+    ensures moves { IfOk result (λ moves. AreMovesOf net.now.events moves.items) }
+    ensures none { IfErr result (λ ending. (seed stream total : ℕ)
+        → EndsWith (ending_of ending) (closed_reply net.now seed stream total (first_other net.now))) }
+{
+    let Ok(mut moves) = Vec::with_capacity(alloc, net.events() as usize) else {
+        return Err(Ending::OutOfMemory);
+    };
+    for e in 0..net.events() {
+        let Some(one) = net.moves(e) else {
+            return Err(Ending::NotClosed(e));
+        };
+        let Ok(()) = moves.push(one) else {
+            return Err(Ending::OutOfMemory);
+        };
+    }
+    Ok(moves)
+}
+
+// The number of customers that the queues hold where each of them is full.
+fn room(net: &Net) -> u32
+    ensures { result ≡ customers (caps_of net.now) }
+{
+    let mut room = 0;
+    for i in 0..net.queues() {
+        room += net.capacity(i) as u32;
+    }
+    room
+}
+
+// The sample of the closed network of these moves under the words of a seed and a stream.
+fn sample_of(
+    alloc: Global,
+    net: &Net,
+    moves: &[Move],
+    seed: u64,
+    stream: u64,
+    total: u16,
+) -> Result<Outcome, OutOfMemory>
+    requires moves { AreMovesOf net.now.events moves.now }
+    requires fits { IsTotal (caps_of net.now) total }
+    ensures value { IfOk result (λ outcome. outcome ≡ closed_sampled net.now seed stream total) }
+    ensures limit { IfOk result IsWithinLimit }
+{
+    // Called for its clause: the network is one that can be sampled.
+    let _queues = net.queues();
+    let system = net.system();
+    let limit = system.limit();
+    let past = SeedPast::new(seed, stream);
+    let mut plan = ClosedPlan::new(
+        alloc,
+        system.caps(),
+        moves,
+        system.wheel(),
+        limit,
+        total,
+        past,
+    )?;
+    Ok(plan.sample())
+}
+
+// The work where each event is a move.
+fn work_on_moves<'w>(
+    alloc: Global,
+    net: &Net,
+    moves: &[Move],
+    seed: u64,
+    stream: u64,
+    total: u16,
+) -> Ending<'w>
+    requires moves { AreMovesOf net.now.events moves.now }
+    requires most { total ≤ 256 }
+    ensures { EndsWith (ending_of result) (total_reply net.now seed stream total) }
+{
+    if room(net) < total as u32 {
+        return Ending::NoSuchTotal;
+    }
+    let Ok(outcome) = sample_of(alloc, net, moves, seed, stream, total) else {
+        return Ending::OutOfMemory;
+    };
+    match outcome_text(alloc, &outcome) {
+        Ok(text) => Ending::Printed {
+            status: outcome_status(&outcome),
+            text,
+        },
+        Err(_) => Ending::OutOfMemory,
+    }
+}
+
+/// The work for a sample of the closed network with `total` customers, 0 to 256.
+pub(crate) fn work<'w>(alloc: Global, net: &Net, seed: u64, stream: u64, total: u16) -> Ending<'w>
+    requires { total ≤ 256 }
+    ensures { EndsWith (ending_of result) (closed_reply net.now seed stream total (first_other net.now)) }
+{
+    match moves_of(alloc, net) {
+        Ok(moves) => work_on_moves(alloc, net, moves.as_slice(), seed, stream, total),
+        Err(ending) => ending,
+    }
+}
