@@ -1,29 +1,29 @@
 #!/usr/bin/env python3
-"""images.py > crates/psi_core_tests/src/tests/images.rt
+"""images.py crates/psi_sweep
 
-Writes what events of small networks make of every state, for the test of psi_core_tests that compares
-it with what the proved events make of all states and of all boxes.
+Writes the files of the program psi_sweep, which compares what events make of all states and of all
+boxes with tables of it: data/ with networks and their tables, args, stdout and status.
 
-The networks have two or three queues with room for one to three customers, twelve states each, and
-events of every kind. What an event makes of a state is what the plain program answers (plain.py),
-which was written from the definitions and shares nothing with the proved one.
+The networks have one to four queues with room for a few customers, and events of every kind: some
+have a few of each kind, one has routes by tables that are drawn, and the others have all events of
+all_kinds.py at some capacities. What an event makes of a state is what the plain program answers
+(plain.py), which was written from the definitions and shares nothing with the proved one. A small
+network has tables that are wrong in one place each; what has to be printed of these is worked out
+here.
 """
 
 import itertools
+import pathlib
+import sys
 import tomllib
 
+import all_kinds
 import plain
+from small_networks import Dice
 from toml_text import written
 
 # The least, most, shift, floor and ceiling of a part.
 NUMBERS = ("least", "most", "shift", "floor", "ceiling")
-
-HEAD = """\
-//! What events of small networks make of every state, written by tools/images.py.
-//!
-//! Each network has twelve states. Behind its file stands a row for each of its events, expanded over servers:
-//! the places of what it makes of each state. States are counted from 0 in lexicographic order.
-"""
 
 
 def parts(**numbers):
@@ -93,7 +93,65 @@ SERVERS = (
     ],
 )
 
-NETWORKS = {"TWO_QUEUES": TWO, "THREE_QUEUES": THREE, "THREE_SERVERS": SERVERS}
+# Four queues, the last with two servers, and events that name three or four of them.
+FOUR = (
+    {"a": 1, "b": 1, "c": 1, "d": 2},
+    {"a": 1, "b": 1, "c": 1, "d": 2},
+    [
+        {"kind": "arrival", "to": ["d", "b", "a", "c"]},
+        {"kind": "service", "from": "d", "to": ["c", "a", "b"], "full": "lost"},
+        {"kind": "service", "from": "d", "to": ["a", "c", "b"], "full": "stay"},
+        {"kind": "service", "from": "b", "to": ["a", "d", "c"], "full": "stay"},
+        {"kind": "index", "to": ["a", "b", "c", "d"], "table": [[2], [1], [2], [0, 3]]},
+        {"kind": "index", "to": ["d", "c", "b", "a"], "table": [[1, 1], [1], [1], [1]]},
+        {"kind": "index", "from": "d", "to": ["b", "c", "a"], "table": [[4], [0], [4]]},
+        {"kind": "index", "from": "c", "to": ["d", "a", "b"], "table": [[5, 2], [3], [3]]},
+        {"kind": "negative", "from": "d", "on": "c"},
+        {"kind": "negative", "from": "a", "on": "d", "amount": 2},
+        {"kind": "fork", "to": ["d", "a", "c"]},
+        {"kind": "fork", "from": "d", "to": ["b", "a", "c"]},
+        {"kind": "join", "from": ["d", "a", "b"], "to": "c"},
+        {"kind": "join", "from": ["a", "b", "c", "d"]},
+        guarded(d=(1, 2, -1, 0, 2), a=(0, 0, 1, 0, 1), c=(0, 1, -1, 0, 1), b=(0, 0, 0, 1, 1)),
+        guarded(b=(0, 1, 0, 0, 0), d=(0, 1, 2, 1, 2), a=(1, 1, -1, 0, 1)),
+        guarded(c=(0, 1, 1, 0, 1), a=(0, 1, 1, 0, 1), b=(0, 1, -1, 0, 1), d=(2, 2, -2, 0, 2)),
+    ],
+)
+
+
+def drawn_routes(caps, count):
+    """So many events that go by drawn tables to the first two of three queues, in either order."""
+    first, last, origin = caps
+    dice = Dice(count)
+    for _ in range(count):
+        to = [first, last] if dice.coin() else [last, first]
+        keys = {"from": origin} if dice.coin() else {"size": dice.upto(3)}
+        full = dice.pick(all_kinds.FULLS)
+        table = [[dice.below(6) for _ in range(caps[queue])] for queue in to]
+        yield {"kind": "index", **keys, "to": to, "table": table, "full": full}
+
+
+# The network of the wrong tables.
+SMALL = (
+    {"a": 1, "b": 2},
+    {"a": 1, "b": 2},
+    [
+        {"kind": "arrival", "to": ["a", "b"]},
+        {"kind": "negative", "from": "a", "on": "b"},
+        {"kind": "service", "from": "b"},
+    ],
+)
+
+
+def networks():
+    """The networks by their names."""
+    yield from (("two-queues", TWO), ("three-queues", THREE), ("three-servers", SERVERS))
+    yield "four-queues", FOUR
+    caps = {"a": 6, "b": 4, "c": 1}
+    yield "drawn-routes", (caps, dict.fromkeys(caps, 1), list(drawn_routes(caps, 24)))
+    for sizes in all_kinds.CAPACITIES:
+        caps = dict(zip(all_kinds.NAMES, sizes))
+        yield f"kinds-{'-'.join(map(str, sizes))}", (caps, caps, list(all_kinds.kinds(caps)))
 
 
 def file_of(caps, servers, entries):
@@ -103,30 +161,173 @@ def file_of(caps, servers, entries):
     lines = ["version = 2"]
     for key, tables in (("queue", queues), ("event", events)):
         lines += [f"{key} = [", *(f"    {written(table)}," for table in tables), "]"]
-    return "\n".join(lines).replace('"', "'") + "\n"
+    return "\n".join([*lines, ""])
 
 
-def images(net):
-    """For each event the places of the images of all states."""
-    states = list(itertools.product(*(range(cap + 1) for cap in net.caps)))
-    place = {state: i for i, state in enumerate(states)}
-    return [[place[event.after(state)] for state in states] for event in net.events]
+class Table:
+    """What the events of a network make of every state."""
+
+    def __init__(self, file, net):
+        self.file = file
+        self.states = plain.box((0,) * len(net.caps), net.caps)
+        self.rows = [
+            (event.name, event.k, list(map(event.after, self.states))) for event in net.events
+        ]
+
+    def text(self):
+        """The table in the form that crates/psi_sweep/src/table.rt describes."""
+        lines = [f"network {self.file}", f"states {texts_of(self.states)}"]
+        lines += [f"event {name} {server} {texts_of(images)}" for name, server, images in self.rows]
+        return "\n".join([*lines, ""])
+
+
+def texts_of(states):
+    return " ".join(map(plain.text_of, states))
+
+
+def hull(images):
+    """The corners of the least box around some states."""
+    numbers = list(zip(*images))
+    return tuple(map(min, numbers)), tuple(map(max, numbers))
+
+
+class Sweep:
+    """What has to be printed of a table of a network, and the counts of what agrees."""
+
+    def __init__(self, name, table, net):
+        self.name, self.states, self.lines = name, table.states, []
+        self.counts = dict.fromkeys(("events", "states", "boxes", "marks"), 0)
+        for event, row in itertools.zip_longest(net.events, table.rows):
+            if row is not None:
+                self.compare(event, *row)
+        missing = len(net.events) - len(table.rows)
+        if missing > 0:
+            self.lines.append(f"{name}: events without a row: {missing}")
+        self.agrees = not self.lines
+        counted = ", ".join(f"{count} {what}" for what, count in self.counts.items())
+        self.lines.append(f"{name}: {counted} agree")
+
+    def compare(self, event, name, server, images):
+        """Compares an event with its row; the network may have none for it."""
+        place, before = f"{self.name}: event {name} {server}", len(self.lines)
+        if event is None or (event.name, event.k) != (name, server):
+            self.lines.append(f"{place}: another event")
+        if event is not None:
+            after = dict(zip(self.states, images))
+            self.compare_states(place, event, after)
+            self.compare_boxes(place, event, after)
+            self.count("marks", is_marked(event, after), f"{place}: another mark")
+        self.counts["events"] += len(self.lines) == before
+
+    def count(self, what, agrees, line):
+        if agrees:
+            self.counts[what] += 1
+        else:
+            self.lines.append(line)
+
+    def compare_states(self, place, event, after):
+        for x, y in after.items():
+            line = f"{place}: state {plain.text_of(x)} doesn't become {plain.text_of(y)}"
+            self.count("states", event.after(x) == y, line)
+
+    def compare_boxes(self, place, event, after):
+        for low, high in itertools.product(self.states, repeat=2):
+            if plain.is_below(low, high):
+                states = plain.box(low, high)
+                agrees = hull(map(event.after, states)) == hull(after[x] for x in states)
+                ends = f"from {plain.text_of(low)} to {plain.text_of(high)}"
+                self.count("boxes", agrees, f"{place}: another envelope {ends}")
+
+
+def is_marked(event, after):
+    """Whether an event's mark is that of its images: a pair that breaks the order, if any does."""
+    pair = event.upset()
+    pairs = [pair] if pair else itertools.product(after, repeat=2)
+    keeps = (plain.is_below(after[x], after[y]) for x, y in pairs if plain.is_below(x, y))
+    return all(keeps) == (pair is None)
+
+
+def put(folder, name, text):
+    (folder / name).write_text(text)
+    return name
+
+
+def write_right(data):
+    """Writes the right tables and their networks; their names, and what is printed of them."""
+    names, lines, agreeing = [], [], 0
+    for name, network in networks():
+        text = file_of(*network)
+        net = plain.Network(tomllib.loads(text))
+        table = Table(put(data, f"{name}.toml", text), net)
+        names.append(put(data, f"{name}.table", table.text()))
+        sweep = Sweep(names[-1], table, net)
+        lines += sweep.lines
+        agreeing += sweep.agrees
+    return names, [*lines, f"{agreeing} tables agree"]
+
+
+def write_wrong(data):
+    """Writes tables that are wrong in one place each; their names, and what is printed of them."""
+    text = file_of(*SMALL)
+    net = plain.Network(tomllib.loads(text))
+    file = put(data, "wrong.toml", text)
+    names, lines = [], []
+    for name, change in compared_changes():
+        table = Table(file, net)
+        change(table)
+        names.append(put(data, f"wrong-{name}.table", table.text()))
+        lines += Sweep(names[-1], table, net).lines
+    for name, (old, new), cause in read_changes():
+        right = Table(file, net).text()
+        assert right.count(old) == 1, name
+        names.append(put(data, f"wrong-{name}.table", right.replace(old, new)))
+        lines.append(f"{names[-1]}: can't be read: {cause}")
+    names.append("absent.table")
+    lines.append("absent.table: can't be read: no file absent.table")
+    return names, lines
+
+
+def compared_changes():
+    """Changes of a right table of the small network that leave its form."""
+
+    def put_image(row, place, image):
+        return lambda table: table.rows[row][2].__setitem__(place, image)
+
+    def put_row(row, name, server):
+        return lambda table: table.rows.__setitem__(row, (name, server, table.rows[row][2]))
+
+    yield "image", put_image(0, 5, (0, 2))
+    # The negative event still breaks the order, but not at the pair that it shows.
+    yield "pair", put_image(1, 5, (0, 2))
+    yield "name", put_row(0, "e1", 1)
+    yield "server", put_row(3, "e2", 1)
+    yield "row-missing", lambda table: table.rows.pop()
+    yield "row-more", lambda table: table.rows.append(table.rows[0])
+
+
+def read_changes():
+    """Changes of the text of that table after which it can't be read, and why."""
+    others = "its states aren't all states of the network"
+    yield "order", ("states 0,0 0,1", "states 0,1 0,0"), others
+    yield "states-fewer", ("states 0,0 ", "states "), "line 3: not one image for each state"
+    fewer = "line 4: not one image for each state"
+    yield "image-missing", ("event e1 1 0,0 ", "event e1 1 "), fewer
+    yield "state", ("event e1 1 0,0 ", "event e1 1 0,x "), "line 4: 0,x is no state"
+    yield "number", ("event e1 1 ", "event e1 one "), "line 4: a server that is no number"
+    yield "key", ("event e1 ", "events e1 "), "line 4: no such key"
+    yield "network", ("network wrong.toml", "network absent.toml"), "no file absent.toml"
+    yield "file", ("network wrong.toml", "network wrong-file.table"), "a network that is refused"
 
 
 def main():
-    print(HEAD)
-    pieces = []
-    for name, network in NETWORKS.items():
-        text = file_of(*network)
-        rows = images(plain.Network(tomllib.loads(text)))
-        listed = "".join(f"    {row},\n" for row in rows)
-        pieces.append(f"""\
-pub(super) const {name}: &str = "{text}";
-
-pub(super) const IMAGES_OF_{name}: [[u8; 12]; {len(rows)}] = [
-{listed}];
-""")
-    print("\n".join(pieces), end="")
+    crate = pathlib.Path(sys.argv[1])
+    data = crate / "data"
+    data.mkdir(parents=True, exist_ok=True)
+    wrong, told = write_wrong(data)
+    right, counted = write_right(data)
+    put(crate, "args", "".join(f"{name}\n" for name in [*wrong, *right]))
+    put(crate, "stdout", "".join(f"{line}\n" for line in [*told, *counted]))
+    put(crate, "status", "1\n")
 
 
 if __name__ == "__main__":
