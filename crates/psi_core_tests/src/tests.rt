@@ -3,7 +3,6 @@
 mod covering;
 mod events;
 mod generated;
-mod images;
 mod plans;
 mod pools;
 mod queues;
@@ -11,4 +10,3 @@ mod refusals;
 mod regions;
 mod reports;
 mod rewards;
-mod sweeps;

@@ -116,8 +116,8 @@ pub(super) fn image(net: &Net, event: u16, x: State) -> Option<State> {
     Some(y)
 }
 
-/// What an event of the network makes of the box of two corners; none where it has no such event or box.
-pub(super) fn envelope(net: &Net, event: u16, lo: State, hi: State) -> Option<Bounds> {
+// What an event of the network makes of the box of two corners; none where it has no such event or box.
+fn envelope(net: &Net, event: u16, lo: State, hi: State) -> Option<Bounds> {
     if event >= net.events() {
         return None;
     }
