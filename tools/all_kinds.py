@@ -13,6 +13,7 @@ import tomllib
 
 import plain
 from case_text import case
+from plain_network import Network, box, is_below
 from toml_text import table
 
 CAPACITIES = [(1,), (3,), (4,), (1, 2), (2, 2), (4, 2), (1, 2, 1)]
@@ -97,12 +98,12 @@ def kinds(caps):
 
 def prove_marks(net):
     """Each event's mark is right: its pair breaks the order; without one all states keep it."""
-    states = plain.box((0,) * len(net.caps), net.caps)
+    states = box((0,) * len(net.caps), net.caps)
     for event in net.events:
         pair = event.upset()
         pairs = [pair] if pair else itertools.product(states, repeat=2)
         for x, y in pairs:
-            keeps = not plain.is_below(x, y) or plain.is_below(event.after(x), event.after(y))
+            keeps = not is_below(x, y) or is_below(event.after(x), event.after(y))
             assert keeps == (pair is None), (event.name, x, y)
 
 
@@ -119,7 +120,7 @@ def main():
                 table("event", {"name": f"e{front + i}", "rate": 1, **keys})
                 for i, keys in enumerate(entries[front : front + TOGETHER])
             )
-            net = plain.Network(tomllib.loads(text))
+            net = Network(tomllib.loads(text))
             prove_marks(net)
             name = f"kinds-{'-'.join(map(str, sizes))}-from-{front}"
             files = {"net.toml": text.encode()}

@@ -1,23 +1,26 @@
 #!/usr/bin/env python3
 """plain.py check NET | sample NET SEED STREAM | report NET SEED FIRST COUNT
          | couple NET SEED STREAM | reward NET SEED STREAM NAME
+         | exact NET SEED STREAM H | closed NET SEED STREAM TOTAL
 
 A plain program that describes and samples small networks by listing their states.
 
 It was written from the definitions (docs/DEFINITIONS.md, docs/FORMATS.md) and shares nothing with
 the proved program: each event is a function on tuples, a region is a sorted list of states, every
-horizon is run from its beginning, and what a report tells is counted in the list of all samples. It
-takes valid networks alone, as `tomllib` reads them, and is meant for a few thousand states at most.
+horizon is run from its beginning, what a report tells is counted in the list of all samples, and an
+arc hull is picked from the list of all states of a total. It takes valid networks alone, as
+`tomllib` reads them, and is meant for a few thousand states at most.
 
 Of a trial it has the network and the lines before the report: there are too many states to list.
 """
 
-import bisect
 import functools
-import itertools
+import math
 import struct
 import sys
 import tomllib
+
+from plain_network import Network, box
 
 MASK = 0xFFFFFFFF
 
@@ -67,205 +70,7 @@ class Words:
         return self.blocks[counter][place % 16]
 
 
-# Networks and their events.
-
-class Network:
-    """A valid network, made of what `tomllib` reads."""
-
-    def __init__(self, table):
-        self.queues = table["queue"]
-        self.caps = tuple(queue["capacity"] for queue in self.queues)
-        self.servers = tuple(queue.get("servers", 1) for queue in self.queues)
-        self.limit = table.get("limit", 18)
-        self.split = table.get("split", 256)
-        self.place = {queue["name"]: i for i, queue in enumerate(self.queues)}
-        self.events = [
-            Event(self, entry, k)
-            for entry in table["event"]
-            for k in range(1, self.copies(entry) + 1)
-        ]
-        self.totals = list(itertools.accumulate(event.rate for event in self.events))
-        self.modulus = 1
-        while self.modulus < self.totals[-1]:
-            self.modulus *= 2
-        self.idle = self.modulus - self.totals[-1]
-        self.rewards = [Reward(self, entry) for entry in table.get("reward", [])]
-
-    def copies(self, entry):
-        """How many events an entry stands for: one for each server of its single source."""
-        if entry["kind"] in ("service", "index", "negative", "fork") and "from" in entry:
-            return self.servers[self.place[entry["from"]]]
-        return 1
-
-    def event_of(self, word):
-        """The event of a word; none is idle."""
-        place = bisect.bisect_right(self.totals, word % self.modulus)
-        return self.events[place] if place < len(self.events) else None
-
-
-class Event:
-    """One server's event of an entry."""
-
-    def __init__(self, net, entry, k):
-        self.net, self.k, self.kind = net, k, entry["kind"]
-        self.name, self.rate = entry["name"], entry["rate"]
-        at = net.place
-        self.source = at[entry["from"]] if isinstance(entry.get("from"), str) else None
-        to = entry.get("to", [])
-        self.to = [at[name] for name in ([to] if isinstance(to, str) else to)]
-        self.full = entry.get("full", "lost")
-        self.size = entry.get("size", 1)
-        self.table = entry.get("table")
-        if self.kind not in ("arrival", "service", "index", "batch"):
-            self.rules = self.rules_of(entry)
-
-    def key(self, place, number):
-        """The key of a target of the list at a number of customers: its index, then its place."""
-        return (self.table[place][number] if self.table else 0, place)
-
-    def rules_of(self, entry):
-        """For each queue its least, most, shift, floor and ceiling: its guard and its change."""
-        caps = self.net.caps
-        rules = [(0, cap, 0, 0, cap) for cap in caps]
-
-        def loses(queue, least, count):
-            rules[queue] = (least, caps[queue], -count, 0, caps[queue])
-
-        def gains(queue):
-            rules[queue] = (0, caps[queue] - 1, 1, 0, caps[queue])
-
-        if self.kind == "negative":
-            loses(self.net.place[entry["on"]], 0, entry.get("amount", 1))
-        if self.kind == "join":
-            for name in entry["from"]:
-                loses(self.net.place[name], 1, 1)
-        if self.kind in ("fork", "join"):
-            for queue in self.to:
-                gains(queue)
-        if self.source is not None:
-            loses(self.source, self.k, 1)
-        if self.kind == "guarded":
-            for part in entry["part"]:
-                queue = self.net.place[part["queue"]]
-                rules[queue] = (
-                    part.get("least", 0), part.get("most", caps[queue]), part.get("shift", 0),
-                    part.get("floor", 0), part.get("ceiling", caps[queue]),
-                )
-        return rules
-
-    @functools.cache
-    def after(self, x):
-        """What the event makes of a state."""
-        if self.kind in ("arrival", "service", "index", "batch"):
-            return self.routed(x)
-        rules = self.rules
-        if all(rule[0] <= number <= rule[1] for rule, number in zip(rules, x)):
-            return tuple(shifted(rule, number) for rule, number in zip(rules, x))
-        return x
-
-    def routed(self, x):
-        """What an event does that sends customers to one queue of a list."""
-        caps = self.net.caps
-        if self.source is not None and x[self.source] < self.k:
-            return x
-        free = [i for i, q in enumerate(self.to) if x[q] + self.size <= caps[q]]
-        is_out = self.full == "lost" or not self.to
-        if not free and (self.source is None or not is_out):
-            return x
-        y = list(x)
-        if free:
-            place = min(free, key=lambda i: self.key(i, x[self.to[i]]))
-            y[self.to[place]] += self.size
-        if self.source is not None:
-            y[self.source] -= 1
-        return tuple(y)
-
-    def upset(self):
-        """The two states by which the event breaks the order; none where it keeps it."""
-        if self.kind in ("arrival", "service", "index", "batch"):
-            return self.upset_route()
-        for test in (1, 2, 3, 4):
-            for p, q in itertools.product(range(len(self.rules)), repeat=2):
-                pair = self.upset_rule(test, p, q)
-                if pair:
-                    return pair
-        return None
-
-    def upset_route(self):
-        caps = self.net.caps
-        if self.size >= 2:
-            x = with_number(caps, self.to[0], caps[self.to[0]] - self.size)
-            return x, with_number(x, self.to[0], x[self.to[0]] + 1)
-        if not self.table:
-            return None
-        for a, b in itertools.permutations(range(len(self.to)), 2):
-            first, second = self.to[a], self.to[b]
-            for v, w in itertools.product(range(caps[first] - 1), range(caps[second])):
-                if self.key(a, v + 1) < self.key(b, w) < self.key(a, v):
-                    x = with_number(with_number(caps, second, w), first, v)
-                    return x, with_number(x, first, v + 1)
-        return None
-
-    def upset_rule(self, test, p, q):
-        rules, caps = self.rules, self.net.caps
-        low = tuple(rule[0] for rule in rules)
-        least, most = rules[p][0], rules[p][1]
-        if test in (1, 2) and most < caps[p]:
-            leaps = test == 1 and shifted(rules[p], most) > most + 1
-            rises = test == 2 and p != q and shifted(rules[q], rules[q][0]) > rules[q][0]
-            if leaps or rises:
-                return with_number(low, p, most), with_number(low, p, most + 1)
-        if test == 3 and least >= 1 and shifted(rules[p], least) < least - 1:
-            return with_number(low, p, least - 1), low
-        if test == 4 and least >= 1 and p != q and shifted(rules[q], rules[q][1]) < rules[q][1]:
-            high = with_number(low, q, rules[q][1])
-            return with_number(high, p, least - 1), high
-        return None
-
-
-class Reward:
-    """A number for each state."""
-
-    def __init__(self, net, entry):
-        self.name, self.kind = entry["name"], entry["kind"]
-        self.queues = [net.place[name] for name in entry["queues"]]
-        self.weights, self.table = entry.get("weights"), entry.get("table")
-        self.level = entry.get("level")
-
-    def value(self, x):
-        """The reward of a state."""
-        numbers = [x[queue] for queue in self.queues]
-        if self.kind == "linear":
-            return sum(weight * number for weight, number in zip(self.weights, numbers))
-        if self.kind == "table":
-            return sum(row[number] for row, number in zip(self.table, numbers))
-        if self.kind == "above":
-            return sum(number > self.level for number in numbers)
-        return max(numbers) if self.kind == "greatest" else min(numbers)
-
-
-def shifted(rule, number):
-    """A number of customers after the shift of a rule, within its floor and ceiling."""
-    _, _, shift, floor, ceiling = rule
-    return min(max(number + shift, floor), ceiling)
-
-
-def with_number(x, queue, number):
-    """The state with another number of customers in a queue."""
-    return x[:queue] + (number,) + x[queue + 1:]
-
-
-def is_below(x, y):
-    """Whether each queue holds at most as many customers in the first state as in the second."""
-    return all(a <= b for a, b in zip(x, y))
-
-
 # Runs.
-
-def box(low, high):
-    """The states between two corners."""
-    return list(itertools.product(*(range(a, b + 1) for a, b in zip(low, high))))
-
 
 def ending(net, words, horizon):
     """The states at time zero of the region run that begins so many steps before it."""
@@ -291,10 +96,10 @@ def outcome(net, seed, stream):
     return None
 
 
-def coupling(net, seed, stream):
+def coupling(net, seed, stream, limit):
     """The least horizon of any length and its state; none where there is none."""
     words = Words(seed, stream)
-    for horizon in range(1, 2**net.limit + 1):
+    for horizon in range(1, 2**limit + 1):
         states = ending(net, words, horizon)
         if len(states) == 1:
             return horizon, states[0]
@@ -308,6 +113,66 @@ def valuation(net, seed, stream, reward):
         values = {reward.value(x) for x in ending(net, words, 2**exponent)}
         if len(values) == 1:
             return 2**exponent, values.pop()
+    return None
+
+
+# Maps of all states.
+
+def survey(net, seed, stream, exponent):
+    """The numbers of states of the images, and the least horizon at which all states have met."""
+    words, ends = Words(seed, stream), {x: x for x in box((0,) * len(net.caps), net.caps)}
+    sizes, meeting = [], None
+    for horizon in range(1, 2**exponent + 1):
+        event = net.event_of(words[horizon - 1])
+        if event is not None:
+            ends = {x: ends[event.after(x)] for x in ends}
+        image = set(ends.values())
+        if horizon & (horizon - 1) == 0:
+            sizes.append(len(image))
+        if len(image) == 1 and meeting is None:
+            meeting = horizon, image.pop()
+    return sizes, meeting
+
+
+# Closed networks.
+
+def of_total(caps, total):
+    """The states within the capacities that hold so many customers, ascending."""
+    if not caps:
+        return [] if total else [()]
+    held = range(min(caps[0], total) + 1)
+    return [(number, *rest) for number in held for rest in of_total(caps[1:], total - number)]
+
+
+@functools.cache
+def arcs(x):
+    """The arcs of a state: for each queue, what those before it hold, and what it holds."""
+    return frozenset((i, sum(x[:i]), number) for i, number in enumerate(x))
+
+
+def arc_hull(everything, states):
+    """Those of all states each of whose arcs is an arc of one of these."""
+    union = set().union(*map(arcs, states))
+    return [x for x in everything if arcs(x) <= union]
+
+
+def closed_ending(net, words, everything, horizon):
+    """The states at time zero of the closed run that begins so many steps before it."""
+    states = everything
+    for time in range(horizon, 0, -1):
+        event = net.event_of(words[time - 1])
+        if event is not None:
+            states = arc_hull(everything, {event.after(x) for x in states})
+    return states
+
+
+def closed_outcome(net, seed, stream, total):
+    """The horizon and the state of a closed network's sample; none where it isn't met."""
+    words, everything = Words(seed, stream), of_total(net.caps, total)
+    for exponent in range(net.limit + 1):
+        states = closed_ending(net, words, everything, 2**exponent)
+        if len(states) == 1:
+            return 2**exponent, states[0]
     return None
 
 
@@ -343,7 +208,11 @@ def text_of(state):
 
 def sample(net, seed, stream):
     """The status and the text of a sample."""
-    drawn = outcome(net, seed, stream)
+    return outcome_text(net, outcome(net, seed, stream))
+
+
+def outcome_text(net, drawn):
+    """The status and the text of an outcome."""
     if drawn is None:
         return 1, f"not coupled within {2**net.limit}\n"
     horizon, state = drawn
@@ -352,7 +221,7 @@ def sample(net, seed, stream):
 
 def couple(net, seed, stream):
     """The status and the text of a coupling."""
-    found = coupling(net, seed, stream)
+    found = coupling(net, seed, stream, net.limit)
     if found is None:
         return 1, f"not coupled within {2**net.limit}\n"
     horizon, state = found
@@ -368,6 +237,33 @@ def value(net, seed, stream, name):
     if found is None:
         return 1, f"reward not coupled within {2**net.limit}\n"
     return 0, "reward-met {}\nvalue {}\n".format(*found)
+
+
+def exact(net, seed, stream, exponent):
+    """The status and the text of a survey, or of a network that has too many states."""
+    count = math.prod(cap + 1 for cap in net.caps)
+    if count > 65_536:
+        return 10, "psi: too many states\n"
+    sizes, meeting = survey(net, seed, stream, exponent)
+    lines = [f"states {count}"]
+    lines += [f"image {2**i} {size}" for i, size in enumerate(sizes)]
+    if meeting is None:
+        lines.append(f"not constant within {2**exponent}")
+    else:
+        lines.append(f"constant {meeting[0]} {text_of(meeting[1])}")
+    found = coupling(net, seed, stream, exponent)
+    lines.append(f"region {found[0]}" if found else "region none")
+    return (0 if meeting else 1), "".join(line + "\n" for line in lines)
+
+
+def closed(net, seed, stream, total):
+    """The status and the text of a closed network's sample, or of what is no such network."""
+    for number, event in enumerate(net.events):
+        if not event.is_move():
+            return 11, f"psi: not closed event {number}\n"
+    if total > sum(net.caps):
+        return 12, "psi: no state with this total\n"
+    return outcome_text(net, closed_outcome(net, seed, stream, total))
 
 
 def report(net, seed, first, count):
@@ -440,6 +336,10 @@ def main():
         status, text = couple(net, *numbers)
     elif command == "reward":
         status, text = value(net, *numbers, name)
+    elif command == "exact":
+        status, text = exact(net, *numbers)
+    elif command == "closed":
+        status, text = closed(net, *numbers)
     print(text, end="")
     return status
 
