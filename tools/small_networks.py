@@ -1,10 +1,17 @@
 #!/usr/bin/env python3
-"""small_networks.py COUNT > FILE.cases
+"""small_networks.py COUNT [COMMAND] > FILE.cases
 
-Writes a case of `sample` for each of so many small networks: up to three queues of up to four
-customers, up to four events of all eight kinds, drawn by their number. What is wanted is what the
-plain program answers (plain.py), which lists states and shares nothing with the proved one. The
-seed is the number, and the stream its square.
+Writes a case of a command, `sample` where none is named, for each of so many small networks, which
+are drawn by their number:
+
+- of `sample`: up to three queues of up to four customers, and up to four events of all eight kinds;
+- of `exact`: those of these networks in which the regions meet later than the states do, or not at
+  all, and a tenth of the others;
+- of `closed`: two to five queues of up to four customers, and services that move these around; one
+  network in eight has an event that may do something else.
+
+What is wanted is what the plain program answers (plain.py), which lists states and shares nothing
+with the proved one. The seed is the number, and the stream its square.
 """
 
 import sys
@@ -15,7 +22,7 @@ from case_text import case
 from toml_text import table
 
 SPLITS = (1, 1, 1, 2, 3, 5, 8, 64, 4096)
-NAMES = "abc"
+NAMES = "abcde"
 KINDS = "arrival service service index batch negative fork join guarded".split()
 ALL = (1 << 64) - 1
 
@@ -131,14 +138,54 @@ def network(number):
     return text
 
 
+def closed_network(number):
+    """The file of the closed network of a number, or of one that is nearly closed."""
+    dice = Dice(number)
+    queues = NAMES[: 1 + dice.upto(4)]
+    caps = {name: dice.upto(4) for name in queues}
+    text = f"version = 2\nlimit = {dice.below(10)}\n"
+    for name, cap in caps.items():
+        text += table("queue", {"name": name, "capacity": cap, "servers": min(dice.upto(3), cap)})
+    for place in range(len(queues) + dice.below(3)):
+        origin = queues[place % len(queues)]
+        to = [dice.pick([queue for queue in queues if queue != origin])]
+        keys = {"kind": "service", "from": origin, "to": to, "full": "stay"}
+        if dice.below(8 * len(queues)) == 0:
+            keys = event(dice, caps)
+        text += table("event", {"name": f"e{place}", "rate": dice.upto(8), **keys})
+    return text
+
+
+def asked(command, number):
+    """The file of a number, and the last words of the command that is asked of it."""
+    if command == "closed":
+        text = closed_network(number)
+        total = Dice(number).below(2 + sum(plain.Network(tomllib.loads(text)).caps))
+        return text, [total]
+    return network(number), [number % 7] if command == "exact" else []
+
+
+def is_kept(command, number, said):
+    """Whether the case of a number is written, of which this is wanted."""
+    if command != "exact" or number % 10 == 0:
+        return True
+    *_, meeting, region = said.splitlines()
+    return meeting.startswith("constant") and meeting.split()[1] != region.split()[1]
+
+
 def main():
+    command = sys.argv[2] if len(sys.argv) > 2 else "sample"
     for number in range(int(sys.argv[1])):
-        text, stream = network(number), number * number
-        net = plain.Network(tomllib.loads(text))
-        status, out = plain.sample(net, number, stream)
-        words = ["sample", "net.toml", str(number), str(stream)]
+        text, last = asked(command, number)
+        words, net = [number, number * number, *last], plain.Network(tomllib.loads(text))
+        status, said = getattr(plain, command)(net, *words)
+        if not is_kept(command, number, said):
+            continue
         files = {"net.toml": text.encode()}
-        sys.stdout.buffer.write(case(f"small-{number:04}", words, files, status, out.encode()))
+        name = f"small-{number:04}" if command == "sample" else f"small-{command}-{number:04}"
+        out, err = (said.encode(), b"") if status <= 1 else (b"", said.encode())
+        words = [command, "net.toml", *map(str, words)]
+        sys.stdout.buffer.write(case(name, words, files, status, out, err))
 
 
 if __name__ == "__main__":
