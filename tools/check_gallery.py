@@ -28,6 +28,7 @@ import tempfile
 TOP = pathlib.Path(__file__).resolve().parent.parent
 SECONDS = 60
 SHOWN = re.compile(r"^# `psi ([^`]*)` prints\n#\n((?:#     .*\n)+)", re.M)
+UNMET = re.compile(r"^(reward )?not (coupled|constant) within ", re.M)
 BLOCK = re.compile(r"^```(\w*)\n(.*?)^```\n", re.M | re.S)
 
 
@@ -68,8 +69,8 @@ def files_of_document(file):
 def wanted_statuses(text):
     """The statuses with which a run may end that prints this text."""
     if text.startswith("psi: "):
-        return range(2, 9)
-    return (1,) if text.startswith("not coupled") else (0,)
+        return range(2, 13)
+    return (1,) if UNMET.search(text) else (0,)
 
 
 def is_shown(text, printed):
