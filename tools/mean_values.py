@@ -42,7 +42,8 @@ def flows_of(rows):
     the others, solved by elimination."""
     count = len(rows)
     share = [[fractions.Fraction(rate, sum(row)) for rate in row] for row in rows]
-    lines = [[share[i][j] - (i == j) for i in range(1, count)] + [-share[0][j]] for j in range(1, count)]
+    others = range(1, count)
+    lines = [[share[i][j] - (i == j) for i in others] + [-share[0][j]] for j in others]
     for i in range(count - 1):
         pivot = next(k for k in range(i, count - 1) if lines[k][i])
         lines[i], lines[pivot] = lines[pivot], lines[i]
