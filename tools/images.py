@@ -7,9 +7,9 @@ boxes with tables of it: data/ with networks and their tables, args, stdout and 
 The networks have one to four queues with room for a few customers, and events of every kind: some
 have a few of each kind, one has routes by tables that are drawn, and the others have all events of
 all_kinds.py at some capacities. What an event makes of a state is what the plain program answers
-(plain.py), which was written from the definitions and shares nothing with the proved one. A small
-network has tables that are wrong in one place each; what has to be printed of these is worked out
-here.
+(plain_network.py), which was written from the definitions and shares nothing with the proved one. A
+small network has tables that are wrong in one place each; what has to be printed of these is worked
+out here.
 """
 
 import itertools
@@ -18,7 +18,8 @@ import sys
 import tomllib
 
 import all_kinds
-import plain
+from plain import text_of
+from plain_network import Network, box, is_below
 from small_networks import Dice
 from toml_text import written
 
@@ -169,7 +170,7 @@ class Table:
 
     def __init__(self, file, net):
         self.file = file
-        self.states = plain.box((0,) * len(net.caps), net.caps)
+        self.states = box((0,) * len(net.caps), net.caps)
         self.rows = [
             (event.name, event.k, list(map(event.after, self.states))) for event in net.events
         ]
@@ -182,7 +183,7 @@ class Table:
 
 
 def texts_of(states):
-    return " ".join(map(plain.text_of, states))
+    return " ".join(map(text_of, states))
 
 
 def hull(images):
@@ -227,15 +228,15 @@ class Sweep:
 
     def compare_states(self, place, event, after):
         for x, y in after.items():
-            line = f"{place}: state {plain.text_of(x)} doesn't become {plain.text_of(y)}"
+            line = f"{place}: state {text_of(x)} doesn't become {text_of(y)}"
             self.count("states", event.after(x) == y, line)
 
     def compare_boxes(self, place, event, after):
         for low, high in itertools.product(self.states, repeat=2):
-            if plain.is_below(low, high):
-                states = plain.box(low, high)
+            if is_below(low, high):
+                states = box(low, high)
                 agrees = hull(map(event.after, states)) == hull(after[x] for x in states)
-                ends = f"from {plain.text_of(low)} to {plain.text_of(high)}"
+                ends = f"from {text_of(low)} to {text_of(high)}"
                 self.count("boxes", agrees, f"{place}: another envelope {ends}")
 
 
@@ -243,7 +244,7 @@ def is_marked(event, after):
     """Whether an event's mark is that of its images: a pair that breaks the order, if any does."""
     pair = event.upset()
     pairs = [pair] if pair else itertools.product(after, repeat=2)
-    keeps = (plain.is_below(after[x], after[y]) for x, y in pairs if plain.is_below(x, y))
+    keeps = (is_below(after[x], after[y]) for x, y in pairs if is_below(x, y))
     return all(keeps) == (pair is None)
 
 
@@ -257,7 +258,7 @@ def write_right(data):
     names, lines, agreeing = [], [], 0
     for name, network in networks():
         text = file_of(*network)
-        net = plain.Network(tomllib.loads(text))
+        net = Network(tomllib.loads(text))
         table = Table(put(data, f"{name}.toml", text), net)
         names.append(put(data, f"{name}.table", table.text()))
         sweep = Sweep(names[-1], table, net)
@@ -269,7 +270,7 @@ def write_right(data):
 def write_wrong(data):
     """Writes tables that are wrong in one place each; their names, and what is printed of them."""
     text = file_of(*SMALL)
-    net = plain.Network(tomllib.loads(text))
+    net = Network(tomllib.loads(text))
     file = put(data, "wrong.toml", text)
     names, lines = [], []
     for name, change in compared_changes():
