@@ -18,23 +18,6 @@ use Rattle.psi_texts.specs.Surveys.{survey_text}
 use Rattle.psi_run.specs.Sample.{functions_by_time}
 use Rattle.psi_run.specs.Couple.{endings}
 
--- the state to which the last steps send all states, if they send them to one, by the number of these steps, under the words of a seed
--- and a stream
-unfoldable pub meetings : Network → (seed stream : ℕ) → ℕ → Option (List ℕ)
-meetings net seed stream = meeting_at (functions_by_time net seed stream) (caps_of net)
-
--- the least horizon from 1 to 2^h at which all states have met, with their state, if there is one
-unfoldable pub meeting : Network → (seed stream h : ℕ) → Meeting
-meeting net seed stream h = meeting_within (meetings net seed stream) h
-
--- the least horizon from 1 to 2^h whose region run ends with one state, with that state, if there is one
-unfoldable pub region : Network → (seed stream h : ℕ) → Coupled
-region net seed stream h = coupled_within (endings net seed stream) h
-
--- the numbers of states that the last 1, 2, 4, .., 2^h steps leave of all
-unfoldable pub sizes : Network → (seed stream h : ℕ) → List ℕ
-sizes net seed stream h = image_sizes (functions_by_time net seed stream) (caps_of net) h
-
 -- the number of all states
 unfoldable pub state_count : Network → ℕ
 state_count net = length (all_states (caps_of net))
@@ -44,10 +27,27 @@ abbrev pub meeting_status : Meeting → Status
 meeting_status (Constant horizon state) = Done
 meeting_status (NotConstant exponent) = NotCoupled
 
--- what is printed of the map
-unfoldable pub exact_text : Network → (seed stream h : ℕ) → List ℕ
-exact_text net seed stream h =
-    survey_text (state_count net) (sizes net seed stream h) (meeting net seed stream h) (region net seed stream h)
+-- of a network, under the words of a seed and a stream
+module _ (net : Network) (seed stream : ℕ) where
+  -- the state to which the last steps send all states, if they send them to one, by the number of these steps
+  unfoldable pub meetings : ℕ → Option (List ℕ)
+  meetings = meeting_at (functions_by_time net seed stream) (caps_of net)
+
+  -- the least horizon from 1 to 2^h at which all states have met, with their state, if there is one
+  unfoldable pub meeting : (h : ℕ) → Meeting
+  meeting h = meeting_within meetings h
+
+  -- the least horizon from 1 to 2^h whose region run ends with one state, with that state, if there is one
+  unfoldable pub region : (h : ℕ) → Coupled
+  region h = coupled_within (endings net seed stream) h
+
+  -- the numbers of states that the last 1, 2, 4, .., 2^h steps leave of all
+  unfoldable pub sizes : (h : ℕ) → List ℕ
+  sizes h = image_sizes (functions_by_time net seed stream) (caps_of net) h
+
+  -- what is printed of the map
+  unfoldable pub exact_text : (h : ℕ) → List ℕ
+  exact_text h = survey_text (state_count net) (sizes h) (meeting h) (region h)
 
 -- where a region run ends with one state, all states have met by its horizon, in that state
 abbrev pub HasMetBy : Coupled → Meeting → Type 0
