@@ -1,0 +1,156 @@
+"""Draws a log: where all states may be from the beginning to time zero, queue by queue."""
+
+import math
+
+import matplotlib.colors
+import matplotlib.patches
+import matplotlib.ticker
+import numpy
+
+from plotting import style
+from plotting.read_log import MOST_SHADES, Kind, columns_of
+
+COLOURS = {Kind.BOX: style.SKY, Kind.SET: style.BLUE, Kind.ONE: style.VERMILION}
+SAID = {
+    Kind.BOX: "a box: any number from least to greatest",
+    Kind.SET: "a set: darker where more of its states are",
+    Kind.ONE: "one state",
+}
+# Between the least and the greatest number of a set, where it has no state.
+FAINT = "#EEF3F8"
+# From a tint that can still be seen to the colour itself.
+SHADES = matplotlib.colors.LinearSegmentedColormap.from_list(
+    "shades", ["#CFE4F2", style.BLUE, "#003A5C"]
+)
+MOST_QUEUES_IN_TITLE = 8
+# By the number of columns: the height of a row in inches, how many points a name may be wide, and
+# how wide the line of one state is.
+ROW_HEIGHTS, NAME_WIDTHS = {1: 1.25, 2: 1.05, 4: 0.92}, {1: 400, 2: 200, 4: 82}
+LINE_WIDTHS = {1: 1.8, 2: 1.3, 4: 0.9}
+
+
+def draw_coupling(log, title):
+    """The figure of a log."""
+    queues, columns = len(log.names), columns_of(len(log.names))
+    rows = -(-queues // columns)
+    row = ROW_HEIGHTS[columns]
+    figure = style.new_figure(2.3 + rows * row, title or "Coupling from the past")
+    grid = figure.add_gridspec(rows + 2, columns, height_ratios=[0.2, *[row] * rows, 1.3])
+    kinds = sorted({each.kind for each in log.bins}, reverse=True)
+    handles = [matplotlib.patches.Patch(color=COLOURS[kind]) for kind in kinds]
+    labels = [SAID[kind] for kind in kinds]
+    style.head(figure.add_subplot(grid[0, :]), said(log), handles, labels, 3)
+    for queue in range(queues):
+        place, column = divmod(queue, columns)
+        axes = figure.add_subplot(grid[place + 1, column])
+        draw_queue(axes, log, queue)
+        is_lowest = queue + columns >= queues
+        label_times(axes, log, 4 if columns == 1 else 2, is_lowest and columns > 1)
+        if column == 0:
+            axes.set_ylabel("customers", fontsize=8 if columns < 4 else 7)
+    axes = figure.add_subplot(grid[rows + 1, :])
+    draw_states(axes, log)
+    label_times(axes, log, 4, True)
+    axes.set_xlabel("time in steps; the sample is the state at time 0")
+    return figure
+
+
+def said(log):
+    """What the title says of a log."""
+    text = f"seed {log.seed}, stream {log.stream}, from time {style.whole(-log.horizon)} on"
+    text += f"; one state is left from time {style.whole(log.met)} on"
+    if len(log.names) <= MOST_QUEUES_IN_TITLE:
+        text += f"; at time 0 it is {','.join(map(str, log.state))}"
+    return text
+
+
+def draw_queue(axes, log, queue):
+    """The band of a queue between its least and greatest number, and the shades of sets."""
+    edges, low, high = log.edges(), log.low[queue], log.high[queue]
+    for kind in Kind:
+        draw_band(axes, log, queue, kind)
+    draw_shades(axes, log, queue)
+    mark_met(axes, log)
+    axes.set_xlim(edges[0], edges[-1])
+    room = 0.5 + 0.03 * (high - low)
+    axes.set_ylim(low - room, high + room)
+    few = 4 if columns_of(len(log.names)) == 1 else 2
+    if high - low <= few:
+        axes.set_yticks(range(low, high + 1))
+    else:
+        locator = matplotlib.ticker.MaxNLocator(few, integer=True, steps=style.STEPS)
+        axes.yaxis.set_major_locator(locator)
+    axes.yaxis.set_major_formatter(lambda number, _: style.whole(round(number)))
+    name, size = style.fitted(log.names[queue], NAME_WIDTHS[columns_of(len(log.names))], 8)
+    axes.set_title(name, loc="left", pad=2, fontsize=size)
+
+
+def draw_band(axes, log, queue, kind):
+    """The band where the regions are of this kind. A number has a height of one, as in the shades,
+    but that of one state is a line, or what the line of a bin's times covers."""
+    ends = [(each.low[queue], each.high[queue]) for each in log.bins]
+    ends = [pair if each.kind == kind else (math.nan,) * 2 for pair, each in zip(ends, log.bins)]
+    lows, highs = numpy.array(ends, float).T
+    if numpy.isnan(lows).all():
+        return
+    one_state = (0, LINE_WIDTHS[columns_of(len(log.names))])
+    half, width = one_state if kind == Kind.ONE else (0.5, 0.5)
+    face = FAINT if kind == Kind.SET else COLOURS[kind]
+    band = axes.stairs(highs + half, log.edges(), baseline=lows - half, fill=True)
+    band.set(facecolor=face, edgecolor=COLOURS[kind], linewidth=width)
+    band.set_gid(f"band-{queue}-{kind.name.lower()}")
+
+
+def draw_shades(axes, log, queue):
+    """Where the states of sets are: a picture with a column for each bin."""
+    low, high, bins = log.low[queue], log.high[queue], log.bins
+    if all(each.kind != Kind.SET for each in bins):
+        return
+    cells = numpy.full((min(high - low + 1, MOST_SHADES), len(bins)), math.nan)
+    for column, each in enumerate(bins):
+        for shade, share in each.shades[queue].items() if each.kind == Kind.SET else ():
+            cells[shade, column] = share
+    # The last bin may have fewer times than the others, so the picture goes beyond time zero.
+    end = log.edges()[0] + log.width * len(bins)
+    image = axes.imshow(
+        cells, SHADES, vmin=0, vmax=1, origin="lower", aspect="auto", interpolation="none",
+        extent=(log.edges()[0], end, low - 0.5, high + 0.5), zorder=1.5,
+    )
+    image.set_gid(f"shades-{queue}")
+
+
+def draw_states(axes, log):
+    """How many states are followed, on a logarithmic axis, and from where on it is one."""
+    edges = log.edges()
+    for kind in reversed(Kind):
+        counts = [float(each.states) if each.kind == kind else math.nan for each in log.bins]
+        if not numpy.isnan(counts).all():
+            line = axes.stairs(counts, edges, baseline=None, color=COLOURS[kind], lw=1.6)
+            line.set_gid(f"states-{kind.name.lower()}")
+    axes.set_yscale("log")
+    most = float(max(each.states for each in log.bins))
+    axes.set_ylim(0.7, max(most, 2) ** 1.12)
+    axes.set_xlim(edges[0], edges[-1])
+    style.label_counts(axes, most)
+    axes.set_title("states that are still followed", loc="left", pad=2)
+    axes.set_ylabel("states")
+    axes.grid(axis="y", lw=0.3, color="#CCCCCC")
+    mark_met(axes, log)
+    is_late = log.met > -log.horizon / 2
+    axes.annotate(
+        f"one state from {style.whole(log.met)} on", (log.met - 0.5, max(most, 2) ** 1.12),
+        xytext=(-4 if is_late else 4, -2), textcoords="offset points",
+        ha="right" if is_late else "left", va="top", color=style.VERMILION, fontsize=8,
+    )
+
+
+def mark_met(axes, log):
+    """The time from which on one state is left, at the beginning of its step."""
+    line = axes.axvline(log.met - 0.5, color=style.VERMILION, lw=0.9, ls=(0, (3, 2)), zorder=3)
+    line.set_gid("met")
+
+
+def label_times(axes, log, parts, is_labelled):
+    """Ticks at the beginning, at time zero and between."""
+    ticks = sorted({-round(log.horizon * part / parts) for part in range(parts + 1)})
+    axes.set_xticks(ticks, [style.whole(tick) for tick in ticks] if is_labelled else [])

@@ -1,0 +1,11 @@
+"""What is told of an input that can't be drawn."""
+
+
+class Refused(Exception):
+    """An input isn't what it should be; the text says why, in one line."""
+
+
+def need(is_so, why):
+    """Refuses the input unless something is so."""
+    if not is_so:
+        raise Refused(why)

@@ -1,0 +1,149 @@
+"""What the pictures share: colours, the form of numbers and titles, and how one is saved."""
+
+import io
+import logging
+import math
+import pathlib
+import textwrap
+import warnings
+
+# A font that is looked for the first time, or a sign that it lacks, is nothing to be told.
+logging.getLogger("matplotlib").setLevel(logging.ERROR)
+warnings.simplefilter("ignore")
+
+import matplotlib  # noqa: E402
+import matplotlib.figure  # noqa: E402
+import matplotlib.textpath  # noqa: E402
+import matplotlib.ticker  # noqa: E402
+
+# Eight colours that those who don't see all colours can tell apart (Okabe and Ito 2008).
+BLACK, ORANGE, SKY, GREEN = "#000000", "#E69F00", "#56B4E9", "#009E73"
+YELLOW, BLUE, VERMILION, PURPLE = "#F0E442", "#0072B2", "#D55E00", "#CC79A7"
+GREY = "#666666"
+
+# The width of a page between its margins, in inches.
+WIDTH = 7.2
+DOTS_PER_INCH = 150
+# The size of letters, in points, that can just be read in print.
+SMALLEST = 4.5
+# Whole numbers are at steps of 1, 2 or 5, times a power of ten.
+STEPS = [1, 2, 5, 10]
+STYLE = {
+    "font.family": "DejaVu Sans",
+    "font.size": 8,
+    "axes.titlesize": 8,
+    "axes.labelsize": 8,
+    "xtick.labelsize": 7,
+    "ytick.labelsize": 7,
+    "legend.fontsize": 7.5,
+    "legend.frameon": False,
+    "axes.spines.top": False,
+    "axes.spines.right": False,
+    "axes.linewidth": 0.6,
+    "xtick.major.width": 0.6,
+    "ytick.major.width": 0.6,
+    "figure.constrained_layout.use": True,
+    "savefig.dpi": DOTS_PER_INCH,
+    "svg.hashsalt": "psi-plot",
+    "path.simplify": True,
+}
+
+
+def new_figure(height, title):
+    """An empty figure of a page's width, with a title."""
+    matplotlib.rcdefaults()
+    matplotlib.rcParams.update(STYLE)
+    figure = matplotlib.figure.Figure(figsize=(WIDTH, height))
+    lines = textwrap.wrap(printable(title, 200), 80)
+    figure.suptitle("\n".join(lines), fontsize=10, weight="bold", parse_math=False)
+    return figure
+
+
+def head(axes, text, handles, labels, columns):
+    """What stands below the title, in axes of its own: what it tells, and a legend."""
+    axes.axis("off")
+    axes.set_title("\n".join(textwrap.wrap(text, 110)), pad=3, parse_math=False)
+    # A label that begins with '_' would be left out.
+    labels = [" " * label.startswith("_") + label for label in labels]
+    axes.legend(handles, labels, loc="center", ncol=columns, borderpad=0, borderaxespad=0)
+
+
+def columns_of(labels):
+    """In how many columns of a legend such labels stand."""
+    longest = max(map(len, labels))
+    return 1 if longest > 60 else 2 if longest > 36 else 3
+
+
+def power_of_two(power):
+    """Two to a power, as a number where it isn't great."""
+    return str(1 << power) if power < 10 else f"$2^{{{power}}}$"
+
+
+def saved(figure, form):
+    """The bytes of the picture, the same ones for the same figure."""
+    undated = {"svg": {"Date": None}, "pdf": {"CreationDate": None}, "png": {}}[form]
+    room = io.BytesIO()
+    figure.savefig(room, format=form, metadata=undated)
+    return room.getvalue()
+
+
+def printable(text, most=60):
+    """A text as it may stand in a picture: of signs that can be printed, and not too long."""
+    text = "".join(sign if sign.isprintable() else "?" for sign in text)
+    return text if len(text) <= most else text[: most // 2] + ".." + text[-most // 2 + 2 :]
+
+
+def fitted(name, points, size):
+    """A name, and the size at which it isn't wider than so many points; it is cut where that would
+    be too small to read."""
+    for most in (60, 24, 16, 10):
+        text = printable(name, most)
+        width = matplotlib.textpath.TextPath((0, 0), text, size).get_extents().width
+        if width * SMALLEST <= points * size:
+            break
+    return text, min(size, size * points / max(width, 1))
+
+
+def stem(path):
+    """The name of a file without its folder and its ending."""
+    return printable(pathlib.Path(path).stem, 40)
+
+
+def whole(number):
+    """A whole number, its digits in groups of three; a great one as a power."""
+    sign, size = "−" * (number < 0), abs(number)
+    return f"{sign}{size:,}" if size < 10**7 else sign + power(f"{size:.2e}")
+
+
+def power(text):
+    """A number in Python's form with an exponent, as a product."""
+    digits, exponent = text.split("e")
+    return rf"{digits.rstrip('0').rstrip('.')}$\cdot$10$^{{{int(exponent)}}}$"
+
+
+def mean(number):
+    """A mean, with three places while it isn't great."""
+    sign, size = "−" * (number < 0), abs(number)
+    if size >= 10**7:
+        return sign + power(f"{size:.2e}")
+    return f"{sign}{size:,.3f}" if size < 1000 else f"{sign}{size:,.0f}"
+
+
+def ten_to(number):
+    """A power of ten, written as one."""
+    return "1" if number == 1 else f"$10^{{{round(math.log10(number))}}}$"
+
+
+def label_counts(axes, most):
+    """Ticks of a logarithmic axis from 1 on: powers of ten, with 2 and 5 between while there are
+    few."""
+    digits = int(math.log10(most)) if most >= 1 else 0
+    if digits <= 2:
+        ticks = [base * 10**k for k in range(digits + 1) for base in (1, 2, 5)]
+    else:
+        step = -(-digits // 5)
+        ticks = [10.0**k for k in range(0, digits + 1, step)]
+    axes.yaxis.set_major_locator(matplotlib.ticker.FixedLocator([t for t in ticks if t <= most]))
+    axes.yaxis.set_minor_locator(matplotlib.ticker.NullLocator())
+    said = whole if digits <= 5 else ten_to
+    axes.yaxis.set_major_formatter(lambda count, _: said(round(count)))
