@@ -70,7 +70,7 @@ def draw_queue(axes, log, queue):
     for kind in Kind:
         draw_band(axes, log, queue, kind)
     draw_shades(axes, log, queue)
-    mark_met(axes, log)
+    mark_met(axes, log, queue)
     axes.set_xlim(edges[0], edges[-1])
     room = 0.5 + 0.03 * (high - low)
     axes.set_ylim(low - room, high + room)
@@ -135,7 +135,7 @@ def draw_states(axes, log):
     axes.set_title("states that are still followed", loc="left", pad=2)
     axes.set_ylabel("states")
     axes.grid(axis="y", lw=0.3, color="#CCCCCC")
-    mark_met(axes, log)
+    mark_met(axes, log, "states")
     is_late = log.met > -log.horizon / 2
     axes.annotate(
         f"one state from {style.whole(log.met)} on", (log.met - 0.5, max(most, 2) ** 1.12),
@@ -144,10 +144,10 @@ def draw_states(axes, log):
     )
 
 
-def mark_met(axes, log):
+def mark_met(axes, log, name):
     """The time from which on one state is left, at the beginning of its step."""
     line = axes.axvline(log.met - 0.5, color=style.VERMILION, lw=0.9, ls=(0, (3, 2)), zorder=3)
-    line.set_gid("met")
+    line.set_gid(f"met-{name}")
 
 
 def label_times(axes, log, parts, is_labelled):

@@ -10,7 +10,8 @@ COLOURS = (
     style.BLUE, style.ORANGE, style.GREEN, style.VERMILION,
     style.SKY, style.PURPLE, style.BLACK, style.YELLOW,
 )
-HATCHES, MARKS = ("", "////", "....", "\\\\\\\\", "xxxx", "----", "++++", "oooo"), "osD^vPX*"
+HATCHES = "", "////", "\\\\\\\\", "xxxx", "----", "||||", "++++", "//"
+MARKS = "osD^vPX*"
 # From how many queues, or rewards, on they stand in two columns; how wide a name may be then, or
 # else, in points.
 MANY, NAME_WIDTHS = 13, {1: 130, 2: 70}

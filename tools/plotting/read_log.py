@@ -17,7 +17,7 @@ from plotting.refused import Refused, need
 
 # How many times a picture shows side by side, over all its columns of queues, and how many shades
 # it has one above the other.
-MOST_TIMES, MOST_SHADES = 640, 96
+MOST_TIMES, MOST_SHADES = 480, 96
 
 
 class Kind(enum.IntEnum):
