@@ -1,0 +1,161 @@
+"""The blocks of streams that psi-many draws, and the folder in which finished ones are kept."""
+
+import fcntl
+import hashlib
+import os
+import pathlib
+import re
+from typing import NamedTuple
+
+MOST_BLOCKS = 1_048_576
+FILE = re.compile(r"([0-9]{7,})\.([0-9a-f]{16})\.csv")
+REPORT = re.compile(
+    rb"item,name,value\nsamples,-,(\d+)\nmet,-,(\d+)\nuncoupled,-,(\d+)\n((?:horizon,\d+,\d+\n)*)"
+    rb"((?:sum,[\w-]+,-?\d+\n(?:least,[\w-]+,-?\d+\ngreatest,[\w-]+,-?\d+\n)?)+"
+    rb"(?:reward-sum,[\w-]+,-?\d+\n(?:reward-(?:least|greatest),[\w-]+,-?\d+\n){0,2})*)"
+)
+
+
+class Told(Exception):
+    """What ends the program: a line, and the exit status."""
+
+    def __init__(self, line, status=2):
+        super().__init__(line)
+        self.status = status
+
+
+class Block(NamedTuple):
+    """The streams of one call of `psi report`."""
+
+    number: int
+    first: int
+    count: int
+
+
+def digest_of(text):
+    return hashlib.sha256(text).hexdigest()
+
+
+def names_of(text, count):
+    """The queues and rewards of a whole report of so many samples, in which the counts add up, as
+    the fronts of the records of their sums; none where a text is anything else.
+    """
+    found = REPORT.fullmatch(text)
+    if not found:
+        return None
+    samples, met, uncoupled = (int(found[place]) for place in (1, 2, 3))
+    horizons = sum(int(row.split(b",")[2]) for row in found[4].splitlines())
+    if samples != count or samples != met + uncoupled or met != horizons:
+        return None
+    rows = [row.rpartition(b",")[0] for row in found[5].splitlines()]
+    names = tuple(row for row in rows if row.startswith((b"sum,", b"reward-sum,")))
+    return names if len(rows) == len(names) * (3 if met else 1) else None
+
+
+def write_whole(path, text):
+    """Writes a file under another name first, so that under its own it is never cut short."""
+    part = path.with_name(f"part.{os.uname().nodename}.{os.getpid()}.{path.name}")
+    with open(part, "wb") as file:
+        file.write(text)
+        file.flush()
+        os.fsync(file.fileno())
+    part.rename(path)
+
+
+class Folder:
+    """The folder of a call: what it is bound to, a copy of the network, and the finished blocks.
+
+    The name of a block's file has its number and the digest of its text, which tells whether the
+    text is as it was written.
+    """
+
+    def __init__(self, path):
+        self.path = pathlib.Path(path).resolve()
+        self.net, self.blocks = self.path / "net.toml", self.path / "blocks"
+
+    def lock(self):
+        """Makes the folder, and keeps other calls from it as long as this one runs."""
+        files = {*os.listdir(self.path)} if self.path.exists() else set()
+        if files - {"lock", "blocks", "net.toml"} and "bound" not in files:
+            raise Told(f"{self.path} isn't a folder of psi-many")
+        self.blocks.mkdir(parents=True, exist_ok=True)
+        self.locked = open(self.path / "lock", "wb")
+        try:
+            fcntl.flock(self.locked, fcntl.LOCK_EX | fcntl.LOCK_NB)
+        except BlockingIOError:
+            raise Told(f"another psi-many is at work in {self.path}") from None
+
+    def bind(self, net, wanted, size, fitting):
+        """Binds a new folder to a call, whose blocks have `size` streams, or as many as are fitting
+        where that isn't given; refuses a folder that is bound to another call.
+        """
+        wanted = {"network": digest_of(net), **wanted}
+        if not (self.path / "bound").exists():
+            write_whole(self.net, net)
+            bound = {**wanted, "block": size or fitting}
+            lines = "".join(f"{key} {value}\n" for key, value in bound.items())
+            write_whole(self.path / "bound", lines.encode())
+        self.read_bound()
+        if size:
+            wanted["block"] = size
+        for key, value in wanted.items():
+            if str(value) != self.bound.get(key):
+                other = f"{key} {self.bound.get(key)}, not {value}"
+                raise Told(f"the blocks in {self.path} are of another call: {other}")
+        if self.net.read_bytes() != net:
+            write_whole(self.net, net)
+
+    def read_bound(self):
+        """Reads what the folder is bound to."""
+        lines = (self.path / "bound").read_text().splitlines()
+        self.bound = dict(line.partition(" ")[::2] for line in lines)
+        try:
+            keys = ("seed", "first", "count", "block")
+            self.seed, self.first, self.count, self.size = (int(self.bound[key]) for key in keys)
+        except (KeyError, ValueError):
+            raise Told(f"{self.path / 'bound'} isn't as psi-many wrote it") from None
+
+    def all_blocks(self):
+        return [self.block(number) for number in range(-(-self.count // self.size))]
+
+    def block(self, number):
+        begin = number * self.size
+        return Block(number, self.first + begin, min(self.size, self.count - begin))
+
+    def accept(self, number, text):
+        """Keeps the text of a block where it is a whole report."""
+        whole = names_of(text, self.block(number).count) is not None
+        if whole:
+            write_whole(self.blocks / f"{number:07}.{digest_of(text)[:16]}.csv", text)
+        return whole
+
+    def listed(self):
+        """The files that have the name of a block, by their numbers."""
+        found = {}
+        for file in self.blocks.iterdir():
+            if named := FILE.fullmatch(file.name):
+                found.setdefault(int(named[1]), []).append(file)
+        return found
+
+    def tidy(self):
+        """Removes what calls that were killed have begun to write."""
+        for file in self.blocks.glob("part.*"):
+            file.unlink(missing_ok=True)
+
+    def finished(self):
+        """The files of the blocks that are whole and of one network, by number. Others are removed:
+        those cut short or changed, and all of a block that has several.
+        """
+        whole, names = {}, {}
+        for number, files in self.listed().items():
+            text = files[0].read_bytes()
+            if len(files) == 1 and FILE.fullmatch(files[0].name)[2] == digest_of(text)[:16]:
+                names[number] = names_of(text, self.block(number).count)
+                whole[number] = files[0]
+            if not names.get(number):
+                for file in files:
+                    file.unlink()
+        most = max(filter(None, names.values()), key=len, default=None)
+        for number in [number for number, those in names.items() if those and those != most]:
+            whole[number].unlink()
+        return {number: whole[number] for number, those in names.items() if those and those == most}
