@@ -1,0 +1,12 @@
+-- The lemmas of this crate.
+mod OutcomesLemmas
+mod NumberLemmas
+mod DigitLemmas
+mod NameLemmas
+mod LineLemmas
+mod HoldingLemmas
+mod RowLemmas
+mod PlainLemmas
+mod RowReads
+mod ReadLaws
+mod SmallLemmas

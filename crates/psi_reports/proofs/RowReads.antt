@@ -1,0 +1,162 @@
+-- The rows of a report are read one after another, each as what it tells.
+use Rattle.std.specs.Prelude.{◌≡◌, ℕ, ◌+◌, ◌-◌, ◌^◌, ◌<◌, ℤ, List, [], ◌∷◌, ◌++◌, map, codes, All, true, Some, refl}
+use Rattle.std.specs.Fmt.{decimal, signed_decimal}
+use Rattle.std.specs.Int.RustNames.{unsigned_abs}
+use Rattle.std.specs.List.{list_all, flat_map, slice_split}
+use Rattle.std.proofs.Common.{ap, sym, ◌∙◌, append_assoc, arith}
+use Rattle.std.proofs.lemmas.List.{append-nil}
+use Rattle.std.proofs.lemmas.List.Concat.{flat_map-append}
+use Rattle.std.proofs.lemmas.List.Elements.{All-head, All-tail}
+use Rattle.csv.specs.Writing.{default_writer, row_text}
+use Rattle.psi_network.specs.Name.{is_name, is_name_byte}
+use Rattle.psi_report.specs.Report.{row, horizon_row, rows_text}
+use Rattle.psi_report.specs.Rows.{number_rows}
+use Rattle.psi_reports.specs.declared.figure.Item.{Item}
+use Rattle.psi_reports.specs.declared.figure.Item.TheVariants.{Sum, Least, Greatest, RewardSum, RewardLeast, RewardGreatest}
+use Rattle.psi_reports.specs.declared.figure.HorizonCount.{HorizonCount}
+use Rattle.psi_reports.specs.declared.figure.Figure.{Figure}
+use Rattle.psi_reports.specs.Contents.{Contents, blank}
+use Rattle.psi_reports.specs.Text.{item_text, figure_row, count_row, contents_rows}
+use Rattle.psi_reports.specs.Reading.{is_feed, item_of, with_samples, with_met, with_fields, with_row, read_lines, behind, IsReport}
+use Rattle.psi_reports.proofs.DigitLemmas.{count-decimal, integer-signed}
+use Rattle.psi_reports.proofs.NameLemmas.{name-bytes, name-again}
+use Rattle.psi_reports.proofs.PlainLemmas.{IsPlain, name-bytes-plain, decimal-plain, signed-plain, row-line, line-ends, line-fields}
+
+with_row-three : (c : Contents) (a b v : List ℕ) → with_row c (a ∷ b ∷ v ∷ []) ≡ with_fields c a b v
+unfolding with_row
+with_row-three c a b v = refl
+
+row-read : (a b v : List ℕ) → All IsPlain a → All IsPlain b → All IsPlain v → (n : ℕ) (c d : Contents) (rest : List ℕ) → with_fields c a b v ≡ Some d
+    → read_lines n c (slice_split is_feed (row_text default_writer (a ∷ b ∷ v ∷ []) ++ rest)) ≡ read_lines (n + 1) d (slice_split is_feed rest)
+unfolding read_lines
+row-read a b v first second third n c d rest told =
+    ap (λ (text : List ℕ). read_lines n c (slice_split is_feed text)) (row-line a b v rest first second third)
+    ∙ ap (read_lines n c) (line-ends a b v rest first second third)
+    ∙ ap (λ (fields : List (List ℕ)). behind n (λ e. read_lines (n + 1) e (slice_split is_feed rest)) (with_row c fields)) (line-fields a b v first second third)
+    ∙ ap (behind n (λ e. read_lines (n + 1) e (slice_split is_feed rest))) (with_row-three c a b v ∙ told)
+
+-- rows take what is told to what is told with them, whatever follows
+abbrev pub Reads : List (List (List ℕ)) → Contents → Contents → Type 0
+Reads rows c d = (n : ℕ) (rest : List ℕ) → (m : ℕ) × (read_lines n c (slice_split is_feed (rows_text rows ++ rest)) ≡ read_lines m d (slice_split is_feed rest))
+
+reads-none : (c : Contents) → Reads [] c c
+unfolding rows_text
+reads-none c = λ n rest. (n, refl)
+
+reads-more : (a b v : List ℕ) (rows : List (List (List ℕ))) (c d e : Contents) → All IsPlain a → All IsPlain b → All IsPlain v → with_fields c a b v ≡ Some d
+    → Reads rows d e → Reads (row a b v ∷ rows) c e
+unfolding rows_text
+reads-more a b v rows c d e first second third told behind_it = λ n rest. (
+    let more = behind_it (n + 1) rest in (
+      more.0,
+      ap (λ (text : List ℕ). read_lines n c (slice_split is_feed text)) (append_assoc (row_text default_writer (row a b v)) (flat_map (row_text default_writer) rows) rest)
+          ∙ row-read a b v first second third n c d (flat_map (row_text default_writer) rows ++ rest) told
+          ∙ more.1,
+    ))
+
+reads-append : (rows more : List (List (List ℕ))) (c d e : Contents) → Reads rows c d → Reads more d e → Reads (rows ++ more) c e
+unfolding rows_text
+reads-append rows more c d e front back = λ n rest. (
+    let one = front n (flat_map (row_text default_writer) more ++ rest) in
+    let two = back one.0 rest in (
+      two.0,
+      ap (λ (text : List ℕ). read_lines n c (slice_split is_feed (text ++ rest))) (flat_map-append (row_text default_writer) rows more)
+          ∙ ap (λ (text : List ℕ). read_lines n c (slice_split is_feed text))
+          (append_assoc (flat_map (row_text default_writer) rows) (flat_map (row_text default_writer) more) rest)
+          ∙ one.1 ∙ two.1,
+    ))
+
+-- what is told, from its parts
+abbrev told : ℕ → ℕ → List HorizonCount → List Figure → Contents
+told samples met horizons figures = record { samples = samples; met = met; horizons = horizons; figures = figures }
+
+-- a literal of bytes as they stand in names
+literal : (word : List ℕ) → list_all is_name_byte word ≡ true → All IsPlain word
+literal word are = name-bytes-plain word are
+
+samples-fields : (c : Contents) (n : ℕ) → n < 2 ^ 64 → with_fields c (codes "samples") (codes "-") (decimal n) ≡ Some (record c { samples = n })
+unfolding with_fields
+samples-fields c n fits = ap (with_samples c) (count-decimal n fits)
+
+met-fields : (c : Contents) (n : ℕ) → n < 2 ^ 64 → with_fields c (codes "met") (codes "-") (decimal n) ≡ Some (record c { met = n })
+unfolding with_fields
+met-fields c n fits = ap (with_met c) (count-decimal n fits)
+
+horizon-fields : (c : Contents) (t n : ℕ) → t < 2 ^ 64 → n < 2 ^ 64
+    → with_fields c (codes "horizon") (decimal t) (decimal n) ≡ Some (record c { horizons = c.horizons ++ record { horizon = t; count = n } ∷ [] })
+unfolding with_fields
+horizon-fields c t n first second = rw (count-decimal t first, count-decimal n second) refl
+
+figure-fields : (c : Contents) (item : Item) (name : List ℕ) (value : ℤ) → is_name name ≡ true → unsigned_abs value < 10 ^ 37
+    → with_fields c (item_text item) name (signed_decimal value) ≡ Some (record c { figures = c.figures ++ record { item = item; name = name; value = value } ∷ [] })
+unfolding with_fields item_of
+figure-fields c Sum name value is fits = rw (name-again name is, integer-signed value fits) refl
+figure-fields c Least name value is fits = rw (name-again name is, integer-signed value fits) refl
+figure-fields c Greatest name value is fits = rw (name-again name is, integer-signed value fits) refl
+figure-fields c RewardSum name value is fits = rw (name-again name is, integer-signed value fits) refl
+figure-fields c RewardLeast name value is fits = rw (name-again name is, integer-signed value fits) refl
+figure-fields c RewardGreatest name value is fits = rw (name-again name is, integer-signed value fits) refl
+
+item-plain : (item : Item) → All IsPlain (item_text item)
+item-plain Sum = literal (codes "sum") refl
+item-plain Least = literal (codes "least") refl
+item-plain Greatest = literal (codes "greatest") refl
+item-plain RewardSum = literal (codes "reward-sum") refl
+item-plain RewardLeast = literal (codes "reward-least") refl
+item-plain RewardGreatest = literal (codes "reward-greatest") refl
+
+-- the rows of horizons
+abbrev FitsCount : HorizonCount → Type 0
+FitsCount h = (h.horizon < 2 ^ 64) × (h.count < 2 ^ 64)
+
+horizons-read : (s m : ℕ) (fs : List Figure) (hs before after : List HorizonCount) → All FitsCount hs → after ≡ before ++ hs
+    → Reads (map count_row hs) (told s m before fs) (told s m after fs)
+unfolding horizon_row
+horizons-read s m fs [] before after all is = rw (is ∙ append-nil before) (reads-none (told s m before fs))
+horizons-read s m fs (h ∷ hs) before after all is =
+    let fits : FitsCount h = All-head FitsCount h hs all in
+    reads-more (codes "horizon") (decimal h.horizon) (decimal h.count) (map count_row hs) (told s m before fs) (told s m (before ++ h ∷ []) fs) (told s m after fs)
+    (literal (codes "horizon") refl) (decimal-plain h.horizon (let small = fits.0 in omega arith)) (decimal-plain h.count (let small = fits.1 in omega arith))
+    (horizon-fields (told s m before fs) h.horizon h.count fits.0 fits.1)
+    (horizons-read s m fs hs (before ++ h ∷ []) after (All-tail FitsCount h hs all) (is ∙ sym (append_assoc before (h ∷ []) hs)))
+
+-- the rows of figures
+abbrev FitsFigure : Figure → Type 0
+FitsFigure f = (is_name f.name ≡ true) × (unsigned_abs f.value < 10 ^ 37)
+
+figures-read : (s m : ℕ) (hs : List HorizonCount) (fs before after : List Figure) → All FitsFigure fs → after ≡ before ++ fs
+    → Reads (map figure_row fs) (told s m hs before) (told s m hs after)
+unfolding figure_row
+figures-read s m hs [] before after all is = rw (is ∙ append-nil before) (reads-none (told s m hs before))
+figures-read s m hs (f ∷ fs) before after all is =
+    let fits : FitsFigure f = All-head FitsFigure f fs all in
+    reads-more (item_text f.item) f.name (signed_decimal f.value) (map figure_row fs) (told s m hs before) (told s m hs (before ++ f ∷ [])) (told s m hs after)
+    (item-plain f.item) (name-bytes-plain f.name (name-bytes f.name fits.0)) (signed-plain f.value fits.1)
+    (figure-fields (told s m hs before) f.item f.name f.value fits.0 fits.1)
+    (figures-read s m hs fs (before ++ f ∷ []) after (All-tail FitsFigure f fs all) (is ∙ sym (append_assoc before (f ∷ []) fs)))
+
+heading-fields : with_fields blank (codes "item") (codes "name") (codes "value") ≡ Some blank
+unfolding with_fields
+heading-fields = refl
+
+uncoupled-fields : (c : Contents) (n : ℕ) → with_fields c (codes "uncoupled") (codes "-") (decimal n) ≡ Some c
+unfolding with_fields
+uncoupled-fields c n = refl
+
+-- all rows
+pub rows-read : (c : Contents) → IsReport c → Reads (contents_rows c) blank c
+unfolding contents_rows number_rows
+rows-read c is =
+    let hyphen = literal (codes "-") refl in
+    let samples = is.samples in
+    let met = is.met in
+    reads-more (codes "item") (codes "name") (codes "value") _ blank blank c (literal (codes "item") refl) (literal (codes "name") refl) (literal (codes "value") refl) heading-fields
+    (reads-more (codes "samples") (codes "-") (decimal c.samples) _ blank (told c.samples 0 [] []) c (literal (codes "samples") refl) hyphen (decimal-plain c.samples (omega arith))
+    (samples-fields blank c.samples is.samples)
+    (reads-more (codes "met") (codes "-") (decimal c.met) _ (told c.samples 0 [] []) (told c.samples c.met [] []) c (literal (codes "met") refl) hyphen (decimal-plain c.met (omega arith))
+    (met-fields (told c.samples 0 [] []) c.met is.met)
+    (reads-more (codes "uncoupled") (codes "-") (decimal (c.samples - c.met)) _ (told c.samples c.met [] []) (told c.samples c.met [] []) c
+    (literal (codes "uncoupled") refl) hyphen (decimal-plain (c.samples - c.met) (omega arith)) (uncoupled-fields (told c.samples c.met [] []) (c.samples - c.met))
+    (reads-append (map count_row c.horizons) (map figure_row c.figures) (told c.samples c.met [] []) (told c.samples c.met c.horizons []) c
+    (horizons-read c.samples c.met [] c.horizons [] c.horizons is.horizons refl)
+    (figures-read c.samples c.met c.horizons c.figures [] c.figures is.figures refl)))))

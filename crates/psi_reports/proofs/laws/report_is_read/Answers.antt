@@ -1,0 +1,6 @@
+-- The law in the proof of `laws::report_is_read`.
+use Rattle.psi_reports.proofs.SmallLemmas.{report-is-read}
+use Rattle.psi_reports.proofs.laws.report_is_read.Goals as goal
+
+pub returns : goal.returns
+returns c = report-is-read

@@ -1,0 +1,44 @@
+//! Why no report is given.
+
+ghost use Rattle.std.specs.Prelude.{◌≡◌};
+ghost use Rattle.psi_reports.specs.declared.error.ReadError.TheVariants.{OutOfMemory};
+
+use psi_network::OutOfMemory as NoMemory;
+use std::alloc::{AllocError, AllocFailed};
+
+/// Why no report is given.
+#[derive(Clone, Copy, PartialEq, Eq, Debug)]
+pub enum ReadError {
+    /// The text is no report.
+    Refused {
+        /// The first line that is no row of a report, counted from 1; 0 where each line is a row, but the text isn't
+        /// that of the report that the rows tell.
+        line: u64,
+    },
+    /// Memory ran out.
+    OutOfMemory,
+}
+
+impl From<AllocError> for ReadError {
+    ghost from_gives = { λ _ error. error ≡ OutOfMemory };
+
+    fn from(_error: AllocError) -> ReadError {
+        ReadError::OutOfMemory
+    }
+}
+
+impl<T: Drop> From<AllocFailed<T>> for ReadError {
+    ghost from_gives = { λ _ error. error ≡ OutOfMemory };
+
+    fn from(_error: AllocFailed<T>) -> ReadError {
+        ReadError::OutOfMemory
+    }
+}
+
+impl From<NoMemory> for ReadError {
+    ghost from_gives = { λ _ error. error ≡ OutOfMemory };
+
+    fn from(_error: NoMemory) -> ReadError {
+        ReadError::OutOfMemory
+    }
+}

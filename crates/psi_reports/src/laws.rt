@@ -1,0 +1,22 @@
+//! Laws on reports, each the contract of a function that does nothing.
+
+ghost use Rattle.psi_reports.specs.Outcomes.{ReportIsText};
+ghost use Rattle.psi_reports.specs.Reading.{ReadIsText, TextIsRead};
+ghost use Rattle.psi_reports.specs.Small.{ReportIsRead};
+
+/// The report of samples of a network is the text of what it tells.
+pub fn report_is_text()
+    ensures { ReportIsText }
+{}
+
+/// A text that is read is that of the report, and the text of each report is read as this report: what reads and what
+/// writes are each other's inverse.
+pub fn text_is_read()
+    ensures found { ReadIsText }
+    ensures again { TextIsRead }
+{}
+
+/// The report of less than 2^32 samples of a network, whose values have 64 bits, is read as what it tells.
+pub fn report_is_read()
+    ensures { ReportIsRead }
+{}

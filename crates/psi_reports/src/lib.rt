@@ -1,0 +1,27 @@
+//! Reports of samples, read back from their texts.
+//!
+//! A report is a table of comma-separated values (RFC 4180), as `psi_report` writes it for samples of a network.
+//! `read` makes a `Report` of such a text, which is what the text tells without its network: numbers of samples, and
+//! figures under names. Reading is strict: what is read has this very text, and the text of each report is read as
+//! this report. Names have letters, digits, `_` and `-` alone, so no field is in quotes, and a line is parted by its
+//! commas.
+#![tactic(auto)]
+
+mod error;
+mod figure;
+mod laws;
+mod numbers;
+mod reading;
+mod report;
+mod rows;
+mod table;
+#[cfg(test)]
+mod tests;
+mod text;
+
+pub use error::ReadError;
+pub use figure::{Figure, HorizonCount, Item};
+pub use laws::{report_is_read, report_is_text, text_is_read};
+pub use psi_network::OutOfMemory;
+pub use reading::read;
+pub use report::Report;
