@@ -23,9 +23,10 @@ SHADES = matplotlib.colors.LinearSegmentedColormap.from_list(
     "shades", ["#CFE4F2", style.BLUE, "#003A5C"]
 )
 MOST_QUEUES_IN_TITLE = 8
-# By the number of columns: the height of a row in inches, how many points a name may be wide, and
-# how wide the line of one state is.
+# At least how many dots the shades of all columns have, up and across. By the number of columns:
+# the height of a row in inches, how many points wide a name and the line of one state may be.
 ROW_HEIGHTS, NAME_WIDTHS = {1: 1.25, 2: 1.05, 4: 0.92}, {1: 400, 2: 200, 4: 82}
+DOTS = 240, 1600
 LINE_WIDTHS = {1: 1.8, 2: 1.3, 4: 0.9}
 
 
@@ -102,7 +103,8 @@ def draw_band(axes, log, queue, kind):
 
 
 def draw_shades(axes, log, queue):
-    """Where the states of sets are: a picture with a column for each bin."""
+    """Where the states of sets are: a picture with a column for each bin. Each cell has many dots,
+    since some viewers blur the ends of dots."""
     low, high, bins = log.low[queue], log.high[queue], log.bins
     if all(each.kind != Kind.SET for each in bins):
         return
@@ -110,10 +112,14 @@ def draw_shades(axes, log, queue):
     for column, each in enumerate(bins):
         for shade, share in each.shades[queue].items() if each.kind == Kind.SET else ():
             cells[shade, column] = share
+    height, width = cells.shape
+    high_dots, wide_dots = DOTS
+    dots = cells.repeat(-(-high_dots // height), 0)
+    dots = dots.repeat(-(-wide_dots // width // columns_of(len(log.names))), 1)
     # The last bin may have fewer times than the others, so the picture goes beyond time zero.
-    end = log.edges()[0] + log.width * len(bins)
+    end = log.edges()[0] + log.width * width
     image = axes.imshow(
-        cells, SHADES, vmin=0, vmax=1, origin="lower", aspect="auto", interpolation="none",
+        dots, SHADES, vmin=0, vmax=1, origin="lower", aspect="auto", interpolation="none",
         extent=(log.edges()[0], end, low - 0.5, high + 0.5), zorder=1.5,
     )
     image.set_gid(f"shades-{queue}")
@@ -134,6 +140,7 @@ def draw_states(axes, log):
     style.label_counts(axes, most)
     axes.set_title("states that are still followed", loc="left", pad=2)
     axes.set_ylabel("states")
+    axes.set_axisbelow(True)
     axes.grid(axis="y", lw=0.3, color="#CCCCCC")
     mark_met(axes, log, "states")
     is_late = log.met > -log.horizon / 2

@@ -44,7 +44,7 @@ def said(found):
     else:
         text = f"all {states} states that start {style.whole(found.constant)} steps before time 0,"
         text += " or earlier, are one" + f": {found.state}" * (len(found.state) <= 40)
-    if found.region is None:
+    if found.region is None and found.constant is not None:
         text += f"; no region run of up to {longest} steps ends in one"
     return "\n".join(textwrap.wrap(text, 100))
 
@@ -62,7 +62,7 @@ def draw_images(axes, found):
     marks.set_gid("images")
     axes.axhline(found.states, color=style.GREY, lw=0.9, ls=(0, (1, 2)))
     axes.annotate(
-        f"all {style.whole(found.states)} states", (0.85, found.states), xytext=(3, 3),
+        f"all {style.whole(found.states)} states", (0.85, found.states), xytext=(3, 6),
         textcoords="offset points", color=style.GREY, fontsize=7.5,
     )
 

@@ -61,7 +61,9 @@ def draw_report(named, title):
     panels = [Rows([report.queues for report in reports], True)]
     panels.append(Rows([report.rewards for report in reports], False))
     panels = [rows for rows in panels if rows.rows]
-    labels = labels_of(named)
+    stems = stems_of(named)
+    counts = [style.whole(report.samples) for report in reports]
+    labels = [f"{stem} ({count} samples)" for stem, count in zip(stems, counts)]
     columns = style.columns_of(labels)
     heights = [0.2 * -(-len(labels) // columns), 1.7, *(rows.greatest_height() for rows in panels)]
     figure = style.new_figure(1.5 + sum(heights) + 0.55 * len(panels), title or "Perfect samples")
@@ -70,42 +72,47 @@ def draw_report(named, title):
         matplotlib.patches.Patch(fc=COLOURS[k], ec="white", hatch=HATCHES[k], lw=0)
         for k in range(len(reports))
     ]
-    style.head(figure.add_subplot(grid[0, :]), said(reports), handles, labels, columns)
+    style.head(figure.add_subplot(grid[0, :]), said(stems, reports), handles, labels, columns)
     draw_horizons(figure.add_subplot(grid[1, :]), reports)
     for place, rows in enumerate(panels, 2):
         parts = rows.parts()
         for column, names in enumerate(parts):
             cell = grid[place, column] if len(parts) > 1 else grid[place, :]
-            draw_rows(figure.add_subplot(cell), rows, names, len(parts))
+            panel = figure.add_subplot(cell)
+            draw_rows(panel, rows, names, len(parts))
+            if column == 0:
+                title = "customers in each queue" if rows.is_queues else "rewards"
+                panel.set_title(title, loc="left", pad=3 if len(parts) == 1 else 12)
     return figure
 
 
-def labels_of(named):
+def stems_of(named):
     """What each report is called: the name of its file, in full where two are alike."""
     stems = [style.stem(path) for path, _ in named]
-    if len({*stems}) < len(stems):
-        stems = [style.printable(path, 60) for path, _ in named]
-    counts = [style.whole(report.samples) for _, report in named]
-    return [f"{stem} ({count} samples)" for stem, count in zip(stems, counts)]
+    return stems if len({*stems}) == len(stems) else [style.printable(path) for path, _ in named]
 
 
-def said(reports):
-    """What the title says of all reports."""
-    samples, lost = (sum(r.samples for r in reports), sum(r.uncoupled for r in reports))
-    if lost == 0:
+def said(stems, reports):
+    """What the title says of all reports: which samples aren't met."""
+    lost = [
+        f"{style.whole(report.uncoupled)} of {style.whole(report.samples)} samples of {stem}"
+        for stem, report in zip(stems, reports) if report.uncoupled
+    ]
+    if not lost:
         return "all samples are met"
-    text = f"{style.whole(lost)} of {style.whole(samples)} samples aren't coupled within the limit"
-    return text + (": the means over the others are biased" if lost < samples else "")
+    is_biased = any(0 < report.uncoupled < report.samples for report in reports)
+    return f"not coupled: {', '.join(lost)}" + "; means over the others are biased" * is_biased
 
 
 def draw_horizons(axes, reports):
     """How many samples are met at each horizon, of each report in per cent."""
     powers = [horizon.bit_length() - 1 for report in reports for horizon in report.horizons]
     powers = range(min(powers), max(powers) + 1) if powers else range(0)
-    width = 0.84 / len(reports)
+    # The place of those that aren't coupled is a little apart from the others.
+    width, lost = 0.84 / len(reports), len(powers) + 0.7 * bool(powers)
     for k, report in enumerate(reports):
         counts = [report.horizons.get(1 << power, 0) for power in powers] + [report.uncoupled]
-        places = [place - 0.42 + (k + 0.5) * width for place in range(len(counts))]
+        places = [place - 0.42 + (k + 0.5) * width for place in (*range(len(powers)), lost)]
         bars = axes.bar(
             places, [100 * count / report.samples for count in counts], width,
             fc=COLOURS[k], ec="white", hatch=HATCHES[k], lw=0.4,
@@ -113,9 +120,11 @@ def draw_horizons(axes, reports):
         for bar, power in zip(bars, [*powers, "none"]):
             bar.set_gid(f"horizon-{k}-{power}")
     is_lost = any(report.uncoupled for report in reports)
-    labels = [*map(style.power_of_two, powers), *["not\ncoupled"] * is_lost]
-    axes.set_xticks(range(len(labels)), labels)
-    axes.set_xlim(-0.6, max(len(labels), 1) - 0.4)
+    is_short = len(powers) <= 12
+    labels = [str(1 << k) if is_short and k < 10 else style.power_of_two(k) for k in powers]
+    labels += ["not\ncoupled"] * is_lost
+    axes.set_xticks([*range(len(powers)), *[lost] * is_lost], labels)
+    axes.set_xlim(-0.6, (lost if is_lost else len(powers) - 1) + 0.6)
     axes.yaxis.set_major_locator(matplotlib.ticker.MaxNLocator(5, steps=style.STEPS))
     axes.set_xlabel("steps before time 0 at which the runs from all states begin")
     axes.set_ylabel("% of samples")
@@ -142,9 +151,8 @@ def draw_rows(axes, rows, names, columns):
 
 
 def label_rows(axes, rows):
-    """The title and the ticks below."""
+    """The ticks, and what they are."""
     if rows.is_queues:
-        axes.set_title("customers in each queue", loc="left", pad=3)
         axes.set_xlim(-0.03 * rows.greatest, 1.03 * rows.greatest)
         locator = matplotlib.ticker.MaxNLocator(5, integer=True, steps=style.STEPS)
         axes.xaxis.set_major_locator(locator)
@@ -152,7 +160,6 @@ def label_rows(axes, rows):
         axes.grid(axis="x", lw=0.3, color="#CCCCCC")
         axes.set_xlabel("customers")
     else:
-        axes.set_title("rewards", loc="left", pad=3)
         axes.set_xlim(-0.03, 1.03)
         axes.set_xticks([])
         axes.set_xlabel("each from its least to its greatest value")

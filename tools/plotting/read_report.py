@@ -108,6 +108,7 @@ def read_report(data):
     queues, rewards = (spreads_of(records, prefix, met) for prefix in ("", "reward-"))
     need(queues, f"line {records.place + 1} isn't the sum of a queue")
     need(records.item() is None, f"line {records.place + 1} isn't what comes next in a report")
-    need(all(spread.least is None or spread.least >= 0 for spread in queues), "a queue is below 0")
+    ends = [end for spread in queues for end in (spread.least, spread.greatest) if end is not None]
+    need(all(0 <= end <= 65_535 for end in ends), "a queue isn't from 0 to 65535")
     need(len(queues) <= 32 and len(rewards) <= 64, "more than 32 queues or 64 rewards")
     return Report(samples, uncoupled, horizons, queues, rewards)

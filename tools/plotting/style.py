@@ -13,6 +13,7 @@ warnings.simplefilter("ignore")
 
 import matplotlib  # noqa: E402
 import matplotlib.figure  # noqa: E402
+import matplotlib.font_manager  # noqa: E402
 import matplotlib.textpath  # noqa: E402
 import matplotlib.ticker  # noqa: E402
 
@@ -25,7 +26,8 @@ GREY = "#666666"
 WIDTH = 7.2
 DOTS_PER_INCH = 150
 # The size of letters, in points, that can just be read in print.
-SMALLEST = 4.5
+SMALLEST, MEASURE = 4.5, matplotlib.textpath.text_to_path
+SUPERSCRIPT = str.maketrans("0123456789", "⁰¹²³⁴⁵⁶⁷⁸⁹")
 # Whole numbers are at steps of 1, 2 or 5, times a power of ten.
 STEPS = [1, 2, 5, 10]
 STYLE = {
@@ -62,21 +64,23 @@ def new_figure(height, title):
 def head(axes, text, handles, labels, columns):
     """What stands below the title, in axes of its own: what it tells, and a legend."""
     axes.axis("off")
-    axes.set_title("\n".join(textwrap.wrap(text, 110)), pad=3, parse_math=False)
+    axes.set_title("\n".join(textwrap.wrap(text, 96)), pad=3, parse_math=False)
     # A label that begins with '_' would be left out.
     labels = [" " * label.startswith("_") + label for label in labels]
-    axes.legend(handles, labels, loc="center", ncol=columns, borderpad=0, borderaxespad=0)
+    legend = axes.legend(handles, labels, loc="center", ncol=columns, borderpad=0, borderaxespad=0)
+    for label in legend.get_texts():
+        label.set_parse_math(False)
 
 
 def columns_of(labels):
     """In how many columns of a legend such labels stand."""
     longest = max(map(len, labels))
-    return 1 if longest > 60 else 2 if longest > 36 else 3
+    return 1 if longest > 44 else 2 if longest > 32 else 3
 
 
 def power_of_two(power):
-    """Two to a power, as a number where it isn't great."""
-    return str(1 << power) if power < 10 else f"$2^{{{power}}}$"
+    """Two to a power."""
+    return f"2{raised(power)}"
 
 
 def saved(figure, form):
@@ -96,9 +100,10 @@ def printable(text, most=60):
 def fitted(name, points, size):
     """A name, and the size at which it isn't wider than so many points; it is cut where that would
     be too small to read."""
+    font = matplotlib.font_manager.FontProperties(size=size)
     for most in (60, 24, 16, 10):
         text = printable(name, most)
-        width = matplotlib.textpath.TextPath((0, 0), text, size).get_extents().width
+        width, _, _ = MEASURE.get_text_width_height_descent(text, font, False)
         if width * SMALLEST <= points * size:
             break
     return text, min(size, size * points / max(width, 1))
@@ -118,7 +123,7 @@ def whole(number):
 def power(text):
     """A number in Python's form with an exponent, as a product."""
     digits, exponent = text.split("e")
-    return rf"{digits.rstrip('0').rstrip('.')}$\cdot$10$^{{{int(exponent)}}}$"
+    return f"{digits.rstrip('0').rstrip('.')}·10{raised(int(exponent))}"
 
 
 def mean(number):
@@ -131,14 +136,21 @@ def mean(number):
 
 def ten_to(number):
     """A power of ten, written as one."""
-    return "1" if number == 1 else f"$10^{{{round(math.log10(number))}}}$"
+    return "1" if number == 1 else f"10{raised(round(math.log10(number)))}"
+
+
+def raised(exponent):
+    """An exponent, as it is written."""
+    return str(exponent).translate(SUPERSCRIPT)
 
 
 def label_counts(axes, most):
     """Ticks of a logarithmic axis from 1 on: powers of ten, with 2 and 5 between while there are
     few."""
     digits = int(math.log10(most)) if most >= 1 else 0
-    if digits <= 2:
+    if most <= 5:
+        ticks = range(1, 6)
+    elif digits <= 2:
         ticks = [base * 10**k for k in range(digits + 1) for base in (1, 2, 5)]
     else:
         step = -(-digits // 5)
