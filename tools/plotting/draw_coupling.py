@@ -59,7 +59,7 @@ def draw_coupling(log, title):
 def said(log):
     """What the title says of a log."""
     text = f"seed {log.seed}, stream {log.stream}, from time {style.whole(-log.horizon)} on"
-    text += f"; one state is left from time {style.whole(log.met)} on"
+    text += f"; one state from {style.whole(log.met)} on"
     if len(log.names) <= MOST_QUEUES_IN_TITLE:
         text += f"; at time 0 it is {','.join(map(str, log.state))}"
     return text
