@@ -1,0 +1,8 @@
+-- The lemmas of this crate.
+mod Digits
+mod Words
+mod Testing
+mod Holding
+mod Changes
+mod Building
+mod Moving

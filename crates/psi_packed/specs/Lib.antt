@@ -1,0 +1,5 @@
+-- The definitions of this crate, and the laws that clauses rest on.
+pub mod Packed
+pub mod Moves
+pub mod Programs
+pub mod Views

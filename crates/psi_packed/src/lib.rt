@@ -1,0 +1,13 @@
+//! States packed into a few words of 64 bits, and events of pieces as masks on them: an event tests the bounds of all
+//! queues by one addition a word, and changes all queues by another.
+#![tactic(auto)]
+
+mod layout;
+mod moves;
+mod program;
+#[cfg(test)]
+mod tests;
+
+pub use layout::{Layout, Packed};
+pub use moves::{Masks, Moves};
+pub use program::Program;

@@ -1,0 +1,2 @@
+-- The definitions of this crate, and the laws that clauses rest on.
+pub mod Piecewise
