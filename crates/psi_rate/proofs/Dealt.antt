@@ -1,17 +1,16 @@
 -- What a wheel keeps says what its calls answer.
-use Rattle.std.proofs.Common.{◌≡◌, ℕ, suc, ◌+◌, ◌-◌, ◌%◌, ◌/◌, ◌^◌, ◌<◌, ◌≤◌, true, false, List, [], ◌∷◌, ◌++◌, length, slice_index, take, sym, ◌∙◌, ap, subst, arith, bit_and, refl, EachIndex, max}
+use Rattle.std.proofs.Common.{◌≡◌, ℕ, suc, ◌+◌, ◌-◌, ◌%◌, ◌/◌, ◌<◌, ◌≤◌, false, List, [], ◌∷◌, ◌++◌, length, slice_index, take, sym, ◌∙◌, ap, subst, arith, bit_and, refl, EachIndex, max}
 use Rattle.std.specs.Int.{IsPowerOfTwo}
-use Rattle.std.specs.List.Sorted.{IsPartitionPoint, IsPartitionedBy}
-use Rattle.std.proofs.Math.Dec.{leb, eqb}
-use Rattle.std.proofs.lemmas.Bool.{eqb-false, leb-true, leb-false}
-use Rattle.std.proofs.lemmas.Nat.{and_mask, pow_pos}
+use Rattle.std.proofs.Math.Dec.{eqb}
+use Rattle.std.proofs.lemmas.Bool.{eqb-false}
+use Rattle.std.proofs.lemmas.Nat.{and_mask, and_le_r, pow_pos}
 use Rattle.std.proofs.lemmas.List.{take_more, take_all}
-use Rattle.std.proofs.lemmas.List.Sorted.{IsPartitionedBy-leb, IsNonDecreasingBy-from_default}
 use Rattle.psi_rate.specs.Rates.{AreRates, total, least_power, event_of, HasNumber, PassesAt, IsLeastPower}
+use Rattle.psi_rate.specs.Table.{IsFirstAbove}
 use Rattle.psi_rate.specs.Totals.{IsDial, totals_from}
 use Rattle.psi_rate.proofs.RatesLemmas.{has_number-event_at}
 use Rattle.psi_rate.proofs.PowersLemmas.{least_power-is, least_power-only, least_power-next}
-use Rattle.psi_rate.proofs.TotalsLemmas.{totals_from-rise, totals_from-more, total-more, length-totals_from, has_number-point}
+use Rattle.psi_rate.proofs.TotalsLemmas.{totals_from-within, totals_from-more, total-more, length-totals_from, has_number-first}
 
 pub dial-least : (rates totals shown : List ℕ) (sum modulus : ℕ) → IsDial rates totals sum modulus → rates ≡ shown → IsLeastPower (total shown) modulus
 dial-least rates totals shown sum modulus dial is =
@@ -41,30 +40,24 @@ dial-mask rates totals sum modulus word dial =
     let least = dial-least rates totals rates sum modulus dial refl in
     ap (λ m. bit_and word (m - 1)) least.power ∙ (and_mask word least.exponent ∙ ap (λ m. word % m) (sym least.power ∙ dial.power))
 
--- the running totals up to a number come first
-pub dial-partitioned : (rates totals searched : List ℕ) (sum modulus number : ℕ) → IsDial rates totals sum modulus → searched ≡ totals
-    → IsPartitionedBy (λ t. leb t number) searched
-dial-partitioned rates totals searched sum modulus number dial same =
-    subst (λ (xs : List ℕ). IsPartitionedBy (λ t. leb t number) xs) (sym (same ∙ dial.running))
-    (IsPartitionedBy-leb (λ (t : ℕ). t) (totals_from 0 rates) number
-    (IsNonDecreasingBy-from_default (λ (t : ℕ). t) (totals_from 0 rates) 0 (λ i j order small. totals_from-rise 0 rates i j order small)))
-
 pub dial-number : (rates totals searched shown : List ℕ) (sum modulus word number e : ℕ) → IsDial rates totals sum modulus → rates ≡ shown
-    → searched ≡ totals → number ≡ bit_and word (modulus - 1) → e ≤ length searched
-    → IsPartitionPoint (λ t. leb t number ≡ true) (λ t. leb t number ≡ false) searched e
+    → searched ≡ totals → number ≡ bit_and word (modulus - 1) → IsFirstAbove searched number e
     → HasNumber shown (word % least_power (total shown)) e
-dial-number rates totals searched shown sum modulus word number e dial is same masked within point =
+dial-number rates totals searched shown sum modulus word number e dial is same masked first =
     subst (λ (xs : List ℕ). HasNumber xs (word % least_power (total xs)) e) is
     (subst (λ n. HasNumber rates n e) (masked ∙ dial-mask rates totals sum modulus word dial)
-    (has_number-point rates number e place
-    (λ k small. (let less = leb-true _ _ (point.0 k 0 (omega arith) small) in let at = ap (λ (xs : List ℕ). slice_index xs k) (same ∙ dial.running) in omega arith))
-    (λ k from small. (let more = leb-false _ _ (point.1 k 0 from (omega (arith, count))) in let at = ap (λ (xs : List ℕ). slice_index xs k) (same ∙ dial.running) in omega arith))))
-  where
-    count : length searched ≡ length rates
-    count = ap (λ (xs : List ℕ). length xs) (same ∙ dial.running) ∙ length-totals_from 0 rates
+    (has_number-first rates number e (subst (λ (xs : List ℕ). IsFirstAbove xs number e) (same ∙ dial.running) first)))
 
-    place : e ≤ length rates
-    place = omega (arith, count)
+-- a number of a word is below the modulus
+pub dial-masked : (rates totals : List ℕ) (sum modulus word : ℕ) → IsDial rates totals sum modulus → bit_and word (modulus - 1) < modulus
+dial-masked rates totals sum modulus word dial =
+    let some = dial-some rates totals sum modulus dial in let under = and_le_r word (modulus - 1) in omega arith
+
+-- there are as many running totals as events
+pub dial-few : (rates totals searched : List ℕ) (sum modulus : ℕ) → IsDial rates totals sum modulus → searched ≡ totals → length searched ≤ 1024
+dial-few rates totals searched sum modulus dial same =
+    let count = ap (λ (xs : List ℕ). length xs) (same ∙ dial.running) ∙ length-totals_from 0 rates in
+    let few = dial.valid.few in omega (arith, count)
 
 -- the number of an event is the event of the word
 pub number-event : (rates : List ℕ) (word e : ℕ) → HasNumber rates (word % least_power (total rates)) e → e ≡ event_of rates word
@@ -117,11 +110,17 @@ dial-whole rates kept totals sum modulus at few least most some past is running 
     dial-made rates kept totals sum modulus (record { some = some; few = few; least = least; most = most; bounded = omega arith }) is
     (running ∙ ap (λ (xs : List ℕ). totals_from 0 xs) all) added (omega arith) power enough (omega arith)
 
--- the place that the search answers is that of an event, or the count of the events
-pub dial-place : (rates totals searched : List ℕ) (sum modulus e : ℕ) → IsDial rates totals sum modulus → searched ≡ totals → e ≤ length searched → e < 2 ^ 16
-dial-place rates totals searched sum modulus e dial same within =
-    let count = ap (λ (xs : List ℕ). length xs) (same ∙ dial.running) ∙ length-totals_from 0 rates in
-    let few = dial.valid.few in omega (arith, count)
+-- the running totals of all rates are at most a number that the sum is at most
+pub totals-within : (rates totals : List ℕ) (sum modulus at : ℕ) → length rates ≤ at → totals ≡ totals_from 0 (take at rates) → sum ≡ total (take at rates)
+    → sum ≤ modulus → (k : ℕ) → k < length totals → slice_index totals k ≤ modulus
+totals-within rates totals sum modulus at past running whole enough k small =
+    let all : take at rates ≡ rates = take_all at rates past in
+    let is : totals ≡ totals_from 0 rates = running ∙ ap (λ (xs : List ℕ). totals_from 0 xs) all in
+    let added : sum ≡ total rates = whole ∙ ap (λ (xs : List ℕ). total xs) all in
+    let count = ap (λ (xs : List ℕ). length xs) is in
+    let same = ap (λ (xs : List ℕ). slice_index xs k) is in
+    let within = totals_from-within rates k (omega (arith, count)) in
+    omega (arith, same)
 
 pub length-some : (xs : List ℕ) → eqb (length xs) 0 ≡ false → 1 ≤ length xs
 length-some xs none = (let apart = eqb-false (length xs) 0 none in omega arith)

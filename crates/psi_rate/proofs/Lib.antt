@@ -7,5 +7,6 @@ pub mod DoublingLemmas
 pub mod LeastLemmas
 pub mod FunctionsLemmas
 pub mod OutcomesLemmas
+pub mod TableLemmas
 mod Dealt
 mod Worked

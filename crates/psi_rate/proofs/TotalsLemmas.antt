@@ -1,8 +1,10 @@
--- Running totals don't fall, and the event of a number is the place of the first one above it.
+-- Running totals are at most the whole, and the event of a number is the place of the first one above it.
 use Rattle.std.specs.Prelude.{◌≡◌, ℕ, zero, suc, ◌+◌, ◌<◌, ◌≤◌, List, [], ◌∷◌, ◌++◌, length, take, slice_index, refl}
 use Rattle.std.proofs.Common.{ap, ◌∙◌, arith}
 use Rattle.psi_rate.specs.Rates.{total, HasNumber}
+use Rattle.std.proofs.lemmas.List.{take_all}
 use Rattle.psi_rate.specs.Totals.{totals_from}
+use Rattle.psi_rate.specs.Table.{IsFirstAbove}
 
 pub total-more : (xs : List ℕ) (x : ℕ) → total (xs ++ x ∷ []) ≡ total xs + x
 total-more [] x = omega arith
@@ -33,27 +35,30 @@ total-take_order (x ∷ xs) zero j small = omega arith
 total-take_order (x ∷ xs) (suc i) zero small = absurd (omega arith)
 total-take_order (x ∷ xs) (suc i) (suc j) small = (let rest = total-take_order xs i j (omega arith) in omega arith)
 
--- the running totals don't fall
-pub totals_from-rise : (sum : ℕ) (xs : List ℕ) (i j : ℕ) → i ≤ j → j < length (totals_from sum xs)
-    → slice_index (totals_from sum xs) i ≤ slice_index (totals_from sum xs) j
-totals_from-rise sum xs i j order small =
-    let count = length-totals_from sum xs in
-    let within : j < length xs = omega arith in
-    let first = slice_index-totals_from sum xs i (omega arith) in
-    let second = slice_index-totals_from sum xs j within in
-    let rise = total-take_order xs (suc i) (suc j) (omega arith) in
+-- a running total is at most the whole
+pub totals_from-within : (xs : List ℕ) (i : ℕ) → i < length (totals_from 0 xs) → slice_index (totals_from 0 xs) i ≤ total xs
+totals_from-within xs i small =
+    let count = length-totals_from 0 xs in
+    let within : i < length xs = omega arith in
+    let at = slice_index-totals_from 0 xs i within in
+    let rise = total-take_order xs (suc i) (length xs) within in
+    let all : total (take (length xs) xs) ≡ total xs = ap (λ (ys : List ℕ). total ys) (take_all (length xs) xs (omega arith)) in
     omega arith
 
 -- the event of a number is the place of the first running total above it
-pub has_number-point : (rates : List ℕ) (r e : ℕ) → e ≤ length rates
-    → ((k : ℕ) → k < e → slice_index (totals_from 0 rates) k ≤ r)
-    → ((k : ℕ) → e ≤ k → k < length rates → r < slice_index (totals_from 0 rates) k) → HasNumber rates r e
-has_number-point rates r e place below above = record {
+pub has_number-first : (rates : List ℕ) (r e : ℕ) → IsFirstAbove (totals_from 0 rates) r e → HasNumber rates r e
+has_number-first rates r e first = record {
   place = place;
-  before = before e place below;
-  own = λ small. (let at = slice_index-totals_from 0 rates e small in let more = above e (omega arith) small in omega arith);
+  before = before e place first.below;
+  own = λ small. (let at = slice_index-totals_from 0 rates e small in let more = first.above (omega (arith, count)) in omega arith);
 }
   where
+    count : length (totals_from 0 rates) ≡ length rates
+    count = length-totals_from 0 rates
+
+    place : e ≤ length rates
+    place = (let p = first.place in omega (arith, count))
+
     before : (n : ℕ) → n ≤ length rates → ((k : ℕ) → k < n → slice_index (totals_from 0 rates) k ≤ r) → total (take n rates) ≤ r
     before zero fits low = omega arith
     before (suc n) fits low = (let at = slice_index-totals_from 0 rates n (omega arith) in let less = low n (omega arith) in omega arith)

@@ -7,6 +7,7 @@
 #![tactic(auto)]
 
 mod system;
+mod table;
 #[cfg(test)]
 mod tests;
 mod wheel;

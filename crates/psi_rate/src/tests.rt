@@ -52,6 +52,44 @@ fn a_total_that_is_a_power_of_two_leaves_no_idle_number(rt: HostRuntime) -> Resu
 }
 
 #[test]
+fn stretches_that_end_at_the_running_totals_need_no_walk(rt: HostRuntime) -> Result<(), Fail> {
+    // The totals are 8, 24 and 28, so the numbers below 32 are cut into stretches of 4.
+    let wheel = Wheel::new(rt.alloc(), &[8, 16, 4])?;
+    assert_eq!(rt; wheel.modulus(), 32);
+    assert_eq!(rt; wheel.idle(), 4);
+    assert_eq!(rt; wheel.pick(0), 0);
+    assert_eq!(rt; wheel.pick(7), 0);
+    assert_eq!(rt; wheel.pick(8), 1);
+    assert_eq!(rt; wheel.pick(23), 1);
+    assert_eq!(rt; wheel.pick(24), 2);
+    assert_eq!(rt; wheel.pick(27), 2);
+    assert_eq!(rt; wheel.pick(28), 3);
+    assert_eq!(rt; wheel.pick(31), 3);
+    assert_eq!(rt; wheel.pick(32), 0);
+    Ok(())
+}
+
+#[test]
+fn a_stretch_with_several_events_is_walked(rt: HostRuntime) -> Result<(), Fail> {
+    // The totals are 4,096 to 4,099 and 12,099, so 4,096 stretches of 4 numbers make up the numbers below 16,384. That
+    // from 4,096 on has four events, that from 12,096 on has one and an idle number.
+    let wheel = Wheel::new(rt.alloc(), &[4_096, 1, 1, 1, 8_000])?;
+    assert_eq!(rt; wheel.modulus(), 16_384);
+    assert_eq!(rt; wheel.idle(), 4_285);
+    assert_eq!(rt; wheel.pick(0), 0);
+    assert_eq!(rt; wheel.pick(4_095), 0);
+    assert_eq!(rt; wheel.pick(4_096), 1);
+    assert_eq!(rt; wheel.pick(4_097), 2);
+    assert_eq!(rt; wheel.pick(4_098), 3);
+    assert_eq!(rt; wheel.pick(4_099), 4);
+    assert_eq!(rt; wheel.pick(12_098), 4);
+    assert_eq!(rt; wheel.pick(12_099), 5);
+    assert_eq!(rt; wheel.pick(16_383), 5);
+    assert_eq!(rt; wheel.pick(16_384), 0);
+    Ok(())
+}
+
+#[test]
 fn rates_are_refused_by_their_number_and_total(rt: HostRuntime) {
     let none = Wheel::new(rt.alloc(), &[]).err();
     let large = Wheel::new(rt.alloc(), &[1_048_576; 17]).err();

@@ -3,6 +3,7 @@
 ghost use Rattle.std.specs.Prelude.{◌≡◌, ℕ, ◌+◌, ◌%◌, ◌<◌, ◌≤◌, length, slice_index, IfOk, IfErr, OnOk, EachIndex};
 ghost use Rattle.psi_rate.specs.Rates.{AreRates, HasNumber, IsLeastPower, event_of, least_power, total};
 
+use crate::table::Table;
 use std::alloc::{AllocError, Global};
 use std::marker::Model;
 
@@ -43,17 +44,19 @@ pub struct Wheel {
     totals: Vec<u32>,
     sum: u32,
     modulus: u32,
+    table: Table,
 }
 
 impl Model for Wheel {
     ghost use Rattle.std.specs.Prelude.{ℕ, List, ◌≡◌};
     ghost use Rattle.psi_rate.specs.Totals.{IsDial};
+    ghost use Rattle.psi_rate.specs.Table.{IsTable};
 
     ghost Value = { List ℕ };
 
     ghost view = { λ wheel. wheel.rates.items };
 
-    ghost invariant = { λ wheel. IsDial wheel.rates.items wheel.totals.items wheel.sum wheel.modulus };
+    ghost invariant = { λ wheel. IsDial wheel.rates.items wheel.totals.items wheel.sum wheel.modulus × IsTable wheel.totals.items wheel.modulus wheel.table.entries.items wheel.table.shift wheel.table.exact };
 }
 
 impl Wheel {
@@ -84,11 +87,13 @@ impl Wheel {
             }
             totals.push_reserved(sum);
         }
+        let modulus = sum.next_power_of_two();
         Ok(Wheel {
             rates: Vec::from_slice(alloc, rates)?,
+            table: Table::new(alloc, &totals, modulus)?,
             totals,
             sum,
-            modulus: sum.next_power_of_two(),
+            modulus,
         })
     }
 
@@ -100,7 +105,7 @@ impl Wheel {
         ensures number { HasNumber self.now (word % least_power (total self.now)) result }
     {
         let number = word & (self.modulus - 1);
-        self.totals.partition_point(|total| *total <= number) as u16
+        self.table.event(&self.totals, number)
     }
 
     /// How many numbers there are, the idle ones included: the least power of two that isn't below the total rate.

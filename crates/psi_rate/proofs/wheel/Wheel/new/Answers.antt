@@ -1,6 +1,7 @@
 -- Answers in the proof of `Wheel::new`.
-use Rattle.std.proofs.Common.{◌≤◌, length, ◌∙◌, sym, arith}
-use Rattle.psi_rate.proofs.Dealt.{total-passes, total-take_more, totals_from-take_more, dial-whole, length-some}
+use Rattle.std.proofs.Common.{ℕ, ◌≤◌, List, length, slice_index, EachIndex, ◌∙◌, sym, subst, arith}
+use Rattle.psi_rate.specs.Table.{IsTable}
+use Rattle.psi_rate.proofs.Dealt.{total-passes, total-take_more, totals_from-take_more, dial-whole, totals-within, length-some}
 use Rattle.psi_rate.proofs.wheel.Wheel.new.Goals as goal
 
 pub returns-then-sum-gt-MOST_TOTAL-clause-refused : goal.returns-then-sum-gt-MOST_TOTAL-clause-refused
@@ -20,10 +21,20 @@ loop-at-preserved c =
       bounded = c.if-sum-gt-MOST_TOTAL.false;
     }
 
+pub new-requires-clause-within : goal.new-requires-clause-within
+new-requires-clause-within c =
+    let kept = c.loop-at.invariant in
+    subst (λ (xs : List ℕ). EachIndex xs (λ i. slice_index xs i ≤ c.next_power_of_two-modulus.result)) (sym c.deref.ensures.value)
+    (totals-within c.args.rates.now c.loop-at.totals.items c.loop-at.sum c.next_power_of_two-modulus.result c.loop-at.at c.loop-at-test.false kept.items kept.whole
+    c.next_power_of_two-modulus.ensures.lower_bound)
+
 pub invariant_of-result : goal.invariant_of-result
 invariant_of-result c =
     let kept = c.loop-at.invariant in
-    let some : 1 ≤ length c.args.rates.now = length-some c.args.rates.now (sym c.is_empty.ensures ∙ c.if-is_empty.false) in
-    dial-whole c.args.rates.now c.in_ok-from_slice.field-0.items c.loop-at.totals.items c.loop-at.sum c.next_power_of_two.result c.loop-at.at
-    c.requires.few c.requires.least c.requires.most some c.loop-at-test.false c.in_ok-from_slice.ensures.items kept.items kept.whole kept.bounded
-    c.next_power_of_two.ensures.power c.next_power_of_two.ensures.lower_bound c.next_power_of_two.ensures.upper_bound
+    let modulus = c.next_power_of_two-modulus in
+    let some : 1 ≤ length c.args.rates.now = length-some c.args.rates.now (sym c.is_empty.ensures ∙ c.if-is_empty.false) in (
+      dial-whole c.args.rates.now c.in_ok-from_slice.field-0.items c.loop-at.totals.items c.loop-at.sum modulus.result c.loop-at.at
+          c.requires.few c.requires.least c.requires.most some c.loop-at-test.false c.in_ok-from_slice.ensures.items kept.items kept.whole kept.bounded
+          modulus.ensures.power modulus.ensures.lower_bound modulus.ensures.upper_bound,
+      subst (λ (xs : List ℕ). IsTable xs modulus.result c.in_ok-new.field-0.entries.items c.in_ok-new.field-0.shift c.in_ok-new.field-0.exact) c.deref.ensures.value c.in_ok-new.ensures.table,
+    )

@@ -1,0 +1,201 @@
+-- Multiples of powers of two, and the entries of a table, stretch by stretch.
+use Rattle.std.specs.Prelude.{◌≡◌, ℕ, zero, suc, ◌+◌, ◌-◌, ◌*◌, ◌/◌, ◌%◌, ◌^◌, ◌<◌, ◌≤◌, List, [], ◌∷◌, ◌++◌, length, replicate, slice_index, refl}
+use Rattle.std.specs.Int.{w32, bit_at, trailing_zeros}
+use Rattle.std.specs.Int.Bits.{bit_or}
+use Rattle.std.proofs.Common.{inl, inr, ap, ◌∙◌, sym, subst, arith, append_assoc, below_more, length-append, max}
+use Rattle.std.proofs.Math.Nat.{div-mul-le_self, div-le_of_le-mul, lt-div-mul-add, mul-le-mul_right, zero-mod}
+use Rattle.std.proofs.Math.Pow.{mod-mod-pow}
+use Rattle.std.proofs.lemmas.Bool.{cases_lt, cases_eq}
+use Rattle.std.proofs.lemmas.List.{get_or-replicate, length-replicate, replicate-append-replicate, get_or_append_left, get_or-append_right}
+use Rattle.std.proofs.lemmas.Nat.{mod-pow-add, pow-add, or_mod, le_or_l, le_or_r, pow_pos, div-add-mod'}
+use Rattle.std.proofs.lemmas.Nat.Bits.{bit_at-trailing_zeros, bit_at-pow_other}
+use Rattle.psi_rate.specs.Table.{IsFirstAbove, AreFirstAbove, AreMultiples}
+use Rattle.psi_rate.proofs.PowersLemmas.{pow-order}
+
+-- a number whose k low bits are zero is a multiple of 2^k
+pub bits-multiple : (n k : ℕ) → ((i : ℕ) → i < k → bit_at n i ≡ 0) → n % 2 ^ k ≡ 0
+bits-multiple n zero zeros = omega arith
+bits-multiple n (suc k) zeros =
+    let rest : n % 2 ^ k ≡ 0 = bits-multiple n k (λ i small. zeros i (omega arith)) in
+    let bit : n / 2 ^ k % 2 ≡ 0 = zeros k (omega arith) in
+    let cut : n % 2 ^ (1 + k) ≡ (n / 2 ^ k % 2 ^ 1) * 2 ^ k + n % 2 ^ k = mod-pow-add n 1 k in
+    let top : (n / 2 ^ k % 2 ^ 1) * 2 ^ k ≡ 0 * 2 ^ k = ap (λ m. m * 2 ^ k) bit in
+    let e : suc k ≡ 1 + k = omega arith in
+    ap (λ m. n % 2 ^ m) e ∙ omega arith
+
+pub trailing-multiple : (n : ℕ) → 1 ≤ n → n < 2 ^ 32 → n % 2 ^ trailing_zeros w32 n ≡ 0
+trailing-multiple n some fits = (let bits = bit_at-trailing_zeros w32 n (omega arith) fits in bits-multiple n (trailing_zeros w32 n) bits.2)
+
+pub trailing-short : (n : ℕ) → 1 ≤ n → n < 2 ^ 32 → trailing_zeros w32 n < 32
+trailing-short n some fits = (let bits = bit_at-trailing_zeros w32 n (omega arith) fits in bits.0)
+
+pub trailing-power : (n k : ℕ) → n ≡ 2 ^ k → n < 2 ^ 32 → trailing_zeros w32 n ≡ k
+trailing-power n k is fits =
+    let positive = pow_pos k in
+    let bits = bit_at-trailing_zeros w32 n (omega arith) fits in
+    elim (cases_eq (trailing_zeros w32 n) k) [
+      | inl same ↦ same
+      | inr other ↦ (let one : bit_at (2 ^ k) (trailing_zeros w32 n) ≡ 1 = ap (λ m. bit_at m (trailing_zeros w32 n)) (sym is) ∙ bits.1 in
+          let none : bit_at (2 ^ k) (trailing_zeros w32 n) ≡ 0 = bit_at-pow_other k (trailing_zeros w32 n) other in
+          absurd (omega (arith, sym one ∙ none)))
+    ]
+
+pub multiple-less : (n j k : ℕ) → j ≤ k → n % 2 ^ k ≡ 0 → n % 2 ^ j ≡ 0
+multiple-less n j k less multiple =
+    let e : k - j + j ≡ k = omega arith in
+    let long : n % 2 ^ (k - j + j) ≡ 0 = ap (λ m. n % 2 ^ m) e ∙ multiple in
+    sym (mod-mod-pow n (k - j) j) ∙ (ap (λ m. m % 2 ^ j) long ∙ zero-mod (2 ^ j))
+
+pub or-multiple : (a b k : ℕ) → bit_or a b % 2 ^ k ≡ 0 → (a % 2 ^ k ≡ 0) × (b % 2 ^ k ≡ 0)
+or-multiple a b k multiple =
+    let low : bit_or (a % 2 ^ k) (b % 2 ^ k) ≡ 0 = sym (or_mod a b k) ∙ multiple in
+    let first = le_or_l (a % 2 ^ k) (b % 2 ^ k) in
+    let second = le_or_r (a % 2 ^ k) (b % 2 ^ k) in
+    (omega arith, omega arith)
+
+-- a multiple above the first number of a stretch is above all its numbers
+pub multiple-past : (t p i n : ℕ) → t % p ≡ 0 → i * p < t → n < i * p + p → n < t
+multiple-past t p i n multiple above inside =
+    let cut : t / p * p + t % p ≡ t = div-add-mod' t p in
+    elim (cases_lt i (t / p)) [
+      | inl less ↦ (let more : suc i * p ≤ t / p * p = mul-le-mul_right p less in omega arith)
+      | inr most ↦ (let under : t / p * p ≤ i * p = mul-le-mul_right p most in absurd (omega arith))
+    ]
+
+-- the stretch of a number
+pub stretch-start : (n p : ℕ) → n / p * p ≤ n
+stretch-start n p = div-mul-le_self n p
+
+pub stretch-end : (n k : ℕ) → n < n / 2 ^ k * 2 ^ k + 2 ^ k
+stretch-end n k = lt-div-mul-add (pow_pos k)
+
+pub stretch-place : (n p count : ℕ) → n < count * p → n / p < count
+stretch-place n p count small =
+    elim (cases_lt (n / p) count) [
+      | inl less ↦ less
+      | inr most ↦ (let over : count * p ≤ n / p * p = mul-le-mul_right p most in let start = stretch-start n p in absurd (omega arith))
+    ]
+
+-- the stretches that begin below a total are those before its quotient, rounded up
+pub rounded-past : (t k : ℕ) → t ≤ (t + (2 ^ k - 1)) / 2 ^ k * 2 ^ k
+rounded-past t k =
+    let positive = pow_pos k in
+    let near = stretch-end (t + (2 ^ k - 1)) k in omega arith
+
+pub rounded-below : (t k i : ℕ) → i < (t + (2 ^ k - 1)) / 2 ^ k → i * 2 ^ k < t
+rounded-below t k i small =
+    let positive = pow_pos k in
+    let start = stretch-start (t + (2 ^ k - 1)) (2 ^ k) in
+    let more : suc i * 2 ^ k ≤ (t + (2 ^ k - 1)) / 2 ^ k * 2 ^ k = mul-le-mul_right (2 ^ k) small in omega arith
+
+pub rounded-within : (t k count : ℕ) → t ≤ count * 2 ^ k → (t + (2 ^ k - 1)) / 2 ^ k ≤ count
+rounded-within t k count within =
+    elim (cases_lt count ((t + (2 ^ k - 1)) / 2 ^ k)) [
+      | inl more ↦ (let over = rounded-below t k count more in absurd (omega arith))
+      | inr most ↦ most
+    ]
+
+pub length-filled : (xs : List ℕ) (end e : ℕ) → length (xs ++ replicate (end - length xs) e) ≡ length xs + (end - length xs)
+length-filled xs end e = simp (length-append, length-replicate) refl
+
+-- entries that are missing before an end get the event that all their stretches begin with
+pub filled-first : (totals xs : List ℕ) (k e end : ℕ) → AreFirstAbove totals k xs → e ≤ length totals
+    → ((j : ℕ) → j < e → slice_index totals j ≤ length xs * 2 ^ k)
+    → ((i : ℕ) → i < end → e < length totals → i * 2 ^ k < slice_index totals e)
+    → AreFirstAbove totals k (xs ++ replicate (end - length xs) e)
+filled-first totals xs k e end first place below above = record {
+  each = λ i small. elim (cases_lt i (length xs)) [
+    | inl old ↦ (let same : slice_index (xs ++ replicate (end - length xs) e) i ≡ slice_index xs i = get_or_append_left xs (replicate (end - length xs) e) 0 i old in
+        subst (λ (n : ℕ). IsFirstAbove totals (i * 2 ^ k) n) (sym same) (first.each i old))
+    | inr new ↦ (let count = length-filled xs end e in
+        let late : i - length xs < end - length xs = omega arith in
+        let same : slice_index (xs ++ replicate (end - length xs) e) i ≡ e =
+        get_or-append_right xs (replicate (end - length xs) e) (length xs) i 0 refl new ∙ get_or-replicate (end - length xs) (i - length xs) e 0 late in
+        subst (λ (n : ℕ). IsFirstAbove totals (i * 2 ^ k) n) (sym same) (record {
+          place = place;
+          below = λ j less. (let under = below j less in let order : length xs * 2 ^ k ≤ i * 2 ^ k = mul-le-mul_right (2 ^ k) new in omega arith);
+          above = λ before. above i (omega arith) before;
+        }))
+  ];
+}
+
+-- what an exact table says of the first number of a stretch is true of all its numbers
+pub first-event : (totals : List ℕ) (k n e : ℕ) → AreMultiples totals k → IsFirstAbove totals (n / 2 ^ k * 2 ^ k) e → IsFirstAbove totals n e
+first-event totals k n e multiples first = record {
+  place = first.place;
+  below = λ j less. (let under = first.below j less in let start = stretch-start n (2 ^ k) in omega arith);
+  above = λ small. multiple-past (slice_index totals e) (2 ^ k) (n / 2 ^ k) n (multiples.each e small) (first.above small) (stretch-end n k);
+}
+
+pub filled-next : (xs ys : List ℕ) (at e : ℕ) → length xs ≤ at → ys ≡ xs ++ replicate (at - length xs) e → ys ++ e ∷ [] ≡ xs ++ replicate (at + 1 - length xs) e
+filled-next xs ys at e start is =
+    let more : at - length xs + 1 ≡ at + 1 - length xs = omega arith in
+    ap (λ (zs : List ℕ). zs ++ e ∷ []) is
+    ∙ (append_assoc xs (replicate (at - length xs) e) (e ∷ [])
+    ∙ ap (λ (zs : List ℕ). xs ++ zs) (replicate-append-replicate (at - length xs) 1 e ∙ ap (λ n. replicate n e) more))
+
+-- after a total's stretches are filled, none of the totals so far is past the next stretch's first number
+pub filled-below : (totals xs : List ℕ) (k e : ℕ) → ((j : ℕ) → j < e → slice_index totals j ≤ length xs * 2 ^ k)
+    → (m : ℕ) → length xs ≤ m → slice_index totals e ≤ m * 2 ^ k → (j : ℕ) → j < e + 1 → slice_index totals j ≤ m * 2 ^ k
+filled-below totals xs k e below m longer past =
+    below_more _ _ (λ j less. (let under = below j less in let order : length xs * 2 ^ k ≤ m * 2 ^ k = mul-le-mul_right (2 ^ k) longer in omega arith)) past
+
+pub multiple-whole : (n p : ℕ) → n % p ≡ 0 → n / p * p ≡ n
+multiple-whole n p multiple = (let cut = div-add-mod' n p in omega arith)
+
+-- stretches of the length that a table chooses make up the numbers below the modulus, and are at most 4,096
+pub shift-stretches : (n e common least shift : ℕ) → n ≡ 2 ^ e → n < 2 ^ 32 → common < 32 → n % 2 ^ common ≡ 0 → least ≡ trailing_zeros w32 n - 12 → shift ≡ max common least
+    → (n / 2 ^ shift * 2 ^ shift ≡ n) × (shift < 32) × (n / 2 ^ shift ≤ 4096)
+shift-stretches n e common least shift is fits short multiple fewest most =
+    (multiple-whole n (2 ^ shift) whole, (let own = trailing-short n some fits in omega arith), div-le_of_le-mul (2 ^ shift) (omega (arith, order, parts)))
+  where
+    some : 1 ≤ n
+    some = (let positive = pow_pos e in omega arith)
+
+    exponent : trailing_zeros w32 n ≡ e
+    exponent = trailing-power n e is fits
+
+    whole : n % 2 ^ shift ≡ 0
+    whole = elim (cases_lt common shift) [
+      | inl less ↦ (let own : shift ≤ trailing_zeros w32 n = omega arith in multiple-less n shift (trailing_zeros w32 n) own (trailing-multiple n some fits))
+      | inr more ↦ multiple-less n shift common more multiple
+    ]
+
+    order : 2 ^ e ≤ 2 ^ (shift + 12)
+    order = pow-order e (shift + 12) (omega (arith, exponent))
+
+    parts : 2 ^ (shift + 12) ≡ 2 ^ shift * 2 ^ 12
+    parts = pow-add 2 shift 12
+
+-- the stretches that begin below a total get its event
+pub filled-stretch : (totals xs ys : List ℕ) (k e count last : ℕ) → last ≡ 2 ^ k - 1 → ys ≡ xs ++ replicate ((slice_index totals e + last) / 2 ^ k - length xs) e
+    → e < length totals → slice_index totals e ≤ count * 2 ^ k → length xs ≤ count → AreFirstAbove totals k xs
+    → ((j : ℕ) → j < e → slice_index totals j ≤ length xs * 2 ^ k)
+    → (length ys ≤ count) × ((j : ℕ) → j < e + 1 → slice_index totals j ≤ length ys * 2 ^ k) × AreFirstAbove totals k ys
+filled-stretch totals xs ys k e count last ones is place within most first below = (
+  omega (arith, long, under),
+  filled-below totals xs k e below (length ys) (omega (arith, long)) past,
+  subst (λ (zs : List ℕ). AreFirstAbove totals k zs) (sym filled)
+      (filled-first totals xs k e end first (omega arith) below (λ i small own. rounded-below total k i small)),
+)
+  where
+    total : ℕ
+    total = slice_index totals e
+
+    end : ℕ
+    end = (slice_index totals e + (2 ^ k - 1)) / 2 ^ k
+
+    filled : ys ≡ xs ++ replicate (end - length xs) e
+    filled = is ∙ ap (λ n. xs ++ replicate ((slice_index totals e + n) / 2 ^ k - length xs) e) ones
+
+    long : length ys ≡ length xs + (end - length xs)
+    long = ap (λ (zs : List ℕ). length zs) filled ∙ length-filled xs end e
+
+    under : end ≤ count
+    under = rounded-within total k count within
+
+    past : total ≤ length ys * 2 ^ k
+    past =
+        let over : total ≤ end * 2 ^ k = rounded-past total k in
+        let order : end * 2 ^ k ≤ length ys * 2 ^ k = mul-le-mul_right (2 ^ k) (omega (arith, long)) in
+        omega arith
