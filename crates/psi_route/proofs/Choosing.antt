@@ -1,14 +1,13 @@
 -- Choosing a target: by the list alone, and by the keys.
-use Rattle.std.proofs.Common.{◌≡◌, ◌≢◌, ℕ, suc, ◌+◌, ◌<◌, ◌≤◌, List, length, slice_index, slice_set, Option, Some, None, IfSome, nat_le, Bool, true, false, inl, inr, ap, sym, ◌∙◌, subst, arith}
-use Rattle.std.proofs.lemmas.Bool.{cases_lt, leb-true, leb-false}
-use Rattle.psi_route.specs.Routing.{Shape, Routing, IsRouting, routing, best, taken, moved, routed, HasRoom}
+use Rattle.std.proofs.Common.{◌≡◌, ℕ, suc, ◌+◌, ◌*◌, ◌^◌, ◌<◌, ◌≤◌, List, length, slice_index, slice_set, Option, Some, None, IfSome, nat_le, Bool, true, false, inl, inr, ap, sym, ◌∙◌, subst, arith}
+use Rattle.std.proofs.lemmas.Bool.{leb-true, leb-false}
+use Rattle.psi_route.specs.Routing.{Shape, Routing, routing, weight, best, taken, moved, routed, HasRoom, Lacks}
 use Rattle.psi_route.specs.Acting.{Leads, NoRoom}
-use Rattle.psi_route.proofs.ActingLemmas.{leads-first, leads-still, leads-anew, best-from_leads, best-is, best-none}
+use Rattle.psi_route.proofs.ActingLemmas.{no_room-more, leads-first, leads-still, leads-anew, best-from_leads, best-is, best-none}
 use Rattle.psi_route.specs.ActingLaws.{best-place, act-serves, act-idle}
 use Rattle.psi_route.proofs.Plain.{first_best}
-use Rattle.psi_route.specs.Keys.{key_of, IsLesser}
-use Rattle.psi_route.specs.Leader.{IsLeading, IsLeader}
-use Rattle.psi_route.specs.declared.keys.Key.{Key}
+use Rattle.psi_route.specs.Leader.{IsLeader}
+use Rattle.psi_route.specs.declared.keys.Leader.{Leader}
 
 -- none has room
 pub none-is : (s : Shape) (x : List ℕ) (n : ℕ) → length s.targets ≤ n → NoRoom (routing s) x n → None ≡ best (routing s) x
@@ -51,50 +50,62 @@ pub routed-idle : (s : Shape) (x : List ℕ) (b : Bool) → b ≡ nat_le ((routi
 unfolding routed
 routed-idle s x b tells idle = sym (act-idle (routing s) x (leb-false ((routing s).least) (slice_index x ((routing s).source)) (sym tells ∙ idle)))
 
-below_apart : (a b : ℕ) → a ≤ b → a ≢ b → a < b
-below_apart a b most other = elim (cases_lt a b) [ inl less ↦ less | inr more ↦ absurd (other (omega arith)) ]
+-- one place more, which lacks room
+pub leader-still : (r : Routing) (x : List ℕ) (n : ℕ) (leader : Leader) → Lacks r n (slice_index x (r.queue n)) → IsLeader r x n leader
+    → IsLeader r x (n + 1) leader
+leader-still r x n leader lacks before =
+    let next : suc n ≡ n + 1 = omega arith in
+    elim before [
+      | inl none ↦ inl (record { weight = none.weight; none = subst (λ m. NoRoom r x m) next (no_room-more r x n none.none lacks) })
+      | inr leading ↦ inr (record {
+          weight = leading.weight;
+          value = leading.value;
+          leads = subst (λ m. Leads r x m leader.place) next (leads-still r x n leader.place leading.leads (inl lacks));
+        })
+    ]
 
--- one place more, which has room: the lesser key is that of the best place
-pub lesser-leads : (r : Routing) (x : List ℕ) (n : ℕ) (found : Option Key) (key : Key) (result : Option Key) → IsRouting r → n < r.places
-    → HasRoom r n (slice_index x (r.queue n)) → key.place ≡ n → key_of key ≡ r.key n (slice_index x (r.queue n))
-    → IsLeader r x n found → IsLesser found (Some key) result → IsLeader r x (n + 1) result
-lesser-leads r x n None key result is place room at value before lesser =
+-- which has room and a lesser weight than the leader
+pub leader-anew : (s : Shape) (x : List ℕ) (n w : ℕ) (leader result : Leader) → n < 32 → HasRoom (routing s) n (slice_index x (slice_index s.targets n))
+    → w ≡ weight s n (slice_index x (slice_index s.targets n)) → w < 2 ^ 32 → result.weight ≡ w → result.place ≡ n → w < leader.weight → IsLeader (routing s) x n leader
+    → IsLeader (routing s) x (n + 1) result
+leader-anew s x n w leader result few room is small own at less before =
+    let r = routing s in
     let next : suc n ≡ n + 1 = omega arith in
-    subst (λ (o : Option Key). IsLeader r x (n + 1) o) (sym lesser) (record {
-      value = value ∙ ap (λ k. r.key k (slice_index x (r.queue k))) (sym at);
-      leads = subst (λ k. Leads r x (n + 1) k) (sym at) (subst (λ m. Leads r x m n) next (leads-first r x n before room));
+    let value : 32 * result.weight + n ≡ r.key n (slice_index x (r.queue n)) = ap (λ v. 32 * v + n) (own ∙ is) in
+    let leads : Leads r x (suc n) n =
+    elim before [
+      | inl none ↦ leads-first r x n none.none room
+      | inr leading ↦ leads-anew r x n leader.place leading.leads room (omega (arith, value, leading.value))
+    ] in
+    inr (record {
+      weight = omega arith;
+      value = subst (λ k. 32 * result.weight + k ≡ r.key k (slice_index x (r.queue k))) (sym at) value;
+      leads = subst (λ k. Leads r x (n + 1) k) (sym at) (subst (λ m. Leads r x m n) next leads);
     })
-lesser-leads r x n (Some best) key result is place room at value before lesser =
+
+-- which has room and no lesser weight than the leader
+pub leader-ahead : (s : Shape) (x : List ℕ) (n w : ℕ) (leader : Leader) → HasRoom (routing s) n (slice_index x (slice_index s.targets n))
+    → w ≡ weight s n (slice_index x (slice_index s.targets n)) → w < 2 ^ 32 → leader.weight ≤ w → IsLeader (routing s) x n leader → IsLeader (routing s) x (n + 1) leader
+leader-ahead s x n w leader room is small most before =
+    let r = routing s in
     let next : suc n ≡ n + 1 = omega arith in
-    let small : best.place < n = before.leads.place in
-    let known : key_of best ≡ r.key best.place (slice_index x (r.queue best.place)) = before.value in
-    let differ = is.differ n best.place (slice_index x (r.queue n)) (slice_index x (r.queue best.place)) place (omega arith) (λ e. absurd (omega arith)) in
-    elim lesser [
-      | inl first ↦ (let less : r.key n (slice_index x (r.queue n)) < r.key best.place (slice_index x (r.queue best.place)) =
-          (let under : key_of key ≤ key_of best = first.0 in
-          let apart : r.key n (slice_index x (r.queue n)) ≢ r.key best.place (slice_index x (r.queue best.place)) = differ in
-          below_apart (r.key n (slice_index x (r.queue n))) (r.key best.place (slice_index x (r.queue best.place))) (omega arith) apart) in
-          subst (λ (o : Option Key). IsLeader r x (n + 1) o) (sym first.1) (record {
-            value = value ∙ ap (λ k. r.key k (slice_index x (r.queue k))) (sym at);
-            leads = subst (λ k. Leads r x (n + 1) k) (sym at) (subst (λ m. Leads r x m n) next (leads-anew r x n best.place before.leads room less));
-          }))
-      | inr second ↦ (let less : r.key best.place (slice_index x (r.queue best.place)) < r.key n (slice_index x (r.queue n)) =
-          (let over : key_of best ≤ key_of key = second.0 in
-          below_apart (r.key best.place (slice_index x (r.queue best.place))) (r.key n (slice_index x (r.queue n))) (omega arith) (λ e. differ (sym e))) in
-          subst (λ (o : Option Key). IsLeader r x (n + 1) o) (sym second.1) (record {
-            value = known;
-            leads = subst (λ m. Leads r x m best.place) next (leads-still r x n best.place before.leads (inr less));
-          }))
+    let value : 32 * w + n ≡ r.key n (slice_index x (r.queue n)) = ap (λ v. 32 * v + n) is in
+    elim before [
+      | inl none ↦ absurd (let top : leader.weight ≡ 2 ^ 32 = none.weight in omega arith)
+      | inr leading ↦ (let place : leader.place < n = leading.leads.place in inr (record {
+          weight = leading.weight;
+          value = leading.value;
+          leads = subst (λ m. Leads r x m leader.place) next (leads-still r x n leader.place leading.leads (inr (omega (arith, value, leading.value))));
+        }))
     ]
 
 -- the best one, as it is found
-pub leader-some : (s : Shape) (x : List ℕ) (n : ℕ) (found : Option Key) (key : Key) → n ≡ length s.targets → found ≡ Some key
-    → IsLeader (routing s) x n found → Some key.place ≡ best (routing s) x
-leader-some s x n found key all is leading =
-    let lead : IsLeading (routing s) x n key = subst (λ (o : Option Key). IsLeader (routing s) x n o) is leading in
-    sym (best-is (routing s) x key.place (best-from_leads (routing s) x key.place (subst (λ k. Leads (routing s) x k key.place) all lead.leads)))
-
-pub leader-none : (s : Shape) (x : List ℕ) (n : ℕ) (found : Option Key) → length s.targets ≤ n → found ≡ None → IsLeader (routing s) x n found
-    → None ≡ best (routing s) x
-leader-none s x n found all is leading =
-    none-is s x n all (subst (λ (o : Option Key). IsLeader (routing s) x n o) is leading)
+pub leader-best : (s : Shape) (x : List ℕ) (n : ℕ) (leader : Leader) (o : Option ℕ) → n ≡ length s.targets → (leader.weight < 2 ^ 32 → o ≡ Some leader.place)
+    → (2 ^ 32 ≤ leader.weight → o ≡ None) → IsLeader (routing s) x n leader → o ≡ best (routing s) x
+leader-best s x n leader o all some none is =
+    let r = routing s in
+    elim is [
+      | inl unled ↦ none (let top : leader.weight ≡ 2 ^ 32 = unled.weight in omega arith) ∙ none-is s x n (omega arith) unled.none
+      | inr leading ↦ some leading.weight
+          ∙ sym (best-is r x leader.place (best-from_leads r x leader.place (subst (λ k. Leads r x k leader.place) all leading.leads)))
+    ]

@@ -1,11 +1,63 @@
 -- The least fall of a key past another one, and the pair that is made of it.
-use Rattle.std.proofs.Common.{◌≡◌, ℕ, ◌+◌, ◌<◌, ◌≤◌, length, slice_index, Option, Some, None, false, inl, inr, sym, subst, arith}
-use Rattle.std.proofs.lemmas.Bool.{cases_lt}
+use Rattle.std.proofs.Common.{◌≡◌, ◌≢◌, ℕ, ◌+◌, ◌-◌, ◌*◌, ◌<◌, ◌≤◌, List, [], length, get_or, slice_index, Option, Some, None, false, inl, inr, ap, sym, subst, arith}
+use Rattle.std.proofs.lemmas.Bool.{cases_lt, cases_Bool}
 use Rattle.psi_event.proofs.ChoiceLemmas.{first_some-none, first_some-found}
-use Rattle.psi_route.specs.Routing.{Shape, routing, crosses, pair_of, pair_at, pair_from, pair_between}
+use Rattle.psi_route.specs.Routing.{Shape, routing, weight, crosses, pair_of, pair_at, pair_from, pair_between}
 use Rattle.psi_route.proofs.ActingLemmas.{then_some-true, then_some-false}
-use Rattle.psi_route.proofs.Upset.{is-crosses}
-use Rattle.psi_route.specs.Falls.{NoFall, NoFalls, IsLeastFall, AreFalls}
+use Rattle.psi_route.proofs.Upset.{crosses-is, is-crosses}
+use Rattle.psi_route.specs.Falls.{NoFall, NoFalls, IsFall, IsLeastFall, AreFalls}
+
+-- the least number whose value, and that of one more, lie on both sides of the bound for another place's value
+pub fall-found : (s : Shape) (table : List ℕ) (a b w first below bound : ℕ) → table ≡ get_or s.tables a [] → a < length s.targets → b < length s.targets
+    → length s.targets ≤ 32 → a ≢ b → below < slice_index s.caps (slice_index s.targets a) → w < slice_index s.caps (slice_index s.targets b)
+    → (a < b → bound ≡ weight s b w + 1) → (b ≤ a → bound ≡ weight s b w) → first ≤ below → ((k : ℕ) → k < first → slice_index table k < bound)
+    → bound ≤ slice_index table first → ((k : ℕ) → first ≤ k → k < below → bound ≤ slice_index table k) → slice_index table below < bound → IsFall s a b w (below - 1)
+fall-found s table a b w first below bound own place other few apart room room_b later earlier order low start high end =
+    let same : (k : ℕ) → slice_index table k ≡ weight s a k = λ k. ap (λ (t : List ℕ). slice_index t k) own in
+    let before : (k : ℕ) → k < first → weight s a k < bound = λ k small. (let e = same k in let less = low k small in omega arith) in
+    let between : (k : ℕ) → first ≤ k → k < below → bound ≤ weight s a k = λ k least less. (let e = same k in let more = high k least less in omega arith) in
+    let found : weight s a below < bound = (let e = same below in omega arith) in
+    let past : first < below = elim (cases_lt first below) [
+      | inl more ↦ more
+      | inr most ↦ absurd (let e : first ≡ below = omega arith in let same_at = ap (λ k. slice_index table k) e in omega arith)
+    ] in
+    let next : below - 1 + 1 ≡ below = omega arith in
+    let above : bound ≤ weight s a (below - 1) = between (below - 1) (omega arith) (omega arith) in
+    let sides : (32 * weight s a below + a < 32 * weight s b w + b) × (32 * weight s b w + b < 32 * weight s a (below - 1) + a) =
+    elim (cases_lt a b) [
+      | inl under ↦ (let is = later under in (omega arith, omega arith))
+      | inr over ↦ (let is = earlier over in let more : b < a = below_apart b a over (λ e. apart (sym e)) in (omega arith, omega arith))
+    ] in
+    record {
+      here = crosses-is (routing s) a b (below - 1) w (record {
+          first = place;
+          second = other;
+          two = apart;
+          room = omega arith;
+          room_b = room_b;
+          falls = subst (λ k. 32 * weight s a k + a < 32 * weight s b w + b) (sym next) sides.0;
+          above = sides.1;
+        });
+      before = λ u small. elim (cases_Bool (crosses (routing s) a b u w)) [
+        | inr fails ↦ fails
+        | inl passes ↦ absurd (let cross = is-crosses (routing s) a b u w place other passes in
+            let falls : 32 * weight s a (u + 1) + a < 32 * weight s b w + b = cross.falls in
+            let over : 32 * weight s b w + b < 32 * weight s a u + a = cross.above in
+            elim (cases_lt u first) [
+              | inl low ↦ (let under = before u low in elim (cases_lt a b) [
+                | inl small_a ↦ (let is = later small_a in omega arith)
+                | inr small_b ↦ (let is = earlier small_b in omega arith)
+              ])
+              | inr high ↦ (let up = between (u + 1) (omega arith) (omega arith) in elim (cases_lt a b) [
+                | inl small_a ↦ (let is = later small_a in omega arith)
+                | inr small_b ↦ (let is = earlier small_b in omega arith)
+              ])
+            ])
+      ];
+    }
+  where
+    below_apart : (m n : ℕ) → m ≤ n → (m ≡ n → ⊥) → m < n
+    below_apart m n most other = elim (cases_lt m n) [ inl less ↦ less | inr more ↦ absurd (other (omega arith)) ]
 
 -- one number more, past which no key falls
 pub falls-none : (s : Shape) (a b n : ℕ) (found : Option (ℕ × ℕ)) → AreFalls s a b n found → NoFall s a b n → AreFalls s a b (n + 1) found

@@ -33,3 +33,40 @@ impl Key {
         }
     }
 }
+
+// More than each value of a table.
+const NO_WEIGHT: u64 = 4_294_967_296;
+
+/// The weight and the place of the least key that is found so far; the weight is 2^32, above all weights,
+/// where there is none.
+#[derive(Clone, Copy)]
+pub(crate) struct Leader {
+    pub weight: u64,
+    pub place: u8,
+}
+
+impl Leader {
+    ghost use Rattle.std.specs.Prelude.{◌≡◌, ◌^◌, ◌≤◌, Some, None};
+
+    /// No key is found.
+    pub fn none() -> Leader
+        ensures { result.weight ≡ 2 ^ 32 }
+    {
+        Leader {
+            weight: NO_WEIGHT,
+            place: 0,
+        }
+    }
+
+    /// The place of the key, if one is found.
+    pub fn chosen(self) -> Option<u8>
+        ensures found { self.weight < 2 ^ 32 → result ≡ Some self.place }
+        ensures none { 2 ^ 32 ≤ self.weight → result ≡ None }
+    {
+        if self.weight < NO_WEIGHT {
+            Some(self.place)
+        } else {
+            None
+        }
+    }
+}

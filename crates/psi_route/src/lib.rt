@@ -8,6 +8,7 @@
 
 mod envelope;
 mod event;
+mod flat;
 mod index_envelope;
 mod judging;
 mod keys;

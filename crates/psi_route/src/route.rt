@@ -5,7 +5,9 @@ ghost use Rattle.psi_state.specs.State.{AreCapacities};
 ghost use Rattle.psi_route.specs.Routing.{routed, upset_of, weight};
 ghost use Rattle.psi_route.specs.Refusals.{refusal_of};
 ghost use Rattle.psi_route.specs.Accepted.{shape, IsSource, IsRouteShape};
+ghost use Rattle.psi_route.specs.Flat.{AreRooms, IsServer};
 
+use crate::flat::{Server, rooms_of};
 use crate::judging::{fit_tables, is_self_target, is_size_off};
 use crate::parts::{Full, RouteRefusal, Source};
 use psi_event::EventLaw;
@@ -20,13 +22,18 @@ use psi_state::{Queues, State};
 /// queue and the other index policies are routes.
 #[derive(Drop, Debug)]
 pub struct Route {
-    pub(crate) caps: State,
-    pub(crate) source: Option<Source>,
+    // What a step reads comes first.
+    pub(crate) server: Server,
     pub(crate) size: u16,
+    pub(crate) full: Full,
     pub(crate) targets: Queues,
     pub(crate) tables: Vec<IndexTable>,
-    pub(crate) full: Full,
+    rooms: State,
+    pub(crate) caps: State,
+    pub(crate) source: Option<Source>,
     ghost valid: { IsRouteShape (shape caps source size targets tables.items full) },
+    ghost roomy: { AreRooms caps size rooms },
+    ghost served: { IsServer source server },
 }
 
 impl Route {
@@ -101,12 +108,14 @@ impl Route {
         // Called for its clause: a list has at most 32 queues.
         let _few = targets.len();
         Route {
-            caps,
-            source,
+            server: Server::of(source),
             size,
+            full,
             targets,
             tables,
-            full,
+            rooms: rooms_of(&caps, size),
+            caps,
+            source,
         }
     }
 
@@ -148,7 +157,7 @@ impl Route {
         requires { i < length self.now.targets }
         ensures { result + self.now.size ≡ slice_index self.now.caps (slice_index self.now.targets i) }
     {
-        self.cap(i) - self.size
+        self.rooms.get(self.target(i))
     }
 
     // The number of customers at the target at place `i`.

@@ -1,6 +1,6 @@
 //! What a route does to a state.
 
-use crate::keys::Key;
+use crate::keys::Leader;
 use crate::parts::Full;
 use crate::route::Route;
 use psi_state::State;
@@ -32,10 +32,7 @@ impl Route {
         requires { length x.now ≡ length self.now.caps }
         ensures { let r = routing (shape_of self.now) in result ≡ nat_le r.least (slice_index x.now r.source) }
     {
-        match self.source {
-            None => true,
-            Some(source) => x.get(source.queue) >= source.k,
-        }
+        x.get(self.server.queue) >= self.server.least
     }
 
     // Whether the target at place `i` has room for the customers who come.
@@ -74,29 +71,31 @@ impl Route {
         requires length { length x.now ≡ length self.now.caps }
         ensures { result ≡ best (routing (shape_of self.now)) x.now }
     {
-        let mut found = None;
+        let mut leader = Leader::none();
         for i in 0..self.places() {
-            found = self.better(x, i, found);
+            leader = self.better(x, i, leader);
         }
-        match found {
-            None => None,
-            Some(key) => Some(key.place),
-        }
+        leader.chosen()
     }
 
-    // The least key of the places up to `i` that have room, from the least of those before it.
-    fn better(&self, x: &State, i: u8, found: Option<Key>) -> Option<Key>
+    // The leader of the places up to `i`, from that of those before it: of equal weights the earlier place has the
+    // lesser key.
+    fn better(&self, x: &State, i: u8, leader: Leader) -> Leader
         requires tables { 0 < length self.now.tables.items }
         requires place { i < length self.now.targets }
         requires length { length x.now ≡ length self.now.caps }
-        requires found { IsLeader (routing (shape_of self.now)) x.now i found }
+        requires leader { IsLeader (routing (shape_of self.now)) x.now i leader }
         ensures { IsLeader (routing (shape_of self.now)) x.now (i + 1) result }
     {
         if !self.has_room(x, i) {
-            return found;
+            return leader;
         }
-        let key = self.key(i, self.held(x, i));
-        Key::lesser(found, Some(key))
+        let weight = self.weight(i, self.held(x, i)) as u64;
+        if weight < leader.weight {
+            Leader { weight, place: i }
+        } else {
+            leader
+        }
     }
 
     // Lets the customers join the target at the chosen place, if there is one, where the source serves.
@@ -135,8 +134,7 @@ impl Route {
         requires serve { let r = routing (shape_of self.now) in r.least ≤ slice_index x.old r.source }
         ensures { x.new ≡ taken (routing (shape_of self.now)) x.old }
     {
-        if let Some(source) = self.source {
-            x.set(source.queue, x.get(source.queue) - 1);
-        }
+        let queue = self.server.queue;
+        x.set(queue, x.get(queue) - self.server.leaving);
     }
 }

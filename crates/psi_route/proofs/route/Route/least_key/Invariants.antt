@@ -5,4 +5,4 @@ use Rattle.psi_route.specs.Leader.{IsLeader}
 use Rattle.psi_route.proofs.route.Route.least_key.Given as goal
 
 abbrev pub invariant-loop-i : goal.invariant-loop-i
-invariant-loop-i l = IsLeader (routing (shape_of l.self)) l.x l.i l.found
+invariant-loop-i l = IsLeader (routing (shape_of l.self)) l.x l.i l.leader
