@@ -58,10 +58,10 @@ leader-still r x n leader lacks before =
     elim before [
       | inl none ↦ inl (record { weight = none.weight; none = subst (λ m. NoRoom r x m) next (no_room-more r x n none.none lacks) })
       | inr leading ↦ inr (record {
-          weight = leading.weight;
-          value = leading.value;
-          leads = subst (λ m. Leads r x m leader.place) next (leads-still r x n leader.place leading.leads (inl lacks));
-        })
+        weight = leading.weight;
+        value = leading.value;
+        leads = subst (λ m. Leads r x m leader.place) next (leads-still r x n leader.place leading.leads (inl lacks));
+      })
     ]
 
 -- which has room and a lesser weight than the leader
@@ -93,10 +93,10 @@ leader-ahead s x n w leader room is small most before =
     elim before [
       | inl none ↦ absurd (let top : leader.weight ≡ 2 ^ 32 = none.weight in omega arith)
       | inr leading ↦ (let place : leader.place < n = leading.leads.place in inr (record {
-          weight = leading.weight;
-          value = leading.value;
-          leads = subst (λ m. Leads r x m leader.place) next (leads-still r x n leader.place leading.leads (inr (omega (arith, value, leading.value))));
-        }))
+        weight = leading.weight;
+        value = leading.value;
+        leads = subst (λ m. Leads r x m leader.place) next (leads-still r x n leader.place leading.leads (inr (omega (arith, value, leading.value))));
+      }))
     ]
 
 -- the best one, as it is found

@@ -30,14 +30,14 @@ fall-found s table a b w first below bound own place other few apart room room_b
     ] in
     record {
       here = crosses-is (routing s) a b (below - 1) w (record {
-          first = place;
-          second = other;
-          two = apart;
-          room = omega arith;
-          room_b = room_b;
-          falls = subst (λ k. 32 * weight s a k + a < 32 * weight s b w + b) (sym next) sides.0;
-          above = sides.1;
-        });
+        first = place;
+        second = other;
+        two = apart;
+        room = omega arith;
+        room_b = room_b;
+        falls = subst (λ k. 32 * weight s a k + a < 32 * weight s b w + b) (sym next) sides.0;
+        above = sides.1;
+      });
       before = λ u small. elim (cases_Bool (crosses (routing s) a b u w)) [
         | inr fails ↦ fails
         | inl passes ↦ absurd (let cross = is-crosses (routing s) a b u w place other passes in

@@ -4,10 +4,9 @@ use Rattle.psi_route.specs.Routing.{source_least}
 use Rattle.psi_route.specs.declared.parts.Source.{Source}
 use Rattle.psi_route.specs.declared.flat.Server.{Server}
 
--- the greatest number of customers with which each queue has room for so many more
-pub record AreRooms (caps : List ℕ) (size : ℕ) (rooms : List ℕ) : Type 0 where
-  pub count : length rooms ≡ length caps
-  pub each : (q : ℕ) → q < length caps → slice_index rooms q ≡ slice_index caps q - size
+-- the greatest number of customers with which each target has room for so many more
+pub record AreRooms (caps : List ℕ) (size : ℕ) (targets rooms : List ℕ) : Type 0 where
+  pub each : (i : ℕ) → i < length targets → slice_index rooms i ≡ slice_index caps (slice_index targets i) - size
 
 -- the queue of a source, and queue 0 without one
 abbrev pub served_queue : Option Source → ℕ

@@ -1,10 +1,10 @@
 //! What a route keeps beside its parts, so that a step reads it without a choice or a sum.
 
-ghost use Rattle.psi_state.specs.State.{AreCapacities};
+ghost use Rattle.std.specs.Prelude.{◌<◌, length, slice_index, EachIndex};
 ghost use Rattle.psi_route.specs.Flat.{AreRooms, IsServer};
 
 use crate::parts::Source;
-use psi_state::State;
+use psi_state::{Queues, State};
 
 /// A source, or none: where there is none, no customer of queue 0 is wanted or leaves it.
 #[derive(Clone, Copy, Debug)]
@@ -37,13 +37,15 @@ impl Server {
     }
 }
 
-/// The greatest number of customers with which each queue has room for `size` more, and 0 where it never has.
-pub(crate) fn rooms_of(caps: &State, size: u16) -> State
-    ensures { AreRooms caps.now size result }
+/// The greatest number of customers with which each target has room for `size` more, by the targets' places; 0 where
+/// it never has, and past the last place.
+pub(crate) fn rooms_of(caps: &State, size: u16, targets: &Queues) -> [u16; 32]
+    requires { EachIndex targets.now (λ i. slice_index targets.now i < length caps.now) }
+    ensures { AreRooms caps.now size targets.now result }
 {
-    let mut rooms = *caps;
-    for queue in 0..caps.len() {
-        rooms.set(queue, caps.get(queue).saturating_sub(size));
+    let mut rooms = [0; 32];
+    for i in 0..targets.len() {
+        rooms[i as usize] = caps.get(targets.get(i)).saturating_sub(size);
     }
     rooms
 }

@@ -42,7 +42,8 @@ const NO_WEIGHT: u64 = 4_294_967_296;
 #[derive(Clone, Copy)]
 pub(crate) struct Leader {
     pub weight: u64,
-    pub place: u8,
+    pub place: usize,
+    pub ghost few: { place < 32 },
 }
 
 impl Leader {
@@ -64,7 +65,7 @@ impl Leader {
         ensures none { 2 ^ 32 ≤ self.weight → result ≡ None }
     {
         if self.weight < NO_WEIGHT {
-            Some(self.place)
+            Some(self.place as u8)
         } else {
             None
         }

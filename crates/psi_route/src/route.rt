@@ -28,11 +28,11 @@ pub struct Route {
     pub(crate) full: Full,
     pub(crate) targets: Queues,
     pub(crate) tables: Vec<IndexTable>,
-    rooms: State,
+    rooms: [u16; 32],
     pub(crate) caps: State,
     pub(crate) source: Option<Source>,
     ghost valid: { IsRouteShape (shape caps source size targets tables.items full) },
-    ghost roomy: { AreRooms caps size rooms },
+    ghost roomy: { AreRooms caps size targets rooms },
     ghost served: { IsServer source server },
 }
 
@@ -107,13 +107,14 @@ impl Route {
     {
         // Called for its clause: a list has at most 32 queues.
         let _few = targets.len();
+        let rooms = rooms_of(&caps, size, &targets);
         Route {
             server: Server::of(source),
             size,
             full,
             targets,
             tables,
-            rooms: rooms_of(&caps, size),
+            rooms,
             caps,
             source,
         }
@@ -157,7 +158,7 @@ impl Route {
         requires { i < length self.now.targets }
         ensures { result + self.now.size ≡ slice_index self.now.caps (slice_index self.now.targets i) }
     {
-        self.rooms.get(self.target(i))
+        self.rooms[i as usize]
     }
 
     // The number of customers at the target at place `i`.
@@ -176,6 +177,17 @@ impl Route {
         requires number { v < slice_index self.now.caps (slice_index self.now.targets i) }
         ensures { result ≡ weight (shape_of self.now) i v }
     {
-        self.tables[i as usize].at(v)
+        self.weight_in(&self.tables, i, v)
+    }
+
+    // The same where the tables are at hand.
+    pub(crate) fn weight_in(&self, tables: &[IndexTable], i: u8, v: u16) -> u32
+        requires tables { 0 < length self.now.tables.items }
+        requires own { tables.now ≡ self.now.tables.items }
+        requires place { i < length self.now.targets }
+        requires number { v < slice_index self.now.caps (slice_index self.now.targets i) }
+        ensures { result ≡ weight (shape_of self.now) i v }
+    {
+        tables[i as usize].at(v)
     }
 }

@@ -3,6 +3,7 @@
 use crate::keys::Leader;
 use crate::parts::Full;
 use crate::route::Route;
+use psi_index::IndexTable;
 use psi_state::State;
 
 impl Route {
@@ -71,17 +72,20 @@ impl Route {
         requires length { length x.now ≡ length self.now.caps }
         ensures { result ≡ best (routing (shape_of self.now)) x.now }
     {
+        // Read once: in the loop it would be read for each target.
+        let tables: &[IndexTable] = &self.tables;
         let mut leader = Leader::none();
         for i in 0..self.places() {
-            leader = self.better(x, i, leader);
+            leader = self.better(tables, x, i, leader);
         }
         leader.chosen()
     }
 
     // The leader of the places up to `i`, from that of those before it: of equal weights the earlier place has the
     // lesser key.
-    fn better(&self, x: &State, i: u8, leader: Leader) -> Leader
+    fn better(&self, tables: &[IndexTable], x: &State, i: u8, leader: Leader) -> Leader
         requires tables { 0 < length self.now.tables.items }
+        requires own { tables.now ≡ self.now.tables.items }
         requires place { i < length self.now.targets }
         requires length { length x.now ≡ length self.now.caps }
         requires leader { IsLeader (routing (shape_of self.now)) x.now i leader }
@@ -90,9 +94,12 @@ impl Route {
         if !self.has_room(x, i) {
             return leader;
         }
-        let weight = self.weight(i, self.held(x, i)) as u64;
+        let weight = self.weight_in(tables, i, self.held(x, i)) as u64;
         if weight < leader.weight {
-            Leader { weight, place: i }
+            Leader {
+                weight,
+                place: i as usize,
+            }
         } else {
             leader
         }

@@ -8,6 +8,6 @@ invariant_of-result c = record {
   valid =
       accepted (shape c.args.caps c.args.source c.args.size c.args.targets c.args.tables.items c.args.full) c.requires.caps
       c.requires.source c.len-few.ensures.numbers.few c.requires.targets c.requires.accepted;
-  roomy = c.rooms_of.ensures;
+  roomy = c.rooms_of-rooms.ensures;
   served = c.of.ensures;
 }

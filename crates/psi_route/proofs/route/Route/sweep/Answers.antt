@@ -1,8 +1,8 @@
 -- Answers in the proof of `Route::sweep`.
-use Rattle.std.proofs.Common.{◌≡◌, ◌+◌, ◌<◌, ◌≤◌, length, slice_index, ap, sym, ◌∙◌, subst, arith}
+use Rattle.std.proofs.Common.{◌≡◌, ◌+◌, ◌<◌, ◌≤◌, length, slice_index, inr, ap, sym, ◌∙◌, subst, arith}
 use Rattle.std.specs.Bool.{MatchBool}
 use Rattle.psi_state.specs.State.{Corners}
-use Rattle.psi_route.specs.Routing.{routing, Lacks}
+use Rattle.psi_route.specs.Routing.{routing, HasRoom, Lacks}
 use Rattle.psi_route.specs.Route.{shape_of}
 use Rattle.psi_route.specs.Ends.{AreTargetEnds}
 use Rattle.psi_route.proofs.OnePass.{target-ends_kept, ends-raised, ends-behind, ends-full, comes-more, coming-more, misses-here}
@@ -39,6 +39,23 @@ returns-then-greatest-room-clause-ends c =
     c.greatest-greatest.ensures.value c.if-least-room.true c.loop-j.invariant.low c.loop-j.invariant.high c.lowest-low.ensures.kept c.lowest-low.ensures.roomy c.lowest-low.ensures.narrow
     (ap (λ n. n + s.size) c.min.ensures)))
     small (omega (arith, c.if-greatest-room.true, high, cap))
+
+pub returns-then-greatest-room-clause-left : goal.returns-then-greatest-room-clause-left
+returns-then-greatest-room-clause-left c =
+    let s = shape_of c.args.self.now in
+    let r = routing s in
+    let l = c.args.b.now.lo in
+    let h = c.args.b.now.hi in
+    let j = c.loop-j.j in
+    let small : j < length s.targets = omega (arith, c.loop-j-test.true, c.places-j-end.ensures.value) in
+    let at : c.target-queue.result ≡ slice_index s.targets j = c.target-queue.ensures.value in
+    let cap = c.most_with_room-room.ensures in
+    let old = target-ends_kept r l h c.loop-j.b.lo c.loop-j.b.hi j (routing-is s c.args.self.now.valid) c.loop-j.invariant.ends small in
+    let low : c.least-least.result ≡ slice_index l (slice_index s.targets j) = c.least-least.ensures.value ∙ (ap (λ n. slice_index c.loop-j.b.lo n) at ∙ old.0) in
+    let high : c.greatest-greatest.result ≡ slice_index h (slice_index s.targets j) = c.greatest-greatest.ensures.value ∙ (ap (λ n. slice_index c.loop-j.b.hi n) at ∙ old.1) in
+    let room_low : HasRoom r j (slice_index l (slice_index s.targets j)) = omega (arith, c.if-least-room.true, low, cap) in
+    let room_high : HasRoom r j (slice_index h (slice_index s.targets j)) = omega (arith, c.if-greatest-room.true, high, cap) in
+    record { low = inr (j, small, room_low); high = inr (j, small, room_high) }
 
 pub loop-j-preserved : goal.loop-j-preserved
 loop-j-preserved c =

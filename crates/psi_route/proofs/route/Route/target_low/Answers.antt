@@ -10,8 +10,15 @@ returns-then-may_stay c =
     let r = routing (shape_of c.args.self.now) in
     let sized = c.args.self.now.valid.sized in
     let stays : MayStay r c.args.j c.args.rival (c.args.least + c.loop-more.more) = c.if-may_stay.ensures in
-    inl (c.args.least + c.loop-more.more, omega arith, omega (arith, c.loop-more-test.true, c.min-most.ensures, c.requires.ordered),
-    omega (arith, c.loop-more-test.true, c.min-most.ensures, sized), stays, c.loop-more.invariant, refl)
+    inl (
+      c.args.least + c.loop-more.more,
+      omega arith,
+      omega (arith, c.loop-more-test.true, c.min-most.ensures, c.requires.ordered),
+      omega (arith, c.loop-more-test.true, c.min-most.ensures, sized),
+      stays,
+      c.loop-more.invariant,
+      refl,
+    )
 
 pub overflow_add-result-2 : goal.overflow_add-result-2
 overflow_add-result-2 c =
