@@ -1,13 +1,13 @@
 //! The least and the greatest number of customers that a route leaves at a target, by its rivals.
 
-ghost use Rattle.std.specs.Prelude.{◌≡◌, ◌+◌, ◌<◌, ◌≤◌, ◌↔◌, length, slice_index, IsTrue};
-ghost use Rattle.std.specs.Bool.{MatchBool};
+ghost use Rattle.std.specs.Prelude.{◌≡◌, ℕ, ◌+◌, ◌-◌, ◌<◌, ◌≤◌, length, slice_index};
 
 use crate::keys::Key;
 use crate::route::Route;
+use crate::table_search::{first_at_least_between, past_last_below};
 
 impl Route {
-    ghost use Rattle.psi_route.specs.Routing.{routing};
+    ghost use Rattle.psi_route.specs.Routing.{routing, HasRoom, Lacks};
     ghost use Rattle.psi_route.specs.Route.{shape_of};
     ghost use Rattle.psi_route.specs.Ends.{IsLeastAfter, IsGreatestAfter};
     ghost use Rattle.psi_route.specs.Keys.{key_of};
@@ -23,13 +23,13 @@ impl Route {
         requires within { greatest ≤ slice_index self.now.caps (slice_index self.now.targets j) }
         ensures { IsLeastAfter (MayStay (routing (shape_of self.now)) j rival) (MustRise (routing (shape_of self.now)) j rival) self.now.size least greatest result }
     {
-        let most = (greatest - least).min(self.size - 1);
-        for more in 0..most + 1 {
-            if self.may_stay(j, least + more, rival) {
-                return least + more;
-            }
+        let last = least + (greatest - least).min(self.size - 1);
+        let stays = self.first_staying(j, least, last, rival);
+        if stays <= last {
+            stays
+        } else {
+            least + self.size
         }
-        least + self.size
     }
 
     /// The greatest number of customers that the route leaves at the target at place `j`, which held from
@@ -42,66 +42,105 @@ impl Route {
         requires within { greatest ≤ slice_index self.now.caps (slice_index self.now.targets j) }
         ensures { IsGreatestAfter (MayRise (routing (shape_of self.now)) j bar) (MustStay (routing (shape_of self.now)) j bar) self.now.size least greatest result }
     {
-        let most = (greatest - least).min(self.size - 1);
-        for less in 0..most + 1 {
-            if self.may_rise(j, greatest - less, bar) {
-                return greatest - less + self.size;
-            }
+        let first = greatest - (greatest - least).min(self.size - 1);
+        let past = self.past_rising(j, first, greatest, bar);
+        if past > first {
+            past - 1 + self.size
+        } else {
+            greatest
         }
-        greatest
     }
 
-    // Whether `v` customers can stay as they are at a target where the source serves.
-    fn may_stay(&self, j: u8, v: u16, rival: Option<Key>) -> bool
+    // The first number of customers from `first` on that can stay as they are at a target where the source serves,
+    // or a number past `last` where none up to it can.
+    fn first_staying(&self, j: u8, first: u16, last: u16, rival: Option<Key>) -> u16
         requires tables { 0 < length self.now.tables.items }
         requires place { j < length self.now.targets }
-        requires bound { v ≤ slice_index self.now.caps (slice_index self.now.targets j) }
-        ensures { MatchBool result (MayStay (routing (shape_of self.now)) j rival v) (MustRise (routing (shape_of self.now)) j rival v) }
+        requires ordered { first ≤ last }
+        requires within { last ≤ slice_index self.now.caps (slice_index self.now.targets j) }
+        ensures from { first ≤ result }
+        ensures rises { (v : ℕ) → first ≤ v → v < result → v ≤ last → MustRise (routing (shape_of self.now)) j rival v }
+        ensures stays { result ≤ last → MayStay (routing (shape_of self.now)) j rival result }
     {
-        if !self.leaves_room(j, v) {
-            return true;
-        }
+        let past = self.past_room(j, first, last);
         match rival {
-            None => false,
-            Some(key) => key.is_before(self.key(j, v)),
+            None => past,
+            Some(key) => self.first_behind(j, first, past, key),
         }
     }
 
-    // Whether `v` customers at a target can become more where the source serves.
-    fn may_rise(&self, j: u8, v: u16, bar: Option<Key>) -> bool
+    // One more than the greatest number of customers from `first` to `last` that can become more at a target where
+    // the source serves, or `first` where none can.
+    fn past_rising(&self, j: u8, first: u16, last: u16, bar: Option<Key>) -> u16
         requires tables { 0 < length self.now.tables.items }
         requires place { j < length self.now.targets }
-        requires bound { v ≤ slice_index self.now.caps (slice_index self.now.targets j) }
-        ensures { MatchBool result (MayRise (routing (shape_of self.now)) j bar v) (MustStay (routing (shape_of self.now)) j bar v) }
+        requires ordered { first ≤ last }
+        requires within { last ≤ slice_index self.now.caps (slice_index self.now.targets j) }
+        ensures from { first ≤ result }
+        ensures within { result ≤ last + 1 }
+        ensures stays { (v : ℕ) → result ≤ v → v ≤ last → MustStay (routing (shape_of self.now)) j bar v }
+        ensures rises { first < result → MayRise (routing (shape_of self.now)) j bar (result - 1) }
     {
-        if !self.leaves_room(j, v) {
-            return false;
-        }
+        let past = self.past_room(j, first, last);
         match bar {
-            None => true,
-            Some(key) => self.key(j, v).is_before(key),
+            None => past,
+            Some(key) => self.past_before(j, first, past, key),
         }
     }
 
-    // Whether a target that holds `v` customers has room.
-    fn leaves_room(&self, j: u8, v: u16) -> bool
+    // One more than the greatest number of customers from `first` to `last` that leaves room, or `first` where none
+    // does.
+    fn past_room(&self, j: u8, first: u16, last: u16) -> u16
         requires place { j < length self.now.targets }
-        ensures { IsTrue result ↔ (v + self.now.size ≤ slice_index self.now.caps (slice_index self.now.targets j)) }
+        requires ordered { first ≤ last }
+        requires within { last ≤ slice_index self.now.caps (slice_index self.now.targets j) }
+        ensures from { first ≤ result }
+        ensures few { result ≤ slice_index self.now.caps (slice_index self.now.targets j) }
+        ensures within { result ≤ last + 1 }
+        ensures room { (v : ℕ) → first ≤ v → v < result → HasRoom (routing (shape_of self.now)) j v }
+        ensures none { (v : ℕ) → result ≤ v → v ≤ last → Lacks (routing (shape_of self.now)) j v }
     {
-        v <= self.most_with_room(j)
+        let most = self.most_with_room(j);
+        if most < first {
+            first
+        } else {
+            last.min(most) + 1
+        }
     }
 
-    // The key of a target that holds `v` customers, with room for more.
-    pub(crate) fn key(&self, j: u8, v: u16) -> Key
+    // The first number of customers from `first` on and before `past` with which the target's key comes after `key`,
+    // or `past` where there is none.
+    fn first_behind(&self, j: u8, first: u16, past: u16, key: Key) -> u16
         requires tables { 0 < length self.now.tables.items }
         requires place { j < length self.now.targets }
-        requires room { v < slice_index self.now.caps (slice_index self.now.targets j) }
-        ensures place { result.place ≡ j }
-        ensures value { key_of result ≡ (routing (shape_of self.now)).key j v }
+        requires ordered { first ≤ past }
+        requires within { past ≤ slice_index self.now.caps (slice_index self.now.targets j) }
+        ensures from { first ≤ result }
+        ensures within { result ≤ past }
+        ensures before { (v : ℕ) → first ≤ v → v < result → (routing (shape_of self.now)).key j v ≤ key_of key }
+        ensures found { result < past → key_of key < (routing (shape_of self.now)).key j result }
     {
         // Called for its clause: there are at most 32 places.
         let _few = self.places();
-        let weight = self.weight(j, v);
-        Key { weight, place: j }
+        let bound = key.weight as u64 + (j <= key.place) as u64;
+        first_at_least_between(&self.tables[j as usize], first, past, bound)
+    }
+
+    // One more than the last number of customers from `first` on and before `past` with which the target's key comes
+    // before `key`, or `first` where there is none.
+    fn past_before(&self, j: u8, first: u16, past: u16, key: Key) -> u16
+        requires tables { 0 < length self.now.tables.items }
+        requires place { j < length self.now.targets }
+        requires ordered { first ≤ past }
+        requires within { past ≤ slice_index self.now.caps (slice_index self.now.targets j) }
+        ensures from { first ≤ result }
+        ensures within { result ≤ past }
+        ensures after { (v : ℕ) → result ≤ v → v < past → key_of key ≤ (routing (shape_of self.now)).key j v }
+        ensures found { first < result → (routing (shape_of self.now)).key j (result - 1) < key_of key }
+    {
+        // Called for its clause: there are at most 32 places.
+        let _few = self.places();
+        let bound = key.weight as u64 + (j < key.place) as u64;
+        past_last_below(&self.tables[j as usize], first, past, bound)
     }
 }

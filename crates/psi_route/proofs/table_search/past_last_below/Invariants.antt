@@ -1,0 +1,16 @@
+-- Invariants of the loops of `past_last_below`.
+use Rattle.std.proofs.Common.{◌<◌, ◌≤◌, ◌+◌, ◌-◌, ℕ, slice_index}
+use Rattle.psi_route.proofs.table_search.past_last_below.Given as goal
+
+abbrev pub invariant-loop-low : goal.invariant-loop-low
+invariant-loop-low l =
+    record {
+      from : l.first ≤ l.low;
+      ordered : l.low ≤ l.high;
+      within : l.high ≤ l.past;
+      after : (k : ℕ) → l.high ≤ k → k < l.past → l.bound ≤ slice_index l.table k;
+      reached : l.first < l.low → (k : ℕ) × (l.low ≤ k + 1) × (k < l.past) × (slice_index l.table k < l.bound);
+    }
+
+abbrev pub decreases-loop-low : goal.decreases-loop-low
+decreases-loop-low l = l.high - l.low
