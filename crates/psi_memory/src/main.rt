@@ -1,16 +1,23 @@
 //! The program `psi_memory`: whether a call that is to take no memory takes some.
 //!
-//! It makes a network, a plan and what a plan is made of; with the word `each` it does each call on them that is to
-//! take no memory, with the word `none` it does none; then it asks for one byte again and again, until that is
-//! refused, and prints how often it was given. Where the allocation of one fixed number is refused, this tells how
-//! many came before it. So it has to print the same with both words, and prints fewer where a call takes memory.
+//! It makes three networks and, group by group, what the calls are made on; with the word `each` it does each call
+//! that is to take no memory, with the word `none` it does none; then it asks for one byte again and again, until
+//! that is refused, and prints how often it was given. Where the allocation of one fixed number is refused, this
+//! tells how many came before it. So it has to print the same with both words, and prints fewer where a call takes
+//! memory.
 #![tactic(auto)]
 
-mod calls;
-mod made;
+mod closed;
+mod keeping;
+mod lists;
+mod logs;
+mod maps;
+mod networks;
+mod sampling;
+mod tallies;
 
-use crate::calls::call_each;
-use crate::made::{make, net_of_file};
+use psi_io::{DiskShelf, Shelf};
+use psi_net::{Net, net_of};
 use std::alloc::Global;
 use std::{env, io};
 
@@ -37,6 +44,17 @@ fn word(rt: &HostRuntime) -> Result<bool, Missing> {
     }
 }
 
+// The network of the file, where it is there and one.
+fn net_of_file(rt: &HostRuntime, name: &str) -> Result<Net, Missing> {
+    let Ok(text) = DiskShelf::new(rt).read(rt.alloc(), name, 65_535) else {
+        return Err(Missing::Net);
+    };
+    match net_of(rt.alloc(), text.as_slice()) {
+        Ok(net) => Ok(net),
+        Err(_) => Err(Missing::Net),
+    }
+}
+
 // How often one byte is given before it is refused.
 fn given(alloc: Global) -> u32 {
     for count in 0..MOST {
@@ -47,20 +65,31 @@ fn given(alloc: Global) -> u32 {
     MOST
 }
 
+// Makes what is called, group by group, and calls it or not; `None` where memory is wanting.
+fn each_group(alloc: Global, net: &Net, pair: &Net, ring: &Net, calls: bool) -> Option<()> {
+    networks::make(calls, net);
+    lists::make(alloc, calls)?;
+    keeping::make(alloc, calls, net)?;
+    sampling::make(alloc, calls, net)?;
+    tallies::make(alloc, calls, net)?;
+    logs::make(alloc, calls, net, pair, ring)?;
+    maps::make(alloc, calls, net)?;
+    closed::make(alloc, calls)
+}
+
 // Makes all that is called, calls it or not, and counts what is given then.
 fn counted(rt: &HostRuntime) -> Result<u32, Missing> {
-    let alloc = rt.alloc();
     let calls = word(rt)?;
-    let Some(net) = net_of_file(rt, alloc) else {
-        return Err(Missing::Net);
-    };
-    let Some(mut made) = make(alloc, &net) else {
-        return Err(Missing::Memory);
-    };
+    let net = net_of_file(rt, "net.toml")?;
+    let pair = net_of_file(rt, "pair.toml")?;
+    let ring = net_of_file(rt, "ring.toml")?;
     if calls {
-        call_each(&net, &mut made);
+        let _shelf = DiskShelf::new(rt);
     }
-    Ok(given(alloc))
+    match each_group(rt.alloc(), &net, &pair, &ring, calls) {
+        Some(()) => Ok(given(rt.alloc())),
+        None => Err(Missing::Memory),
+    }
 }
 
 fn main(rt: HostRuntime) -> io::Result<()> {

@@ -1,6 +1,6 @@
 -- Answers in the proof of `call_region`.
 use Rattle.psi_memory.proofs.WithinLemmas.{all_below}
-use Rattle.psi_memory.proofs.calls.call_region.Goals as goal
+use Rattle.psi_memory.proofs.keeping.call_region.Goals as goal
 
 pub advance-requires : goal.advance-requires
 advance-requires g c =

@@ -1,0 +1,116 @@
+//! What takes the room for all that it is to hold when it is made: words, index tables, sets of states, regions,
+//! sinks.
+
+ghost use Rattle.std.specs.Prelude.{◌≡◌, [], length};
+
+use psi_event::{EventLaw, Idle};
+use psi_index::IndexTable;
+use psi_io::{MemorySink, Sink, StdSink, write_all};
+use psi_net::Net;
+use psi_past::{Kept, ListPast, Past, SeedPast};
+use psi_pool::Pool;
+use psi_region::Region;
+use std::alloc::Global;
+
+/// Makes each of these, and calls it or not; `None` where memory is wanting.
+pub(crate) fn make(alloc: Global, calls: bool, net: &Net) -> Option<()> {
+    let idle = Idle::new(net.system().caps());
+    make_words(alloc, calls)?;
+    make_table(alloc, calls)?;
+    make_sets(alloc, calls, &idle)?;
+    make_sinks(alloc, calls)
+}
+
+// Room for eight words, of which none is kept yet, and a list of words.
+fn make_words(alloc: Global, calls: bool) -> Option<()> {
+    let Ok(mut kept) = Kept::reserve(alloc, SeedPast::new(0, 0), 8) else {
+        return None;
+    };
+    let words = [3, 1, 4].to_vec(alloc).ok()?;
+    if calls {
+        call_kept(&mut kept);
+        let mut list = ListPast::new(words);
+        let _words = (list.word(2), list.word(3));
+    }
+    Some(())
+}
+
+fn call_kept(kept: &mut Kept<SeedPast>)
+    requires { kept.old.most ≡ 8 }
+{
+    kept.extend_to(4);
+    kept.extend_to(8);
+    let _word = kept.at(7);
+    kept.replace(SeedPast::new(1, 1));
+    kept.extend_to(8);
+}
+
+// A table of eight values.
+fn make_table(alloc: Global, calls: bool) -> Option<()> {
+    let values = [3, 1, 4, 1, 5, 9, 2, 6].to_vec(alloc).ok()?;
+    let Ok(table) = IndexTable::new(alloc, values) else {
+        return None;
+    };
+    if calls {
+        call_table(&table);
+    }
+    Some(())
+}
+
+fn call_table(table: &IndexTable)
+    requires { length table.now ≡ 8 }
+{
+    let _value = table.at(3);
+    let _ends = (table.least(1, 6), table.greatest(1, 6));
+    let _marks = (table.len(), table.rises());
+}
+
+// An empty set with room for eight states, and a region that is split where it has as few.
+fn make_sets<E: EventLaw>(alloc: Global, calls: bool, event: &E) -> Option<()> {
+    let Ok(mut pool) = Pool::reserve(alloc, 8) else {
+        return None;
+    };
+    let Ok(mut region) = Region::reserve(alloc, 8) else {
+        return None;
+    };
+    if calls {
+        call_pool(&mut pool, event);
+        call_region(&mut region, event);
+    }
+    Some(())
+}
+
+#[tactic(auto, using(crate::proofs::WithinLemmas::one_below))]
+fn call_pool<E: EventLaw>(pool: &mut Pool, event: &E)
+    requires { pool.old ≡ record { most = 8; states = [] } }
+{
+    let full = event.caps();
+    let _new = pool.insert(full);
+    pool.step(event);
+    let _there = pool.contains(&full);
+    let _states = pool.walk();
+    let _single = (pool.len(), pool.only());
+    pool.clear();
+}
+
+fn call_region<E: EventLaw>(region: &mut Region, event: &E) {
+    region.start(&event.caps());
+    region.advance(event);
+    region.rest();
+    let _shown = (region.single(), region.bounds());
+}
+
+// A sink in memory, and one over a list that has room.
+fn make_sinks(alloc: Global, calls: bool) -> Option<()> {
+    let Ok(mut sink) = MemorySink::new(alloc, 8, 8, Vec::new(alloc)) else {
+        return None;
+    };
+    let list: Vec<u8> = Vec::with_capacity(alloc, 8).ok()?;
+    if calls {
+        let _written = write_all(&mut sink, b"text");
+        let _held = (sink.bytes().len(), sink.count());
+        let mut over = StdSink::new(list);
+        let _count = over.write(b"text");
+    }
+    Some(())
+}
