@@ -2,13 +2,14 @@
 use Rattle.std.specs.Prelude.{◌≡◌, ℕ, zero, suc, ◌+◌, ◌<◌, ◌≤◌, List, [], ◌∷◌, ◌++◌, length, map, filter, take, slice_index, codes, refl}
 use Rattle.std.specs.List.{join_with_byte}
 use Rattle.std.specs.Fmt.{decimal}
-use Rattle.std.proofs.Common.{Vec, Global, get_or, ap, sym, ◌∙◌, append_assoc, arith, length-append}
-use Rattle.std.proofs.lemmas.List.{take_more, length-take-le, map-append, append-nil}
+use Rattle.std.proofs.Common.{get_or, drop, ap, sym, ◌∙◌, append_assoc, arith, length-append}
+use Rattle.std.proofs.lemmas.List.{take_more, take-append-drop, take-append-le, length-take-le, map-append, append-nil}
+use Rattle.std.proofs.Math.Seq.{take-append-add}
 use Rattle.std.proofs.lemmas.List.Concat.{flat_map-append}
 use Rattle.std.proofs.lemmas.List.Elements.{filter-append}
 use Rattle.psi_state.specs.State.{Corners, numbers_from}
 use Rattle.psi_lines.specs.Text.{numbers_text, differs, change_to, change_text, changes, move_words}
-use Rattle.psi_lines.specs.Room.{Appends, spaced, spaced_words, picked}
+use Rattle.psi_lines.specs.Room.{Puts, spaced, spaced_words, picked}
 
 -- one more piece comes after one more separator
 joined-more : (c : ℕ) (x : List ℕ) (xs : List (List ℕ)) (y : List ℕ)
@@ -39,12 +40,12 @@ numbers_text_first [] some = absurd (omega arith)
 numbers_text_first (x ∷ xs) some = refl
 
 -- a text behind a text
-pub then : {old mid new : Vec ℕ Global} (first second both : List ℕ) → Appends old mid first → Appends mid new second → first ++ second ≡ both → Appends old new both
-then {old} {mid} {new} first second both a b is = record {
-  items = b.items ∙ ap (λ (t : List ℕ). t ++ second) a.items ∙ append_assoc old.items first second ∙ ap (λ (t : List ℕ). old.items ++ t) is;
-  len = (let count : length both ≡ length first + length second = ap length (sym is) ∙ length-append first second in
-      let x = a.len in let y = b.len in omega arith);
-  room = (let x = a.room in let y = b.room in omega arith);
+pub then : {old mid new : List ℕ} {at place end : ℕ} (first second both : List ℕ) → Puts old mid at place first → Puts mid new place end second → first ++ second ≡ both → Puts old new at end both
+then {old} {mid} {new} {at} first second both a b is = record {
+  front = b.front ∙ ap (λ (t : List ℕ). t ++ second) a.front ∙ append_assoc (take at old) first second ∙ ap (λ (t : List ℕ). take at old ++ t) is;
+  place = (let count : length both ≡ length first + length second = ap length (sym is) ∙ length-append first second in
+      let x = a.place in let y = b.place in omega arith);
+  len = b.len ∙ a.len;
 }
 
 -- words behind words
@@ -52,8 +53,8 @@ pub spaced-append : (xs ys : List (List ℕ)) → spaced_words (xs ++ ys) ≡ sp
 unfolding spaced_words
 spaced-append xs ys = flat_map-append spaced xs ys
 
-pub then_words : {old mid new : Vec ℕ Global} (front more both : List (List ℕ)) → Appends old mid (spaced_words front) → Appends mid new (spaced_words more)
-    → both ≡ front ++ more → Appends old new (spaced_words both)
+pub then_words : {old mid new : List ℕ} {at place end : ℕ} (front more both : List (List ℕ)) → Puts old mid at place (spaced_words front) → Puts mid new place end (spaced_words more)
+    → both ≡ front ++ more → Puts old new at end (spaced_words both)
 then_words front more both a b is = then _ _ _ a b (sym (spaced-append front more) ∙ ap spaced_words (sym is))
 
 pub one_word : (word : List ℕ) → spaced_words (word ∷ []) ≡ 32 ∷ word
@@ -91,6 +92,20 @@ unfolding changes
 moved from to = refl
 
 -- a text in three pieces
-pub three_pieces : {old mid next new : Vec ℕ Global} (text a b c : List ℕ) → Appends old mid a → Appends mid next b → Appends next new c → text ≡ a ++ (b ++ c)
-    → Appends old new text
+pub three_pieces : {old mid next new : List ℕ} {at place further end : ℕ} (text a b c : List ℕ) → Puts old mid at place a → Puts mid next place further b → Puts next new further end c
+    → text ≡ a ++ (b ++ c) → Puts old new at end text
 three_pieces text a b c first second third is = then a (b ++ c) text first (then b c (b ++ c) second third refl) (sym is)
+
+-- the front of bytes that were put
+pub front_text : {old new : List ℕ} {at end : ℕ} (bytes text : List ℕ) (n : ℕ) → n ≤ 4 → length bytes ≡ 4 → take n bytes ≡ text → Puts old new at end bytes
+    → at + 4 ≤ length old → Puts old new at (at + n) text
+front_text {old} {new} {at} {end} bytes text n few whole is b room =
+    let before : length (take at old) ≡ at = length-take-le at old (omega arith) in
+    let all : length (take end new) ≡ at + 4 = ap length b.front ∙ length-append (take at old) bytes ∙ (rw (before, whole) refl) in
+    let count : length text ≡ n = ap length (sym is) ∙ length-take-le n bytes (omega arith) in
+    record {
+      front = ap (take (at + n)) (sym (take-append-drop end new)) ∙ take-append-le (at + n) (take end new) (drop end new) (omega arith) ∙ ap (take (at + n)) b.front
+          ∙ ap (λ (i : ℕ). take (i + n) (take at old ++ bytes)) (sym before) ∙ take-append-add (take at old) bytes n ∙ ap (λ (t : List ℕ). take at old ++ t) is;
+      place = omega arith;
+      len = b.len;
+    }

@@ -1,15 +1,14 @@
--- Bytes that are put behind one another.
-use Rattle.std.specs.Prelude.{◌≡◌, ℕ, ◌+◌, ◌≤◌, List, ◌∷◌, ◌++◌, length, vec_len, vec_capacity}
+-- Texts that are put behind one another in a buffer.
+use Rattle.std.specs.Prelude.{◌≡◌, ℕ, ◌+◌, List, ◌∷◌, ◌++◌, length, take, map, filter}
 use Rattle.std.specs.List.{flat_map}
-use Rattle.std.proofs.Common.{Vec, Global, map, filter}
 use Rattle.psi_state.specs.State.{Corners}
 use Rattle.psi_lines.specs.Text.{differs, change_to, change_text}
 
--- the text stands behind what the vector held, and the vector has at least the room that it had
-pub record Appends (old new : Vec ℕ Global) (text : List ℕ) : Type 0 where
-  pub items : new.items ≡ old.items ++ text
-  pub len : vec_len new ≡ vec_len old + length text
-  pub room : vec_capacity old ≤ vec_capacity new
+-- the text stands in the buffer from a place to an end; what is before the place stays, and the buffer keeps its length
+pub record Puts (old new : List ℕ) (at end : ℕ) (text : List ℕ) : Type 0 where
+  pub front : take end new ≡ take at old ++ text
+  pub place : end ≡ at + length text
+  pub len : length new ≡ length old
 
 -- each word behind a space
 abbrev pub spaced : List ℕ → List ℕ

@@ -5,10 +5,12 @@
 //! queues whose ranges changed.
 #![tactic(auto)]
 
+mod digits;
 mod header;
 mod line_buf;
 mod lines;
 mod pieces;
+mod put;
 mod regions;
 
 pub use header::Header;

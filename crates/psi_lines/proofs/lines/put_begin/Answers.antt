@@ -5,4 +5,4 @@ use Rattle.psi_lines.proofs.JoinedLemmas.{three_pieces}
 use Rattle.psi_lines.proofs.lines.put_begin.Goals as goal
 
 pub returns : goal.returns
-returns c = three_pieces _ _ _ _ c.put.ensures c.put_box.ensures.text c.put-2.ensures (begin_pieces (in_box c.args.b.now))
+returns c = three_pieces _ _ _ _ c.put-named.ensures c.put_box-told.ensures.text c.put.ensures (begin_pieces (in_box c.args.b.now))

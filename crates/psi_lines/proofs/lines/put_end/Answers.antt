@@ -4,4 +4,4 @@ use Rattle.psi_lines.proofs.JoinedLemmas.{three_pieces}
 use Rattle.psi_lines.proofs.lines.put_end.Goals as goal
 
 pub returns : goal.returns
-returns c = three_pieces _ _ _ _ c.put.ensures c.put_state.ensures.text c.put-2.ensures (end_pieces c.args.x.now)
+returns c = three_pieces _ _ _ _ c.put-named.ensures c.put_state-told.ensures.text c.put.ensures (end_pieces c.args.x.now)

@@ -5,4 +5,4 @@ use Rattle.psi_lines.proofs.JoinedLemmas.{three_pieces}
 use Rattle.psi_lines.proofs.lines.put_step_move.Goals as goal
 
 pub returns : goal.returns
-returns c = three_pieces _ _ _ _ c.put_step.ensures.text c.put_move.ensures.text c.put.ensures (step_pieces c.args.s.now (move_words c.args.from.now c.args.to.now))
+returns c = three_pieces _ _ _ _ c.put_step-numbered.ensures.text c.put_move-told.ensures.text c.put.ensures (step_pieces c.args.s.now (move_words c.args.from.now c.args.to.now))

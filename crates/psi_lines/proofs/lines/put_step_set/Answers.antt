@@ -6,4 +6,4 @@ use Rattle.psi_lines.proofs.JoinedLemmas.{three_pieces}
 use Rattle.psi_lines.proofs.lines.put_step_set.Goals as goal
 
 pub returns : goal.returns
-returns c = three_pieces _ _ _ _ c.put_step.ensures.text c.put_set.ensures.text c.put.ensures (step_pieces c.args.s.now (region_words (in_set c.args.states.now)))
+returns c = three_pieces _ _ _ _ c.put_step-numbered.ensures.text c.put_set-told.ensures.text c.put.ensures (step_pieces c.args.s.now (region_words (in_set c.args.states.now)))
