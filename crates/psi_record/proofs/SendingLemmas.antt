@@ -144,6 +144,42 @@ stopped-line a b c waiting text held line next rest whole same is ends s r =
     let there : IsStopped a c next = subst (λ (xs : List ℕ). IsStopped a c xs) (ap (λ (xs : List ℕ). text ++ xs) same ∙ sym is) (stopped-more a b c waiting text held s r) in
     subst (λ (xs : List ℕ). IsStopped a c xs) ends (stopped-longer a c next rest there)
 
+-- what waits of a text goes on by itself
+pub sent-on : (a b c : SinkState) (waiting still text : List ℕ) → IsSent a b waiting text → IsSent b c still waiting → IsSent a c still text
+sent-on a b c waiting still text s r =
+    subst (λ (xs : List ℕ). IsSent a c still xs) (append-nil text)
+    (sent-more a b c waiting still text [] s (subst (λ (xs : List ℕ). IsSent b c still xs) (sym (append-nil waiting)) r))
+
+pub stopped-on : (a b c : SinkState) (waiting text rest whole : List ℕ) → text ++ rest ≡ whole → IsSent a b waiting text → IsStopped b c waiting → IsStopped a c whole
+stopped-on a b c waiting text rest whole ends s r =
+    let there : IsStopped a c text = subst (λ (xs : List ℕ). IsStopped a c xs) (append-nil text)
+    (stopped-more a b c waiting text [] s (subst (λ (xs : List ℕ). IsStopped b c xs) (sym (append-nil waiting)) r)) in
+    subst (λ (xs : List ℕ). IsStopped a c xs) ends (stopped-longer a c text rest there)
+
+-- a line that is held waits
+pub sent-held : (a b : SinkState) (waiting text held line next : List ℕ) → held ≡ line → next ≡ text ++ line → IsSent a b waiting text → IsSent a b (waiting ++ held) next
+sent-held a b waiting text held line next same is s =
+    subst (λ (xs : List ℕ). IsSent a b (waiting ++ held) xs) (ap (λ (xs : List ℕ). text ++ xs) same ∙ sym is) (sent-waits a b waiting text held s)
+
+pub sent-same : (a b : SinkState) (block held same text : List ℕ) → same ≡ held → IsSent a b (block ++ held) text → IsSent a b (block ++ same) text
+sent-same a b block held same text is s = subst (λ (xs : List ℕ). IsSent a b (block ++ xs) text) (sym is) s
+
+-- lines that are held go to the block
+pub sent-passed : (a b : SinkState) (block held bytes after left : List ℕ) → bytes ≡ held → left ≡ [] → IsSent a b after (block ++ bytes) → IsSent a b (after ++ left) (block ++ held)
+sent-passed a b block held bytes after left is none s =
+    subst (λ (xs : List ℕ). IsSent a b xs (block ++ held)) (sym (ap (λ (xs : List ℕ). after ++ xs) none ∙ append-nil after))
+    (subst (λ (xs : List ℕ). IsSent a b after (block ++ xs)) is s)
+
+pub stopped-passed : (a b : SinkState) (block held bytes : List ℕ) → bytes ≡ held → IsStopped a b (block ++ bytes) → IsStopped a b (block ++ held)
+stopped-passed a b block held bytes is s = subst (λ (xs : List ℕ). IsStopped a b (block ++ xs)) is s
+
+-- a line is held behind what waits
+pub sent-next : (a b : SinkState) (block held line after text next : List ℕ) → after ≡ held ++ line → next ≡ text ++ line → IsSent a b (block ++ held) text
+    → IsSent a b (block ++ after) next
+sent-next a b block held line after text next more is s =
+    subst (λ (ws : List ℕ). IsSent a b ws next) (append_assoc block held line ∙ ap (λ (xs : List ℕ). block ++ xs) (sym more))
+    (subst (λ (xs : List ℕ). IsSent a b ((block ++ held) ++ line) xs) (sym is) (sent-waits a b (block ++ held) text line s))
+
 -- what waits is written at the end
 pub sends-last : (r : Result (Unit {0}) SinkFault) (a b c : SinkState) (waiting text : List ℕ) → IsSent a b waiting text → Sends r b c [] waiting → Sends r a c [] text
 sends-last (Ok done) a b c waiting text s r =

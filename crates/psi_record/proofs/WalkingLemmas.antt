@@ -1,5 +1,5 @@
 -- What a run tells of its regions gives the words of their lines.
-use Rattle.std.proofs.Common.{◌≡◌, ℕ, suc, ◌+◌, ◌-◌, ◌<◌, List, Bool, true, Option, Some, None, IfSome, IsSome, if◌then◌else◌, refl, sym, ◌∙◌, ap, subst, add-one}
+use Rattle.std.proofs.Common.{◌≡◌, ℕ, suc, ◌+◌, ◌-◌, ◌<◌, List, ◌++◌, Bool, true, Option, Some, None, IfSome, IsSome, if◌then◌else◌, refl, sym, ◌∙◌, ap, subst, add-one}
 use Rattle.psi_state.specs.State.{Corners, IsBelow}
 use Rattle.psi_state.specs.Hull.{corners}
 use Rattle.psi_state.specs.declared.outcome.Step.{Step}
@@ -92,28 +92,28 @@ states-next {E} {P} function words old new states is shown =
     (subst (λ (p : Planned E P). IfSome p.run (λ r. states ≡ (region_after p.system.split (system_functions function p.system (words p.past)) p.system.caps r.horizon r.done).states)) is shown)
 
 -- the line of a step after which the region is a box
-pub line-box : {E : Type 0} (function : E → List ℕ → List ℕ) (system : Parts E) (words : ℕ → ℕ) (o : Option Running) (s : Step) (before : Option Corners) (to : Corners) (line : List ℕ)
+pub line-box : {E : Type 0} (function : E → List ℕ → List ℕ) (system : Parts E) (words : ℕ → ℕ) (o : Option Running) (s : Step) (before : Option Corners) (to : Corners) (front line : List ℕ)
     → IfSome o (λ r. s.number ≡ r.horizon - r.done) → s.event ≡ event_numbers system words s.number
     → IfSome o (λ r. IsToldAfter function system words r.horizon r.done before) → IfSome o (λ r. IsToldAfter function system words r.horizon (suc r.done) (Some to))
-    → line ≡ step_text s (box_words before to) → IfSome o (λ r. line ≡ line_of function system words r.horizon r.done)
-line-box function system words None s before to line number event first second is = tt
-line-box function system words (Some r) s before to line number event first second is =
+    → line ≡ front ++ step_text s (box_words before to) → IfSome o (λ r. line ≡ front ++ line_of function system words r.horizon r.done)
+line-box function system words None s before to front line number event first second is = tt
+line-box function system words (Some r) s before to front line number event first second is =
     let f = system_functions function system words in
-    is ∙ step_line-words system.split f system.caps (event_numbers system words) r.horizon r.done s (box_words before to) number event
-    (next-box system.caps (region_after system.split f system.caps r.horizon r.done) (region_after system.split f system.caps r.horizon (suc r.done)) before to first second)
+    is ∙ ap (λ (t : List ℕ). front ++ t) (step_line-words system.split f system.caps (event_numbers system words) r.horizon r.done s (box_words before to) number event
+    (next-box system.caps (region_after system.split f system.caps r.horizon r.done) (region_after system.split f system.caps r.horizon (suc r.done)) before to first second))
 
 -- and of one after which it is a set
-pub line-set : {E : Type 0} (function : E → List ℕ → List ℕ) (system : Parts E) (words : ℕ → ℕ) (o : Option Running) (s : Step) (states : List (List ℕ)) (line : List ℕ)
+pub line-set : {E : Type 0} (function : E → List ℕ → List ℕ) (system : Parts E) (words : ℕ → ℕ) (o : Option Running) (s : Step) (states : List (List ℕ)) (front line : List ℕ)
     → IfSome o (λ r. s.number ≡ r.horizon - r.done) → s.event ≡ event_numbers system words s.number
     → IfSome o (λ r. IsToldAfter function system words r.horizon (suc r.done) None)
     → IfSome o (λ r. states ≡ (region_after system.split (system_functions function system words) system.caps r.horizon (suc r.done)).states)
-    → line ≡ step_text s (region_words (in_set states)) → IfSome o (λ r. line ≡ line_of function system words r.horizon r.done)
-line-set function system words None s states line number event told same is = tt
-line-set function system words (Some r) s states line number event told same is =
+    → line ≡ front ++ step_text s (region_words (in_set states)) → IfSome o (λ r. line ≡ front ++ line_of function system words r.horizon r.done)
+line-set function system words None s states front line number event told same is = tt
+line-set function system words (Some r) s states front line number event told same is =
     let f = system_functions function system words in
-    is ∙ step_line-words system.split f system.caps (event_numbers system words) r.horizon r.done s (region_words (in_set states)) number event
+    is ∙ ap (λ (t : List ℕ). front ++ t) (step_line-words system.split f system.caps (event_numbers system words) r.horizon r.done s (region_words (in_set states)) number event
     (next-set (region_after system.split f system.caps r.horizon r.done) (region_after system.split f system.caps r.horizon (suc r.done)) told.shown
-    ∙ ap (λ (xs : List (List ℕ)). region_words (in_set xs)) (sym same))
+    ∙ ap (λ (xs : List (List ℕ)). region_words (in_set xs)) (sym same)))
 
 -- what holds of an option that is known
 if_some-at : {A : Type 0} (P : A → Type 0) (o : Option A) (a : A) → o ≡ Some a → IfSome o P → P a
@@ -167,10 +167,10 @@ walking-next {E} {P} function words first now new horizon done before after walk
     }
 
 -- the line of the step
-pub walking-line : {E P : Type 0} (function : E → List ℕ → List ℕ) (words : P → ℕ → ℕ) (first now : Planned E P) (horizon done : ℕ) (told : Option Corners) (line : List ℕ)
-    → IsWalking function words first now horizon done told → IfSome now.run (λ r. line ≡ line_of function now.system (words now.past) r.horizon r.done)
-    → line ≡ line_of function first.system (words first.past) horizon done
-walking-line {E} {P} function words first now horizon done told line walk is =
-    if_some-at (λ r. line ≡ line_of function now.system (words now.past) r.horizon r.done) now.run (record { horizon = horizon; done = done }) walk.run is
-    ∙ (ap (λ (s : Parts E). line_of function s (words now.past) horizon done) walk.system
-    ∙ ap (λ (w : ℕ → ℕ). line_of function first.system w horizon done) walk.same_words)
+pub walking-line : {E P : Type 0} (function : E → List ℕ → List ℕ) (words : P → ℕ → ℕ) (first now : Planned E P) (horizon done : ℕ) (told : Option Corners) (front line : List ℕ)
+    → IsWalking function words first now horizon done told → IfSome now.run (λ r. line ≡ front ++ line_of function now.system (words now.past) r.horizon r.done)
+    → line ≡ front ++ line_of function first.system (words first.past) horizon done
+walking-line {E} {P} function words first now horizon done told front line walk is =
+    if_some-at (λ r. line ≡ front ++ line_of function now.system (words now.past) r.horizon r.done) now.run (record { horizon = horizon; done = done }) walk.run is
+    ∙ (ap (λ (s : Parts E). front ++ line_of function s (words now.past) horizon done) walk.system
+    ∙ ap (λ (w : ℕ → ℕ). front ++ line_of function first.system w horizon done) walk.same_words)

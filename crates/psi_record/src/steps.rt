@@ -1,6 +1,6 @@
 //! The lines of a run, one after another.
 
-ghost use Rattle.std.specs.Prelude.{◌≡◌, ◌^◌, ◌<◌, ◌≤◌, suc, Some, length, IsSome, IfSome};
+ghost use Rattle.std.specs.Prelude.{◌≡◌, ◌^◌, ◌<◌, ◌≤◌, ◌++◌, suc, Some, length, IsSome, IfSome};
 ghost use Rattle.psi_state.specs.State.{IsBelow};
 ghost use Rattle.psi_region.specs.Region.{start};
 ghost use Rattle.psi_lines.specs.Text.{begin_text, step_text};
@@ -34,8 +34,9 @@ pub(crate) fn begin_line<E: EventLaw, P: Past + Drop>(
     Some(whole)
 }
 
-/// Does the next step of the run, and holds its line. `before` is the box of the region before the step,
-/// where it isn't split, and the answer is that of the region after it.
+/// Does the next step of the run, and puts its line behind those that are held, which have at most 8,192 bytes.
+/// `before` is the box of the region before the step, where it isn't split, and the answer is that of the region
+/// after it.
 pub(crate) fn next_line<E: EventLaw, P: Past + Drop>(
     plan: &mut Plan<'_, E, P>,
     before: Option<Bounds>,
@@ -44,7 +45,8 @@ pub(crate) fn next_line<E: EventLaw, P: Past + Drop>(
     requires begun { IsSome plan.old.run }
     requires left { IfSome plan.old.run (λ r. r.done < r.horizon) }
     requires before { IfSome plan.old.run (λ r. IsToldAfter E.function plan.old.system (P.words plan.old.past) r.horizon r.done before) }
-    ensures line { IfSome plan.old.run (λ r. line.new ≡ line_of E.function plan.old.system (P.words plan.old.past) r.horizon r.done) }
+    requires room { length line.old ≤ 8192 }
+    ensures line { IfSome plan.old.run (λ r. line.new ≡ line.old ++ line_of E.function plan.old.system (P.words plan.old.past) r.horizon r.done) }
     ensures told { IfSome plan.old.run (λ r. IsToldAfter E.function plan.old.system (P.words plan.old.past) r.horizon (suc r.done) result) }
     ensures run { plan.new ≡ record plan.old { run = onward plan.old.run } }
 {
@@ -57,20 +59,21 @@ pub(crate) fn next_line<E: EventLaw, P: Past + Drop>(
             Some(after)
         }
         None => {
-            line.step_set(&step, plan.states());
+            line.add_step_set(&step, plan.states());
             None
         }
     }
 }
 
-// Holds the line of a step with the box after it: by what changed where the region before is a box, and
-// else whole.
+// Puts the line of a step with the box after it behind those that are held: by what changed where the region
+// before is a box, and else whole.
 fn box_line(step: &Step, before: &Option<Bounds>, after: &Bounds, line: &mut LineBuf)
-    requires { IfSome before.now (λ b. length b.lo ≡ length after.now.lo) }
-    ensures { line.new ≡ step_text step.now (box_words before.now after.now) }
+    requires same { IfSome before.now (λ b. length b.lo ≡ length after.now.lo) }
+    requires room { length line.old ≤ 8192 }
+    ensures { line.new ≡ line.old ++ step_text step.now (box_words before.now after.now) }
 {
     match before {
-        Some(from) => line.step_move(step, from, after),
-        None => line.step_box(step, after),
+        Some(from) => line.add_step_move(step, from, after),
+        None => line.add_step_box(step, after),
     }
 }

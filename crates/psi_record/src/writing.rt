@@ -1,6 +1,6 @@
 //! A log, measured and written.
 
-ghost use Rattle.std.specs.Prelude.{◌≡◌, ℕ, ◌^◌, ◌+◌, ◌-◌, ◌<◌, ◌≤◌, ◌↔◌, Some, [], length, IsTrue, IsOk, OnOk, OnErr, MatchOption};
+ghost use Rattle.std.specs.Prelude.{◌≡◌, ℕ, ◌^◌, ◌++◌, ◌+◌, ◌-◌, ◌<◌, ◌≤◌, ◌↔◌, Some, [], length, IsTrue, IsOk, OnOk, OnErr, MatchOption};
 ghost use Rattle.psi_io.specs.Counts.{Rose};
 ghost use Rattle.psi_io.specs.Sink.{appended, GrewByPrefix};
 ghost use Rattle.psi_rate.specs.Composition.{system_functions};
@@ -22,6 +22,9 @@ use psi_state::State;
 
 // The greatest number of bytes of a log.
 const MOST: usize = 33_554_432;
+
+// Lines that have more bytes are put into the block.
+const MANY: usize = 8_192;
 
 /// Whether the log of the run of the header's horizon, with this state at its end, has at most 33,554,432
 /// bytes, so that it may be written.
@@ -80,6 +83,7 @@ fn room_left<E: EventLaw, P: Past + Drop>(
     let mut before = begin_line(plan, header.horizon, line);
     room = room.checked_sub(line.bytes().len())?;
     for _ in 0..header.horizon {
+        line.clear();
         before = next_line(plan, before, line);
         room = room.checked_sub(line.bytes().len())?;
     }
@@ -90,9 +94,9 @@ fn room_left<E: EventLaw, P: Past + Drop>(
 /// Writes the log of the run of the header's horizon, with this state at its end, to a sink.
 ///
 /// The run is that of the plan's network and words, from the header's horizon, 1 to 2 to the power `limit`
-/// steps before time zero; the header tells version 2. It is done once, and each line is put into the block as
-/// soon as its step is done; a block goes to the sink when it is full, and the last one at the end. What waited
-/// in the block before is let go. The plan's network and its past's words stay as they were. The call takes no
+/// steps before time zero; the header tells version 2. It is done once, and the lines of some steps at a time are
+/// put into the block; a block goes to the sink when it is full, and the last one at the end. What waited in the
+/// block before is let go. The plan's network and its past's words stay as they were. The call takes no
 /// memory. What a checker says of the log is told at [`log_fits`].
 ///
 /// # Errors
@@ -160,12 +164,28 @@ fn write_lines<E: EventLaw, P: Past + Drop, O: Sink>(
     line.header(header);
     block.put(line.bytes(), out)?;
     let mut before = begin_line(plan, header.horizon, line);
-    block.put(line.bytes(), out)?;
     for _ in 0..header.horizon {
+        pass_on(line, block, out)?;
         before = next_line(plan, before, line);
-        block.put(line.bytes(), out)?;
     }
+    block.put(line.bytes(), out)?;
     line.end(state);
     block.put(line.bytes(), out)?;
     block.flush(out)
+}
+
+// Puts the lines that are held into the block once they are many, so that a further one has room behind them.
+fn pass_on<O: Sink>(line: &mut LineBuf, block: &mut Block, out: &mut O) -> Result<(), SinkFault>
+    ensures sent { Sends result
+        (record { held = O.held out.old; faults = O.faults out.old; takes = O.takes out.old })
+        (record { held = O.held out.new; faults = O.faults out.new; takes = O.takes out.new })
+        (block.new ++ line.new) (block.old ++ line.old) }
+    ensures short { OnOk result (length line.new ≤ 8192) }
+{
+    if line.bytes().len() <= MANY {
+        return Ok(());
+    }
+    block.put(line.bytes(), out)?;
+    line.clear();
+    Ok(())
 }

@@ -1,5 +1,5 @@
 -- Answers in the proof of `room_left`.
-use Rattle.std.proofs.Common.{◌≡◌, suc, ◌+◌, [], length, refl, sym, ◌∙◌, subst, add-one, arith}
+use Rattle.std.proofs.Common.{◌≡◌, ℕ, suc, ◌+◌, List, [], ◌++◌, length, refl, sym, ◌∙◌, ap, subst, add-one, arith}
 use Rattle.psi_rate.specs.Composition.{system_functions}
 use Rattle.psi_region.specs.Region.{start}
 use Rattle.psi_lines.specs.Text.{header_text, begin_text, end_text, log_text}
@@ -64,6 +64,7 @@ next_line-before-requires g c =
       begun = walking-begun _ _ _ _ _ _ _ walk;
       left = walking-left _ _ _ _ _ _ _ walk c.loop-test.true;
       before = walking-before _ _ _ _ _ _ _ walk;
+      room = rw c.clear.ensures omega arith;
     }
 
 pub returns-in_err-room-3-clause-room : goal.returns-in_err-room-3-clause-room
@@ -76,7 +77,8 @@ returns-in_err-room-3-clause-room g c =
     let small = c.loop-test.true in
     let kept = c.loop.invariant in
     let rest = front_text-rest system.split f system.caps (event_numbers system words) h c.args.state.now (suc done) c.requires.version (omega arith) in
-    let line = walking-line g.E.EventLaw.function g.P.Past.words c.args.plan.now c.loop.plan h.horizon done c.loop.before c.next_line-before.new.line kept.walk c.next_line-before.ensures.line in
+    let line = walking-line g.E.EventLaw.function g.P.Past.words c.args.plan.now c.loop.plan h.horizon done c.loop.before c.clear.new.self c.next_line-before.new.line kept.walk c.next_line-before.ensures.line
+    ∙ ap (λ (xs : List ℕ). xs ++ line_of g.E.EventLaw.function system words h.horizon done) c.clear.ensures in
     let past = line-past 33554432 c.loop.room (front_of g.E.EventLaw.function system words h done) (line_of g.E.EventLaw.function system words h.horizon done)
     (front_of g.E.EventLaw.function system words h (suc done)) c.bytes-in-loop.result.now kept.room (c.bytes-in-loop.ensures ∙ line)
     (front_text-more system.split f system.caps (event_numbers system words) h done c.requires.version) c.in_err-room-3.ensures in
@@ -92,7 +94,8 @@ loop-preserved g c =
     let done = c.loop.counter in
     let kept = c.loop.invariant in
     let here = c.in_ok-room-3.ensures in
-    let line = walking-line g.E.EventLaw.function g.P.Past.words c.args.plan.now c.loop.plan h.horizon done c.loop.before c.next_line-before.new.line kept.walk c.next_line-before.ensures.line in
+    let line = walking-line g.E.EventLaw.function g.P.Past.words c.args.plan.now c.loop.plan h.horizon done c.loop.before c.clear.new.self c.next_line-before.new.line kept.walk c.next_line-before.ensures.line
+    ∙ ap (λ (xs : List ℕ). xs ++ line_of g.E.EventLaw.function system words h.horizon done) c.clear.ensures in
     record {
       walk = walking-next g.E.EventLaw.function g.P.Past.words c.args.plan.now c.loop.plan c.next_line-before.new.plan h.horizon done c.loop.before c.next_line-before.result kept.walk
           c.next_line-before.ensures.run c.next_line-before.ensures.told;
