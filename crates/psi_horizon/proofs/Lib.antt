@@ -5,3 +5,4 @@ pub mod SampleLemmas
 mod CornersLemmas
 mod NumbersLemmas
 mod Running
+mod PackedLemmas

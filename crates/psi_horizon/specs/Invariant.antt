@@ -7,6 +7,8 @@ use Rattle.psi_region.specs.Region.{Regional}
 use Rattle.psi_horizon.specs.declared.plan.Progress.{Progress}
 use Rattle.psi_horizon.specs.Runs.{region_after}
 use Rattle.psi_horizon.specs.Planned.{Running}
+use Rattle.psi_horizon.specs.declared.form.Form.{Form}
+use Rattle.psi_horizon.specs.Forms.{IsForm}
 
 -- the run that was begun, as its plan is seen
 abbrev pub running_of : Option Progress → Option Running
@@ -19,12 +21,13 @@ pub record IsUnderway (f : Functions) (split : ℕ) (caps : List ℕ) (count : �
   pub area : region.area ≡ region_after split f caps r.horizon r.done
 
 -- there is room for the words of the greatest horizon, which no run passes, and for a split region; where the plan is marked monotone, each of
--- the events' functions is, and there is room for the event numbers of the greatest horizon
+-- the events' functions is, and there is room for the event numbers of the greatest horizon; the form is made for them
 pub record IsPlan {E P : Type 0} (functions : List (List ℕ → List ℕ)) (f : Functions) (system : Parts E) (words : Keeping P) (region : Regional)
-    (is_monotone : Bool) (number_room : ℕ) (progress : Option Progress) : Type 0 where
+    (is_monotone : Bool) (number_room : ℕ) (form : Form) (progress : Option Progress) : Type 0 where
   pub room : 2 ^ system.limit ≤ words.most
   pub split : region.split ≡ system.split
   pub monotone : IsTrue is_monotone → All (λ g. IsMonotone system.caps g) functions
   pub numbers : IsTrue is_monotone → 2 ^ system.limit ≤ number_room
+  pub formed : IsForm system.caps functions form
   pub within : IfSome progress (λ r. r.horizon ≤ 2 ^ system.limit)
   pub run : IfSome progress (λ r. IsUnderway f system.split system.caps words.count region r)

@@ -4,4 +4,5 @@ pub mod Agreeing
 pub mod Sample
 pub mod Planned
 pub mod Numbers
+pub mod Forms
 pub mod Invariant

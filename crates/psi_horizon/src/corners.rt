@@ -8,7 +8,9 @@ ghost use Rattle.psi_rate.specs.Composition.{system_functions};
 ghost use Rattle.psi_rate.specs.Outcomes.{IsOutcome};
 ghost use Rattle.psi_horizon.specs.Runs.{ending_at};
 ghost use Rattle.psi_horizon.specs.Numbers.{numbers_below, follow_numbers, AreEvents, IsOne};
+ghost use Rattle.psi_horizon.specs.Forms.{IsForm};
 
+use crate::form::{Form, one_of, packed_meeting};
 use psi_event::EventLaw;
 use psi_past::{Kept, Past};
 use psi_rate::System;
@@ -30,12 +32,14 @@ pub(crate) fn are_monotone<E: EventLaw>(system: &System<'_, E>) -> bool
 }
 
 // The least horizon among 1, 2, 4, .., 2^limit whose run ends with one state, with that state, where each event is
-// monotone. The numbers of the events of one horizon are kept for the next, so that each word is picked once.
+// monotone and the form is made for them. The numbers of the events of one horizon are kept for the next, so that each word is picked once.
 pub(crate) fn first_meeting<E: EventLaw, P: Past + Drop>(
     system: &System<'_, E>,
     words: &mut Kept<P>,
     numbers: &mut Vec<u16>,
+    form: &Form,
 ) -> Outcome
+    requires form { IsForm system.now.caps (map E.function system.now.events) form.now }
     requires room { 2 ^ system.now.limit ≤ words.old.most }
     requires number_room { 2 ^ system.now.limit ≤ vec_capacity numbers.old }
     requires monotone { All (λ f. IsMonotone system.now.caps f) (map E.function system.now.events) }
@@ -50,7 +54,7 @@ pub(crate) fn first_meeting<E: EventLaw, P: Past + Drop>(
     numbers.clear();
     for exponent in 0..limit + 1 {
         let horizon = 1 << exponent;
-        let found = ending(system, words, numbers, reached, horizon);
+        let found = ending(system, words, numbers, form, reached, horizon);
         if let Some(state) = found {
             return Outcome::Met { horizon, state };
         }
@@ -65,9 +69,11 @@ fn ending<E: EventLaw, P: Past + Drop>(
     system: &System<'_, E>,
     words: &mut Kept<P>,
     numbers: &mut Vec<u16>,
+    form: &Form,
     reached: u32,
     horizon: u32,
 ) -> Option<State>
+    requires form { IsForm system.now.caps (map E.function system.now.events) form.now }
     requires longer { reached ≤ horizon }
     requires room { horizon ≤ words.old.most }
     requires number_room { horizon ≤ vec_capacity numbers.old }
@@ -82,7 +88,7 @@ fn ending<E: EventLaw, P: Past + Drop>(
     // Called for its clause: the events fit the capacities.
     let _caps = system.caps();
     keep_numbers(system, words, numbers, reached, horizon);
-    meeting(system, numbers.as_slice())
+    meeting(system, form, numbers.as_slice())
 }
 
 // Keeps the numbers of the places from `reached` to `horizon` too.
@@ -115,7 +121,23 @@ fn keep_numbers<E: EventLaw, P: Past + Drop>(
 
 // The state in which the least and the greatest state have met after the events of the numbers, the last first, if
 // they have.
-fn meeting<E: EventLaw>(system: &System<'_, E>, numbers: &[u16]) -> Option<State>
+fn meeting<E: EventLaw>(system: &System<'_, E>, form: &Form, numbers: &[u16]) -> Option<State>
+    requires form { IsForm system.now.caps (map E.function system.now.events) form.now }
+    requires numbers { AreEvents (length system.now.events) numbers.now }
+    ensures { let functions = map E.function system.now.events in
+        IsOne (follow_numbers functions numbers.now (zeros system.now.caps)) (follow_numbers functions numbers.now system.now.caps) result }
+{
+    match form {
+        Form::Plain => plain_meeting(system, numbers),
+        Form::One(program) => packed_meeting(program, system, numbers),
+        Form::Two(program) => packed_meeting(program, system, numbers),
+        Form::Three(program) => packed_meeting(program, system, numbers),
+        Form::Four(program) => packed_meeting(program, system, numbers),
+    }
+}
+
+// The same by the events themselves.
+fn plain_meeting<E: EventLaw>(system: &System<'_, E>, numbers: &[u16]) -> Option<State>
     requires { AreEvents (length system.now.events) numbers.now }
     ensures { let functions = map E.function system.now.events in
         IsOne (follow_numbers functions numbers.now (zeros system.now.caps)) (follow_numbers functions numbers.now system.now.caps) result }
@@ -127,5 +149,5 @@ fn meeting<E: EventLaw>(system: &System<'_, E>, numbers: &[u16]) -> Option<State
         event.apply(&mut least);
         event.apply(&mut greatest);
     }
-    if least == greatest { Some(least) } else { None }
+    one_of(least, greatest)
 }

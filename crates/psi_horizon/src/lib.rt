@@ -5,6 +5,7 @@
 
 mod corners;
 mod doubling;
+mod form;
 mod plan;
 
 pub use plan::{OutOfMemory, Plan};

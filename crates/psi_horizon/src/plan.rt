@@ -15,14 +15,17 @@ ghost use Rattle.psi_rate.specs.System.{IsSystem};
 ghost use Rattle.psi_region.specs.Region.{ShowsBox};
 ghost use Rattle.psi_horizon.specs.Runs.{region_at, ending_at, region_after, AreOrdered, AreExact};
 ghost use Rattle.psi_horizon.specs.Sample.{IsSample};
+ghost use Rattle.psi_horizon.specs.Forms.{IsForm};
 ghost use Rattle.psi_horizon.specs.Planned.{IsOver, onward};
 ghost use Rattle.psi_horizon.specs.contracts.plan.Plan.{the_row};
 ghost use mir.Syntax.{named};
 
 use crate::corners::{are_monotone, first_meeting};
 use crate::doubling::{first_ending, follow_word};
+use crate::form::{Form, form_of};
 use psi_event::EventLaw;
 use psi_past::{Kept, Past};
+use psi_piecewise::PiecewiseLaw;
 use psi_rate::System;
 use psi_region::Region;
 use psi_state::{Bounds, Outcome, State, Step};
@@ -72,6 +75,8 @@ pub struct Plan<'n, E: EventLaw, P: Past + Drop> {
     is_monotone: bool,
     // Where each is: the room for the numbers of the events of the greatest horizon.
     numbers: Vec<u16>,
+    // Where each is: how the least and the greatest state are followed.
+    form: Form,
     run: Option<Progress>,
 }
 
@@ -86,14 +91,14 @@ impl<'n, E: EventLaw, P: Past + Drop> Model for Plan<'n, E, P> {
     ghost view = { λ p. record { system = p.system; past = p.words.past; run = running_of p.run } };
 
     ghost invariant = { λ p.
-        IsPlan (map E.function p.system.events) (system_functions E.function p.system (P.words p.words.past)) p.system p.words p.region p.is_monotone (vec_capacity p.numbers) p.run };
+        IsPlan (map E.function p.system.events) (system_functions E.function p.system (P.words p.words.past)) p.system p.words p.region p.is_monotone (vec_capacity p.numbers) p.form p.run };
 }
 
-impl<'n, E: EventLaw, P: Past + Drop> Plan<'n, E, P> {
+impl<'n, E: PiecewiseLaw, P: Past + Drop> Plan<'n, E, P> {
     /// The plan to sample the network from this past. It takes the room for the 2 to the power `limit`
     /// words of the greatest horizon, of 4 bytes each, and for a region of `split` states; where every event
-    /// is monotone, also for the numbers of the events of these words, of 2 bytes each. No other call takes
-    /// memory.
+    /// is monotone, also for the numbers of the events of these words, of 2 bytes each, and for the events on
+    /// packed states. No other call takes memory.
     ///
     /// `OutOfMemory` is the answer where there is no memory for it; no clause says when that is.
     pub fn new(alloc: Global, system: System<'n, E>, past: P) -> Result<Plan<'n, E, P>, OutOfMemory>
@@ -104,16 +109,24 @@ impl<'n, E: EventLaw, P: Past + Drop> Plan<'n, E, P> {
         let region = Region::reserve(alloc, system.split())?;
         let is_monotone = are_monotone(&system);
         let numbers = room_for_numbers(alloc, is_monotone, most)?;
+        let form = if is_monotone {
+            form_of(alloc, &system)?
+        } else {
+            Form::Plain
+        };
         Ok(Plan {
             system,
             words,
             region,
             is_monotone,
             numbers,
+            form,
             run: None,
         })
     }
+}
 
+impl<'n, E: EventLaw, P: Past + Drop> Plan<'n, E, P> {
     /// The sample: the least horizon among 1, 2, 4, .., 2 to the power `limit` whose region run ends with one
     /// state, with that state, which is within the capacities. Every state that starts there or earlier is in
     /// it at time zero. It isn't met exactly where none of these runs ends with one state.
@@ -150,6 +163,7 @@ impl<'n, E: EventLaw, P: Past + Drop> Plan<'n, E, P> {
             &mut self.region,
             self.is_monotone,
             &mut self.numbers,
+            &self.form,
         )
     }
 
@@ -289,7 +303,9 @@ fn first_outcome<E: EventLaw, P: Past + Drop>(
     region: &mut Region,
     is_monotone: bool,
     numbers: &mut Vec<u16>,
+    form: &Form,
 ) -> Outcome
+    requires form { IsForm system.now.caps (map E.function system.now.events) form.now }
     requires room { 2 ^ system.now.limit ≤ words.old.most }
     requires split { region.old.split ≡ system.now.split }
     requires monotone { IsTrue is_monotone → All (λ f. IsMonotone system.now.caps f) (map E.function system.now.events) }
@@ -302,7 +318,7 @@ fn first_outcome<E: EventLaw, P: Past + Drop>(
     ensures capacity { vec_capacity numbers.new ≡ vec_capacity numbers.old }
 {
     if is_monotone {
-        first_meeting(system, words, numbers)
+        first_meeting(system, words, numbers, form)
     } else {
         first_ending(system, words, region)
     }

@@ -1,13 +1,15 @@
 //! An event of a network, of one of its forms.
 
-ghost use Rattle.std.specs.Prelude.{◌≡◌, ℕ, ◌↔◌, List, Option, IsTrue};
+ghost use Rattle.std.specs.Prelude.{◌≡◌, ℕ, ◌↔◌, List, Option, IfSome, IsTrue};
 ghost use Rattle.psi_state.specs.State.{AreCapacities, IsBelow, box};
 ghost use Rattle.psi_state.specs.Sets.{image};
 ghost use Rattle.psi_state.specs.Hull.{corners, IsTight};
 ghost use Rattle.psi_event.specs.Law.{IsClosed, IsMonotone, ShowsUpset};
+ghost use Rattle.psi_piecewise.specs.Piecewise.{Does};
 
 use psi_event::{EventLaw, Idle};
 use psi_guard::Guarded;
+use psi_piecewise::{Piecewise, PiecewiseLaw};
 use psi_route::Route;
 use psi_state::{Bounds, State};
 
@@ -74,6 +76,16 @@ impl EventLaw for Event {
             Event::Route(route) => route.upset(),
             Event::Guarded(guarded) => guarded.upset(),
             Event::Idle(idle) => idle.upset(),
+        }
+    }
+}
+
+impl PiecewiseLaw for Event {
+    fn piecewise(&self) -> Option<Piecewise> {
+        match self {
+            Event::Route(route) => route.piecewise(),
+            Event::Guarded(_guarded) => None,
+            Event::Idle(idle) => idle.piecewise(),
         }
     }
 }

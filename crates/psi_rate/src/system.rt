@@ -73,6 +73,14 @@ impl<'n, E: EventLaw> System<'n, E> {
         self.caps
     }
 
+    /// The events, in the wheel's order.
+    pub fn events(&self) -> &'n [E]
+        ensures value { result.now ≡ self.now.events }
+        ensures fit { IsSystem E.capacities self.now }
+    {
+        self.events
+    }
+
     /// The event of a number, counted from 0.
     pub fn event(&self, i: u16) -> &'n E
         requires { i < length self.now.events }

@@ -17,3 +17,4 @@ mod ByTables
 mod Upset
 mod Monotone
 mod Plain
+pub mod PiecesLemmas

@@ -13,3 +13,4 @@ pub mod Coming
 pub mod Keys
 pub mod Offers
 pub mod Falls
+pub mod Pieces

@@ -16,6 +16,7 @@ mod list_envelope;
 mod monotonicity;
 mod offers;
 mod parts;
+mod pieces;
 mod route;
 mod routing;
 mod table_search;

@@ -5,8 +5,8 @@ use Rattle.psi_rate.proofs.FunctionsLemmas.{functions-closed, function_at-monoto
 use Rattle.psi_horizon.proofs.NumbersLemmas.{numbers-events, numbers-ending}
 use Rattle.psi_horizon.proofs.corners.ending.Goals as goal
 
-pub meeting-requires : goal.meeting-requires
-meeting-requires g c =
+pub meeting-requires-clause-numbers : goal.meeting-requires-clause-numbers
+meeting-requires-clause-numbers g c =
     let system = c.args.system.now in
     numbers-events system.rates (g.P.Past.words c.args.words.now.past) c.args.horizon (length system.events) c.as_slice.result.now
     c.caps-caps.ensures.fit.same_count (c.as_slice.ensures.value ∙ c.keep_numbers.ensures.kept)

@@ -1,0 +1,92 @@
+//! The events of a monotone network on packed states, in as few words as its states fit.
+
+ghost use Rattle.std.specs.Prelude.{length, map, IfOk, IfSome};
+ghost use Rattle.psi_state.specs.State.{zeros};
+ghost use Rattle.psi_packed.specs.Programs.{Prepares};
+ghost use Rattle.psi_horizon.specs.Numbers.{follow_numbers, AreEvents, IsOne};
+ghost use Rattle.psi_horizon.specs.Forms.{IsForm};
+
+use psi_event::EventLaw;
+use psi_packed::Program;
+use psi_piecewise::PiecewiseLaw;
+use psi_rate::System;
+use psi_state::State;
+use std::alloc::{AllocError, Global};
+
+/// How a monotone network's least and greatest state are followed.
+#[derive(Drop)]
+pub(crate) enum Form {
+    /// By the events themselves.
+    Plain,
+    /// Packed into one word.
+    One(Program<1>),
+    /// Packed into two words.
+    Two(Program<2>),
+    /// Packed into three words.
+    Three(Program<3>),
+    /// Packed into four words.
+    Four(Program<4>),
+}
+
+// The form of the fewest words that the network's states fit, where each event tells its pieces, and otherwise the plain one.
+pub(crate) fn form_of<E: PiecewiseLaw>(
+    alloc: Global,
+    system: &System<'_, E>,
+) -> Result<Form, AllocError>
+    ensures { IfOk result (λ form. IsForm system.now.caps (map E.function system.now.events) form) }
+{
+    if let Some(program) = program_of::<1, E>(alloc, system)? {
+        return Ok(Form::One(program));
+    }
+    if let Some(program) = program_of::<2, E>(alloc, system)? {
+        return Ok(Form::Two(program));
+    }
+    if let Some(program) = program_of::<3, E>(alloc, system)? {
+        return Ok(Form::Three(program));
+    }
+    if let Some(program) = program_of::<4, E>(alloc, system)? {
+        return Ok(Form::Four(program));
+    }
+    Ok(Form::Plain)
+}
+
+// The events on states in so many words, where they fit and each event tells its pieces.
+fn program_of<const K: usize, E: PiecewiseLaw>(
+    alloc: Global,
+    system: &System<'_, E>,
+) -> Result<Option<Program<K>>, AllocError>
+    ensures { IfOk result (λ found. IfSome found (λ program. Prepares K system.now.caps (map E.function system.now.events) program)) }
+{
+    let events = system.events();
+    Program::new(alloc, system.caps(), events)
+}
+
+// The state in which the least and the greatest state have met after the events of the numbers, the last first, if
+// they have, on packed states.
+pub(crate) fn packed_meeting<const K: usize, E: EventLaw>(
+    program: &Program<K>,
+    system: &System<'_, E>,
+    numbers: &[u16],
+) -> Option<State>
+    requires program { Prepares K system.now.caps (map E.function system.now.events) program.now }
+    requires numbers { AreEvents (length system.now.events) numbers.now }
+    ensures { let functions = map E.function system.now.events in
+        IsOne (follow_numbers functions numbers.now (zeros system.now.caps)) (follow_numbers functions numbers.now system.now.caps) result }
+{
+    let caps = system.caps();
+    let mut greatest = program.pack(&caps);
+    let mut least = program.pack(&State::zero(caps.len()));
+    for place in (0..numbers.len()).rev() {
+        let number = numbers[place];
+        program.advance(number, &mut least);
+        program.advance(number, &mut greatest);
+    }
+    one_of(program.unpack(&least), program.unpack(&greatest))
+}
+
+// The state that two states are, if they are one.
+pub(crate) fn one_of(first: State, second: State) -> Option<State>
+    ensures { IsOne first second result }
+{
+    if first == second { Some(first) } else { None }
+}

@@ -1,0 +1,37 @@
+-- The pieces of a route without tables to at most one target.
+use Rattle.std.specs.Prelude.{ℕ, ◌-◌, List, length, slice_index, slice_set, if◌then◌else◌}
+use Rattle.psi_state.specs.State.{zeros}
+use Rattle.psi_piecewise.specs.declared.piecewise.Piecewise.{Piecewise}
+use Rattle.psi_piecewise.specs.Piecewise.{empty_piece}
+use Rattle.psi_route.specs.Routing.{Shape, routing}
+
+-- a route of this shape
+module _ (s : Shape) where
+  -- a number for the source, if there is one, and none for the other queues
+  abbrev pub for_source : ℕ → List ℕ
+  for_source v = slice_set (zeros s.caps) ((routing s).source) v
+
+  -- a number for the target at a place, and those of a list for the other queues
+  abbrev pub for_target : ℕ → List ℕ → ℕ → List ℕ
+  for_target i list v = slice_set list (slice_index s.targets i) v
+
+  -- the number from which on the target at a place has no room
+  abbrev pub bound_of : ℕ → ℕ
+  bound_of i = slice_index s.caps (slice_index s.targets i) - (s.size - 1)
+
+  -- where there is no target, one leaves the source where it serves
+  abbrev pub leaving : Piecewise
+  leaving = record {
+    bounds = for_source ((routing s).least);
+    first = record { sides = for_source 1; ups = zeros s.caps; downs = for_source 1 };
+    second = empty_piece (length s.caps);
+  }
+
+  -- where there is one target, one leaves the source, where it serves, and the customers join the target, where it has room; where it
+  -- has none, one leaves the source if it is lost
+  abbrev pub joining : Piecewise
+  joining = record {
+    bounds = for_target 0 (for_source ((routing s).least)) (bound_of 0);
+    first = record { sides = for_target 0 (for_source 1) 2; ups = for_target 0 (zeros s.caps) s.size; downs = for_source 1 };
+    second = record { sides = for_target 0 (for_source 1) 1; ups = zeros s.caps; downs = if (routing s).lost then for_source 1 else zeros s.caps };
+  }

@@ -1,0 +1,108 @@
+//! The pieces of a route.
+
+ghost use Rattle.std.specs.Prelude.{◌≡◌, ◌<◌, IfSome, length};
+ghost use Rattle.psi_piecewise.specs.Piecewise.{Does};
+
+use crate::parts::Full;
+use crate::route::Route;
+use psi_piecewise::{AT_LEAST, BELOW, Piece, Piecewise, PiecewiseLaw};
+use psi_state::State;
+
+impl PiecewiseLaw for Route {
+    fn piecewise(&self) -> Option<Piecewise> {
+        if !self.is_plain() {
+            return None;
+        }
+        match self.places() {
+            0 => Some(self.leaving()),
+            1 => Some(self.joining()),
+            _ => None,
+        }
+    }
+}
+
+impl Route {
+    ghost use Rattle.psi_route.specs.Pieces.{for_source, for_target, bound_of, leaving, joining};
+    ghost use Rattle.psi_route.specs.Routing.{routing};
+    ghost use Rattle.psi_route.specs.Route.{shape_of};
+
+    // The pieces where there is no target.
+    fn leaving(&self) -> Piecewise
+        requires { length self.now.targets ≡ 0 }
+        ensures { result ≡ leaving (shape_of self.now) }
+    {
+        let one = self.for_source(1);
+        Piecewise {
+            bounds: self.for_source(self.least()),
+            first: Piece {
+                sides: self.for_source(AT_LEAST),
+                ups: State::zero(one.len()),
+                downs: one,
+            },
+            second: Piece::empty(one.len()),
+        }
+    }
+
+    // The pieces where there is one target.
+    fn joining(&self) -> Piecewise
+        requires { length self.now.targets ≡ 1 }
+        ensures { result ≡ joining (shape_of self.now) }
+    {
+        let one = self.for_source(1);
+        let zero = State::zero(one.len());
+        let serving = self.for_source(AT_LEAST);
+        Piecewise {
+            bounds: self.for_target(0, self.for_source(self.least()), self.bound(0)),
+            first: Piece {
+                sides: self.for_target(0, serving, BELOW),
+                ups: self.for_target(0, zero, self.size),
+                downs: one,
+            },
+            second: Piece {
+                sides: self.for_target(0, serving, AT_LEAST),
+                ups: zero,
+                downs: if self.full == Full::Lost { one } else { zero },
+            },
+        }
+    }
+
+    // A number for the source, if there is one, and none for the other queues.
+    fn for_source(&self, number: u16) -> State
+        ensures { result ≡ for_source (shape_of self.now) number }
+    {
+        let mut list = State::zero(self.caps.len());
+        if let Some(source) = self.source {
+            list.set(source.queue, number);
+        }
+        list
+    }
+
+    // The least number of customers at which the source serves; 0 where there is no source.
+    fn least(&self) -> u16
+        ensures { let r = routing (shape_of self.now) in result ≡ r.least }
+    {
+        match self.source {
+            None => 0,
+            Some(source) => source.k,
+        }
+    }
+
+    // A number for the target at place `i`, and those of a list for the other queues.
+    fn for_target(&self, i: u8, list: State, number: u16) -> State
+        requires place { i < length self.now.targets }
+        requires length { length list ≡ length self.now.caps }
+        ensures { result ≡ for_target (shape_of self.now) i list number }
+    {
+        let mut changed = list;
+        changed.set(self.target(i), number);
+        changed
+    }
+
+    // The number from which on the target at place `i` has no room.
+    fn bound(&self, i: u8) -> u16
+        requires { i < length self.now.targets }
+        ensures { result ≡ bound_of (shape_of self.now) i }
+    {
+        self.cap(i) - (self.size - 1)
+    }
+}
