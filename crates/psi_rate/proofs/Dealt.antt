@@ -1,9 +1,9 @@
 -- What a wheel keeps says what its calls answer.
-use Rattle.std.proofs.Common.{◌≡◌, ℕ, suc, ◌+◌, ◌-◌, ◌%◌, ◌/◌, ◌<◌, ◌≤◌, false, List, [], ◌∷◌, ◌++◌, length, slice_index, take, sym, ◌∙◌, ap, subst, arith, bit_and, refl, EachIndex, max}
+use Rattle.std.proofs.Common.{◌≡◌, ℕ, suc, ◌+◌, ◌-◌, ◌%◌, ◌/◌, ◌<◌, ◌≤◌, false, List, [], ◌∷◌, ◌++◌, length, slice_index, take, sym, ◌∙◌, ap, subst, arith, refl, EachIndex, max}
 use Rattle.std.specs.Int.{IsPowerOfTwo}
 use Rattle.std.proofs.Math.Dec.{eqb}
 use Rattle.std.proofs.lemmas.Bool.{eqb-false}
-use Rattle.std.proofs.lemmas.Nat.{and_mask, and_le_r, pow_pos}
+use Rattle.std.proofs.lemmas.Nat.{pow_pos}
 use Rattle.std.proofs.lemmas.List.{take_more, take_all}
 use Rattle.psi_rate.specs.Rates.{AreRates, total, least_power, event_of, HasNumber, PassesAt, IsLeastPower}
 use Rattle.psi_rate.specs.Table.{IsFirstAbove}
@@ -35,23 +35,12 @@ dial-idle rates totals shown sum modulus dial is =
     subst (λ (xs : List ℕ). modulus - sum + total xs ≡ least_power (total xs)) is
     (let below = dial-below rates totals sum modulus dial in let whole = dial.whole in let power = dial.power in omega arith)
 
-dial-mask : (rates totals : List ℕ) (sum modulus word : ℕ) → IsDial rates totals sum modulus → bit_and word (modulus - 1) ≡ word % least_power (total rates)
-dial-mask rates totals sum modulus word dial =
-    let least = dial-least rates totals rates sum modulus dial refl in
-    ap (λ m. bit_and word (m - 1)) least.power ∙ (and_mask word least.exponent ∙ ap (λ m. word % m) (sym least.power ∙ dial.power))
-
-pub dial-number : (rates totals searched shown : List ℕ) (sum modulus word number e : ℕ) → IsDial rates totals sum modulus → rates ≡ shown
-    → searched ≡ totals → number ≡ bit_and word (modulus - 1) → IsFirstAbove searched number e
-    → HasNumber shown (word % least_power (total shown)) e
-dial-number rates totals searched shown sum modulus word number e dial is same masked first =
+pub dial-number : (rates totals searched shown : List ℕ) (sum modulus word e : ℕ) → IsDial rates totals sum modulus → rates ≡ shown
+    → searched ≡ totals → IsFirstAbove searched (word % modulus) e → HasNumber shown (word % least_power (total shown)) e
+dial-number rates totals searched shown sum modulus word e dial is same first =
     subst (λ (xs : List ℕ). HasNumber xs (word % least_power (total xs)) e) is
-    (subst (λ n. HasNumber rates n e) (masked ∙ dial-mask rates totals sum modulus word dial)
-    (has_number-first rates number e (subst (λ (xs : List ℕ). IsFirstAbove xs number e) (same ∙ dial.running) first)))
-
--- a number of a word is below the modulus
-pub dial-masked : (rates totals : List ℕ) (sum modulus word : ℕ) → IsDial rates totals sum modulus → bit_and word (modulus - 1) < modulus
-dial-masked rates totals sum modulus word dial =
-    let some = dial-some rates totals sum modulus dial in let under = and_le_r word (modulus - 1) in omega arith
+    (subst (λ m. HasNumber rates (word % m) e) dial.power
+    (has_number-first rates (word % modulus) e (subst (λ (xs : List ℕ). IsFirstAbove xs (word % modulus) e) (same ∙ dial.running) first)))
 
 -- there are as many running totals as events
 pub dial-few : (rates totals searched : List ℕ) (sum modulus : ℕ) → IsDial rates totals sum modulus → searched ≡ totals → length searched ≤ 1024

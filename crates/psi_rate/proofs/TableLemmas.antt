@@ -1,16 +1,16 @@
 -- Multiples of powers of two, and the entries of a table, stretch by stretch.
 use Rattle.std.specs.Prelude.{◌≡◌, ℕ, zero, suc, ◌+◌, ◌-◌, ◌*◌, ◌/◌, ◌%◌, ◌^◌, ◌<◌, ◌≤◌, List, [], ◌∷◌, ◌++◌, length, replicate, slice_index, refl}
 use Rattle.std.specs.Int.{w32, bit_at, trailing_zeros}
-use Rattle.std.specs.Int.Bits.{bit_or}
-use Rattle.std.proofs.Common.{inl, inr, ap, ◌∙◌, sym, subst, arith, append_assoc, below_more, length-append, max}
-use Rattle.std.proofs.Math.Nat.{div-mul-le_self, div-le_of_le-mul, lt-div-mul-add, mul-le-mul_right, zero-mod}
+use Rattle.std.specs.Int.Bits.{bit_and, bit_or}
+use Rattle.std.proofs.Common.{inl, inr, ap, ◌∙◌, sym, subst, arith, append_assoc, below_more, get_or, length-append, max}
+use Rattle.std.proofs.Math.Nat.{div-mul-le_self, div-le_of_le-mul, div-eq_of_eq-mul_left, mod-eq_of_lt, mod-lt, lt-div-mul-add, mul-le-mul_right, zero-mod}
 use Rattle.std.proofs.Math.Pow.{mod-mod-pow}
 use Rattle.std.proofs.lemmas.Bool.{cases_lt, cases_eq}
-use Rattle.std.proofs.lemmas.List.{get_or-replicate, length-replicate, replicate-append-replicate, get_or_append_left, get_or-append_right}
-use Rattle.std.proofs.lemmas.Nat.{mod-pow-add, pow-add, or_mod, le_or_l, le_or_r, pow_pos, div-add-mod'}
+use Rattle.std.proofs.lemmas.List.{get_or_default, get_or-replicate, length-replicate, replicate-append-replicate, get_or_append_left, get_or-append_right}
+use Rattle.std.proofs.lemmas.Nat.{and_mask, field_of, mod-pow-add, pow-add, or_mod, le_or_l, le_or_r, pow_pos, div-add-mod'}
 use Rattle.std.proofs.lemmas.Nat.Bits.{bit_at-trailing_zeros, bit_at-pow_other}
 use Rattle.psi_rate.specs.Table.{IsFirstAbove, AreFirstAbove, AreMultiples}
-use Rattle.psi_rate.proofs.PowersLemmas.{pow-order}
+use Rattle.psi_rate.proofs.PowersLemmas.{pow-double, pow-order}
 
 -- a number whose k low bits are zero is a multiple of 2^k
 pub bits-multiple : (n k : ℕ) → ((i : ℕ) → i < k → bit_at n i ≡ 0) → n % 2 ^ k ≡ 0
@@ -143,11 +143,38 @@ filled-below totals xs k e below m longer past =
 pub multiple-whole : (n p : ℕ) → n % p ≡ 0 → n / p * p ≡ n
 multiple-whole n p multiple = (let cut = div-add-mod' n p in omega arith)
 
--- stretches of the length that a table chooses make up the numbers below the modulus, and are at most 4,096
+-- a shift whose power of two divides another one is at most its exponent
+pub multiple-exponent : (n e k : ℕ) → n ≡ 2 ^ e → n % 2 ^ k ≡ 0 → k ≤ e
+multiple-exponent n e k is multiple =
+    elim (cases_lt e k) [
+      | inl less ↦ (let positive = pow_pos e in
+          let next : 2 ^ suc e ≤ 2 ^ k = pow-order (suc e) k (omega arith) in
+          let double = pow-double e in
+          let small : n < 2 ^ k = omega arith in
+          let own : n % 2 ^ k ≡ n = mod-eq_of_lt small in
+          absurd (omega arith))
+      | inr more ↦ more
+    ]
+
+-- what holds of the stretches of the length that a table chooses: they make up the numbers below the modulus, and are a power of two and at most 4,096
+pub record AreStretches (n shift : ℕ) : Type 0 where
+  pub whole : n / 2 ^ shift * 2 ^ shift ≡ n
+  pub short : shift < 32
+  pub few : n / 2 ^ shift ≤ 4096
+  pub exponent : ℕ
+  pub power : n / 2 ^ shift ≡ 2 ^ exponent
+  pub some : 1 ≤ n / 2 ^ shift
+
 pub shift-stretches : (n e common least shift : ℕ) → n ≡ 2 ^ e → n < 2 ^ 32 → common < 32 → n % 2 ^ common ≡ 0 → least ≡ trailing_zeros w32 n - 12 → shift ≡ max common least
-    → (n / 2 ^ shift * 2 ^ shift ≡ n) × (shift < 32) × (n / 2 ^ shift ≤ 4096)
-shift-stretches n e common least shift is fits short multiple fewest most =
-    (multiple-whole n (2 ^ shift) whole, (let own = trailing-short n some fits in omega arith), div-le_of_le-mul (2 ^ shift) (omega (arith, order, parts)))
+    → AreStretches n shift
+shift-stretches n e common least shift is fits short multiple fewest most = record {
+  whole = multiple-whole n (2 ^ shift) whole;
+  short = (let own = trailing-short n some fits in omega arith);
+  few = div-le_of_le-mul (2 ^ shift) (omega (arith, order, parts));
+  exponent = e - shift;
+  power = power;
+  some = (let positive = pow_pos (e - shift) in omega (arith, power));
+}
   where
     some : 1 ≤ n
     some = (let positive = pow_pos e in omega arith)
@@ -166,6 +193,47 @@ shift-stretches n e common least shift is fits short multiple fewest most =
 
     parts : 2 ^ (shift + 12) ≡ 2 ^ shift * 2 ^ 12
     parts = pow-add 2 shift 12
+
+    power : n / 2 ^ shift ≡ 2 ^ (e - shift)
+    power =
+        let within : shift ≤ e = multiple-exponent n e shift is whole in
+        let back : e - shift + shift ≡ e = omega arith in
+        let cut : 2 ^ (e - shift + shift) ≡ 2 ^ (e - shift) * 2 ^ shift = pow-add 2 (e - shift) shift in
+        let same : 2 ^ (e - shift + shift) ≡ 2 ^ e = ap (λ m. 2 ^ m) back in
+        div-eq_of_eq-mul_left (pow_pos shift) (omega arith)
+
+-- the stretch of a word is that of its number
+pub word-stretch : (word modulus count last j k : ℕ) → count ≡ 2 ^ j → count ≡ last + 1 → count * 2 ^ k ≡ modulus
+    → bit_and (word / 2 ^ k) last ≡ word % modulus / 2 ^ k
+word-stretch word modulus count last j k power places whole =
+    let ones : last ≡ 2 ^ j - 1 = omega arith in
+    let all : 2 ^ (j + k) ≡ modulus = pow-add 2 j k ∙ (ap (λ n. n * 2 ^ k) (sym power) ∙ whole) in
+    ap (λ n. bit_and (word / 2 ^ k) n) ones ∙ (and_mask (word / 2 ^ k) j ∙ (sym (field_of word j k) ∙ ap (λ n. word % n / 2 ^ k) all))
+
+pub word-number : (word modulus count j k : ℕ) → count ≡ 2 ^ j → count * 2 ^ k ≡ modulus → bit_and word (modulus - 1) ≡ word % modulus
+word-number word modulus count j k power whole =
+    let all : 2 ^ (j + k) ≡ modulus = pow-add 2 j k ∙ (ap (λ n. n * 2 ^ k) (sym power) ∙ whole) in
+    subst (λ n. bit_and word (n - 1) ≡ word % n) all (and_mask word (j + k))
+
+pub word-below : (word modulus count j k : ℕ) → count ≡ 2 ^ j → count * 2 ^ k ≡ modulus → word % modulus < modulus
+word-below word modulus count j k power whole =
+    let all : 2 ^ (j + k) ≡ modulus = pow-add 2 j k ∙ (ap (λ n. n * 2 ^ k) (sym power) ∙ whole) in
+    let positive = pow_pos (j + k) in
+    mod-lt word (omega arith)
+
+-- the entry of a word is the event of the first number of its stretch
+pub entry-first : (totals entries : List ℕ) (modulus last k word entry j : ℕ) → length entries ≡ 2 ^ j → length entries ≡ last + 1 → length entries * 2 ^ k ≡ modulus
+    → AreFirstAbove totals k entries → entry ≡ get_or entries (bit_and (word / 2 ^ k) last) entry → IsFirstAbove totals (word % modulus / 2 ^ k * 2 ^ k) entry
+entry-first totals entries modulus last k word entry j power places whole first is =
+    subst (λ (n : ℕ). IsFirstAbove totals (word % modulus / 2 ^ k * 2 ^ k) n) same (first.each (word % modulus / 2 ^ k) small)
+  where
+    small : word % modulus / 2 ^ k < length entries
+    small = stretch-place (word % modulus) (2 ^ k) (length entries) (let below = word-below word modulus (length entries) j k power whole in omega arith)
+
+    same : slice_index entries (word % modulus / 2 ^ k) ≡ entry
+    same =
+        let place = word-stretch word modulus (length entries) last j k power places whole in
+        get_or_default entries (word % modulus / 2 ^ k) 0 entry small ∙ (ap (λ n. get_or entries n entry) (sym place) ∙ sym is)
 
 -- the stretches that begin below a total get its event
 pub filled-stretch : (totals xs ys : List ℕ) (k e count last : ℕ) → last ≡ 2 ^ k - 1 → ys ≡ xs ++ replicate ((slice_index totals e + last) / 2 ^ k - length xs) e

@@ -14,6 +14,7 @@ const MOST_ENTRIES: u32 = 12;
 #[derive(Drop, Debug)]
 pub(crate) struct Table {
     entries: Vec<u16>,
+    last: u32,
     shift: u32,
     exact: bool,
 }
@@ -26,32 +27,33 @@ impl Table {
         requires power { IsPowerOfTwo modulus }
         requires bounded { modulus ≤ 2 ^ 31 }
         requires within { EachIndex totals.now (λ k. slice_index totals.now k ≤ modulus) }
-        ensures table { IfOk result (λ table. IsTable totals.now modulus table.entries.items table.shift table.exact) }
+        ensures table { IfOk result (λ table. IsTable totals.now modulus table.entries.items table.last table.shift table.exact) }
     {
         let common = common_zeros(totals, modulus);
         let least = modulus.trailing_zeros().saturating_sub(MOST_ENTRIES);
         let shift = common.max(least);
+        let count = modulus >> shift;
         Ok(Table {
-            entries: entries(alloc, totals, (modulus >> shift) as usize, shift)?,
+            entries: entries(alloc, totals, count as usize, shift)?,
+            last: count - 1,
             shift,
             exact: shift == common,
         })
     }
 
-    // The event of a number: the place of the first running total above it, or the count of the totals where there is
-    // none.
+    // The event of a word: the place of the first running total above its number, or the count of the totals where
+    // there is none.
     #[inline]
-    pub(crate) fn event(&self, totals: &[u32], number: u32) -> u16
+    pub(crate) fn event(&self, totals: &[u32], modulus: u32, word: u32) -> u16
         requires few { length totals.now ≤ 1024 }
-        requires table { IsTable totals.now (length self.now.entries.items * 2 ^ self.now.shift) self.now.entries.items self.now.shift self.now.exact }
-        requires number { number < length self.now.entries.items * 2 ^ self.now.shift }
-        ensures { IsFirstAbove totals.now number result }
+        requires table { IsTable totals.now modulus self.now.entries.items self.now.last self.now.shift self.now.exact }
+        ensures { IsFirstAbove totals.now (word % modulus) result }
     {
-        let entry = self.entries[(number >> self.shift) as usize];
+        let entry = self.entries[(word >> self.shift & self.last) as usize];
         if self.exact {
             entry
         } else {
-            first_above(totals, entry, number)
+            first_above(totals, entry, word & (modulus - 1))
         }
     }
 }

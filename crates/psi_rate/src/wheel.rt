@@ -56,7 +56,7 @@ impl Model for Wheel {
 
     ghost view = { λ wheel. wheel.rates.items };
 
-    ghost invariant = { λ wheel. IsDial wheel.rates.items wheel.totals.items wheel.sum wheel.modulus × IsTable wheel.totals.items wheel.modulus wheel.table.entries.items wheel.table.shift wheel.table.exact };
+    ghost invariant = { λ wheel. IsDial wheel.rates.items wheel.totals.items wheel.sum wheel.modulus × IsTable wheel.totals.items wheel.modulus wheel.table.entries.items wheel.table.last wheel.table.shift wheel.table.exact };
 }
 
 impl Wheel {
@@ -104,8 +104,7 @@ impl Wheel {
         ensures event { result ≡ event_of self.now word }
         ensures number { HasNumber self.now (word % least_power (total self.now)) result }
     {
-        let number = word & (self.modulus - 1);
-        self.table.event(&self.totals, number)
+        self.table.event(&self.totals, self.modulus, word)
     }
 
     /// How many numbers there are, the idle ones included: the least power of two that isn't below the total rate.

@@ -1,16 +1,31 @@
 -- Answers in the proof of `Table::event`.
-use Rattle.std.proofs.Common.{◌/◌, ◌^◌, ◌*◌, ℕ, length, subst, sym, ◌∙◌}
-use Rattle.std.proofs.lemmas.List.{get_or_default}
+use Rattle.std.proofs.Common.{◌%◌, ◌^◌, length, subst, arith}
 use Rattle.psi_rate.specs.Table.{IsFirstAbove}
-use Rattle.psi_rate.proofs.TableLemmas.{stretch-place, first-event}
+use Rattle.psi_rate.proofs.TableLemmas.{entry-first, first-event, stretch-start, word-number}
 use Rattle.psi_rate.proofs.table.Table.event.Goals as goal
 
 pub returns-then-self : goal.returns-then-self
 returns-then-self c =
     let kept = c.requires.table in
-    let shift = c.args.self.now.shift in
-    let place = c.args.number / 2 ^ shift in
-    let small = stretch-place c.args.number (2 ^ shift) (length c.args.self.now.entries.items) c.requires.number in
-    let entry = get_or_default c.args.self.now.entries.items place 0 c.index-entry.result.now small ∙ sym c.index-entry.ensures in
-    first-event c.args.totals.now shift c.args.number c.index-entry.result.now (kept.multiples c.if-self.true)
-    (subst (λ (n : ℕ). IsFirstAbove c.args.totals.now (place * 2 ^ shift) n) entry (kept.first.each place small))
+    let table = c.args.self.now in
+    first-event c.args.totals.now table.shift (c.args.word % c.args.modulus) c.index-entry.result.now (kept.multiples c.if-self.true)
+    (entry-first c.args.totals.now table.entries.items c.args.modulus table.last table.shift c.args.word c.index-entry.result.now kept.exponent
+    kept.count kept.places kept.stretches kept.first c.index-entry.ensures)
+
+pub first_above-requires-clause-below : goal.first_above-requires-clause-below
+first_above-requires-clause-below c = λ k small.
+    (let kept = c.requires.table in
+    let table = c.args.self.now in
+    let entry = entry-first c.args.totals.now table.entries.items c.args.modulus table.last table.shift c.args.word c.index-entry.result.now kept.exponent
+    kept.count kept.places kept.stretches kept.first c.index-entry.ensures in
+    let under = entry.below k small in
+    let start = stretch-start (c.args.word % c.args.modulus) (2 ^ table.shift) in
+    let number = word-number c.args.word c.args.modulus (length table.entries.items) kept.exponent table.shift kept.count kept.stretches in
+    omega arith)
+
+pub returns-else-self : goal.returns-else-self
+returns-else-self c =
+    let kept = c.requires.table in
+    let table = c.args.self.now in
+    subst (λ n. IsFirstAbove c.args.totals.now n c.first_above.result)
+    (word-number c.args.word c.args.modulus (length table.entries.items) kept.exponent table.shift kept.count kept.stretches) c.first_above.ensures

@@ -10,7 +10,13 @@ entries-requires-clause-within c = λ i small.
     (let within = c.requires.within i small in
     let cut = shift-stretches c.args.modulus c.requires.power.0 c.common_zeros-common.result c.saturating_sub-least.result c.max-shift.result c.requires.power.1
     c.ranges.modulus.fits c.common_zeros-common.ensures.bits c.common_zeros-common.ensures.modulus c.saturating_sub-least.ensures c.max-shift.ensures in
-    let whole = cut.0 in omega arith)
+    let whole = cut.whole in omega arith)
+
+pub overflow_sub-result : goal.overflow_sub-result
+overflow_sub-result c =
+    let cut = shift-stretches c.args.modulus c.requires.power.0 c.common_zeros-common.result c.saturating_sub-least.result c.max-shift.result c.requires.power.1
+    c.ranges.modulus.fits c.common_zeros-common.ensures.bits c.common_zeros-common.ensures.modulus c.saturating_sub-least.ensures c.max-shift.ensures in
+    cut.some
 
 pub returns : goal.returns
 returns c =
@@ -19,9 +25,12 @@ returns c =
     let made = c.in_ok-entries.ensures in
     record {
       table = record {
-        stretches = ap (λ n. n * 2 ^ c.max-shift.result) made.count ∙ cut.0;
-        short = cut.1;
-        few_entries = (let few = cut.2 in let count = made.count in omega arith);
+        exponent = cut.exponent;
+        count = made.count ∙ cut.power;
+        places = (let some = cut.some in let count = made.count in omega arith);
+        stretches = ap (λ n. n * 2 ^ c.max-shift.result) made.count ∙ cut.whole;
+        short = cut.short;
+        few_entries = (let few = cut.few in let count = made.count in omega arith);
         first = made.first;
         multiples = λ exact. subst (λ n. AreMultiples c.args.totals.now n) (sym (eqb-true _ _ exact)) c.common_zeros-common.ensures.totals;
       };

@@ -36,5 +36,5 @@ invariant_of-result c =
       dial-whole c.args.rates.now c.in_ok-from_slice.field-0.items c.loop-at.totals.items c.loop-at.sum modulus.result c.loop-at.at
           c.requires.few c.requires.least c.requires.most some c.loop-at-test.false c.in_ok-from_slice.ensures.items kept.items kept.whole kept.bounded
           modulus.ensures.power modulus.ensures.lower_bound modulus.ensures.upper_bound,
-      subst (λ (xs : List ℕ). IsTable xs modulus.result c.in_ok-new.field-0.entries.items c.in_ok-new.field-0.shift c.in_ok-new.field-0.exact) c.deref.ensures.value c.in_ok-new.ensures.table,
+      subst (λ (xs : List ℕ). IsTable xs modulus.result c.in_ok-new.field-0.entries.items c.in_ok-new.field-0.last c.in_ok-new.field-0.shift c.in_ok-new.field-0.exact) c.deref.ensures.value c.in_ok-new.ensures.table,
     )
