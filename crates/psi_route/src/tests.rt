@@ -74,14 +74,16 @@ fn image(route: &Route, first: u16, second: u16) -> Option<State> {
     Some(state)
 }
 
-// What a route makes of the box of two queues from (0, 0) to (1, 1), within its capacities.
-fn unit_envelope(route: &Route) -> Option<Bounds> {
+// What a route makes of the box of two queues from one state to another, within its capacities.
+fn envelope(route: &Route, lo: State, hi: State) -> Option<Bounds>
+    requires lo { length lo ≡ 2 }
+    requires hi { length hi ≡ 2 }
+{
     let caps = route.caps();
-    let hi = pair(1, 1);
-    if caps.len() != 2 || !hi.leq(&caps) {
+    if caps.len() != 2 || !lo.leq(&hi) || !hi.leq(&caps) {
         return None;
     }
-    let mut around = Bounds::new(pair(0, 0), hi);
+    let mut around = Bounds::new(lo, hi);
     route.envelope(&mut around);
     Some(around)
 }
@@ -95,7 +97,7 @@ fn a_value_that_falls_past_another_breaks_the_order(rt: HostRuntime) -> Result<(
     assert!(rt; !route.monotone());
     assert_eq!(rt; route.upset(), Some((pair(0, 0), pair(1, 0))));
     assert_eq!(rt;
-        unit_envelope(&route),
+        envelope(&route, pair(0, 0), pair(1, 1)),
         Some(Bounds::new(pair(0, 0), pair(2, 2)))
     );
     assert_eq!(rt; route.caps(), pair(2, 2));
@@ -124,5 +126,37 @@ fn the_first_of_twenty_equal_queues_is_never_left_empty(rt: HostRuntime) -> Resu
     least.set(0, 1);
     assert_eq!(rt; around.lo(), least);
     assert_eq!(rt; around.hi(), caps);
+    Ok(())
+}
+
+// Four customers at once, to two queues with room for ten: the first is chosen where it holds 3 customers, and else the
+// second.
+#[test]
+fn a_batch_leaves_the_ends_of_those_that_stay_and_of_those_that_rise(
+    rt: HostRuntime,
+) -> Result<(), Fail> {
+    let mut tables = Vec::with_capacity(rt.alloc(), 2)?;
+    let first = Vec::from_slice(rt.alloc(), &[5, 5, 5, 1, 5, 5, 5, 1, 5, 5])?;
+    let second = Vec::from_slice(rt.alloc(), &[3, 3, 3, 3, 3, 3, 3, 3, 3, 3])?;
+    tables.push_reserved(IndexTable::new(rt.alloc(), first)?);
+    tables.push_reserved(IndexTable::new(rt.alloc(), second)?);
+    let route = Route::new(pair(10, 10), None, 4, first_queues(2), tables, Full::Lost)?;
+    // 3 rises to 7, 4 to 6 stay, and 7 to 9 lack room.
+    assert_eq!(rt;
+        envelope(&route, pair(3, 0), pair(9, 2)),
+        Some(Bounds::new(pair(4, 0), pair(9, 6)))
+    );
+    assert_eq!(rt;
+        envelope(&route, pair(3, 0), pair(5, 2)),
+        Some(Bounds::new(pair(4, 0), pair(7, 6)))
+    );
+    assert_eq!(rt;
+        envelope(&route, pair(3, 0), pair(3, 2)),
+        Some(Bounds::new(pair(7, 0), pair(7, 2)))
+    );
+    assert_eq!(rt;
+        envelope(&route, pair(4, 0), pair(6, 2)),
+        Some(Bounds::new(pair(4, 4), pair(6, 6)))
+    );
     Ok(())
 }
