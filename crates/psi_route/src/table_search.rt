@@ -22,7 +22,10 @@ pub(crate) fn first_at_least_between(table: &IndexTable, first: u16, past: u16, 
     ensures before { (k : ℕ) → first ≤ k → k < result → slice_index table.now k < bound }
     ensures found { result < past → bound ≤ slice_index table.now result }
 {
-    let mut low = first;
+    if first == past || table.at(first) as u64 >= bound {
+        return first;
+    }
+    let mut low = first + 1;
     let mut high = past;
     while low < high {
         let middle = low + (high - low) / 2;
@@ -45,8 +48,11 @@ pub(crate) fn past_last_below(table: &IndexTable, first: u16, past: u16, bound: 
     ensures after { (k : ℕ) → result ≤ k → k < past → bound ≤ slice_index table.now k }
     ensures found { first < result → slice_index table.now (result - 1) < bound }
 {
+    if first == past || (table.at(past - 1) as u64) < bound {
+        return past;
+    }
     let mut low = first;
-    let mut high = past;
+    let mut high = past - 1;
     while low < high {
         let middle = low + (high - low) / 2;
         if (table.least(middle, past - 1) as u64) < bound {
