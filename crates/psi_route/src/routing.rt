@@ -23,8 +23,7 @@ impl Route {
         if self.is_plain() {
             self.join_first(x);
         } else {
-            let chosen = self.least_key(x);
-            self.join(x, chosen);
+            self.join_least(x);
         }
     }
 
@@ -64,9 +63,21 @@ impl Route {
         self.turn_away(x);
     }
 
-    // The place of the chosen target by the keys, if any has room. It stays out of line: inlined, it would spill
-    // the registers of every event's loop over the states of a set.
+    // Lets the customers join the target with the least key, where the source serves and there are tables. It stays
+    // out of line: inlined, it would spill the registers of every event's loop over the states of a set, and a route
+    // without tables would save registers that it doesn't use.
     #[inline(never)]
+    fn join_least(&self, x: &mut State)
+        requires tables { 0 < length self.now.tables.items }
+        requires length { length x.old ≡ length self.now.caps }
+        requires serve { let r = routing (shape_of self.now) in r.least ≤ slice_index x.old r.source }
+        ensures { x.new ≡ moved (routing (shape_of self.now)) x.old (best (routing (shape_of self.now)) x.old) }
+    {
+        let chosen = self.least_key(x);
+        self.join(x, chosen);
+    }
+
+    // The place of the chosen target by the keys, if any has room.
     fn least_key(&self, x: &State) -> Option<u8>
         requires tables { 0 < length self.now.tables.items }
         requires length { length x.now ≡ length self.now.caps }

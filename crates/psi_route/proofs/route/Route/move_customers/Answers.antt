@@ -2,17 +2,11 @@
 use Rattle.std.proofs.Common.{◌∙◌, refl}
 use Rattle.psi_route.specs.Routing.{routing, best}
 use Rattle.psi_route.specs.Route.{shape_of}
-use Rattle.psi_route.proofs.Choosing.{chosen-place, chosen-room, routed-serves, routed-idle}
+use Rattle.psi_route.proofs.Choosing.{routed-serves, routed-idle}
 use Rattle.psi_route.proofs.route.Route.move_customers.Goals as goal
 
 pub returns-then-not-serves : goal.returns-then-not-serves
 returns-then-not-serves c = routed-idle (shape_of c.args.self.now) c.args.x.now c.serves.result c.serves.ensures c.if-not-serves.true
-
-pub join-requires-clause-place : goal.join-requires-clause-place
-join-requires-clause-place c = chosen-place (shape_of c.args.self.now) c.args.x.now c.least_key-chosen.result c.least_key-chosen.ensures
-
-pub join-requires-clause-room : goal.join-requires-clause-room
-join-requires-clause-room c = chosen-room (shape_of c.args.self.now) c.args.x.now c.least_key-chosen.result c.least_key-chosen.ensures
 
 pub returns-then-is_plain : goal.returns-then-is_plain
 returns-then-is_plain c =
@@ -21,5 +15,5 @@ returns-then-is_plain c =
 
 pub returns-else-is_plain : goal.returns-else-is_plain
 returns-else-is_plain c =
-    c.join.ensures
-    ∙ routed-serves (shape_of c.args.self.now) c.args.x.now c.least_key-chosen.result c.serves.result c.serves.ensures c.if-not-serves.false c.least_key-chosen.ensures
+    c.join_least.ensures
+    ∙ routed-serves (shape_of c.args.self.now) c.args.x.now (best (routing (shape_of c.args.self.now)) c.args.x.now) c.serves.result c.serves.ensures c.if-not-serves.false refl
