@@ -198,7 +198,7 @@ module _ (caps : List ℕ) (limit : ℕ) (events : ℕ → ℕ) (f : ℕ → Lis
       }
 
 -- the log of a network's run
-events-few : {E : Type 0} (system : Parts E) (words : ℕ → ℕ) (t : ℕ) → length system.rates ≤ 1024 → event_numbers system words t ≤ 1024
+pub events-few : {E : Type 0} (system : Parts E) (words : ℕ → ℕ) (t : ℕ) → length system.rates ≤ 1024 → event_numbers system words t ≤ 1024
 unfolding event_of
 events-few system words t few =
     let below : event_numbers system words t ≤ length system.rates = event_at-below system.rates (words (t - 1) % least_power (total system.rates)) in

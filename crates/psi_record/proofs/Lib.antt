@@ -4,5 +4,6 @@ pub mod WalkingLemmas
 pub mod TextLemmas
 pub mod RoomLemmas
 pub mod RegionLemmas
+pub mod BoundLemmas
 pub mod AcceptedLemmas
 mod Worked

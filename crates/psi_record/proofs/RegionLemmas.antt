@@ -29,7 +29,7 @@ pub record IsKept (split : ℕ) (caps : List ℕ) (a : Area) : Type 0 where
   pub few : a.is_split ≡ true → length a.states ≤ split
 
 -- the image of a list is no longer than it
-length-image : (f : List ℕ → List ℕ) (xs : List (List ℕ)) → length (image f xs) ≤ length xs
+pub length-image : (f : List ℕ → List ℕ) (xs : List (List ℕ)) → length (image f xs) ≤ length xs
 length-image f xs =
     let among : AreAmong (image f xs) (map f xs) = record { each = λ x member. In-of_ascending x (map f xs) member } in
     let most : length (image f xs) ≤ length (map f xs) = length-among (image f xs) (map f xs) (rising-distinct (image f xs) (image-rising f xs)) among in

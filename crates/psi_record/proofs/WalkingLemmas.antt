@@ -12,7 +12,7 @@ use Rattle.psi_lines.specs.Log.{Region, in_box, in_set}
 use Rattle.psi_lines.specs.Text.{region_words, next_words, step_text}
 use Rattle.psi_record.specs.Recorded.{region_of}
 use Rattle.psi_replay.specs.Verdict.{event_numbers}
-use Rattle.psi_record.specs.Walking.{box_words, IsTold, step_line, line_of, IsToldAfter}
+use Rattle.psi_record.specs.Walking.{box_words, IsTold, step_line, line_of, IsToldAfter, IsAmpleAfter}
 
 -- the region whose box is told is that box, and one that is split is its set
 pub region_of-box : (a : Area) (b : Corners) → ShowsBox a (Some b) → IsBelow b.lo b.hi → region_of a ≡ in_box b
@@ -38,7 +38,7 @@ set-whole : (r : Region) (xs : List (List ℕ)) → next_words 2 r (in_set xs) �
 set-whole (in_box b) xs = refl
 set-whole (in_set ys) xs = refl
 
-next-set : (a b : Area) → b.is_split ≡ true → next_words 2 (region_of a) (region_of b) ≡ region_words (in_set b.states)
+pub next-set : (a b : Area) → b.is_split ≡ true → next_words 2 (region_of a) (region_of b) ≡ region_words (in_set b.states)
 next-set a b is = ap (λ (r : Region). next_words 2 (region_of a) r) (region_of-set b is) ∙ set-whole (region_of a) b.states
 
 -- a step by its number
@@ -174,3 +174,17 @@ walking-line {E} {P} function words first now horizon done told front line walk 
     if_some-at (λ r. line ≡ front ++ line_of function now.system (words now.past) r.horizon r.done) now.run (record { horizon = horizon; done = done }) walk.run is
     ∙ (ap (λ (s : Parts E). front ++ line_of function s (words now.past) horizon done) walk.system
     ∙ ap (λ (w : ℕ → ℕ). front ++ line_of function first.system w horizon done) walk.same_words)
+
+-- the same of the same plan
+pub walking-same : {E P : Type 0} (function : E → List ℕ → List ℕ) (words : P → ℕ → ℕ) (first now new : Planned E P) (horizon done : ℕ) (told : Option Corners)
+    → new ≡ now → IsWalking function words first now horizon done told → IsWalking function words first new horizon done told
+walking-same {E} {P} function words first now new horizon done told same walk =
+    subst (λ (p : Planned E P). IsWalking function words first p horizon done told) (sym same) walk
+
+-- what holds of the run of such a plan
+pub walking-run : {E P : Type 0} (function : E → List ℕ → List ℕ) (words : P → ℕ → ℕ) (first now : Planned E P) (horizon done left room : ℕ) (told : Option Corners)
+    → IsWalking function words first now horizon done told → IfSome now.run (λ r. IsAmpleAfter function now.system (words now.past) left room r.horizon r.done)
+    → IsAmpleAfter function first.system (words first.past) left room horizon done
+walking-run {E} {P} function words first now horizon done left room told walk is =
+    same-both (λ (s : Parts E) (w : ℕ → ℕ). IsAmpleAfter function s w left room horizon done) now.system first.system (words now.past) (words first.past) walk.system walk.same_words
+    (if_some-at (λ r. IsAmpleAfter function now.system (words now.past) left room r.horizon r.done) now.run (record { horizon = horizon; done = done }) walk.run is)

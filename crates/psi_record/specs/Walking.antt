@@ -1,5 +1,5 @@
 -- The text of the log of a run, from one step to the next.
-use Rattle.std.specs.Prelude.{ℕ, List, ◌++◌, map, Option, Some, None, IfSome}
+use Rattle.std.specs.Prelude.{◌≡◌, ℕ, ◌+◌, ◌*◌, ◌≤◌, List, ◌++◌, length, map, true, Option, Some, None, IfSome}
 use Rattle.psi_state.specs.State.{Corners, IsBelow, numbers_from}
 use Rattle.psi_rate.specs.Composition.{Functions, Parts, system_functions}
 use Rattle.psi_region.specs.Region.{Area, start, ShowsBox}
@@ -20,6 +20,11 @@ pub record IsTold (caps : List ℕ) (a : Area) (told : Option Corners) : Type 0 
   pub shown : ShowsBox a told
   pub ordered : IfSome told (λ b. IsBelow b.lo b.hi)
   pub within : IfSome told (λ b. IsBelow b.hi caps)
+
+-- a region is a set, and the lines of so many steps from it on, with the last line, surely fit in the room: a number of customers has at most five digits
+pub record IsAmple (caps : List ℕ) (a : Area) (left room : ℕ) : Type 0 where
+  pub split : a.is_split ≡ true
+  pub enough : left * (22 + length a.states * (6 * length caps + 1)) + 200 ≤ room
 
 -- the runs of a network with this split number, these functions, these capacities and these events
 module _ (split : ℕ) (f : Functions) (caps : List ℕ) (events : ℕ → ℕ) where
@@ -48,3 +53,8 @@ front_of function system words h done =
 abbrev pub IsToldAfter : {E : Type 0} → (E → List ℕ → List ℕ) → Parts E → (ℕ → ℕ) → ℕ → ℕ → Option Corners → Type 0
 IsToldAfter function system words horizon done told =
     IsTold system.caps (region_after system.split (system_functions function system words) system.caps horizon done) told
+
+-- the same of the region of a network's run after so many steps
+abbrev pub IsAmpleAfter : {E : Type 0} → (E → List ℕ → List ℕ) → Parts E → (ℕ → ℕ) → ℕ → ℕ → ℕ → ℕ → Type 0
+IsAmpleAfter function system words left room horizon done =
+    IsAmple system.caps (region_after system.split (system_functions function system words) system.caps horizon done) left room

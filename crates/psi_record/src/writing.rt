@@ -1,6 +1,6 @@
 //! A log, measured and written.
 
-ghost use Rattle.std.specs.Prelude.{◌≡◌, ℕ, ◌^◌, ◌++◌, ◌+◌, ◌-◌, ◌<◌, ◌≤◌, ◌↔◌, Some, [], length, IsTrue, IsOk, OnOk, OnErr, MatchOption};
+ghost use Rattle.std.specs.Prelude.{◌≡◌, ℕ, ◌^◌, ◌++◌, ◌+◌, ◌-◌, ◌<◌, ◌≤◌, ◌↔◌, Some, [], length, IsTrue, IsSome, IfSome, IsOk, OnOk, OnErr, MatchOption};
 ghost use Rattle.psi_io.specs.Counts.{Rose};
 ghost use Rattle.psi_io.specs.Sink.{appended, GrewByPrefix};
 ghost use Rattle.psi_rate.specs.Composition.{system_functions};
@@ -9,6 +9,7 @@ ghost use Rattle.psi_record.specs.Recorded.{log_of};
 ghost use Rattle.psi_replay.specs.Verdict.{event_numbers};
 ghost use Rattle.psi_record.specs.Accepted.{IsAccepted};
 ghost use Rattle.psi_record.specs.Sending.{Sends};
+ghost use Rattle.psi_record.specs.Walking.{IsToldAfter, IsAmpleAfter};
 ghost use Rattle.psi_lines.specs.Text.{log_text};
 
 use crate::block::Block;
@@ -18,7 +19,7 @@ use psi_horizon::Plan;
 use psi_io::{Sink, SinkFault};
 use psi_lines::{Header, LineBuf};
 use psi_past::Past;
-use psi_state::State;
+use psi_state::{Bounds, State};
 
 // The greatest number of bytes of a log.
 const MOST: usize = 33_554_432;
@@ -63,32 +64,62 @@ pub fn log_fits<E: EventLaw, P: Past + Drop>(
     room_left(plan, header, state, line).is_some()
 }
 
-// How many bytes the log leaves of those that it may have, where it has no more.
+// Nothing where the log has more bytes than it may have.
 fn room_left<E: EventLaw, P: Past + Drop>(
     plan: &mut Plan<'_, E, P>,
     header: &Header,
     state: &State,
     line: &mut LineBuf,
-) -> Option<usize>
+) -> Option<()>
     requires some { 1 ≤ header.now.horizon }
     requires most { header.now.horizon ≤ 2 ^ plan.old.system.limit }
     requires version { header.now.version ≡ 2 }
     ensures room { let text = log_text (log_of E.function plan.old.system (P.words plan.old.past) header.now state.now) in
-        MatchOption result (33554432 < length text) (λ room. room + length text ≡ 33554432) }
+        MatchOption result (33554432 < length text) (λ _. length text ≤ 33554432) }
     ensures system { plan.new.system ≡ plan.old.system }
     ensures words { P.words plan.new.past ≡ P.words plan.old.past }
 {
+    // Called for their clauses: the system's parts fit each other, and the range of the state's length.
+    let _limit = plan.limit();
+    let _queues = state.len();
     line.header(header);
     let mut room = MOST.checked_sub(line.bytes().len())?;
     let mut before = begin_line(plan, header.horizon, line);
     room = room.checked_sub(line.bytes().len())?;
-    for _ in 0..header.horizon {
+    for done in 0..header.horizon {
+        if is_ample(plan, &before, header.horizon - done, room) {
+            return Some(());
+        }
         line.clear();
         before = next_line(plan, before, line);
         room = room.checked_sub(line.bytes().len())?;
     }
     line.end(state);
-    room.checked_sub(line.bytes().len())
+    let _rest = room.checked_sub(line.bytes().len())?;
+    Some(())
+}
+
+// Whether the lines of the steps that are left, and the last line, surely fit in the room, since the run's region
+// is a set: its lines get no longer. It is asked at each 64th step, and answered by the number of its states.
+fn is_ample<E: EventLaw, P: Past + Drop>(
+    plan: &mut Plan<'_, E, P>,
+    told: &Option<Bounds>,
+    left: u32,
+    room: usize,
+) -> bool
+    requires begun { IsSome plan.old.run }
+    requires told { IfSome plan.old.run (λ r. IsToldAfter E.function plan.old.system (P.words plan.old.past) r.horizon r.done told.now) }
+    ensures ample { IsTrue result → IfSome plan.old.run (λ r. IsAmpleAfter E.function plan.old.system (P.words plan.old.past) left room r.horizon r.done) }
+    ensures same { plan.new ≡ plan.old }
+{
+    if left % 64 != 0 || told.is_some() {
+        return false;
+    }
+    // Called for its clause: the system's parts fit each other.
+    let _limit = plan.limit();
+    let states = plan.states();
+    let width = 22 + states.len() * (6 * states[0].len() as usize + 1);
+    left as usize * width + 200 <= room
 }
 
 /// Writes the log of the run of the header's horizon, with this state at its end, to a sink.
