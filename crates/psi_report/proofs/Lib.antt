@@ -1,9 +1,9 @@
 -- The lemmas of this crate.
-mod PairLemmas
-mod SummaryLemmas
+pub mod PairLemmas
+pub mod SummaryLemmas
 mod SmallLemmas
 mod CountLemmas
-mod TotalsLemmas
+pub mod TotalsLemmas
 mod RewardLemmas
 mod StandsLemmas
 mod HoldingLemmas

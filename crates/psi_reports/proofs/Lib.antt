@@ -10,3 +10,9 @@ mod PlainLemmas
 mod RowReads
 mod ReadLaws
 mod SmallLemmas
+mod CountLemmas
+mod FigureLemmas
+mod MergeLemmas
+mod HorizonCounts
+mod FiguresJoined
+mod MergeLaws

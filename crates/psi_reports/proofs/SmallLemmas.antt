@@ -107,7 +107,7 @@ figures-fit trio states (q ∷ qs) few all =
     (values-fit trio q.name (map q.value states) here.name (omega arith) here.values)
     (figures-fit trio states qs few (All-tail (IsMeasured states) q qs all))
 
-contents-fit : (net : Network) (outcomes : List Outcome) → AreSamples net outcomes → IsReport (contents_of net outcomes)
+pub contents-fit : (net : Network) (outcomes : List Outcome) → AreSamples net outcomes → IsReport (contents_of net outcomes)
 unfolding contents_of
 contents-fit net outcomes are =
     let few = are.few in

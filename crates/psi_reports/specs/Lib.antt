@@ -5,3 +5,5 @@ pub mod Outcomes
 pub mod Numbers
 pub mod Reading
 pub mod Small
+pub mod Counts
+pub mod Merging

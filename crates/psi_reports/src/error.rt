@@ -42,3 +42,28 @@ impl From<NoMemory> for ReadError {
         ReadError::OutOfMemory
     }
 }
+
+/// Why two reports aren't merged.
+#[derive(Clone, Copy, PartialEq, Eq, Debug)]
+pub enum MergeError {
+    /// They aren't of one network: its queues or its rewards are others.
+    OtherNetwork {
+        /// The line of the second report, counted from 1, of the first sum that isn't of the queue or the reward of
+        /// the first report's sum at its place; the line behind the last where a sum is missing.
+        line: u64,
+    },
+    /// A number of the report of both would be greater than a report may tell.
+    TooLarge,
+    /// Memory ran out.
+    OutOfMemory,
+}
+
+impl From<AllocError> for MergeError {
+    ghost use Rattle.psi_reports.specs.declared.error.MergeError.TheVariants as merging;
+
+    ghost from_gives = { λ _ error. error ≡ merging.OutOfMemory };
+
+    fn from(_error: AllocError) -> MergeError {
+        MergeError::OutOfMemory
+    }
+}

@@ -3,6 +3,7 @@
 ghost use Rattle.psi_reports.specs.Outcomes.{ReportIsText};
 ghost use Rattle.psi_reports.specs.Reading.{ReadIsText, TextIsRead};
 ghost use Rattle.psi_reports.specs.Small.{ReportIsRead};
+ghost use Rattle.psi_reports.specs.Merging.{ReportsAreMerged};
 
 /// The report of samples of a network is the text of what it tells.
 pub fn report_is_text()
@@ -19,4 +20,10 @@ pub fn text_is_read()
 /// The report of less than 2^32 samples of a network, whose values have 64 bits, is read as what it tells.
 pub fn report_is_read()
     ensures { ReportIsRead }
+{}
+
+/// The reports of two lists of samples of one network, less than 2^32 together, whose values have 64 bits, are merged
+/// into the report of both lists, one behind the other.
+pub fn reports_are_merged()
+    ensures { ReportsAreMerged }
 {}

@@ -7,9 +7,12 @@
 //! commas.
 #![tactic(auto)]
 
+mod counts;
 mod error;
 mod figure;
+mod figures;
 mod laws;
+mod merging;
 mod numbers;
 mod reading;
 mod report;
@@ -19,9 +22,9 @@ mod table;
 mod tests;
 mod text;
 
-pub use error::ReadError;
+pub use error::{MergeError, ReadError};
 pub use figure::{Figure, HorizonCount, Item};
-pub use laws::{report_is_read, report_is_text, text_is_read};
+pub use laws::{report_is_read, report_is_text, reports_are_merged, text_is_read};
 pub use psi_network::OutOfMemory;
 pub use reading::read;
 pub use report::Report;

@@ -1,0 +1,6 @@
+-- The law in the proof of `laws::reports_are_merged`.
+use Rattle.psi_reports.proofs.MergeLaws.{reports-merged}
+use Rattle.psi_reports.proofs.laws.reports_are_merged.Goals as goal
+
+pub returns : goal.returns
+returns c = reports-merged

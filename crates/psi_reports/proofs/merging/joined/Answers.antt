@@ -1,0 +1,25 @@
+-- Answers in the proof of `merging::joined`.
+use Rattle.std.proofs.Common.{arith}
+use Rattle.psi_reports.proofs.MergeLemmas.{samples-large, met-large, counts-large, figures-large, parts-fit}
+use Rattle.psi_reports.proofs.merging.joined.Goals as goal
+
+pub returns-in_default : goal.returns-in_default
+returns-in_default c = rw (← c.report.view_is, ← c.other.view_is) (samples-large _ _ (omega (arith, c.in_default.ensures)))
+
+pub returns-in_default-checked_add : goal.returns-in_default-checked_add
+returns-in_default-checked_add c = rw (← c.report.view_is, ← c.other.view_is) (met-large _ _ (omega (arith, c.in_default-checked_add.ensures)))
+
+pub returns-in_default-joined_figures : goal.returns-in_default-joined_figures
+returns-in_default-joined_figures c = rw (← c.report.view_is, ← c.other.view_is) (figures-large _ _ c.in_default-joined_figures.ensures)
+
+pub returns-then-not-branch : goal.returns-then-not-branch
+returns-then-not-branch c =
+    let large = rw (c.if-not-branch.true, c.as_slice.ensures.value) at c.in_ok-join_counts.ensures in
+    rw (← c.report.view_is, ← c.other.view_is) (counts-large _ _ large)
+
+pub returns : goal.returns
+returns c =
+    let counts = rw (c.if-not-branch.false, c.as_slice.ensures.value) at c.in_ok-join_counts.ensures in
+    let fit = rw c.as_slice-2.ensures.value at c.have_64_bits.ensures in
+    rw (← c.report.view_is, ← c.other.view_is) (parts-fit _ _ c.in-Some.all c.in-Some-checked_add.both_met _ _ (omega (arith, c.in-Some.ensures)) c.in-Some.ensures.1
+    (omega (arith, c.in-Some-checked_add.ensures)) c.in-Some-checked_add.ensures.1 counts fit c.in-Some-joined_figures.ensures.0 c.in-Some-joined_figures.ensures.1)

@@ -1,0 +1,121 @@
+-- The report of two lists of samples of one network, from the report of each.
+use Rattle.std.specs.Prelude.{◌≡◌, ℕ, ◌+◌, ◌*◌, ◌^◌, ℤ, ◌+ℤ◌, List, [], ◌∷◌, ◌++◌, length, filter, min, ◌-◌, Bool, true, false, ◌&&◌, ◌==◌, nat_lt, Option, Some, None, Result, Ok, Err, if◌then◌else◌}
+use Rattle.std.specs.Int.{int_min, int_max}
+use Rattle.std.specs.Int.RustNames.{unsigned_abs}
+use Rattle.std.specs.List.{list_all}
+use Rattle.std.specs.Str.{bytes_eq}
+use Rattle.psi_state.specs.declared.Outcome.{Outcome}
+use Rattle.psi_network.specs.Network.{Network}
+use Rattle.psi_report.specs.Joined.{paired}
+use Rattle.psi_reports.specs.declared.figure.Item.{Item}
+use Rattle.psi_reports.specs.declared.figure.Item.TheVariants.{Sum, Least, Greatest, RewardSum, RewardLeast, RewardGreatest}
+use Rattle.psi_reports.specs.declared.figure.HorizonCount.{HorizonCount}
+use Rattle.psi_reports.specs.declared.figure.Figure.{Figure}
+use Rattle.psi_reports.specs.declared.error.MergeError.{MergeError}
+use Rattle.psi_reports.specs.declared.error.MergeError.TheVariants.{OtherNetwork, TooLarge, OutOfMemory}
+use Rattle.psi_reports.specs.Contents.{Contents}
+use Rattle.psi_reports.specs.Counts.{joined_counts}
+use Rattle.psi_reports.specs.Outcomes.{contents_of}
+use Rattle.psi_reports.specs.Small.{AreSamples}
+
+-- a sum of a queue or of a reward, with which its figures begin
+abbrev pub is_sum : Item → Bool
+is_sum Sum = true
+is_sum RewardSum = true
+is_sum _ = false
+
+-- the sums of a report, one for each queue and each reward
+abbrev pub sums_of : List Figure → List Figure
+sums_of figures = filter (λ f. is_sum f.item) figures
+
+-- both are sums of a queue, or both of a reward
+abbrev pub same_sum : Item → Item → Bool
+same_sum Sum Sum = true
+same_sum RewardSum RewardSum = true
+same_sum _ _ = false
+
+-- two sums are of the same queue or reward
+abbrev pub is_alike : Figure → Figure → Bool
+is_alike f g = same_sum f.item g.item && bytes_eq f.name g.name
+
+-- the first place at which two lists of sums aren't of the same queue or reward, counted from k; none where they are of the same ones
+abbrev pub difference : ℕ → List Figure → List Figure → Option ℕ
+difference k [] [] = None
+difference k [] (g ∷ gs) = Some k
+difference k (f ∷ fs) [] = Some k
+difference k (f ∷ fs) (g ∷ gs) = if is_alike f g then difference (k + 1) fs gs else Some k
+
+-- the line of a report's k-th sum: behind four rows and those of the horizons; the extremes follow each sum where any sample is met
+-- it stands still at the greatest number of 64 bits
+abbrev pub line_of_sum : Contents → ℕ → ℕ
+line_of_sum c k = min ((5 + length c.horizons) + (if c.met == 0 then k else 3 * k)) (2 ^ 64 - 1)
+
+-- what an item's two values come to together
+abbrev pub joined_value : Item → ℤ → ℤ → ℤ
+joined_value Sum y z = y +ℤ z
+joined_value RewardSum y z = y +ℤ z
+joined_value Least y z = int_min y z
+joined_value RewardLeast y z = int_min y z
+joined_value Greatest y z = int_max y z
+joined_value RewardGreatest y z = int_max y z
+
+-- what two figures of an item come to together
+abbrev pub joined_figure : Figure → Figure → Figure
+joined_figure f g = record { item = f.item; name = f.name; value = joined_value f.item f.value g.value }
+
+-- the figures of two lists of samples together, of which so many are met: those of one alone where none of the other are met
+abbrev pub joined_figures : ℕ → ℕ → List Figure → List Figure → List Figure
+joined_figures m n fs gs = if m == 0 then gs else if n == 0 then fs else paired joined_figure fs gs
+
+-- what the report of two lists of samples together tells
+unfoldable pub joined : Contents → Contents → Contents
+joined a b = record {
+  samples = a.samples + b.samples;
+  met = a.met + b.met;
+  horizons = joined_counts a.horizons b.horizons;
+  figures = joined_figures a.met b.met a.figures b.figures;
+}
+
+-- a number of 64 bits
+abbrev pub is_count : ℕ → Bool
+is_count n = nat_lt n (2 ^ 64)
+
+-- a magnitude less than 10^37
+abbrev pub is_value : ℤ → Bool
+is_value z = nat_lt (unsigned_abs z) (10 ^ 37)
+
+-- the counts of the horizons are such numbers
+abbrev pub counts_fit : List HorizonCount → Bool
+counts_fit counts = list_all (λ c. is_count c.count) counts
+
+-- the figures have such magnitudes
+abbrev pub figures_fit : List Figure → Bool
+figures_fit figures = list_all (λ f. is_value f.value) figures
+
+-- the numbers are such as a report can tell
+unfoldable pub fits : Contents → Bool
+fits c = (is_count c.samples && is_count c.met) && (counts_fit c.horizons && figures_fit c.figures)
+
+-- the report of both, where its numbers fit
+abbrev pub fitting : Contents → Result Contents MergeError
+fitting c = if fits c then Ok c else Err TooLarge
+
+-- the report of both, unless a sum of the second isn't of the queue or the reward of the first
+abbrev pub merged_unless : Option ℕ → Contents → Contents → Result Contents MergeError
+merged_unless (Some k) a b = Err (OtherNetwork (line_of_sum b k))
+merged_unless None a b = fitting (joined a b)
+
+-- two reports, merged; or why they aren't
+unfoldable pub merged : Contents → Contents → Result Contents MergeError
+merged a b = merged_unless (difference 0 (sums_of a.figures) (sums_of b.figures)) a b
+
+-- the answer is the merging's, unless memory is wanting
+abbrev pub Merges : Result Contents MergeError → Result Contents MergeError → Type 0
+Merges (Ok c) merging = merging ≡ Ok c
+Merges (Err OutOfMemory) merging = Unit {0}
+Merges (Err error) merging = merging ≡ Err error
+
+-- the reports of two lists of samples of one network are merged into the report of both lists, one behind the other
+abbrev pub ReportsAreMerged : Type 0
+ReportsAreMerged = (net : Network) (outcomes others : List Outcome) → AreSamples net (outcomes ++ others)
+    → merged (contents_of net outcomes) (contents_of net others) ≡ Ok (contents_of net (outcomes ++ others))

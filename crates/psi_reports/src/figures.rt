@@ -1,0 +1,123 @@
+//! The figures of two lists of samples together.
+
+ghost use Rattle.std.specs.Prelude.{◌≡◌, true, false, IfOk, MatchBool, MatchOption};
+ghost use Rattle.psi_report.specs.Joined.{paired};
+ghost use Rattle.psi_reports.specs.Merging.{is_sum, sums_of, same_sum, is_alike, difference, joined_value, joined_figure, is_value, figures_fit};
+
+use crate::figure::{Figure, Item};
+use std::alloc::{AllocError, Global};
+
+// The magnitude that no figure of a report has: 10^37.
+const LIMIT: u128 = 10_000_000_000_000_000_000_000_000_000_000_000_000;
+
+// Whether it is a sum, with which the figures of a queue or a reward begin.
+fn is_sum(item: Item) -> bool
+    ensures { result ≡ is_sum item }
+{
+    match item {
+        Item::Sum => true,
+        Item::RewardSum => true,
+        _ => false,
+    }
+}
+
+/// The sums among figures, one for each queue and each reward.
+pub(crate) fn sums_of(alloc: Global, figures: &[Figure]) -> Result<Vec<Figure>, AllocError>
+    ensures { IfOk result (λ sums. sums.items ≡ sums_of figures.now) }
+{
+    let mut sums = Vec::new(alloc);
+    for figure in figures {
+        if is_sum(figure.item) {
+            sums.push(*figure)?;
+        }
+    }
+    Ok(sums)
+}
+
+// Whether both are sums of a queue, or both of a reward.
+fn same_sum(item: Item, other: Item) -> bool
+    ensures { result ≡ same_sum item other }
+{
+    match (item, other) {
+        (Item::Sum, Item::Sum) => true,
+        (Item::RewardSum, Item::RewardSum) => true,
+        _ => false,
+    }
+}
+
+// Whether two sums are of the same queue or reward.
+fn is_alike(sum: &Figure, other: &Figure) -> bool
+    ensures { result ≡ is_alike sum.now other.now }
+{
+    same_sum(sum.item, other.item) && sum.name.bytes() == other.name.bytes()
+}
+
+/// The first place at which sums aren't of the same queue or reward, or one is missing.
+pub(crate) fn difference(sums: &[Figure], others: &[Figure]) -> Option<usize>
+    ensures { result ≡ difference 0 sums.now others.now }
+{
+    let both = sums.len().min(others.len());
+    for place in 0..both {
+        if !is_alike(&sums[place], &others[place]) {
+            return Some(place);
+        }
+    }
+    if sums.len() == others.len() {
+        return None;
+    }
+    Some(both)
+}
+
+// What an item's two values come to together; none where that hasn't 128 bits.
+fn joined_value(item: Item, value: i128, other: i128) -> Option<i128>
+    ensures { MatchOption result (is_value (joined_value item value other) ≡ false) (λ both. both ≡ joined_value item value other) }
+{
+    match item {
+        Item::Sum => value.checked_add(other),
+        Item::RewardSum => value.checked_add(other),
+        Item::Least => Some(value.min(other)),
+        Item::RewardLeast => Some(value.min(other)),
+        Item::Greatest => Some(value.max(other)),
+        Item::RewardGreatest => Some(value.max(other)),
+    }
+}
+
+// What two figures of an item come to together; none where their sum hasn't 128 bits.
+fn joined_figure(figure: &Figure, other: &Figure) -> Option<Figure>
+    ensures { MatchOption result (is_value (joined_value figure.now.item figure.now.value other.now.value) ≡ false) (λ both. both ≡ joined_figure figure.now other.now) }
+{
+    match joined_value(figure.item, figure.value, other.value) {
+        Some(value) => Some(Figure {
+            item: figure.item,
+            name: figure.name,
+            value,
+        }),
+        None => None,
+    }
+}
+
+/// Joins figures to others, each to the one at its place, and answers whether each sum has 128 bits.
+pub(crate) fn join_figures(figures: &mut Vec<Figure>, others: &[Figure]) -> bool
+    ensures { MatchBool result (figures.new.items ≡ paired joined_figure figures.old.items others.now)
+        (figures_fit (paired joined_figure figures.old.items others.now) ≡ false) }
+{
+    for place in 0..figures.len().min(others.len()) {
+        match joined_figure(&figures[place], &others[place]) {
+            Some(both) => figures[place] = both,
+            None => return false,
+        }
+    }
+    true
+}
+
+/// Whether each figure has a magnitude that a report may tell.
+pub(crate) fn figures_fit(figures: &[Figure]) -> bool
+    ensures { result ≡ figures_fit figures.now }
+{
+    for figure in figures {
+        if figure.value.unsigned_abs() >= LIMIT {
+            return false;
+        }
+    }
+    true
+}

@@ -1,0 +1,125 @@
+//! The report of two lists of samples of one network, from the report of each.
+
+ghost use Rattle.std.specs.Prelude.{◌≡◌, true, false, IfOk, MatchBool, MatchOption};
+ghost use Rattle.psi_report.specs.Joined.{paired};
+ghost use Rattle.psi_reports.specs.Merging.{sums_of, difference, line_of_sum, joined_figure, joined_figures, joined, figures_fit, fitting, merged, Merges};
+
+use crate::counts::{have_64_bits, join_counts};
+use crate::error::MergeError;
+use crate::figure::Figure;
+use crate::figures::{difference, figures_fit, join_figures, sums_of};
+use crate::report::Report;
+use std::alloc::{AllocError, Global};
+
+// The first place at which the sums of two reports aren't of the same queue or reward.
+fn difference_of(
+    alloc: Global,
+    report: &Report,
+    other: &Report,
+) -> Result<Option<usize>, AllocError>
+    ensures { IfOk result (λ place. place ≡ difference 0 (sums_of report.now.figures) (sums_of other.now.figures)) }
+{
+    let sums = sums_of(alloc, report.figures.as_slice())?;
+    let others = sums_of(alloc, other.figures.as_slice())?;
+    Ok(difference(sums.as_slice(), others.as_slice()))
+}
+
+// The line of a report's sum at a place.
+fn line_of_sum(report: &Report, place: usize) -> u64
+    ensures { result ≡ line_of_sum report.now place }
+{
+    let first = (report.horizons.len() as u64).saturating_add(5);
+    if report.met == 0 {
+        return first.saturating_add(place as u64);
+    }
+    first.saturating_add((place as u64).saturating_mul(3))
+}
+
+// The figures of two reports in which samples are met, where each sum has 128 bits.
+fn paired(figures: Vec<Figure>, other: &[Figure]) -> Option<Vec<Figure>>
+    ensures { MatchOption result (figures_fit (paired joined_figure figures.items other.now) ≡ false) (λ both. both.items ≡ paired joined_figure figures.items other.now) }
+{
+    let mut both = figures;
+    if join_figures(&mut both, other) {
+        Some(both)
+    } else {
+        None
+    }
+}
+
+// The figures of both reports, and whether each fits; of one alone where no sample of the other is met.
+fn joined_figures(
+    met: u64,
+    others: u64,
+    figures: Vec<Figure>,
+    other: Vec<Figure>,
+) -> Option<Vec<Figure>>
+    ensures { MatchOption result (figures_fit (joined_figures met others figures.items other.items) ≡ false)
+        (λ both. (both.items ≡ joined_figures met others figures.items other.items) × (figures_fit both.items ≡ true)) }
+{
+    let both = if met == 0 {
+        other
+    } else if others == 0 {
+        figures
+    } else {
+        paired(figures, other.as_slice())?
+    };
+    if figures_fit(both.as_slice()) {
+        Some(both)
+    } else {
+        None
+    }
+}
+
+// The report of both, where its numbers fit.
+fn joined(report: Report, other: Report) -> Result<Report, MergeError>
+    ensures { Merges result (fitting (joined report other)) }
+{
+    let Report {
+        samples,
+        met,
+        horizons,
+        figures,
+    } = report;
+    let Some(all) = samples.checked_add(other.samples) else {
+        return Err(MergeError::TooLarge);
+    };
+    let Some(both_met) = met.checked_add(other.met) else {
+        return Err(MergeError::TooLarge);
+    };
+    let Some(both_figures) = joined_figures(met, other.met, figures, other.figures) else {
+        return Err(MergeError::TooLarge);
+    };
+    let mut counts = other.horizons;
+    if !join_counts(horizons.as_slice(), &mut counts)? {
+        return Err(MergeError::TooLarge);
+    }
+    have_64_bits(counts.as_slice());
+    Ok(Report {
+        samples: all,
+        met: both_met,
+        horizons: counts,
+        figures: both_figures,
+    })
+}
+
+impl Report {
+    /// The report of the samples of this report and of those of another, of the same network.
+    ///
+    /// # Errors
+    ///
+    /// [`MergeError::OtherNetwork`] where the queues and rewards of the other report aren't those of this one: the
+    /// sums with which their figures begin differ in a name, in their number, or in whether they are of a queue or of a
+    /// reward. [`MergeError::TooLarge`] where the report of both would tell a count of 64 bits or more, or a sum whose
+    /// magnitude is 10^37 or more. [`MergeError::OutOfMemory`] where there is no memory.
+    pub fn merged(self, alloc: Global, other: Report) -> Result<Report, MergeError>
+        ensures { Merges result (merged self other) }
+    {
+        if let Some(place) = difference_of(alloc, &self, &other)? {
+            return Err(MergeError::OtherNetwork {
+                line: line_of_sum(&other, place),
+            });
+        }
+        joined(self, other)
+    }
+}
