@@ -78,12 +78,12 @@ joined-with k (a ∷ cs) bs = elim (cases_order k.horizon a.horizon) [
 -- ---- ascending numbers
 
 -- each number of the list is above this one
-abbrev AreAbove : ℕ → List ℕ → Type 0
+abbrev pub AreAbove : ℕ → List ℕ → Type 0
 AreAbove x [] = Unit {0}
 AreAbove x (y ∷ ys) = (x < y) × AreAbove x ys
 
 -- each number is below all that follow it
-abbrev Ascends : List ℕ → Type 0
+abbrev pub Ascends : List ℕ → Type 0
 Ascends [] = Unit {0}
 Ascends (x ∷ xs) = AreAbove x xs × Ascends xs
 
@@ -120,7 +120,7 @@ ascends-insert t (d ∷ ds) order = elim (cases_order t d) [
   ]
 ]
 
-ascends-distinct : (hs : List ℕ) → Ascends (distinct hs)
+pub ascends-distinct : (hs : List ℕ) → Ascends (distinct hs)
 unfolding distinct
 ascends-distinct [] = tt
 ascends-distinct (h ∷ hs) = ascends-insert h (distinct hs) (ascends-distinct hs)
@@ -161,7 +161,7 @@ lacks-times t (h ∷ hs) lacks =
     times-other h t hs (λ e. own.0 (sym e)) ∙ lacks-times t hs own.1
 
 -- numbers, each with how many there are
-abbrev counted : (ℕ → ℕ) → ℕ → HorizonCount
+abbrev pub counted : (ℕ → ℕ) → ℕ → HorizonCount
 counted f t = record { horizon = t; count = f t }
 
 counted-above : (t : ℕ) (f g : ℕ → ℕ) (ds : List ℕ) → ((s : ℕ) → (t ≡ s → ⊥) → g s ≡ f s) → AreAbove t ds → map (counted f) ds ≡ map (counted g) ds

@@ -16,3 +16,5 @@ mod MergeLemmas
 mod HorizonCounts
 mod FiguresJoined
 mod MergeLaws
+mod JudgeLemmas
+mod SoundLaws

@@ -6,4 +6,5 @@ pub mod Numbers
 pub mod Reading
 pub mod Small
 pub mod Counts
+pub mod Sound
 pub mod Merging

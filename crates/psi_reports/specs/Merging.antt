@@ -1,5 +1,5 @@
 -- The report of two lists of samples of one network, from the report of each.
-use Rattle.std.specs.Prelude.{◌≡◌, ℕ, ◌+◌, ◌*◌, ◌^◌, ℤ, ◌+ℤ◌, List, [], ◌∷◌, ◌++◌, length, filter, min, ◌-◌, Bool, true, false, ◌&&◌, ◌==◌, nat_lt, Option, Some, None, Result, Ok, Err, if◌then◌else◌}
+use Rattle.std.specs.Prelude.{◌≡◌, ℕ, ◌+◌, ◌*◌, ◌^◌, ℤ, ◌+ℤ◌, List, [], ◌∷◌, ◌++◌, length, filter, Bool, true, false, ◌&&◌, ◌==◌, nat_lt, Option, Some, None, Result, Ok, Err, if◌then◌else◌}
 use Rattle.std.specs.Int.{int_min, int_max}
 use Rattle.std.specs.Int.RustNames.{unsigned_abs}
 use Rattle.std.specs.List.{list_all}
@@ -15,14 +15,9 @@ use Rattle.psi_reports.specs.declared.error.MergeError.{MergeError}
 use Rattle.psi_reports.specs.declared.error.MergeError.TheVariants.{OtherNetwork, TooLarge, OutOfMemory}
 use Rattle.psi_reports.specs.Contents.{Contents}
 use Rattle.psi_reports.specs.Counts.{joined_counts}
+use Rattle.psi_reports.specs.Sound.{is_sum, line_at}
 use Rattle.psi_reports.specs.Outcomes.{contents_of}
 use Rattle.psi_reports.specs.Small.{AreSamples}
-
--- a sum of a queue or of a reward, with which its figures begin
-abbrev pub is_sum : Item → Bool
-is_sum Sum = true
-is_sum RewardSum = true
-is_sum _ = false
 
 -- the sums of a report, one for each queue and each reward
 abbrev pub sums_of : List Figure → List Figure
@@ -46,9 +41,8 @@ difference k (f ∷ fs) [] = Some k
 difference k (f ∷ fs) (g ∷ gs) = if is_alike f g then difference (k + 1) fs gs else Some k
 
 -- the line of a report's k-th sum: behind four rows and those of the horizons; the extremes follow each sum where any sample is met
--- it stands still at the greatest number of 64 bits
 abbrev pub line_of_sum : Contents → ℕ → ℕ
-line_of_sum c k = min ((5 + length c.horizons) + (if c.met == 0 then k else 3 * k)) (2 ^ 64 - 1)
+line_of_sum c k = line_at ((5 + length c.horizons) + (if c.met == 0 then k else 3 * k))
 
 -- what an item's two values come to together
 abbrev pub joined_value : Item → ℤ → ℤ → ℤ

@@ -2,7 +2,8 @@
 
 ghost use Rattle.std.specs.Prelude.{◌≡◌, true, false, IfOk, MatchBool, MatchOption};
 ghost use Rattle.psi_report.specs.Joined.{paired};
-ghost use Rattle.psi_reports.specs.Merging.{is_sum, sums_of, same_sum, is_alike, difference, joined_value, joined_figure, is_value, figures_fit};
+ghost use Rattle.psi_reports.specs.Sound.{is_sum};
+ghost use Rattle.psi_reports.specs.Merging.{sums_of, same_sum, is_alike, difference, joined_value, joined_figure, is_value, figures_fit};
 
 use crate::figure::{Figure, Item};
 use std::alloc::{AllocError, Global};
@@ -10,8 +11,8 @@ use std::alloc::{AllocError, Global};
 // The magnitude that no figure of a report has: 10^37.
 const LIMIT: u128 = 10_000_000_000_000_000_000_000_000_000_000_000_000;
 
-// Whether it is a sum, with which the figures of a queue or a reward begin.
-fn is_sum(item: Item) -> bool
+/// Whether it is a sum, with which the figures of a queue or a reward begin.
+pub(crate) fn is_sum(item: Item) -> bool
     ensures { result ≡ is_sum item }
 {
     match item {

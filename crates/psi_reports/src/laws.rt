@@ -4,6 +4,7 @@ ghost use Rattle.psi_reports.specs.Outcomes.{ReportIsText};
 ghost use Rattle.psi_reports.specs.Reading.{ReadIsText, TextIsRead};
 ghost use Rattle.psi_reports.specs.Small.{ReportIsRead};
 ghost use Rattle.psi_reports.specs.Merging.{ReportsAreMerged};
+ghost use Rattle.psi_reports.specs.Sound.{ReportIsSound};
 
 /// The report of samples of a network is the text of what it tells.
 pub fn report_is_text()
@@ -26,4 +27,10 @@ pub fn report_is_read()
 /// into the report of both lists, one behind the other.
 pub fn reports_are_merged()
     ensures { ReportsAreMerged }
+{}
+
+/// The report of samples has no line that no report of samples has there: [`Report::flaw`](crate::Report::flaw) answers
+/// none of it.
+pub fn report_is_sound()
+    ensures { ReportIsSound }
 {}

@@ -11,6 +11,7 @@ mod counts;
 mod error;
 mod figure;
 mod figures;
+mod judging;
 mod laws;
 mod merging;
 mod numbers;
@@ -24,7 +25,7 @@ mod text;
 
 pub use error::{MergeError, ReadError};
 pub use figure::{Figure, HorizonCount, Item};
-pub use laws::{report_is_read, report_is_text, reports_are_merged, text_is_read};
+pub use laws::{report_is_read, report_is_sound, report_is_text, reports_are_merged, text_is_read};
 pub use psi_network::OutOfMemory;
 pub use reading::read;
 pub use report::Report;

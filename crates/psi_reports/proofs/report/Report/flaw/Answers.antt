@@ -1,0 +1,26 @@
+-- Answers in the proof of `Report::flaw`.
+use Rattle.std.proofs.Common.{arith}
+use Rattle.psi_reports.proofs.JudgeLemmas.{flaw-samples, flaw-horizon, flaw-figure, flaw-none}
+use Rattle.psi_reports.proofs.report.Report.flaw.Goals as goal
+
+pub returns-then-self : goal.returns-then-self
+returns-then-self c = rw (← c.self.view_is) (flaw-samples _ c.if-self.true)
+
+pub returns-in-Some : goal.returns-in-Some
+returns-in-Some c =
+    let flaw = rw (c.in-Some.is, c.as_slice.ensures.value) at c.horizons_flaw.ensures in
+    rw (← c.self.view_is) (flaw-horizon _ c.in-Some.place c.line_at.result c.if-self.false flaw c.line_at.ensures)
+
+pub returns-in-Some-figures_flaw : goal.returns-in-Some-figures_flaw
+returns-in-Some-figures_flaw c =
+    let before = rw (c.in_default.is, c.as_slice.ensures.value) at c.horizons_flaw.ensures in
+    let flaw = rw (c.in-Some-figures_flaw.is, c.as_slice-2.ensures.value) at c.figures_flaw.ensures in
+    let own = c.self.inside.horizons.ok.0 in
+    rw (← c.self.view_is) (flaw-figure _ c.in-Some-figures_flaw.place c.line_at-first.result c.line_at-in-Some-figures_flaw.result c.if-self.false before flaw
+    (omega (arith, c.line_at-first.ensures, c.len.ensures)) c.line_at-in-Some-figures_flaw.ensures)
+
+pub returns-in-None : goal.returns-in-None
+returns-in-None c =
+    let before = rw (c.in_default.is, c.as_slice.ensures.value) at c.horizons_flaw.ensures in
+    let flaw = rw (c.in-None.is, c.as_slice-2.ensures.value) at c.figures_flaw.ensures in
+    rw (← c.self.view_is) (flaw-none _ c.if-self.false before flaw)
