@@ -1,10 +1,6 @@
 -- The lemmas of this crate.
 pub mod WalksLemmas
-mod Places
-mod Room
-mod Linking
-mod Chains
-mod Keeping
+mod SumsLemmas
+mod RowsLemmas
 mod Marked
-mod Given
-mod Filled
+mod Putting

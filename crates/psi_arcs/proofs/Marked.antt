@@ -1,149 +1,198 @@
 -- Marks tell which ends of arcs are reached, and so which arcs are useful.
-use Rattle.std.proofs.Common.{◌≡◌, ◌≢◌, ◌↔◌, ℕ, zero, suc, ◌+◌, ◌-◌, ◌*◌, ◌^◌, ◌<◌, ◌≤◌, Bool, true, false, List, [], ◌∷◌, length, get_or, slice_index, slice_set, inl, inr, ap, sym, ◌∙◌, subst, arith, refl, get_or-set_same, get_or-set_other}
-use Rattle.std.proofs.lemmas.Bool.{cases_eq, cases_lt, lt-ltb, le-ltb, eq-eqb, ne_eqb}
-use Rattle.psi_arcs.specs.declared.nodes.Arc.{Arc}
+use Rattle.std.proofs.Common.{◌≡◌, ◌⊎◌, ◌↔◌, ℕ, zero, suc, ◌+◌, ◌-◌, ◌^◌, ◌<◌, ◌≤◌, true, false, List, [], ◌∷◌, length, slice_index, slice_set, inl, inr, ap, sym, ◌∙◌, subst, arith, refl}
+use Rattle.std.proofs.lemmas.Bool.{cases_eq, cases_lt, lt-ltb, le-ltb, eq-eqb, ne_eqb, true≢false}
+use Rattle.psi_arcs.specs.declared.ends.Arc.{Arc}
+use Rattle.psi_arcs.specs.declared.sums.Sums.{Sums}
 use Rattle.psi_arcs.specs.declared.marks.Marks.{Marks}
 use Rattle.psi_arcs.specs.declared.windows.Window.{Window}
 use Rattle.psi_arcs.specs.declared.windows.Rule.{Rule}
-use Rattle.psi_arcs.specs.Walks.{customers, Before, After, Useful}
+use Rattle.psi_arcs.specs.Sums.{has, Leads}
+use Rattle.psi_arcs.specs.Walks.{customers, Walk, Before, After, Useful}
 use Rattle.psi_arcs.specs.Held.{Listed, AreRanged}
+use Rattle.psi_arcs.specs.Rows.{sums_at}
 use Rattle.psi_arcs.specs.Joining.{past, here, Only, IsChanging, IsShiftable}
-use Rattle.psi_arcs.specs.Windows.{IsWithin, window_at, Allows, is_marked, Enters, Exits, MarkBefore, MarkAfter}
-use Rattle.psi_arcs.specs.Marking.{AreMarked, IsReached, TellsUseful}
-use Rattle.psi_arcs.proofs.Places.{arc_of}
-use Rattle.psi_arcs.proofs.WalksLemmas.{walk-at, walk-sum, before-zero, before-more, before-split, after-end, after-more, after-split, useful-map}
+use Rattle.psi_arcs.specs.Windows.{IsWithin, window_at, Allows, is_marked, Enters, EntersBelow, Exits, MarkBefore, MarkAfter}
+use Rattle.psi_arcs.specs.Marking.{AreMarked, IsReached, Keeps, TellsUseful, Shifts}
+use Rattle.psi_arcs.proofs.RowsLemmas.{arc_of, read-own, read-other}
+use Rattle.psi_arcs.proofs.WalksLemmas.{walk-at, walk-sum, before-more, before-split, after-more, after-split, useful-map}
 
--- one mark is written
-pub marked-own : (marks : List Bool) (l s e : ℕ) (b : Bool) → e ≡ l * 257 + s → e < length marks → is_marked (slice_set marks e b) l s ≡ b
-marked-own marks l s e b at within = ap (λ k. get_or (slice_set marks e b) k false) (sym at) ∙ get_or-set_same marks e b false within
+-- one end more from which arcs may enter
+module _ (arcs : List Arc) (l : ℕ) (window : Window) (marks row old now : Sums) (n : ℕ) where
+  pub enters-kept : (t : ℕ) → EntersBelow arcs l t window marks n → EntersBelow arcs l t window marks (n + 1)
+  enters-kept t below = (let less = below.less in record { enters = below.enters; less = omega arith })
 
-pub marked-other : (marks : List Bool) (m r e : ℕ) (b : Bool) → m * 257 + r ≢ e → is_marked (slice_set marks e b) m r ≡ is_marked marks m r
-marked-other marks m r e b other = get_or-set_other marks e (m * 257 + r) b false other
+  -- it is not marked
+  pub enters-skip : (has marks n ≡ false) → (t : ℕ) → EntersBelow arcs l t window marks (n + 1) → EntersBelow arcs l t window marks n
+  enters-skip bare t below =
+      let less = below.less in
+      record {
+        enters = below.enters;
+        less = elim (cases_lt below.enters.before n) [
+          | inl fits ↦ fits
+          | inr more ↦ (let same : below.enters.before ≡ n = omega arith in
+              absurd (true≢false (sym (subst (λ k. has marks k ≡ true) same below.enters.marked) ∙ bare)))
+        ];
+      }
 
--- the same marks at the ends that arcs leave, or come to
-pub enters-same : (arcs : List Arc) (n t l u : ℕ) (window : Window) (old now : List Bool) → AreRanged n t arcs → ((s : ℕ) → s ≤ t → is_marked now l s ≡ is_marked old l s)
-    → Enters arcs l u window old → Enters arcs l u window now
-enters-same arcs n t l u window old now ranged same enters =
-    let sum = (ranged (arc_of l enters.before enters.value) enters.listed).sum in
-    record {
-      before = enters.before;
-      value = enters.value;
-      listed = enters.listed;
-      comes = enters.comes;
-      within = enters.within;
-      marked = same enters.before (omega arith) ∙ enters.marked;
-    }
+  -- it is marked, and its row leads to the sums
+  pub enters-more : (has marks n ≡ true) → ((v : ℕ) → Leads row n v ↔ (Listed arcs l n v × IsWithin window v)) → ((t : ℕ) → t < 320 → has row t ≡ true → (n ≤ t) × (t ≤ 256))
+      → ((t : ℕ) → t < 320 → (has now t ≡ true) ↔ ((has old t ≡ true) ⊎ (has row t ≡ true))) → (t : ℕ) → t < 320 → (has old t ≡ true) ↔ EntersBelow arcs l t window marks n
+      → (has now t ≡ true) ↔ EntersBelow arcs l t window marks (n + 1)
+  enters-more marked leads ranged joined t small before = (
+    λ given. elim ((joined t small).0 given) [
+      | inl there ↦ enters-kept t (before.0 there)
+      | inr new ↦ (let low = (ranged t small new).0 in
+          let sum : n + (t - n) ≡ t = omega arith in
+          let arc = (leads (t - n)).0 (record { small = omega arith; there = subst (λ k. has row k ≡ true) (sym sum) new }) in
+          record { enters = record { before = n; value = t - n; listed = arc.0; comes = sum; within = arc.1; marked = marked }; less = omega arith })
+    ],
+    λ below. (joined t small).1 (
+      let less = below.less in
+      elim (cases_lt below.enters.before n) [
+        | inl fits ↦ inl (before.1 (record { enters = below.enters; less = fits }))
+        | inr more ↦ (let same : below.enters.before ≡ n = omega arith in
+            let led = (leads below.enters.value).1 (subst (λ k. Listed arcs l k below.enters.value) same below.enters.listed, below.enters.within) in
+            let sum : n + below.enters.value ≡ t = ap (λ k. k + below.enters.value) (sym same) ∙ below.enters.comes in
+            inr (subst (λ k. has row k ≡ true) sum led.there))
+      ]),
+  )
 
-pub exits-same : (arcs : List Arc) (n t l u : ℕ) (window : Window) (old now : List Bool) → AreRanged n t arcs
-    → ((s : ℕ) → s ≤ t → is_marked now (suc l) s ≡ is_marked old (suc l) s) → Exits arcs l u window old → Exits arcs l u window now
-exits-same arcs n t l u window old now ranged same exits =
-    let sum = (ranged (arc_of l u exits.value) exits.listed).sum in
-    record {
-      value = exits.value;
-      listed = exits.listed;
-      within = exits.within;
-      marked = same (u + exits.value) sum ∙ exits.marked;
-    }
+-- a row leads to a marked end exactly where an arc exits there
+pub exits-some : (arcs : List Arc) (l s : ℕ) (window : Window) (marks row both : Sums) → ((v : ℕ) → Leads row s v ↔ (Listed arcs l s v × IsWithin window v))
+    → ((t : ℕ) → t < 320 → has row t ≡ true → (s ≤ t) × (t ≤ 256)) → ((t : ℕ) → t < 320 → (has both t ≡ true) ↔ ((has row t ≡ true) × (has marks t ≡ true)))
+    → (t : ℕ) → t < 320 → has both t ≡ true → Exits arcs l s window marks
+exits-some arcs l s window marks row both leads ranged joined t small given =
+    let parts = (joined t small).0 given in
+    let low = (ranged t small parts.0).0 in
+    let sum : s + (t - s) ≡ t = omega arith in
+    let arc = (leads (t - s)).0 (record { small = omega arith; there = subst (λ k. has row k ≡ true) (sym sum) parts.0 }) in
+    record { value = t - s; listed = arc.0; within = arc.1; marked = subst (λ k. has marks k ≡ true) (sym sum) parts.1 }
 
--- a row of marks is written before queue `level`
-module _ (arcs : List Arc) (n t level sum : ℕ) (window : Window) (old now : List Bool) (e : ℕ) (b : Bool) (ranged : AreRanged n t arcs) (inside : level < n) (few : n ≤ 32)
-    (small : t ≤ 256) (long : length now ≡ 8481) (at : e ≡ level * 257 + sum) (within : sum ≤ t) (told : (b ≡ true) ↔ Exits arcs level sum window now)
-    (row : (s : ℕ) → s < sum → (is_marked now level s ≡ true) ↔ Exits arcs level s window old)
-    (rest : (m s : ℕ) → level < m → s ≤ t → is_marked now m s ≡ is_marked old m s) where
-  pub row-exits : (s : ℕ) → s < sum + 1 → (is_marked (slice_set now e b) level s ≡ true) ↔ Exits arcs level s window old
-  row-exits s less = elim (cases_eq sum s) [
-    | inl same ↦ subst (λ k. (is_marked (slice_set now e b) level k ≡ true) ↔ Exits arcs level k window old) same (
-      λ marked. exits-same arcs n t level sum window now old ranged (λ r bound. sym (rest (suc level) r (omega arith) bound)) (told.0 (sym (marked-own now level sum e b at (omega arith)) ∙ marked)),
-      λ exits. marked-own now level sum e b at (omega arith) ∙ told.1 (exits-same arcs n t level sum window old now ranged (λ r bound. rest (suc level) r (omega arith) bound) exits),
-    )
-    | inr other ↦ (let same = marked-other now level s e b (λ hit. omega arith) in
-        let before = row s (omega arith) in
-        (λ marked. before.0 (sym same ∙ marked), λ exits. same ∙ before.1 exits))
-  ]
+pub exits-none : (arcs : List Arc) (l s : ℕ) (window : Window) (marks row both : Sums) → ((v : ℕ) → Leads row s v ↔ (Listed arcs l s v × IsWithin window v))
+    → ((t : ℕ) → t < 320 → (has both t ≡ true) ↔ ((has row t ≡ true) × (has marks t ≡ true))) → ((t : ℕ) → t < 320 → has both t ≡ false) → Exits arcs l s window marks → ⊥
+exits-none arcs l s window marks row both leads joined bare exits =
+    let led = (leads exits.value).1 (exits.listed, exits.within) in
+    true≢false (sym ((joined (s + exits.value) led.small).1 (led.there, exits.marked)) ∙ bare (s + exits.value) led.small)
 
-  pub rest-exits : (m s : ℕ) → level < m → s ≤ t → is_marked (slice_set now e b) m s ≡ is_marked old m s
-  rest-exits m s more bound = marked-other now m s e b (λ hit. omega arith) ∙ rest m s more bound
+-- a walk whose arcs are of another set
+walk-only : (A B : ℕ → ℕ → ℕ → Type 0) (i s : ℕ) (xs : List ℕ) (t : ℕ) → ((l r v : ℕ) → i ≤ l → l < i + length xs → A l r v → B l r v) → Walk A i s xs t → Walk B i s xs t
+walk-only A B i s [] t each walk = walk
+walk-only A B i s (v ∷ vs) t each walk =
+    (each i s v (omega arith) (omega arith) walk.0, walk-only A B (suc i) (s + v) vs t (λ l r u low high. each l r u (omega arith) (omega arith)) walk.1)
 
-module _ (arcs : List Arc) (rule : Rule) (n t : ℕ) (ranged : AreRanged n t arcs) where
-  -- the first queue's end
-  pub before-begun : (marks : List Bool) → ((s : ℕ) → s ≤ t → (is_marked marks 0 s ≡ true) ↔ (s ≡ 0)) → MarkBefore (Only (Listed arcs) (Allows rule)) 0 t marks
-  before-begun marks one l s below small =
-      let e : 0 ≡ l = omega arith in
-      let start = before-zero (Only (Listed arcs) (Allows rule)) s in
-      subst (λ k. (is_marked marks k s ≡ true) ↔ Before (Only (Listed arcs) (Allows rule)) k s) e (
-        λ marked. start.0 ((one s small).0 marked),
-        λ before. (one s small).1 (start.1 before),
-      )
+module _ (arcs : List Arc) (rule : Rule) (n t : ℕ) (ranged : AreRanged n t arcs) (fits : t ≤ 256) where
+  -- the marks of the first queue are given
+  pub behind-begun : (low : ℕ) (marks : List Sums) (first : Sums) → low < length marks → ((s v : ℕ) → Listed arcs low s v → (has first s ≡ true) ↔ Before (Only (Listed arcs) (Allows rule)) low s)
+      → MarkBefore (Listed arcs) (Only (Listed arcs) (Allows rule)) low low (slice_set marks low first)
+  behind-begun low marks first within begin = record {
+    each = λ l s v above below listed. (
+      let e : low ≡ l = omega arith in
+      subst (λ k. (is_marked (slice_set marks low first) k s ≡ true) ↔ Before (Only (Listed arcs) (Allows rule)) k s) e
+      (subst (λ (x : Sums). (has x s ≡ true) ↔ Before (Only (Listed arcs) (Allows rule)) low s) (sym (read-own marks low first within))
+      (begin s v (subst (λ k. Listed arcs k s v) (sym e) listed))));
+  }
 
   -- one queue more from the front
-  pub before-next : (level next : ℕ) (window : Window) (old now : List Bool) → next ≡ suc level → window ≡ window_at rule level → MarkBefore (Only (Listed arcs) (Allows rule)) level t old
-      → ((s : ℕ) → s ≤ t → (is_marked now (suc level) s ≡ true) ↔ Enters arcs level s window old)
-      → ((l s : ℕ) → l ≤ level → s ≤ t → is_marked now l s ≡ is_marked old l s)
-      → MarkBefore (Only (Listed arcs) (Allows rule)) next t now
-  before-next level next window old now at is marks row rest l s below small = elim (cases_lt l (suc level)) [
-    | inl less ↦ (let same = rest l s (omega arith) small in
-        let told = marks l s (omega arith) small in
-        (λ marked. told.0 (sym same ∙ marked), λ before. same ∙ told.1 before))
-    | inr past ↦ (let e : suc level ≡ l = omega arith in
-        subst (λ k. (is_marked now k s ≡ true) ↔ Before (Only (Listed arcs) (Allows rule)) k s) e (
-          λ marked. (let enters = (row s small).0 marked in
-              let sum = (ranged (arc_of level enters.before enters.value) enters.listed).sum in
-              subst (λ k. Before (Only (Listed arcs) (Allows rule)) (suc level) k) enters.comes
-              (before-more (Only (Listed arcs) (Allows rule)) level enters.before enters.value ((marks level enters.before (omega arith) (omega arith)).0 enters.marked)
-              (enters.listed, subst (λ (w : Window). IsWithin w enters.value) is enters.within))),
-          λ before. (let split = before-split (Only (Listed arcs) (Allows rule)) level s before in
-              let comes = split.4 in
-              (row s small).1 (record {
-                before = split.0;
-                value = split.1;
-                listed = split.3.0;
-                comes = split.4;
-                within = subst (λ (w : Window). IsWithin w split.1) (sym is) split.3.1;
-                marked = (marks level split.0 (omega arith) (omega arith)).1 split.2;
-              })),
-        ))
-  ]
+  pub behind-next : (low level : ℕ) (window : Window) (marks : List Sums) (own next : Sums) → low ≤ level → suc level < length marks → own ≡ sums_at marks level → window ≡ window_at rule level
+      → ((s : ℕ) → s < 320 → (has next s ≡ true) ↔ Enters arcs level s window own) → MarkBefore (Listed arcs) (Only (Listed arcs) (Allows rule)) low level marks
+      → MarkBefore (Listed arcs) (Only (Listed arcs) (Allows rule)) low (level + 1) (slice_set marks (level + 1) next)
+  behind-next low level window marks own next order within read is row marked = record {
+    each = λ l s v above below listed. elim (cases_lt level l) [
+      | inr less ↦ subst (λ (x : Sums). (has x s ≡ true) ↔ Before (Only (Listed arcs) (Allows rule)) l s) (sym (read-other marks (level + 1) l next (λ hit. omega arith)))
+          (marked.each l s v above less listed)
+      | inl more ↦ (let e : suc level ≡ l = omega arith in
+          let f : level + 1 ≡ l = omega arith in
+          let sum = (ranged (arc_of l s v) listed).sum in
+          let told = row s (omega arith) in
+          subst (λ k. (is_marked (slice_set marks (level + 1) next) l s ≡ true) ↔ Before (Only (Listed arcs) (Allows rule)) k s) e
+          (subst (λ (x : Sums). (has x s ≡ true) ↔ Before (Only (Listed arcs) (Allows rule)) (suc level) s) (sym (ap (λ k. sums_at (slice_set marks (level + 1) next) k) (sym f) ∙ read-own marks (level + 1) next (omega arith))) (
+            λ given. (let enters = told.0 given in
+                let behind = (marked.each level enters.before enters.value order (omega arith) enters.listed).0 (subst (λ (x : Sums). has x enters.before ≡ true) read enters.marked) in
+                subst (λ k. Before (Only (Listed arcs) (Allows rule)) (suc level) k) enters.comes
+                (before-more (Only (Listed arcs) (Allows rule)) level enters.before enters.value behind (enters.listed, subst (λ (w : Window). IsWithin w enters.value) is enters.within))),
+            λ before. (let split = before-split (Only (Listed arcs) (Allows rule)) level s before in
+                told.1 (record {
+                  before = split.0;
+                  value = split.1;
+                  listed = split.3.0;
+                  comes = split.4;
+                  within = subst (λ (w : Window). IsWithin w split.1) (sym is) split.3.1;
+                  marked = subst (λ (x : Sums). has x split.0 ≡ true) (sym read) ((marked.each level split.0 split.1 order (omega arith) split.3.0).1 split.2);
+                })),
+          )))
+    ];
+  }
 
-  -- the end past the last queue
-  pub after-begun : (marks : List Bool) → ((s : ℕ) → s ≤ t → (is_marked marks n s ≡ true) ↔ (s ≡ t)) → MarkAfter (Only (Listed arcs) (Allows rule)) n t n marks
-  after-begun marks one l s above below small =
-      let e : n ≡ l = omega arith in
-      let start = after-end (Only (Listed arcs) (Allows rule)) n t s in
-      subst (λ k. (is_marked marks k s ≡ true) ↔ After (Only (Listed arcs) (Allows rule)) n t k s) e (
-        λ marked. start.0 ((one s small).0 marked),
-        λ after. (one s small).1 (start.1 after),
-      )
+  -- the marks past the last queue are given
+  pub ahead-begun : (high : ℕ) (marks : List Sums) (last : Sums) → high + 1 < length marks
+      → ((s v : ℕ) → Listed arcs high s v → (has last (s + v) ≡ true) ↔ After (Only (Listed arcs) (Allows rule)) n t (suc high) (s + v))
+      → MarkAfter (Listed arcs) (Only (Listed arcs) (Allows rule)) n t high high (slice_set marks (high + 1) last)
+  ahead-begun high marks last within begin = record {
+    each = λ l s v above below listed. (
+      let e : high ≡ l = omega arith in
+      let f : high + 1 ≡ suc high = omega arith in
+      subst (λ k. (is_marked (slice_set marks (high + 1) last) (suc k) (s + v) ≡ true) ↔ After (Only (Listed arcs) (Allows rule)) n t (suc k) (s + v)) e
+      (subst (λ (x : Sums). (has x (s + v) ≡ true) ↔ After (Only (Listed arcs) (Allows rule)) n t (suc high) (s + v))
+      (sym (ap (λ k. sums_at (slice_set marks (high + 1) last) k) (sym f) ∙ read-own marks (high + 1) last within))
+      (begin s v (subst (λ k. Listed arcs k s v) (sym e) listed))));
+  }
 
   -- one queue more from the back
-  pub after-previous : (level last : ℕ) (window : Window) (old now : List Bool) → last ≡ suc level → level < n → window ≡ window_at rule level
-      → MarkAfter (Only (Listed arcs) (Allows rule)) n t last old
-      → ((s : ℕ) → s ≤ t → (is_marked now level s ≡ true) ↔ Exits arcs level s window old)
-      → ((l s : ℕ) → level < l → s ≤ t → is_marked now l s ≡ is_marked old l s)
-      → MarkAfter (Only (Listed arcs) (Allows rule)) n t level now
-  after-previous level last window old now at inside is marks row rest l s above below small = elim (cases_lt level l) [
-    | inl more ↦ (let same = rest l s more small in
-        let told = marks l s (omega arith) below small in
-        (λ marked. told.0 (sym same ∙ marked), λ after. same ∙ told.1 after))
-    | inr past ↦ (let e : level ≡ l = omega arith in
-        subst (λ k. (is_marked now k s ≡ true) ↔ After (Only (Listed arcs) (Allows rule)) n t k s) e (
-          λ marked. (let exits = (row s small).0 marked in
-              let sum = (ranged (arc_of level s exits.value) exits.listed).sum in
-              after-more (Only (Listed arcs) (Allows rule)) n t level s exits.value
-              (exits.listed, subst (λ (w : Window). IsWithin w exits.value) is exits.within)
-              ((marks (suc level) (s + exits.value) (omega arith) (omega arith) sum).0 exits.marked)),
-          λ after. (let split = after-split (Only (Listed arcs) (Allows rule)) n t level s inside after in
-              let sum = (ranged (arc_of level s split.0) split.1.0).sum in
-              (row s small).1 (record {
-                value = split.0;
-                listed = split.1.0;
-                within = subst (λ (w : Window). IsWithin w split.0) (sym is) split.1.1;
-                marked = (marks (suc level) (s + split.0) (omega arith) (omega arith) sum).1 split.2;
-              })),
-        ))
-  ]
+  pub ahead-previous : (high level : ℕ) (window : Window) (marks : List Sums) (own left : Sums) → 0 < level → level ≤ high → level < n → level < length marks → own ≡ sums_at marks (level + 1)
+      → window ≡ window_at rule level → ((s : ℕ) → s < 320 → (has left s ≡ true) ↔ Exits arcs level s window own)
+      → MarkAfter (Listed arcs) (Only (Listed arcs) (Allows rule)) n t level high marks
+      → MarkAfter (Listed arcs) (Only (Listed arcs) (Allows rule)) n t (level - 1) high (slice_set marks level left)
+  ahead-previous high level window marks own left some order inside within read is row marked = record {
+    each = λ l s v above below listed. elim (cases_lt l level) [
+      | inr more ↦ subst (λ (x : Sums). (has x (s + v) ≡ true) ↔ After (Only (Listed arcs) (Allows rule)) n t (suc l) (s + v)) (sym (read-other marks level (suc l) left (λ hit. omega arith)))
+          (marked.each l s v more below listed)
+      | inl less ↦ (let e : level ≡ suc l = omega arith in
+          let f : level + 1 ≡ suc level = omega arith in
+          let sum = (ranged (arc_of l s v) listed).sum in
+          let told = row (s + v) (omega arith) in
+          subst (λ k. (is_marked (slice_set marks level left) k (s + v) ≡ true) ↔ After (Only (Listed arcs) (Allows rule)) n t k (s + v)) e
+          (subst (λ (x : Sums). (has x (s + v) ≡ true) ↔ After (Only (Listed arcs) (Allows rule)) n t level (s + v)) (sym (read-own marks level left within)) (
+            λ given. (let exits = told.0 given in
+                let ahead = (marked.each level (s + v) exits.value (omega arith) order exits.listed).0
+                (subst (λ k. is_marked marks k (s + v + exits.value) ≡ true) f (subst (λ (x : Sums). has x (s + v + exits.value) ≡ true) read exits.marked)) in
+                after-more (Only (Listed arcs) (Allows rule)) n t level (s + v) exits.value (exits.listed, subst (λ (w : Window). IsWithin w exits.value) is exits.within) ahead),
+            λ after. (let split = after-split (Only (Listed arcs) (Allows rule)) n t level (s + v) inside after in
+                told.1 (record {
+                  value = split.0;
+                  listed = split.1.0;
+                  within = subst (λ (w : Window). IsWithin w split.0) (sym is) split.1.1;
+                  marked = subst (λ (x : Sums). has x (s + v + split.0) ≡ true) (sym read)
+                      (subst (λ k. is_marked marks k (s + v + split.0) ≡ true) (sym f) ((marked.each level (s + v) split.0 (omega arith) order split.1.0).1 split.2));
+                })),
+          )))
+    ];
+  }
+
+  -- all ends are marked where each arc is useful, and the rule allows all before the first queue, or after the last
+  module _ (whole : (l s v : ℕ) → Listed arcs l s v → Useful (Listed arcs) n t l s v) (all : Sums) (full : (s : ℕ) → s < 320 → has all s ≡ true) where
+    pub whole-before : (low : ℕ) → ((l v : ℕ) → l < low → v < 2 ^ 16 → Allows rule l v) → (s v : ℕ) → Listed arcs low s v
+        → (has all s ≡ true) ↔ Before (Only (Listed arcs) (Allows rule)) low s
+    whole-before low free s v listed =
+        let behind = (whole low s v listed).before in
+        let sum = (ranged (arc_of low s v) listed).sum in
+        let long = behind.1 in (
+          λ given. (behind.0, behind.1, walk-only (Listed arcs) (Only (Listed arcs) (Allows rule)) 0 0 behind.0 s
+              (λ l r u above below there. (let own = (ranged (arc_of l r u) there).sum in (there, free l u (omega arith) (omega arith)))) behind.2),
+          λ before. full s (omega arith),
+        )
+
+    pub whole-after : (high : ℕ) → ((l v : ℕ) → high < l → v < 2 ^ 16 → Allows rule l v) → (s v : ℕ) → Listed arcs high s v
+        → (has all (s + v) ≡ true) ↔ After (Only (Listed arcs) (Allows rule)) n t (suc high) (s + v)
+    whole-after high free s v listed =
+        let ahead = (whole high s v listed).after in
+        let sum = (ranged (arc_of high s v) listed).sum in (
+          λ given. (ahead.0, ahead.1, walk-only (Listed arcs) (Only (Listed arcs) (Allows rule)) (suc high) (s + v) ahead.0 t
+              (λ l r u above below there. (let own = (ranged (arc_of l r u) there).sum in (there, free l u (omega arith) (omega arith)))) ahead.2),
+          λ after. full (s + v) (omega arith),
+        )
 
   -- so they tell which arcs are useful among those that P allows, where the rule says P
-  module _ (marks : Marks) (P : ℕ → ℕ → Type 0) (few : t ≤ 256) (marked : AreMarked (Listed arcs) n t marks) (is : marks.rule ≡ rule)
+  module _ (low high : ℕ) (marks : Marks) (P : ℕ → ℕ → Type 0) (marked : AreMarked (Listed arcs) n t low high marks) (is : marks.rule ≡ rule)
       (says : (l v : ℕ) → v < 2 ^ 16 → Allows rule l v ↔ P l v) where
     only-there : (l s v : ℕ) → Only (Listed arcs) (Allows marks.rule) l s v → Only (Listed arcs) P l s v
     only-there l s v both =
@@ -155,13 +204,10 @@ module _ (arcs : List Arc) (rule : Rule) (n t : ℕ) (ranged : AreRanged n t arc
         let sum = (ranged (arc_of l s v) both.0).sum in
         (both.0, subst (λ (r : Rule). Allows r l v) (sym is) ((says l v (omega arith)).1 both.1))
 
-    tells-each : (l s v : ℕ) → Listed arcs l s v → IsReached marks l s v ↔ Useful (Only (Listed arcs) P) n t l s v
-    tells-each l s v listed =
-        let own = ranged (arc_of l s v) listed in
-        let place = own.place in
-        let sum = own.sum in
-        let behind = marked.behind l s (omega arith) (omega arith) in
-        let ahead = marked.ahead (suc l) (s + v) (omega arith) (omega arith) sum in (
+    tells-each : (l s v : ℕ) → low ≤ l → l ≤ high → Listed arcs l s v → IsReached marks l s v ↔ Useful (Only (Listed arcs) P) n t l s v
+    tells-each l s v above below listed =
+        let behind = marked.behind.each l s v above below listed in
+        let ahead = marked.ahead.each l s v above below listed in (
           λ reached. useful-map (Only (Listed arcs) (Allows marks.rule)) (Only (Listed arcs) P) only-there n t l s v (record {
             before = behind.0 reached.behind;
             arc = (listed, reached.allowed);
@@ -174,7 +220,7 @@ module _ (arcs : List Arc) (rule : Rule) (n t : ℕ) (ranged : AreRanged n t arc
           }),
         )
 
-    pub tells-useful : TellsUseful (Listed arcs) n t P marks
+    pub tells-useful : TellsUseful (Listed arcs) n t low high P marks
     tells-useful = record { each = tells-each }
 
 -- the numbers of `past` and `here`
@@ -245,3 +291,72 @@ useful-shiftable A n t from k to room l s v source some useful =
             record { behind = omega arith; source = omega arith; room = omega arith })
       ])
     ]
+
+-- a queue is before the next one exactly where it is before it, or there
+pub past-next : (i l : ℕ) → past i (l + 1) ≡ past i l + here i l
+past-next i l = elim (cases_lt i l) [
+  | inl less ↦ omega (arith, past-yes i l less, past-yes i (l + 1) (omega arith), here-no i l (λ e. omega arith))
+  | inr more ↦ elim (cases_eq i l) [
+    | inl e ↦ omega (arith, past-no i l more, past-yes i (l + 1) (omega arith), here-yes i l e)
+    | inr other ↦ omega (arith, past-no i l more, past-no i (l + 1) (omega arith), here-no i l other)
+  ]
+]
+
+-- the rows of shifted arcs
+module _ (A : ℕ → ℕ → ℕ → Type 0) (marks : Marks) (from to total l s sum : ℕ) (kept turned : Sums) (source : s + past from l ≡ sum + past to l)
+    (keeps : (v : ℕ) → Leads kept sum v ↔ Keeps A marks l sum v) (ranged : (t : ℕ) → t < 320 → has kept t ≡ true → (sum ≤ t) × (t ≤ total))
+    (moved : (t u : ℕ) → t < 320 → u < 320 → t + past from (l + 1) ≡ u + past to (l + 1) → has turned t ≡ has kept u)
+    (low : (t : ℕ) → t + past from (l + 1) < past to (l + 1) → has turned t ≡ false) (high : (t : ℕ) → t < 320 → 320 + past to (l + 1) ≤ t + past from (l + 1) → has turned t ≡ false)
+    (shiftable : (r v : ℕ) → A l r v → IsReached marks l r v → IsShiftable from to total l r v) (fits : total ≤ 256) where
+  -- a number of the set comes from one of the other
+  shifts-from : (t : ℕ) → t < 320 → has turned t ≡ true → (u : ℕ) × (u < 320) × (t + past from (l + 1) ≡ u + past to (l + 1)) × (has kept u ≡ true)
+  shifts-from t small given =
+      elim (cases_lt (t + past from (l + 1)) (past to (l + 1))) [
+        | inl less ↦ absurd (true≢false (sym given ∙ low t less))
+        | inr more ↦ elim (cases_lt (t + past from (l + 1)) (320 + past to (l + 1))) [
+          | inr past_all ↦ absurd (true≢false (sym given ∙ high t small past_all))
+          | inl inside ↦ (let e : t + past from (l + 1) ≡ (t + past from (l + 1) - past to (l + 1)) + past to (l + 1) = omega arith in
+              let less : t + past from (l + 1) - past to (l + 1) < 320 = omega arith in
+              (t + past from (l + 1) - past to (l + 1), less, e, sym (moved t (t + past from (l + 1) - past to (l + 1)) small less e) ∙ given))
+        ]
+      ]
+
+  shifts-own : (t : ℕ) → t < 320 → has turned t ≡ true → (own : ℕ) × Keeps A marks l sum own × (t + (past from l + here from l) ≡ (sum + own) + (past to l + here to l))
+  shifts-own t small given =
+      let found = shifts-from t small given in
+      let u = found.0 in
+      let less = found.1 in
+      let e = found.2 in
+      let front = past-next from l in
+      let back = past-next to l in
+      let range = (ranged u found.1 found.3).0 in
+      let whole : sum + (u - sum) ≡ u = omega arith in
+      let keep = (keeps (u - sum)).0 (record { small = omega arith; there = subst (λ k. has kept k ≡ true) (sym whole) found.3 }) in
+      (u - sum, keep, omega arith)
+
+  pub shifts-lead : (v : ℕ) → Leads turned s v ↔ Shifts A marks from to l s v
+  shifts-lead v = (
+    λ leads. (let found = shifts-own (s + v) leads.small leads.there in
+        let e = found.2 in
+        record { sum = sum; own = found.0; keeps = found.1; shifted = record { sums = source; owns = omega arith } }),
+    λ shifts. (let sums = shifts.shifted.sums in
+        let owns = shifts.shifted.owns in
+        let same : shifts.sum ≡ sum = omega arith in
+        let keep : Keeps A marks l sum shifts.own = subst (λ k. Keeps A marks l k shifts.own) same shifts.keeps in
+        let led = (keeps shifts.own).1 keep in
+        let room = (shiftable sum shifts.own keep.there keep.reached).room in
+        let front = past-next from l in
+        let back = past-next to l in
+        let small = led.small in
+        let less : s + v < 320 = omega arith in
+        record { small = less; there = moved (s + v) (sum + shifts.own) less led.small (omega arith) ∙ led.there }),
+  )
+
+  pub shifts-ranged : (t : ℕ) → t < 320 → has turned t ≡ true → (s ≤ t) × (t ≤ total)
+  shifts-ranged t small given =
+      let found = shifts-own t small given in
+      let e = found.2 in
+      let can = shiftable sum found.0 found.1.there found.1.reached in
+      let room = can.room in
+      let own = can.source in
+      (omega arith, omega arith)

@@ -1,7 +1,7 @@
 -- What a set of arcs is seen as.
 use Rattle.std.specs.Prelude.{◌≡◌, ℕ, ◌+◌, ◌<◌, ◌≤◌, ◌≢◌, ◌↔◌, Bool, IsTrue, List, length, slice_index}
 use Rattle.psi_state.specs.Members.{In}
-use Rattle.psi_arcs.specs.declared.nodes.Arc.{Arc}
+use Rattle.psi_arcs.specs.declared.ends.Arc.{Arc}
 
 -- a set of arcs over so many queues, of states with so many customers, as the list of the arcs
 pub record ArcList : Type 0 where
@@ -33,19 +33,6 @@ pub record IsAny (caps : List ℕ) (k l s v : ℕ) : Type 0 where
   pub place : l < length caps
   pub own : v ≤ slice_index caps l
   pub sum : s + v ≤ k
-
--- the arcs of one queue, with so many customers there at most and so many in all
-pub record LeavesQueue (level most total l s v : ℕ) : Type 0 where
-  pub place : level ≡ l
-  pub own : v ≤ most
-  pub sum : s + v ≤ total
-
--- those of them with so many customers before the queue
-pub record LeavesEnd (level before most total l s v : ℕ) : Type 0 where
-  pub place : level ≡ l
-  pub start : before ≡ s
-  pub own : v ≤ most
-  pub sum : s + v ≤ total
 
 -- v is the value of an arc of the list that leaves queue l with s customers before it, and `other` tells whether one of another value does so
 pub record IsFirst (arcs : List Arc) (l s v : ℕ) (other : Bool) : Type 0 where

@@ -1,7 +1,8 @@
 -- The definitions of this crate.
 pub mod Walks
 pub mod Joining
+pub mod Sums
 pub mod Held
-pub mod Nodes
+pub mod Rows
 pub mod Windows
 pub mod Marking

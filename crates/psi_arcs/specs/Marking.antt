@@ -1,17 +1,15 @@
 -- What marks tell of arcs, and what a step makes of an arc by them.
-use Rattle.std.specs.Prelude.{◌≡◌, ℕ, suc, ◌+◌, ◌↔◌, ◌⊎◌, true}
-use Rattle.psi_arcs.specs.declared.nodes.Arc.{Arc}
+use Rattle.std.specs.Prelude.{◌≡◌, ℕ, suc, ◌+◌, ◌≤◌, ◌↔◌, ◌⊎◌, true}
 use Rattle.psi_arcs.specs.declared.marks.Marks.{Marks}
-use Rattle.psi_arcs.specs.declared.reach.Reach.{Reach}
+use Rattle.psi_arcs.specs.declared.marks.Reach.{Reach}
 use Rattle.psi_arcs.specs.Walks.{Useful}
-use Rattle.psi_arcs.specs.Held.{IsThis}
 use Rattle.psi_arcs.specs.Joining.{Only, IsShifted}
 use Rattle.psi_arcs.specs.Windows.{Allows, is_marked, MarkBefore, MarkAfter}
 
--- the marks are those of the arcs that their rule allows
-pub record AreMarked (A : ℕ → ℕ → ℕ → Type 0) (n t : ℕ) (marks : Marks) : Type 0 where
-  pub behind : MarkBefore (Only A (Allows marks.rule)) n t marks.before.items
-  pub ahead : MarkAfter (Only A (Allows marks.rule)) n t 0 marks.after.items
+-- the marks are those of the arcs that their rule allows, from queue `low` to queue `high`
+pub record AreMarked (A : ℕ → ℕ → ℕ → Type 0) (n t low high : ℕ) (marks : Marks) : Type 0 where
+  pub behind : MarkBefore A (Only A (Allows marks.rule)) low high marks.before.items
+  pub ahead : MarkAfter A (Only A (Allows marks.rule)) n t low high marks.after.items
 
 -- the rule allows the arc, and both its ends are marked
 pub record IsReached (marks : Marks) (l s v : ℕ) : Type 0 where
@@ -19,21 +17,22 @@ pub record IsReached (marks : Marks) (l s v : ℕ) : Type 0 where
   pub behind : is_marked marks.before.items l s ≡ true
   pub ahead : is_marked marks.after.items (suc l) (s + v) ≡ true
 
--- the marks tell which arcs of the set are useful among those that P allows
-pub record TellsUseful (A : ℕ → ℕ → ℕ → Type 0) (n t : ℕ) (P : ℕ → ℕ → Type 0) (marks : Marks) : Type 0 where
-  pub each : (l s v : ℕ) → A l s v → IsReached marks l s v ↔ Useful (Only A P) n t l s v
+-- the arc is of the set, and reached
+pub record Keeps (A : ℕ → ℕ → ℕ → Type 0) (marks : Marks) (l s v : ℕ) : Type 0 where
+  pub there : A l s v
+  pub reached : IsReached marks l s v
 
--- the arc is useful, and shifted it is this one
-pub record Shifts (marks : Marks) (from to : ℕ) (arc : Arc) (l s v : ℕ) : Type 0 where
-  pub reached : IsReached marks arc.level arc.before arc.value
-  pub level : arc.level ≡ l
-  pub shifted : IsShifted from to arc.level arc.before arc.value s v
+-- the marks tell which arcs of the set are useful among those that P allows, from queue `low` to queue `high`
+pub record TellsUseful (A : ℕ → ℕ → ℕ → Type 0) (n t low high : ℕ) (P : ℕ → ℕ → Type 0) (marks : Marks) : Type 0 where
+  pub each : (l s v : ℕ) → low ≤ l → l ≤ high → A l s v → IsReached marks l s v ↔ Useful (Only A P) n t l s v
 
--- the arc is useful, and it is this one
-pub record Keeps (marks : Marks) (arc : Arc) (l s v : ℕ) : Type 0 where
-  pub reached : IsReached marks arc.level arc.before arc.value
-  pub this : IsThis arc l s v
+-- an arc that is kept becomes this one
+pub record Shifts (A : ℕ → ℕ → ℕ → Type 0) (marks : Marks) (from to l s v : ℕ) : Type 0 where
+  pub sum : ℕ
+  pub own : ℕ
+  pub keeps : Keeps A marks l sum own
+  pub shifted : IsShifted from to l sum own s v
 
--- what a move makes of the arc is this one, or it is the arc, which stays
-abbrev pub Gives : Reach → ℕ → ℕ → Arc → ℕ → ℕ → ℕ → Type 0
-Gives reach from to arc l s v = Shifts reach.changing from to arc l s v ⊎ (Keeps reach.short arc l s v ⊎ Keeps reach.full arc l s v)
+-- what a move makes of an arc is this one, or this one stays
+abbrev pub Gives : (ℕ → ℕ → ℕ → Type 0) → Reach → ℕ → ℕ → ℕ → ℕ → ℕ → Type 0
+Gives A reach from to l s v = Shifts A reach.changing from to l s v ⊎ (Keeps A reach.short l s v ⊎ Keeps A reach.full l s v)

@@ -1,10 +1,13 @@
 -- Rules on the customers of a queue, and which ends of arcs are reached over arcs that a rule allows.
-use Rattle.std.specs.Prelude.{◌≡◌, ℕ, ◌+◌, ◌*◌, ◌<◌, ◌≤◌, ◌↔◌, Bool, true, false, List, get_or, suc, nat_eq, if◌then◌else◌}
-use Rattle.psi_arcs.specs.declared.nodes.Arc.{Arc}
+use Rattle.std.specs.Prelude.{◌≡◌, ℕ, ◌+◌, ◌<◌, ◌≤◌, ◌↔◌, Bool, true, List, suc, nat_eq, if◌then◌else◌}
+use Rattle.psi_arcs.specs.declared.ends.Arc.{Arc}
+use Rattle.psi_arcs.specs.declared.sums.Sums.{Sums}
 use Rattle.psi_arcs.specs.declared.windows.Window.{Window}
 use Rattle.psi_arcs.specs.declared.windows.Rule.{Rule}
 use Rattle.psi_arcs.specs.Walks.{Before, After}
 use Rattle.psi_arcs.specs.Held.{Listed}
+use Rattle.psi_arcs.specs.Sums.{has}
+use Rattle.psi_arcs.specs.Rows.{sums_at}
 
 -- the number of customers is in the window
 pub record IsWithin (window : Window) (v : ℕ) : Type 0 where
@@ -19,30 +22,35 @@ window_at rule l = if nat_eq l rule.from then rule.source else (if nat_eq l rule
 abbrev pub Allows : Rule → ℕ → ℕ → Type 0
 Allows rule l v = IsWithin (window_at rule l) v
 
--- whether an end is marked: queue l with s customers before it, 257 ends for each queue
-abbrev pub is_marked : List Bool → ℕ → ℕ → Bool
-is_marked marks l s = get_or marks (l * 257 + s) false
+-- whether an end is marked: queue l with s customers before it
+abbrev pub is_marked : List Sums → ℕ → ℕ → Bool
+is_marked marks l s = has (sums_at marks l) s
 
--- an arc of the queue within the window comes, from an end that is marked, to t customers
-pub record Enters (arcs : List Arc) (l t : ℕ) (window : Window) (marks : List Bool) : Type 0 where
+-- an arc of the queue within the window comes, from a marked end, to t customers
+pub record Enters (arcs : List Arc) (l t : ℕ) (window : Window) (marks : Sums) : Type 0 where
   pub before : ℕ
   pub value : ℕ
   pub listed : Listed arcs l before value
   pub comes : before + value ≡ t
   pub within : IsWithin window value
-  pub marked : is_marked marks l before ≡ true
+  pub marked : has marks before ≡ true
 
--- an arc within the window leaves the queue, with s customers before it, to an end that is marked
-pub record Exits (arcs : List Arc) (l s : ℕ) (window : Window) (marks : List Bool) : Type 0 where
+-- one with fewer than n customers before the queue does
+pub record EntersBelow (arcs : List Arc) (l t : ℕ) (window : Window) (marks : Sums) (n : ℕ) : Type 0 where
+  pub enters : Enters arcs l t window marks
+  pub less : enters.before < n
+
+-- an arc within the window leaves the queue, with s customers before it, to a marked end
+pub record Exits (arcs : List Arc) (l s : ℕ) (window : Window) (marks : Sums) : Type 0 where
   pub value : ℕ
   pub listed : Listed arcs l s value
   pub within : IsWithin window value
-  pub marked : is_marked marks (suc l) (s + value) ≡ true
+  pub marked : has marks (s + value) ≡ true
 
--- the marks tell which ends up to queue n are reached from the first queue
-abbrev pub MarkBefore : (ℕ → ℕ → ℕ → Type 0) → ℕ → ℕ → List Bool → Type 0
-MarkBefore A n t marks = (l s : ℕ) → l ≤ n → s ≤ t → (is_marked marks l s ≡ true) ↔ Before A l s
+-- of the ends that arcs of B leave, from queue `low` to queue `high`, the marks tell which are reached from the first queue over arcs of A
+pub record MarkBefore (B A : ℕ → ℕ → ℕ → Type 0) (low high : ℕ) (marks : List Sums) : Type 0 where
+  pub each : (l s v : ℕ) → low ≤ l → l ≤ high → B l s v → (is_marked marks l s ≡ true) ↔ Before A l s
 
--- the marks tell from which ends, from queue `from` on, the end past the last of n queues with t customers is reached
-abbrev pub MarkAfter : (ℕ → ℕ → ℕ → Type 0) → ℕ → ℕ → ℕ → List Bool → Type 0
-MarkAfter A n t from marks = (l s : ℕ) → from ≤ l → l ≤ n → s ≤ t → (is_marked marks l s ≡ true) ↔ After A n t l s
+-- of the ends to which they come, the marks tell from which the end past the last of n queues with t customers is reached
+pub record MarkAfter (B A : ℕ → ℕ → ℕ → Type 0) (n t low high : ℕ) (marks : List Sums) : Type 0 where
+  pub each : (l s v : ℕ) → low ≤ l → l ≤ high → B l s v → (is_marked marks (suc l) (s + v) ≡ true) ↔ After A n t (suc l) (s + v)

@@ -1,13 +1,14 @@
 //! A set of arcs.
 
-ghost use Rattle.std.specs.Prelude.{◌≡◌, ◌+◌, ◌++◌, ◌∷◌, ◌<◌, ◌≤◌, ◌↔◌, ◌⊎◌, ℕ, [], IsTrue, IfOk, MatchOption, length, take};
+ghost use Rattle.std.specs.Prelude.{◌≡◌, ◌+◌, ◌*◌, ◌<◌, ◌≤◌, ◌↔◌, ◌⊎◌, ℕ, [], true, IsTrue, IfOk, MatchOption, length};
 ghost use Rattle.psi_state.specs.Members.{In};
 ghost use Rattle.psi_state.specs.Ascending.{IsDistinct};
+ghost use Rattle.psi_arcs.specs.Sums.{has, Leads};
 ghost use Rattle.psi_arcs.specs.Held.{Listed, AreRanged, IsThis, IsFirst};
-ghost use Rattle.psi_arcs.specs.Windows.{Enters, Exits};
+ghost use Rattle.psi_arcs.specs.Rows.{keeps, arc_number, arcs_below, AreEmpty};
 
-use crate::nodes::{Arc, Node, empty, end_of, free_first, free_heads, free_nodes};
-use crate::windows::Window;
+use crate::ends::{Arc, end_of};
+use crate::sums::Sums;
 use std::alloc::{AllocError, Global};
 use std::marker::Model;
 
@@ -24,18 +25,11 @@ impl From<AllocError> for OutOfMemory {
 /// A set of arcs over 1 to 32 queues, of states with 0 to 256 customers in all: seen as the number of queues, the
 /// number of customers, and the list of the arcs, none of them twice.
 ///
-/// All its memory is taken by `reserve`: one vector of nodes, with room for each arc of a queue and at most 256
-/// customers, and the heads of the chains of the arcs' ends. No other call takes memory.
+/// For each queue and each number of customers before it there is a row: the set of the sums with the queue's own
+/// customers, one bit for each. All memory is taken by `reserve`. No other call takes memory.
 #[derive(Drop)]
 pub struct Arcs {
-    // The nodes in use are the first `used`.
-    nodes: Vec<Node>,
-    // The heads of the chains of the arcs that leave an end, and of those that come to it.
-    outs: Vec<u32>,
-    ins: Vec<u32>,
-    used: u32,
-    // The head of the free list.
-    free: u32,
+    rows: Vec<Sums>,
     levels: u8,
     total: u16,
 }
@@ -45,15 +39,55 @@ impl Model for Arcs {
 
     ghost Value = { ArcList };
 
-    ghost use Rattle.psi_arcs.specs.Nodes.{arcs_of, AreArcs};
+    ghost use Rattle.psi_arcs.specs.Rows.{arcs_of, AreRows};
 
     ghost view = { λ a. record {
       levels = a.levels;
       total = a.total;
-      arcs = arcs_of a.nodes.items a.used;
+      arcs = arcs_of a.rows.items a.levels a.total;
     } };
 
-    ghost invariant = { λ a. AreArcs a.nodes.items a.outs.items a.ins.items a.used a.free a.levels a.total };
+    ghost invariant = { λ a. AreRows a.rows.items a.levels a.total };
+}
+
+// Whether the rows have the arc of a number, with so many customers in all at most.
+#[inline]
+fn has_number(rows: &[Sums], total: u16, number: u32) -> bool
+    requires inside { number < length rows.now * 257 }
+    requires small { total ≤ 256 }
+    ensures { result ≡ keeps rows.now total (arc_number number) }
+{
+    let end = number / 257;
+    let sum = (end % 257 + number % 257) as u16;
+    sum <= total && rows[end as usize].holds(sum)
+}
+
+// How many of the arcs with the first numbers the rows have.
+fn count_arcs(rows: &[Sums], total: u16, end: u32) -> u32
+    requires inside { end ≤ length rows.now * 257 }
+    requires small { total ≤ 256 }
+    ensures count { result ≡ length (arcs_below rows.now total end) }
+    ensures most { result ≤ end }
+{
+    let mut count = 0;
+    for number in 0..end {
+        count += has_number(rows, total, number) as u32;
+    }
+    count
+}
+
+// The least number of the set from `first` on that isn't above `last`, if there is one.
+fn next_sum(row: &Sums, first: u16, last: u16) -> Option<u16>
+    requires { last < 320 }
+    ensures { MatchOption result ((t : ℕ) → first ≤ t → t ≤ last → has row.now t ≡ true → ⊥) (λ sum. (first ≤ sum) × ((sum ≤ last) × ((has row.now sum ≡ true)
+        × ((t : ℕ) → first ≤ t → t < sum → has row.now t ≡ true → ⊥)))) }
+{
+    for sum in first..last + 1 {
+        if row.holds(sum) {
+            return Some(sum);
+        }
+    }
+    None
 }
 
 impl Arcs {
@@ -66,21 +100,16 @@ impl Arcs {
         requires small { total ≤ 256 }
         ensures { IfOk result (λ arcs. arcs ≡ record { levels = levels; total = total; arcs = [] }) }
     {
-        let nodes = free_nodes(alloc, levels as u32 * 33_153)?;
-        let outs = free_heads(alloc, levels as u32 * 257)?;
-        let ins = free_heads(alloc, levels as u32 * 257)?;
+        let rows = no_rows(alloc, levels as u32 * 257)?;
         Ok(Arcs {
-            nodes,
-            outs,
-            ins,
-            used: 0,
-            free: 1,
+            rows,
             levels,
             total,
         })
     }
 
     /// The number of queues, 1 to 32.
+    #[inline]
     pub fn levels(&self) -> u8
         ensures value { result ≡ self.now.levels }
         ensures some { 1 ≤ self.now.levels }
@@ -92,6 +121,7 @@ impl Arcs {
     /// The number of customers in all, 0 to 256.
     ///
     /// Its third clause is how a caller learns that each arc is in range.
+    #[inline]
     pub fn total(&self) -> u16
         ensures value { result ≡ self.now.total }
         ensures small { self.now.total ≤ 256 }
@@ -108,16 +138,11 @@ impl Arcs {
         ensures distinct { IsDistinct self.now.arcs }
         ensures ranged { AreRanged self.now.levels self.now.total self.now.arcs }
     {
-        self.used
-    }
-
-    /// The arc at a place of the list.
-    #[inline]
-    pub(crate) fn at(&self, place: u32) -> Arc
-        requires { place < length self.now.arcs }
-        ensures { take (place + 1) self.now.arcs ≡ take place self.now.arcs ++ result ∷ [] }
-    {
-        self.nodes[place as usize].arc
+        count_arcs(
+            self.rows.as_slice(),
+            self.total,
+            self.levels as u32 * 66_049,
+        )
     }
 
     /// Takes all arcs out; the room stays.
@@ -126,11 +151,7 @@ impl Arcs {
         ensures total { self.new.total ≡ self.old.total }
         ensures arcs { self.new.arcs ≡ [] }
     {
-        empty(self.outs.as_mut_slice());
-        empty(self.ins.as_mut_slice());
-        free_first(self.nodes.as_mut_slice(), self.used);
-        self.used = 0;
-        self.free = 1;
+        empty(self.rows.as_mut_slice());
     }
 
     /// Whether the arc is in the set. It has to be one of the queues, with at most `total` customers in all.
@@ -140,15 +161,7 @@ impl Arcs {
         requires sum { arc.before + arc.value ≤ self.now.total }
         ensures { IsTrue result ↔ In arc self.now.arcs }
     {
-        let mut link = self.outs[end_of(arc.level, arc.before)];
-        while link != 0 {
-            let node = &self.nodes[link as usize - 1];
-            if node.arc.value == arc.value {
-                return true;
-            }
-            link = node.next_out;
-        }
-        false
+        self.rows[end_of(arc.level, arc.before)].holds(arc.before + arc.value)
     }
 
     /// Puts an arc into the set: it stays as it is where the arc is there already. The arc has to be one of the
@@ -161,34 +174,11 @@ impl Arcs {
         ensures total { self.new.total ≡ self.old.total }
         ensures arcs { (l s v : ℕ) → Listed self.new.arcs l s v ↔ (Listed self.old.arcs l s v ⊎ IsThis arc l s v) }
     {
-        if !self.has(arc) {
-            self.push(arc);
-        }
-    }
-
-    /// Takes a node off the free list for an arc that is not there.
-    #[inline]
-    pub(crate) fn push(&mut self, arc: Arc)
-        requires level { arc.level < self.old.levels }
-        requires sum { arc.before + arc.value ≤ self.old.total }
-        requires absent { In arc self.old.arcs → ⊥ }
-        ensures levels { self.new.levels ≡ self.old.levels }
-        ensures total { self.new.total ≡ self.old.total }
-        ensures arcs { self.new.arcs ≡ self.old.arcs ++ arc ∷ [] }
-    {
-        let link = self.free;
-        let place = link as usize - 1;
-        let leaves = end_of(arc.level, arc.before);
-        let comes = end_of(arc.level, arc.before + arc.value);
-        self.free = self.nodes[place].next_out;
-        self.nodes[place] = Node {
-            arc,
-            next_out: self.outs[leaves],
-            next_in: self.ins[comes],
-        };
-        self.outs[leaves] = link;
-        self.ins[comes] = link;
-        self.used = link;
+        // Called for its clause: sums are small.
+        let _total = self.total();
+        let mut row = self.row(arc.level, arc.before);
+        row.insert(arc.before + arc.value);
+        self.put(arc.level, arc.before, row);
     }
 
     /// The customers at queue `level` of an arc that leaves it with `before` customers before it, and whether there is
@@ -198,52 +188,57 @@ impl Arcs {
         requires before { before ≤ self.now.total }
         ensures { MatchOption result ((v : ℕ) → Listed self.now.arcs level before v → ⊥) (λ p. IsFirst self.now.arcs level before p.0 p.1) }
     {
-        let link = self.outs[end_of(level, before)];
-        if link == 0 {
-            return None;
+        let total = self.total();
+        let row = self.row(level, before);
+        match next_sum(&row, before, total) {
+            Some(sum) => Some((sum - before, next_sum(&row, sum + 1, total).is_some())),
+            None => None,
         }
-        let node = &self.nodes[link as usize - 1];
-        Some((node.arc.value, node.next_out != 0))
     }
 
-    /// Whether an arc of queue `level` within the window comes, from an end that is marked, to `sum` customers.
+    /// The sums to which arcs lead that leave queue `level` with `before` customers before it.
     #[inline]
-    pub(crate) fn enters(&self, level: u8, sum: u16, window: Window, marks: &[bool]) -> bool
+    pub(crate) fn row(&self, level: u8, before: u16) -> Sums
         requires level { level < self.now.levels }
-        requires sum { sum ≤ self.now.total }
-        requires marks { length marks.now ≡ 8481 }
-        ensures { IsTrue result ↔ Enters self.now.arcs level sum window marks.now }
+        requires before { before ≤ self.now.total }
+        ensures arcs { (v : ℕ) → Leads result before v ↔ Listed self.now.arcs level before v }
+        ensures ranged { (t : ℕ) → t < 320 → has result t ≡ true → (before ≤ t) × (t ≤ self.now.total) }
     {
-        let row = end_of(level, 0);
-        let mut link = self.ins[row + sum as usize];
-        while link != 0 {
-            let node = &self.nodes[link as usize - 1];
-            if window.opens(node.arc.value, marks, row + node.arc.before as usize) {
-                return true;
-            }
-            link = node.next_in;
-        }
-        false
+        self.rows[end_of(level, before)]
     }
 
-    /// Whether an arc within the window leaves queue `level`, with `sum` customers before it, to an end that is
-    /// marked.
+    /// Lets the arcs that leave queue `level` with `before` customers before it lead to these sums.
     #[inline]
-    pub(crate) fn exits(&self, level: u8, sum: u16, window: Window, marks: &[bool]) -> bool
-        requires level { level < self.now.levels }
-        requires sum { sum ≤ self.now.total }
-        requires marks { length marks.now ≡ 8481 }
-        ensures { IsTrue result ↔ Exits self.now.arcs level sum window marks.now }
+    pub(crate) fn put(&mut self, level: u8, before: u16, row: Sums)
+        requires level { level < self.old.levels }
+        requires before { before ≤ self.old.total }
+        requires ranged { (t : ℕ) → t < 320 → has row t ≡ true → (before ≤ t) × (t ≤ self.old.total) }
+        ensures levels { self.new.levels ≡ self.old.levels }
+        ensures total { self.new.total ≡ self.old.total }
+        ensures own { (v : ℕ) → Listed self.new.arcs level before v ↔ Leads row before v }
+        ensures others { (l s v : ℕ) → (l ≡ level → s ≡ before → ⊥) → Listed self.new.arcs l s v ↔ Listed self.old.arcs l s v }
     {
-        let mut link = self.outs[end_of(level, sum)];
-        let row = end_of(level + 1, sum);
-        while link != 0 {
-            let node = &self.nodes[link as usize - 1];
-            if window.opens(node.arc.value, marks, row + node.arc.value as usize) {
-                return true;
-            }
-            link = node.next_out;
-        }
-        false
+        self.rows[end_of(level, before)] = row;
+    }
+}
+
+// So many rows without an arc.
+fn no_rows(alloc: Global, count: u32) -> Result<Vec<Sums>, AllocError>
+    ensures count { IfOk result (λ rows. length rows.items ≡ count) }
+    ensures none { IfOk result (λ rows. AreEmpty rows.items) }
+{
+    let mut rows = Vec::with_capacity(alloc, count as usize)?;
+    for _end in 0..count {
+        rows.push_reserved(Sums::none());
+    }
+    Ok(rows)
+}
+
+// Takes all sums out of the rows.
+fn empty(rows: &mut [Sums])
+    ensures { AreEmpty rows.new }
+{
+    for end in 0..rows.len() {
+        rows[end] = Sums::none();
     }
 }

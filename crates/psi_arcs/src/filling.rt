@@ -1,11 +1,22 @@
 //! The arcs of all states of a total within capacities, and of more.
 
-ghost use Rattle.std.specs.Prelude.{◌≡◌, ℕ, ◌+◌, ◌<◌, ◌≤◌, ◌↔◌, ◌⊎◌, length};
-ghost use Rattle.psi_arcs.specs.Held.{Listed, IsAny, LeavesEnd, LeavesQueue};
+ghost use Rattle.std.specs.Prelude.{◌≡◌, ℕ, ◌+◌, ◌<◌, ◌≤◌, ◌↔◌, ◌⊎◌, true, length};
+ghost use Rattle.psi_arcs.specs.Sums.{has};
+ghost use Rattle.psi_arcs.specs.Held.{Listed, IsAny};
 
 use crate::arcs::Arcs;
-use crate::nodes::Arc;
+use crate::sums::Sums;
 use psi_state::State;
+
+// The sums of `before` customers and at most `most` more, up to `total`.
+#[inline]
+fn reached(before: u16, most: u16, total: u16) -> Sums
+    requires { total ≤ 256 }
+    ensures { (t : ℕ) → t < 320 → (has result t ≡ true) ↔ ((before ≤ t) × ((t ≤ before + most) × (t ≤ total))) }
+{
+    let last = (u32::from(before) + u32::from(most)).min(u32::from(total));
+    Sums::all().between(u32::from(before), last + 1)
+}
 
 impl Arcs {
     /// The set of the arcs of states within the capacities, one for each queue, whose queues up to the arc's hold at
@@ -16,42 +27,24 @@ impl Arcs {
         ensures total { self.new.total ≡ self.old.total }
         ensures arcs { (l s v : ℕ) → Listed self.new.arcs l s v ↔ IsAny caps.now self.old.total l s v }
     {
-        self.clear();
+        // Called for its clause: the arcs are in range.
+        let _total = self.total();
         for level in 0..self.levels() {
             self.fill_queue(level, caps.get(level));
         }
     }
 
-    // Adds the arcs of queue `level`, of which none is there, with at most `most` customers.
+    // Lets queue `level` have all arcs with at most `most` customers.
     fn fill_queue(&mut self, level: u8, most: u16)
         requires level { level < self.old.levels }
-        requires absent { (s v : ℕ) → Listed self.old.arcs level s v → ⊥ }
         ensures levels { self.new.levels ≡ self.old.levels }
         ensures total { self.new.total ≡ self.old.total }
-        ensures arcs { (l s v : ℕ) → Listed self.new.arcs l s v ↔ (Listed self.old.arcs l s v ⊎ LeavesQueue level most self.old.total l s v) }
+        ensures own { (s v : ℕ) → Listed self.new.arcs level s v ↔ ((v ≤ most) × (s + v ≤ self.old.total)) }
+        ensures others { (l s v : ℕ) → (l ≡ level → ⊥) → Listed self.new.arcs l s v ↔ Listed self.old.arcs l s v }
     {
-        for before in 0..self.total() + 1 {
-            self.fill_end(level, before, most);
-        }
-    }
-
-    // Adds the arcs, of which none is there, that leave queue `level` with `before` customers before it, and at most
-    // `most` of its own.
-    fn fill_end(&mut self, level: u8, before: u16, most: u16)
-        requires level { level < self.old.levels }
-        requires before { before ≤ self.old.total }
-        requires absent { (v : ℕ) → Listed self.old.arcs level before v → ⊥ }
-        ensures levels { self.new.levels ≡ self.old.levels }
-        ensures total { self.new.total ≡ self.old.total }
-        ensures arcs { (l s v : ℕ) → Listed self.new.arcs l s v ↔ (Listed self.old.arcs l s v ⊎ LeavesEnd level before most self.old.total l s v) }
-    {
-        let end = most.min(self.total() - before) + 1;
-        for value in 0..end {
-            self.push(Arc {
-                level,
-                before,
-                value,
-            });
+        let total = self.total();
+        for before in 0..total + 1 {
+            self.put(level, before, reached(before, most, total));
         }
     }
 }

@@ -1,194 +1,190 @@
 //! The useful arcs of a set, and what a move makes of a set of arcs.
 
-ghost use Rattle.std.specs.Prelude.{◌≡◌, ◌≢◌, ℕ, ◌+◌, ◌<◌, ◌≤◌, ◌↔◌, ◌⊎◌, IsTrue};
-ghost use Rattle.psi_state.specs.Members.{In};
+ghost use Rattle.std.specs.Prelude.{◌≡◌, ◌≢◌, ℕ, suc, ◌+◌, ◌<◌, ◌≤◌, ◌↔◌, ◌⊎◌, true, false, length, MatchOption};
+ghost use Rattle.psi_arcs.specs.Sums.{has, Leads};
 ghost use Rattle.psi_arcs.specs.Walks.{Useful};
-ghost use Rattle.psi_arcs.specs.Held.{Listed, IsThis};
-ghost use Rattle.psi_arcs.specs.Joining.{past, here, IsShifted, IsOutside, IsShiftable, Joined};
-ghost use Rattle.psi_arcs.specs.Marking.{IsReached, Shifts, Gives, Keeps};
+ghost use Rattle.psi_arcs.specs.Held.{Listed};
+ghost use Rattle.psi_arcs.specs.Rows.{sums_at};
+ghost use Rattle.psi_arcs.specs.Joining.{past, IsShiftable, Joined};
+ghost use Rattle.psi_arcs.specs.Marking.{IsReached, Keeps, Shifts, Gives};
 
 use crate::arcs::Arcs;
-use crate::marks::Marks;
-use crate::nodes::Arc;
-use crate::reach::Reach;
+use crate::marks::{Marks, Reach};
+use crate::sums::Sums;
 use crate::windows::Rule;
 
 // 1 where queue `i` comes before queue `l`, else 0.
 #[inline]
 #[tactic(auto, unfolding(crate::specs::Joining::past))]
 fn one_past(i: u8, l: u8) -> u16
-    ensures { result ≡ past i l }
+    ensures value { result ≡ past i l }
+    ensures small { result ≤ 1 }
 {
     if i < l { 1 } else { 0 }
 }
 
-// 1 where queue `i` is queue `l`, else 0.
+// The sums, one lower where one customer goes away, and one higher where one comes.
 #[inline]
-#[tactic(auto, unfolding(crate::specs::Joining::here))]
-fn one_here(i: u8, l: u8) -> u16
-    ensures { result ≡ here i l }
+fn turned(sums: Sums, away: u16, come: u16) -> Sums
+    requires away { away ≤ 1 }
+    requires come { come ≤ 1 }
+    ensures moved { (t u : ℕ) → t < 320 → u < 320 → t + away ≡ u + come → has result t ≡ has sums u }
+    ensures low { (t : ℕ) → t + away < come → has result t ≡ false }
+    ensures high { (t : ℕ) → t < 320 → 320 + come ≤ t + away → has result t ≡ false }
 {
-    if i == l { 1 } else { 0 }
+    if away > come {
+        sums.down()
+    } else if away < come {
+        sums.up()
+    } else {
+        sums
+    }
 }
 
-// Whether the queue is neither of the two, nor between them: then a move leaves its arcs where they are.
+// How many customers there were, at most `total`, where there are so many once `away` have gone and `come` have come.
 #[inline]
-fn is_outside(level: u8, from: u8, to: u8) -> bool
-    ensures { IsTrue result ↔ IsOutside from to level }
+fn source(now: u16, away: u16, come: u16, total: u16) -> Option<u16>
+    requires now { now ≤ 256 }
+    requires away { away ≤ 1 }
+    ensures { MatchOption result ((s : ℕ) → s ≤ total → now + away ≡ s + come → ⊥) (λ s. (s ≤ total) × (now + away ≡ s + come)) }
 {
-    (level < from && level < to) || (from < level && to < level)
+    let sum = (now + away).checked_sub(come)?;
+    if sum <= total { Some(sum) } else { None }
 }
 
-// What becomes of the arc once a customer goes from one queue to the other.
+// The sums to which shifted arcs lead that leave queue `level` with `before` customers before it.
 #[inline]
-fn shifted(arc: Arc, from: u8, to: u8) -> Arc
-    requires shiftable { IsShiftable from to 256 arc.level arc.before arc.value }
-    ensures level { result.level ≡ arc.level }
-    ensures shifted { IsShifted from to arc.level arc.before arc.value result.before result.value }
+fn shifted(of: &Arcs, level: u8, before: u16, from: u8, to: u8, marks: &Marks) -> Sums
+    requires level { level < of.now.levels }
+    requires before { before ≤ of.now.total }
+    requires shiftable { (s v : ℕ) → Listed of.now.arcs level s v → IsReached marks.now level s v → IsShiftable from to of.now.total level s v }
+    ensures arcs { (v : ℕ) → Leads result before v ↔ Shifts (Listed of.now.arcs) marks.now from to level before v }
+    ensures ranged { (t : ℕ) → t < 320 → has result t ≡ true → (before ≤ t) × (t ≤ of.now.total) }
 {
-    Arc {
-        level: arc.level,
-        before: arc.before + one_past(to, arc.level) - one_past(from, arc.level),
-        value: arc.value + one_here(to, arc.level) - one_here(from, arc.level),
+    // Called for their clauses: the arcs are in range.
+    let _levels = of.levels();
+    let total = of.total();
+    match source(before, one_past(from, level), one_past(to, level), total) {
+        Some(sum) => turned(
+            marks.kept(of, level, sum),
+            one_past(from, level + 1),
+            one_past(to, level + 1),
+        ),
+        None => Sums::none(),
+    }
+}
+
+// The sums to which arcs lead after the move that leave queue `level` with `before` customers before it.
+#[inline]
+fn given(of: &Arcs, level: u8, before: u16, from: u8, to: u8, reach: &Reach) -> Sums
+    requires level { level < of.now.levels }
+    requires before { before ≤ of.now.total }
+    requires shiftable { (s v : ℕ) → Listed of.now.arcs level s v → IsReached reach.now.changing level s v → IsShiftable from to of.now.total level s v }
+    ensures arcs { (v : ℕ) → Leads result before v ↔ Gives (Listed of.now.arcs) reach.now from to level before v }
+    ensures ranged { (t : ℕ) → t < 320 → has result t ≡ true → (before ≤ t) × (t ≤ of.now.total) }
+{
+    // Called for their clauses: the arcs are in range.
+    let _levels = of.levels();
+    let _total = of.total();
+    let changed = shifted(of, level, before, from, to, &reach.changing);
+    let short = reach.short.kept(of, level, before);
+    let full = reach.full.kept(of, level, before);
+    changed.or(&short.or(&full))
+}
+
+// Writes the sums to which arcs lead after the move that leave queue `level`, for each number of customers before it.
+fn give_rows(of: &Arcs, level: u8, from: u8, to: u8, reach: &mut Reach)
+    requires level { level < of.now.levels }
+    requires shiftable { (s v : ℕ) → Listed of.now.arcs level s v → IsReached reach.old.changing level s v → IsShiftable from to of.now.total level s v }
+    ensures arcs { (s v : ℕ) → s ≤ of.now.total
+        → Leads (sums_at reach.new.next.items s) s v ↔ Gives (Listed of.now.arcs) reach.old from to level s v }
+    ensures ranged { (s t : ℕ) → s ≤ of.now.total → t < 320 → has (sums_at reach.new.next.items s) t ≡ true → (s ≤ t) × (t ≤ of.now.total) }
+    ensures changing { reach.new.changing ≡ reach.old.changing }
+    ensures short { reach.new.short ≡ reach.old.short }
+    ensures full { reach.new.full ≡ reach.old.full }
+{
+    let total = of.total();
+    for before in 0..total + 1 {
+        let row = given(of, level, before, from, to, reach);
+        reach.next[before as usize] = row;
     }
 }
 
 impl Arcs {
-    /// The set of the useful arcs of another: those that lie on a walk over all queues to `total` customers. Both
-    /// sets have the same queues and customers. What was in this set before is not.
-    pub fn keep_useful(&mut self, of: &Arcs, reach: &mut Reach)
-        requires levels { self.old.levels ≡ of.now.levels }
-        requires total { self.old.total ≡ of.now.total }
+    /// The useful arcs of the set, those that lie on a walk over all queues to `total` customers, stay; the others go.
+    pub fn keep_useful(&mut self, reach: &mut Reach)
         ensures levels { self.new.levels ≡ self.old.levels }
         ensures total { self.new.total ≡ self.old.total }
-        ensures arcs { (l s v : ℕ) → Listed self.new.arcs l s v ↔ Useful (Listed of.now.arcs) of.now.levels of.now.total l s v }
+        ensures arcs { (l s v : ℕ) → Listed self.new.arcs l s v ↔ Useful (Listed self.old.arcs) self.old.levels self.old.total l s v }
     {
         // Called for their clauses: the arcs are in range.
-        let _levels = of.levels();
-        let _total = of.total();
+        let total = self.total();
+        let last = self.levels() - 1;
         let marks = &mut reach.changing;
-        marks.mark(of, Rule::any());
-        self.clear();
-        for place in 0..of.len() {
-            self.keep(of.at(place), marks);
+        marks.mark(self, Rule::any(), 0, last, Sums::of(0), Sums::of(total));
+        for level in 0..last + 1 {
+            self.keep_level(level, marks);
         }
     }
 
-    // Adds the arc, which is not there, where it is useful.
-    #[inline]
-    fn keep(&mut self, arc: Arc, marks: &Marks)
-        requires few { self.old.levels ≤ 32 }
-        requires small { self.old.total ≤ 256 }
-        requires level { arc.level < self.old.levels }
-        requires sum { arc.before + arc.value ≤ self.old.total }
-        requires absent { In arc self.old.arcs → ⊥ }
+    // The reached arcs of queue `level` stay.
+    fn keep_level(&mut self, level: u8, marks: &Marks)
+        requires level { level < self.old.levels }
         ensures levels { self.new.levels ≡ self.old.levels }
         ensures total { self.new.total ≡ self.old.total }
-        ensures arcs { (l s v : ℕ) → Listed self.new.arcs l s v ↔ (Listed self.old.arcs l s v ⊎ Keeps marks.now arc l s v) }
+        ensures own { (s v : ℕ) → Listed self.new.arcs level s v ↔ Keeps (Listed self.old.arcs) marks.now level s v }
+        ensures others { (l s v : ℕ) → (l ≡ level → ⊥) → Listed self.new.arcs l s v ↔ Listed self.old.arcs l s v }
     {
-        if marks.is_useful(arc) {
-            self.push(arc);
+        let total = self.total();
+        for before in 0..total + 1 {
+            let row = marks.kept(self, level, before);
+            self.put(level, before, row);
         }
     }
 
-    /// The set of the arcs that a move makes of another's: it takes a customer from queue `from` to queue `to` where
-    /// the first holds at least `k`, 1 or more, and the second fewer than `room`.
+    /// The set of the arcs that a move makes of them: it takes a customer from queue `from` to queue `to` where the
+    /// first holds at least `k`, 1 or more, and the second fewer than `room`. All arcs of the set are useful.
     ///
     /// The useful arcs of the states that it changes are shifted, and those of the states whose source is short, or
-    /// whose target is full, stay. Both sets have the same queues and customers. What was in this set before is not.
-    pub fn step(&mut self, of: &Arcs, from: u8, k: u16, to: u8, room: u16, reach: &mut Reach)
-        requires levels { self.old.levels ≡ of.now.levels }
-        requires total { self.old.total ≡ of.now.total }
-        requires source { from < of.now.levels }
-        requires target { to < of.now.levels }
+    /// whose target is full, stay. Only the move's queues and those between them are looked at: the arcs of the others
+    /// stay as they are.
+    pub fn step(&mut self, from: u8, k: u16, to: u8, room: u16, reach: &mut Reach)
+        requires source { from < self.old.levels }
+        requires target { to < self.old.levels }
         requires apart { from ≢ to }
         requires some { 1 ≤ k }
+        requires whole { (l s v : ℕ) → Listed self.old.arcs l s v → Useful (Listed self.old.arcs) self.old.levels self.old.total l s v }
         ensures levels { self.new.levels ≡ self.old.levels }
         ensures total { self.new.total ≡ self.old.total }
-        ensures arcs { (l s v : ℕ) → Listed self.new.arcs l s v ↔ Joined (Listed of.now.arcs) of.now.levels of.now.total from k to room l s v }
+        ensures arcs { (l s v : ℕ) → Listed self.new.arcs l s v ↔ Joined (Listed self.old.arcs) self.old.levels self.old.total from k to room l s v }
     {
-        // Called for their clauses: the arcs are in range.
-        let _levels = of.levels();
-        let _total = of.total();
-        reach.mark(of, from, k, to, room);
-        self.clear();
-        for place in 0..of.len() {
-            self.join(of.at(place), from, to, reach);
+        // Called for its clause: the arcs are in range.
+        let _levels = self.levels();
+        reach.mark(self, from, k, to, room);
+        let low = from.min(to);
+        let high = from.max(to);
+        for level in low..high + 1 {
+            self.shift_level(level, from, to, reach);
         }
     }
 
-    // Adds what the move makes of the arc, and the arc itself where states that it does not change have it. Outside the
-    // move's queues these are one arc, and no other arc becomes it.
-    #[inline]
-    fn join(&mut self, arc: Arc, from: u8, to: u8, reach: &Reach)
-        requires few { self.old.levels ≤ 32 }
-        requires small { self.old.total ≤ 256 }
-        requires level { arc.level < self.old.levels }
-        requires sum { arc.before + arc.value ≤ self.old.total }
-        requires shiftable { IsReached reach.now.changing arc.level arc.before arc.value → IsShiftable from to self.old.total arc.level arc.before arc.value }
-        requires absent { IsOutside from to arc.level → In arc self.old.arcs → ⊥ }
+    // Lets queue `level` have what the move makes of its arcs.
+    fn shift_level(&mut self, level: u8, from: u8, to: u8, reach: &mut Reach)
+        requires level { level < self.old.levels }
+        requires shiftable { (s v : ℕ) → Listed self.old.arcs level s v → IsReached reach.old.changing level s v → IsShiftable from to self.old.total level s v }
         ensures levels { self.new.levels ≡ self.old.levels }
         ensures total { self.new.total ≡ self.old.total }
-        ensures arcs { (l s v : ℕ) → Listed self.new.arcs l s v ↔ (Listed self.old.arcs l s v ⊎ Gives reach.now from to arc l s v) }
+        ensures own { (s v : ℕ) → Listed self.new.arcs level s v ↔ Gives (Listed self.old.arcs) reach.old from to level s v }
+        ensures others { (l s v : ℕ) → (l ≡ level → ⊥) → Listed self.new.arcs l s v ↔ Listed self.old.arcs l s v }
+        ensures changing { reach.new.changing ≡ reach.old.changing }
+        ensures short { reach.new.short ≡ reach.old.short }
+        ensures full { reach.new.full ≡ reach.old.full }
     {
-        if is_outside(arc.level, from, to) {
-            self.stay(arc, from, to, reach);
-        } else {
-            self.change(arc, from, to, reach);
-        }
-    }
-
-    // Adds an arc outside the move's queues, which is not there, where it is one of a state at all.
-    #[inline]
-    fn stay(&mut self, arc: Arc, from: u8, to: u8, reach: &Reach)
-        requires few { self.old.levels ≤ 32 }
-        requires small { self.old.total ≤ 256 }
-        requires level { arc.level < self.old.levels }
-        requires sum { arc.before + arc.value ≤ self.old.total }
-        requires outside { IsOutside from to arc.level }
-        requires absent { In arc self.old.arcs → ⊥ }
-        ensures levels { self.new.levels ≡ self.old.levels }
-        ensures total { self.new.total ≡ self.old.total }
-        ensures arcs { (l s v : ℕ) → Listed self.new.arcs l s v ↔ (Listed self.old.arcs l s v ⊎ Gives reach.now from to arc l s v) }
-    {
-        if reach.holds(arc) {
-            self.push(arc);
-        }
-    }
-
-    // Adds what the move makes of an arc at its queues or between them, and the arc itself where states that it does
-    // not change have it.
-    #[inline]
-    fn change(&mut self, arc: Arc, from: u8, to: u8, reach: &Reach)
-        requires few { self.old.levels ≤ 32 }
-        requires small { self.old.total ≤ 256 }
-        requires level { arc.level < self.old.levels }
-        requires sum { arc.before + arc.value ≤ self.old.total }
-        requires shiftable { IsReached reach.now.changing arc.level arc.before arc.value → IsShiftable from to self.old.total arc.level arc.before arc.value }
-        ensures levels { self.new.levels ≡ self.old.levels }
-        ensures total { self.new.total ≡ self.old.total }
-        ensures arcs { (l s v : ℕ) → Listed self.new.arcs l s v ↔ (Listed self.old.arcs l s v ⊎ Gives reach.now from to arc l s v) }
-    {
-        self.shift(arc, from, to, &reach.changing);
-        if reach.keeps(arc) {
-            self.insert(arc);
-        }
-    }
-
-    // Adds what the move makes of the arc where it is useful.
-    #[inline]
-    fn shift(&mut self, arc: Arc, from: u8, to: u8, marks: &Marks)
-        requires few { self.old.levels ≤ 32 }
-        requires small { self.old.total ≤ 256 }
-        requires level { arc.level < self.old.levels }
-        requires sum { arc.before + arc.value ≤ self.old.total }
-        requires shiftable { IsReached marks.now arc.level arc.before arc.value → IsShiftable from to self.old.total arc.level arc.before arc.value }
-        ensures levels { self.new.levels ≡ self.old.levels }
-        ensures total { self.new.total ≡ self.old.total }
-        ensures arcs { (l s v : ℕ) → Listed self.new.arcs l s v ↔ (Listed self.old.arcs l s v ⊎ Shifts marks.now from to arc l s v) }
-    {
-        if marks.is_useful(arc) {
-            self.insert(shifted(arc, from, to));
+        give_rows(self, level, from, to, reach);
+        let total = self.total();
+        for before in 0..total + 1 {
+            let row = reach.next[before as usize];
+            self.put(level, before, row);
         }
     }
 }

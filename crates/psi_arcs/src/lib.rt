@@ -1,5 +1,4 @@
-//! The arcs of a decision diagram over the states of a closed network, in one vector of nodes that are linked by
-//! index.
+//! The arcs of a decision diagram over the states of a closed network, as bits of words.
 //!
 //! A state with a fixed number of customers is a walk: it begins at the first queue with no customer before it,
 //! and each queue adds its own. So a set of states is told, up to states that mix their arcs, by the arcs of its
@@ -7,16 +6,17 @@
 #![tactic(auto)]
 
 mod arcs;
+mod ends;
 mod filling;
 mod joining;
 mod marks;
-mod nodes;
 mod reach;
+mod sums;
 mod windows;
 
 pub use arcs::{Arcs, OutOfMemory};
-pub use nodes::Arc;
-pub use reach::Reach;
+pub use ends::Arc;
+pub use marks::Reach;
 
 #[cfg(test)]
 mod tests;

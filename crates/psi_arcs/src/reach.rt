@@ -1,100 +1,154 @@
 //! The reach of arcs from both sides: which of them lie on a whole walk.
 
-ghost use Rattle.std.specs.Prelude.{◌≡◌, ◌≢◌, ℕ, suc, ◌+◌, ◌<◌, ◌≤◌, ◌↔◌, ◌⊎◌, IsTrue, IfOk, true, length};
+ghost use Rattle.std.specs.Prelude.{◌≡◌, ◌≢◌, ℕ, suc, ◌+◌, ◌<◌, ◌≤◌, ◌↔◌, ◌⊎◌, IsTrue, IfOk, true, false, length, min, max};
+ghost use Rattle.psi_arcs.specs.Sums.{has, Leads};
+ghost use Rattle.psi_arcs.specs.Walks.{Before, After, Useful};
 ghost use Rattle.psi_arcs.specs.Held.{Listed};
-ghost use Rattle.psi_arcs.specs.Windows.{is_marked, window_at, Allows, Enters, Exits, MarkBefore, MarkAfter};
+ghost use Rattle.psi_arcs.specs.Windows.{IsWithin, Allows, Enters, EntersBelow, Exits, MarkBefore, MarkAfter};
 ghost use Rattle.psi_arcs.specs.Joining.{Only, IsChanging, IsShort, IsFull};
-ghost use Rattle.psi_arcs.specs.Marking.{AreMarked, IsReached, TellsUseful};
+ghost use Rattle.psi_arcs.specs.Marking.{AreMarked, IsReached, Keeps, TellsUseful};
 
 use crate::arcs::{Arcs, OutOfMemory};
-use crate::marks::Marks;
-use crate::nodes::{Arc, end_of};
+use crate::marks::{Marks, Reach};
+use crate::sums::Sums;
 use crate::windows::{Rule, Window};
 use std::alloc::{AllocError, Global};
 
-/// Room for what a step has to mark. It holds nothing that a later call reads.
-#[derive(Drop)]
-pub struct Reach {
-    pub(crate) changing: Marks,
-    pub(crate) short: Marks,
-    pub(crate) full: Marks,
-}
-
-// So many ends, none of them marked.
-fn free_marks(alloc: Global) -> Result<Vec<bool>, AllocError>
-    ensures { IfOk result (λ marks. length marks.items ≡ 8481) }
+// So many empty sets.
+pub(crate) fn no_sums(alloc: Global, count: u32) -> Result<Vec<Sums>, AllocError>
+    ensures { IfOk result (λ sums. length sums.items ≡ count) }
 {
-    vec![in alloc; false; 8481]
-}
-
-// Marks one of the ends of queue `level`, and takes the marks off its others.
-fn mark_one(marks: &mut [bool], level: u8, total: u16, sum: u16)
-    requires all { length marks.old ≡ 8481 }
-    requires level { level ≤ 32 }
-    requires small { total ≤ 256 }
-    ensures { (s : ℕ) → s ≤ total → (is_marked marks.new level s ≡ true) ↔ (s ≡ sum) }
-{
-    for s in 0..total + 1 {
-        marks[end_of(level, s)] = s == sum;
+    let mut sums = Vec::with_capacity(alloc, count as usize)?;
+    for _place in 0..count {
+        sums.push_reserved(Sums::none());
     }
+    Ok(sums)
 }
 
-// Marks the ends past queue `level` that its arcs within the window come to.
-fn mark_next(of: &Arcs, level: u8, window: Window, marks: &mut [bool])
-    requires all { length marks.old ≡ 8481 }
+// The sums to which arcs within the window lead that leave queue `level` with `before` customers before it.
+#[inline]
+fn windowed(of: &Arcs, level: u8, before: u16, window: Window) -> Sums
     requires level { level < of.now.levels }
-    ensures row { (s : ℕ) → s ≤ of.now.total → (is_marked marks.new (suc level) s ≡ true) ↔ Enters of.now.arcs level s window marks.old }
-    ensures rest { (l s : ℕ) → l ≤ level → s ≤ of.now.total → is_marked marks.new l s ≡ is_marked marks.old l s }
+    requires before { before ≤ of.now.total }
+    ensures arcs { (v : ℕ) → Leads result before v ↔ (Listed of.now.arcs level before v × IsWithin window v) }
+    ensures ranged { (t : ℕ) → t < 320 → has result t ≡ true → (before ≤ t) × (t ≤ of.now.total) }
 {
-    let _levels = of.levels();
-    for sum in 0..of.total() + 1 {
-        let reached = of.enters(level, sum, window, marks);
-        marks[end_of(level + 1, sum)] = reached;
+    // Called for its clause: sums are small.
+    let _total = of.total();
+    let row = of.row(level, before);
+    if window.is_any() {
+        return row;
     }
+    let before = u32::from(before);
+    row.between(
+        before.saturating_add(window.least),
+        before.saturating_add(window.end),
+    )
 }
 
-// Marks the ends before queue `level` that its arcs within the window leave.
-fn mark_previous(of: &Arcs, level: u8, window: Window, marks: &mut [bool])
-    requires all { length marks.old ≡ 8481 }
+// The sums, and those to which arcs within the window lead that leave queue `level` with `before` customers before it, if
+// that end is marked.
+#[inline]
+fn and_past(past: Sums, of: &Arcs, level: u8, before: u16, window: Window, marks: &Sums) -> Sums
     requires level { level < of.now.levels }
-    ensures row { (s : ℕ) → s ≤ of.now.total → (is_marked marks.new level s ≡ true) ↔ Exits of.now.arcs level s window marks.old }
-    ensures rest { (l s : ℕ) → level < l → s ≤ of.now.total → is_marked marks.new l s ≡ is_marked marks.old l s }
+    requires before { before ≤ of.now.total }
+    ensures { (t : ℕ) → t < 320 → ((has past t ≡ true) ↔ EntersBelow of.now.arcs level t window marks.now before)
+        → (has result t ≡ true) ↔ EntersBelow of.now.arcs level t window marks.now (before + 1) }
 {
+    // Called for its clause: sums are small.
+    let _total = of.total();
+    if !marks.holds(before) {
+        return past;
+    }
+    past.or(&windowed(of, level, before, window))
+}
+
+// The ends past queue `level` to which its arcs within the window lead from marked ends.
+fn marks_past(of: &Arcs, level: u8, window: Window, marks: &Sums) -> Sums
+    requires level { level < of.now.levels }
+    ensures { (t : ℕ) → t < 320 → (has result t ≡ true) ↔ Enters of.now.arcs level t window marks.now }
+{
+    let total = of.total();
+    let mut past = Sums::none();
+    for before in 0..total + 1 {
+        past = and_past(past, of, level, before, window, marks);
+    }
+    past
+}
+
+// Whether arcs within the window lead to marked ends that leave queue `level` with `before` customers before it.
+#[inline]
+fn exits(of: &Arcs, level: u8, before: u16, window: Window, marks: &Sums) -> bool
+    requires level { level < of.now.levels }
+    requires before { before ≤ of.now.total }
+    ensures some { result ≡ true → Exits of.now.arcs level before window marks.now }
+    ensures none { result ≡ false → Exits of.now.arcs level before window marks.now → ⊥ }
+{
+    // Called for its clause: sums are small.
+    let _total = of.total();
+    !windowed(of, level, before, window).and(marks).is_none()
+}
+
+// The ends of queue `level` that its arcs within the window leave to marked ends.
+fn marks_before(of: &Arcs, level: u8, window: Window, marks: &Sums) -> Sums
+    requires level { level < of.now.levels }
+    ensures { (s : ℕ) → s < 320 → (has result s ≡ true) ↔ Exits of.now.arcs level s window marks.now }
+{
+    let total = of.total();
+    let mut left = Sums::none();
+    for before in 0..total + 1 {
+        left.insert_if(exits(of, level, before, window, marks), before);
+    }
+    left
+}
+
+// Marks the ends that are reached from the first queue over arcs that the rule allows, from queue `low` to queue
+// `high`: those of queue `low` are given.
+fn mark_before(of: &Arcs, rule: &Rule, low: u8, high: u8, first: Sums, marks: &mut [Sums])
+    requires room { length marks.old ≡ 33 }
+    requires order { low ≤ high }
+    requires inside { high < of.now.levels }
+    requires begin { (s v : ℕ) → Listed of.now.arcs low s v → (has first s ≡ true) ↔ Before (Only (Listed of.now.arcs) (Allows rule.now)) low s }
+    ensures { MarkBefore (Listed of.now.arcs) (Only (Listed of.now.arcs) (Allows rule.now)) low high marks.new }
+{
+    // Called for their clauses: the arcs are in range.
     let _levels = of.levels();
-    for sum in 0..of.total() + 1 {
-        let reached = of.exits(level, sum, window, marks);
-        marks[end_of(level, sum)] = reached;
+    let _total = of.total();
+    marks[low as usize] = first;
+    for level in low..high {
+        let own = marks[level as usize];
+        let past = marks_past(of, level, rule.window(level), &own);
+        marks[level as usize + 1] = past;
     }
 }
 
-// Marks the ends that are reached from the first queue over arcs that the rule allows.
-fn mark_before(of: &Arcs, rule: &Rule, marks: &mut [bool])
-    requires { length marks.old ≡ 8481 }
-    ensures { MarkBefore (Only (Listed of.now.arcs) (Allows rule.now)) of.now.levels of.now.total marks.new }
+// Marks the ends from which the end past the last queue, with all customers, is reached over arcs that the rule
+// allows, past queue `low` to past queue `high`: those past queue `high` are given.
+fn mark_after(of: &Arcs, rule: &Rule, low: u8, high: u8, last: Sums, marks: &mut [Sums])
+    requires room { length marks.old ≡ 33 }
+    requires order { low ≤ high }
+    requires inside { high < of.now.levels }
+    requires begin { (s v : ℕ) → Listed of.now.arcs high s v
+        → (has last (s + v) ≡ true) ↔ After (Only (Listed of.now.arcs) (Allows rule.now)) of.now.levels of.now.total (suc high) (s + v) }
+    ensures { MarkAfter (Listed of.now.arcs) (Only (Listed of.now.arcs) (Allows rule.now)) of.now.levels of.now.total low high marks.new }
 {
-    mark_one(marks, 0, of.total(), 0);
-    for level in 0..of.levels() {
-        mark_next(of, level, rule.window(level), marks);
-    }
-}
-
-// Marks the ends from which the end past the last queue, with all customers, is reached over arcs that the rule allows.
-fn mark_after(of: &Arcs, rule: &Rule, marks: &mut [bool])
-    requires { length marks.old ≡ 8481 }
-    ensures { MarkAfter (Only (Listed of.now.arcs) (Allows rule.now)) of.now.levels of.now.total 0 marks.new }
-{
-    let mut level = of.levels();
-    mark_one(marks, level, of.total(), of.total());
-    while level > 0 {
+    // Called for their clauses: the arcs are in range.
+    let _levels = of.levels();
+    let _total = of.total();
+    marks[high as usize + 1] = last;
+    let mut level = high;
+    while level > low {
+        let own = marks[level as usize + 1];
+        let left = marks_before(of, level, rule.window(level), &own);
+        marks[level as usize] = left;
         level -= 1;
-        mark_previous(of, level, rule.window(level), marks);
     }
 }
 
 impl Marks {
     fn reserve(alloc: Global) -> Result<Marks, AllocError> {
-        let before = free_marks(alloc)?;
-        let after = free_marks(alloc)?;
+        let before = no_sums(alloc, 33)?;
+        let after = no_sums(alloc, 33)?;
         Ok(Marks {
             rule: Rule::any(),
             before,
@@ -102,26 +156,37 @@ impl Marks {
         })
     }
 
-    /// Marks the ends that are reached over arcs that the rule allows.
-    pub(crate) fn mark(&mut self, of: &Arcs, rule: Rule)
+    /// Marks the ends that are reached over arcs that the rule allows, from queue `low` to queue `high`: those of queue
+    /// `low` and those past queue `high` are given.
+    pub(crate) fn mark(&mut self, of: &Arcs, rule: Rule, low: u8, high: u8, first: Sums, last: Sums)
+        requires order { low ≤ high }
+        requires inside { high < of.now.levels }
+        requires first { (s v : ℕ) → Listed of.now.arcs low s v → (has first s ≡ true) ↔ Before (Only (Listed of.now.arcs) (Allows rule)) low s }
+        requires last { (s v : ℕ) → Listed of.now.arcs high s v
+            → (has last (s + v) ≡ true) ↔ After (Only (Listed of.now.arcs) (Allows rule)) of.now.levels of.now.total (suc high) (s + v) }
         ensures rule { self.new.rule ≡ rule }
-        ensures marked { AreMarked (Listed of.now.arcs) of.now.levels of.now.total self.new }
+        ensures marked { AreMarked (Listed of.now.arcs) of.now.levels of.now.total low high self.new }
     {
-        mark_before(of, &rule, self.before.as_mut_slice());
-        mark_after(of, &rule, self.after.as_mut_slice());
+        mark_before(of, &rule, low, high, first, self.before.as_mut_slice());
+        mark_after(of, &rule, low, high, last, self.after.as_mut_slice());
         self.rule = rule;
     }
 
-    /// Whether the rule allows the arc, and both its ends are marked.
+    /// The sums to which reached arcs lead that leave queue `level` with `before` customers before it.
     #[inline]
-    pub(crate) fn is_useful(&self, arc: Arc) -> bool
-        requires level { arc.level < 32 }
-        requires sum { arc.before + arc.value ≤ 256 }
-        ensures { IsTrue result ↔ IsReached self.now arc.level arc.before arc.value }
+    pub(crate) fn kept(&self, of: &Arcs, level: u8, before: u16) -> Sums
+        requires level { level < of.now.levels }
+        requires before { before ≤ of.now.total }
+        ensures arcs { (v : ℕ) → Leads result before v ↔ Keeps (Listed of.now.arcs) self.now level before v }
+        ensures ranged { (t : ℕ) → t < 320 → has result t ≡ true → (before ≤ t) × (t ≤ of.now.total) }
     {
-        self.rule.window(arc.level).holds(arc.value)
-            && self.before[end_of(arc.level, arc.before)]
-            && self.after[end_of(arc.level + 1, arc.before + arc.value)]
+        // Called for their clauses: the arcs are in range.
+        let _levels = of.levels();
+        let _total = of.total();
+        if !self.before[level as usize].holds(before) {
+            return Sums::none();
+        }
+        windowed(of, level, before, self.rule.window(level)).and(&self.after[level as usize + 1])
     }
 }
 
@@ -133,47 +198,36 @@ impl Reach {
         let changing = Marks::reserve(alloc)?;
         let short = Marks::reserve(alloc)?;
         let full = Marks::reserve(alloc)?;
+        let next = no_sums(alloc, 257)?;
         Ok(Reach {
             changing,
             short,
             full,
+            next,
         })
     }
 
     /// Marks the ends of the useful arcs of the states that a move changes, of those whose source is short, and of
-    /// those whose target is full.
+    /// those whose target is full, at the move's queues and between them. All arcs of the set are useful.
     pub(crate) fn mark(&mut self, of: &Arcs, from: u8, k: u16, to: u8, room: u16)
-        requires { from ≢ to }
-        ensures changing { TellsUseful (Listed of.now.arcs) of.now.levels of.now.total (IsChanging from k to room) self.new.changing }
-        ensures short { TellsUseful (Listed of.now.arcs) of.now.levels of.now.total (IsShort from k) self.new.short }
-        ensures full { TellsUseful (Listed of.now.arcs) of.now.levels of.now.total (IsFull to room) self.new.full }
+        requires source { from < of.now.levels }
+        requires target { to < of.now.levels }
+        requires apart { from ≢ to }
+        requires whole { (l s v : ℕ) → Listed of.now.arcs l s v → Useful (Listed of.now.arcs) of.now.levels of.now.total l s v }
+        ensures changing { TellsUseful (Listed of.now.arcs) of.now.levels of.now.total (min from to) (max from to) (IsChanging from k to room) self.new.changing }
+        ensures short { TellsUseful (Listed of.now.arcs) of.now.levels of.now.total (min from to) (max from to) (IsShort from k) self.new.short }
+        ensures full { TellsUseful (Listed of.now.arcs) of.now.levels of.now.total (min from to) (max from to) (IsFull to room) self.new.full }
     {
-        // Called for its clauses: the arcs are in range.
+        // Called for its clause: the arcs are in range.
         let _total = of.total();
-        self.changing.mark(of, Rule::changing(from, k, to, room));
-        self.short.mark(of, Rule::short(from, k));
-        self.full.mark(of, Rule::full(to, room));
-    }
-
-    /// Whether the arc is one of a state.
-    #[inline]
-    pub(crate) fn holds(&self, arc: Arc) -> bool
-        requires level { arc.level < 32 }
-        requires sum { arc.before + arc.value ≤ 256 }
-        ensures { IsTrue result
-            ↔ (IsReached self.now.changing arc.level arc.before arc.value
-            ⊎ (IsReached self.now.short arc.level arc.before arc.value ⊎ IsReached self.now.full arc.level arc.before arc.value)) }
-    {
-        self.changing.is_useful(arc) || self.keeps(arc)
-    }
-
-    /// Whether the arc is one of a state whose source is short, or whose target is full.
-    #[inline]
-    pub(crate) fn keeps(&self, arc: Arc) -> bool
-        requires level { arc.level < 32 }
-        requires sum { arc.before + arc.value ≤ 256 }
-        ensures { IsTrue result ↔ (IsReached self.now.short arc.level arc.before arc.value ⊎ IsReached self.now.full arc.level arc.before arc.value) }
-    {
-        self.short.is_useful(arc) || self.full.is_useful(arc)
+        let low = from.min(to);
+        let high = from.max(to);
+        let all = Sums::all();
+        let changing = Rule::changing(from, k, to, room);
+        let short = Rule::short(from, k);
+        let full = Rule::full(to, room);
+        self.changing.mark(of, changing, low, high, all, all);
+        self.short.mark(of, short, low, high, all, all);
+        self.full.mark(of, full, low, high, all, all);
     }
 }

@@ -20,18 +20,17 @@ fn capacities() -> State
 #[test]
 fn moves_a_customer(rt: HostRuntime) -> Result<(), Fail> {
     let caps = capacities();
-    let mut all = Arcs::reserve(rt.alloc(), 2, 1)?;
-    let mut held = Arcs::reserve(rt.alloc(), 2, 1)?;
+    let mut arcs = Arcs::reserve(rt.alloc(), 2, 1)?;
     let mut reach = Reach::reserve(rt.alloc())?;
-    all.fill(&caps);
-    assert_eq!(rt; all.len(), 6);
-    held.keep_useful(&all, &mut reach);
-    assert_eq!(rt; held.len(), 4);
-    assert_eq!(rt; held.first(0, 0), Some((1, true)));
-    all.step(&held, 0, 1, 1, 1, &mut reach);
-    assert_eq!(rt; all.len(), 2);
-    assert_eq!(rt; all.first(0, 0), Some((0, false)));
-    assert_eq!(rt; all.first(1, 0), Some((1, false)));
-    assert_eq!(rt; all.first(1, 1), None);
+    arcs.fill(&caps);
+    assert_eq!(rt; arcs.len(), 6);
+    arcs.keep_useful(&mut reach);
+    assert_eq!(rt; arcs.len(), 4);
+    assert_eq!(rt; arcs.first(0, 0), Some((0, true)));
+    arcs.step(0, 1, 1, 1, &mut reach);
+    assert_eq!(rt; arcs.len(), 2);
+    assert_eq!(rt; arcs.first(0, 0), Some((0, false)));
+    assert_eq!(rt; arcs.first(1, 0), Some((1, false)));
+    assert_eq!(rt; arcs.first(1, 1), None);
     Ok(())
 }

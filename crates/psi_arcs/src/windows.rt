@@ -1,6 +1,6 @@
 //! Rules on the customers of queues: at most two queues have a window of numbers.
 
-ghost use Rattle.std.specs.Prelude.{◌≡◌, ◌≢◌, ℕ, ◌<◌, ◌^◌, ◌↔◌, IsTrue, true, false, length, get_or};
+ghost use Rattle.std.specs.Prelude.{◌≡◌, ◌≢◌, ℕ, ◌<◌, ◌^◌, ◌↔◌, IsTrue};
 ghost use Rattle.psi_arcs.specs.Windows.{IsWithin, window_at, Allows};
 ghost use Rattle.psi_arcs.specs.Joining.{IsChanging, IsShort, IsFull};
 
@@ -27,22 +27,12 @@ const END: u32 = 65_536;
 const ANY: Window = Window { least: 0, end: END };
 
 impl Window {
-    /// Whether the number is in the window.
+    /// Whether every number of 16 bits is in the window.
     #[inline]
-    pub(crate) fn holds(self, value: u16) -> bool
-        ensures { IsTrue result ↔ IsWithin self value }
+    pub(crate) fn is_any(self) -> bool
+        ensures { IsTrue result → (v : ℕ) → v < 2 ^ 16 → IsWithin self v }
     {
-        let value = u32::from(value);
-        self.least <= value && value < self.end
-    }
-
-    /// Whether the number is in the window, and the end is marked.
-    #[inline]
-    pub(crate) fn opens(self, value: u16, marks: &[bool], end: usize) -> bool
-        requires { end < length marks.now }
-        ensures { IsTrue result ↔ (IsWithin self value × (get_or marks.now end false ≡ true)) }
-    {
-        self.holds(value) && marks[end]
+        self.least == 0 && self.end == END
     }
 }
 

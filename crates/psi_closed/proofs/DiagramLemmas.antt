@@ -9,7 +9,7 @@ use Rattle.psi_state.proofs.BoxesLemmas.{below-cons}
 use Rattle.psi_state.specs.Members.{In}
 use Rattle.psi_state.specs.Sets.{image}
 use Rattle.psi_state.proofs.SetsLemmas.{In-image, In-of_image}
-use Rattle.psi_arcs.specs.declared.nodes.Arc.{Arc}
+use Rattle.psi_arcs.specs.declared.ends.Arc.{Arc}
 use Rattle.psi_arcs.specs.Walks.{customers, Held, IsArc, Useful}
 use Rattle.psi_arcs.specs.Held.{ArcList, Listed, IsAny}
 use Rattle.psi_arcs.specs.Joining.{Joined}
@@ -149,22 +149,26 @@ stepped-arcs caps k n room m old new is whole long top joined =
     (subst (λ j. (l s v : ℕ) → Listed new l s v ↔ Joined (Listed old) (length caps) k m.from m.k m.to j l s v) top
     (subst (λ j. (l s v : ℕ) → Listed new l s v ↔ Joined (Listed old) j k m.from m.k m.to room l s v) long joined))
 
+-- each arc of a diagram is useful
+pub whole-useful : (caps : List ℕ) (k n : ℕ) (arcs : List Arc) → AreWhole caps k arcs → n ≡ length caps → (l s v : ℕ) → Listed arcs l s v → Useful (Listed arcs) n k l s v
+whole-useful caps k n arcs whole long l s v listed =
+    let found = whole.each l s v listed in
+    subst (λ m. Useful (Listed arcs) m k l s v) (sym long) (held-useful (Listed arcs) (length caps) k l s v found.state (state-walk caps k arcs found.state found.held) found.own)
+
 -- as the arcs of a list of states are told
 pub put-arcs : (caps : List ℕ) (k : ℕ) (arcs : List Arc) (xs : List (List ℕ)) → ((l s v : ℕ) → Listed arcs l s v ↔ Listed (all_arcs xs) l s v)
     → ((x : List ℕ) → In x xs → IsOfTotal caps k x) → AreArcsOf caps k arcs xs
 put-arcs caps k arcs xs same each = record { there = λ l s v. (same l s v).0; back = λ l s v. (same l s v).1; of = each }
 
 -- the arcs of states, one of them at least, make a diagram
-pub diagram-is : (caps : List ℕ) (k : ℕ) (held spare : ArcList) (xs : List (List ℕ)) (x : List ℕ) → AreCapacities caps → IsTotal caps k → held.levels ≡ length caps
-    → held.total ≡ k → spare.levels ≡ length caps → spare.total ≡ k → AreArcsOf caps k held.arcs xs → In x xs → IsDiagram caps held spare
-diagram-is caps k held spare xs x valid fits levels total spare_levels spare_total are member =
+pub diagram-is : (caps : List ℕ) (k : ℕ) (held : ArcList) (xs : List (List ℕ)) (x : List ℕ) → AreCapacities caps → IsTotal caps k → held.levels ≡ length caps
+    → held.total ≡ k → AreArcsOf caps k held.arcs xs → In x xs → IsDiagram caps held
+diagram-is caps k held xs x valid fits levels total are member =
     let own : AreArcsOf caps held.total held.arcs xs = subst (λ n. AreArcsOf caps n held.arcs xs) (sym total) are in
     record {
       valid = valid;
       fits = subst (λ n. IsTotal caps n) (sym total) fits;
       levels = levels;
-      spare_levels = spare_levels;
-      spare_total = spare_total ∙ sym total;
       whole = arcs_of-whole caps held.total held.arcs xs own;
       some = (x, arcs_of-has caps held.total held.arcs xs x own member);
     }

@@ -7,7 +7,7 @@ use Rattle.psi_state.specs.Sets.{single}
 use Rattle.psi_state.proofs.MembersLemmas.{In-append, In-append_left, In-append_right}
 use Rattle.psi_state.proofs.BoxesLemmas.{same-from_below}
 use Rattle.psi_state.proofs.SetsLemmas.{single-apart}
-use Rattle.psi_arcs.specs.declared.nodes.Arc.{Arc}
+use Rattle.psi_arcs.specs.declared.ends.Arc.{Arc}
 use Rattle.psi_arcs.specs.Walks.{customers, Held, IsArc}
 use Rattle.psi_arcs.specs.Held.{Listed, IsThis, IsFirst}
 use Rattle.psi_closed.specs.Closed.{all_arcs, held_states}

@@ -9,7 +9,7 @@ use Rattle.psi_state.specs.State.{IsBelow, numbers_from, all_states}
 use Rattle.psi_state.specs.Members.{AreAmong}
 use Rattle.psi_state.specs.Sets.{image, single}
 use Rattle.psi_rate.specs.Composition.{Functions}
-use Rattle.psi_arcs.specs.declared.nodes.Arc.{Arc}
+use Rattle.psi_arcs.specs.declared.ends.Arc.{Arc}
 use Rattle.psi_arcs.specs.Walks.{customers}
 
 -- a state of the capacities that holds k customers

@@ -2,7 +2,7 @@
 use Rattle.std.specs.Prelude.{◌≡◌, ◌≢◌, ℕ, ◌≤◌, List, length}
 use Rattle.psi_state.specs.State.{AreCapacities}
 use Rattle.psi_state.specs.Members.{In}
-use Rattle.psi_arcs.specs.declared.nodes.Arc.{Arc}
+use Rattle.psi_arcs.specs.declared.ends.Arc.{Arc}
 use Rattle.psi_arcs.specs.Walks.{customers, IsArc}
 use Rattle.psi_arcs.specs.Held.{ArcList, Listed}
 use Rattle.psi_closed.specs.Closed.{IsOfTotal, all_arcs, held_states}
@@ -28,13 +28,11 @@ pub record IsHeldArc (caps : List ℕ) (k : ℕ) (arcs : List Arc) (l s v : ℕ)
 pub record AreWhole (caps : List ℕ) (k : ℕ) (arcs : List Arc) : Type 0 where
   pub each : (l s v : ℕ) → Listed arcs l s v → IsHeldArc caps k arcs l s v
 
--- what every diagram keeps: each of its arcs is an arc of a held state, at least one state is held, and there is room for as many arcs again
-pub record IsDiagram (caps : List ℕ) (held spare : ArcList) : Type 0 where
+-- what every diagram keeps: each of its arcs is an arc of a held state, and at least one state is held
+pub record IsDiagram (caps : List ℕ) (held : ArcList) : Type 0 where
   pub valid : AreCapacities caps
   pub fits : IsTotal caps held.total
   pub levels : held.levels ≡ length caps
-  pub spare_levels : spare.levels ≡ length caps
-  pub spare_total : spare.total ≡ held.total
   pub whole : AreWhole caps held.total held.arcs
   pub some : (x : List ℕ) × In x (held_states caps held.total held.arcs)
 

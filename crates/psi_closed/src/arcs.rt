@@ -12,18 +12,14 @@ use psi_arcs::{Arc, Arcs, Reach};
 use psi_state::State;
 
 // The arcs of all states of the total.
-pub(crate) fn put_all(held: &mut Arcs, spare: &mut Arcs, reach: &mut Reach, caps: &State)
+pub(crate) fn put_all(held: &mut Arcs, reach: &mut Reach, caps: &State)
     requires levels { held.old.levels ≡ length caps.now }
-    requires spare_levels { spare.old.levels ≡ length caps.now }
-    requires spare_total { spare.old.total ≡ held.old.total }
     ensures levels { held.new.levels ≡ length caps.now }
     ensures total { held.new.total ≡ held.old.total }
-    ensures spare_levels { spare.new.levels ≡ length caps.now }
-    ensures spare_total { spare.new.total ≡ held.old.total }
     ensures arcs { AreArcsOf caps.now held.old.total held.new.arcs (total_states caps.now held.old.total) }
 {
-    spare.fill(caps);
-    held.keep_useful(spare, reach);
+    held.fill(caps);
+    held.keep_useful(reach);
 }
 
 // Puts in the arcs of these states, where there is none yet.

@@ -24,9 +24,8 @@ use std::marker::Model;
 #[derive(Drop)]
 pub struct Diagram {
     caps: State,
-    // The arcs of the held states, and the room for those after a step.
+    // The arcs of the held states.
     held: Arcs,
-    spare: Arcs,
     reach: Reach,
 }
 
@@ -38,12 +37,12 @@ impl Model for Diagram {
 
     ghost view = { λ d. record { caps = d.caps; total = d.held.total; states = held_states d.caps d.held.total d.held.arcs } };
 
-    ghost invariant = { λ d. IsDiagram d.caps d.held d.spare };
+    ghost invariant = { λ d. IsDiagram d.caps d.held };
 }
 
 impl Diagram {
     /// The diagram of all states of these capacities that hold `total` customers, 0 to 256 and no more than the
-    /// queues have room for. It takes the room for as many arcs as any such states have, twice.
+    /// queues have room for. It takes the room for the arcs of any such states.
     ///
     /// `OutOfMemory` is the answer where there is no memory for it; no clause says when that is.
     pub fn reserve(alloc: Global, caps: State, total: u16) -> Result<Diagram, OutOfMemory>
@@ -53,13 +52,11 @@ impl Diagram {
     {
         let levels = caps.len();
         let mut held = Arcs::reserve(alloc, levels, total)?;
-        let mut spare = Arcs::reserve(alloc, levels, total)?;
         let mut reach = Reach::reserve(alloc)?;
-        put_all(&mut held, &mut spare, &mut reach, &caps);
+        put_all(&mut held, &mut reach, &caps);
         Ok(Diagram {
             caps,
             held,
-            spare,
             reach,
         })
     }
@@ -68,7 +65,7 @@ impl Diagram {
     pub fn start(&mut self)
         ensures { self.new ≡ record self.old { states = total_states self.old.caps self.old.total } }
     {
-        put_all(&mut self.held, &mut self.spare, &mut self.reach, &self.caps);
+        put_all(&mut self.held, &mut self.reach, &self.caps);
     }
 
     /// Holds the arc hull of these states: the states of the total each of whose arcs is an arc of one of them. At
@@ -92,9 +89,7 @@ impl Diagram {
         ensures { self.new ≡ record self.old { states = arc_hull self.old.caps self.old.total (image (moved self.old.caps m.now) self.old.states) } }
     {
         let room = self.caps.get(m.to);
-        self.spare
-            .step(&self.held, m.from, m.k, m.to, room, &mut self.reach);
-        std::mem::swap(&mut self.held, &mut self.spare);
+        self.held.step(m.from, m.k, m.to, room, &mut self.reach);
     }
 
     /// Whether the state is held. It is within the capacities; one with another number of customers isn't held.

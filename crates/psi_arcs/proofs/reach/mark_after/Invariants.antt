@@ -7,8 +7,9 @@ use Rattle.psi_arcs.proofs.reach.mark_after.Given as goal
 
 abbrev pub invariant-loop-level : goal.invariant-loop-level
 invariant-loop-level l = record {
-  within : l.level ≤ l.of.levels;
-  marked : MarkAfter (Only (Listed l.of.arcs) (Allows l.rule)) l.of.levels l.of.total l.level l.marks;
+  low : l.low ≤ l.level;
+  high : l.level ≤ l.high;
+  marked : MarkAfter (Listed l.of.arcs) (Only (Listed l.of.arcs) (Allows l.rule)) l.of.levels l.of.total l.level l.high l.marks;
 }
 
 abbrev pub decreases-loop-level : goal.decreases-loop-level

@@ -1,10 +1,40 @@
 -- Answers in the proof of `mark_before`.
-use Rattle.std.proofs.Common.{◌+◌, arith}
-use Rattle.psi_arcs.proofs.Marked.{before-next}
+use Rattle.std.proofs.Common.{◌≡◌, [], subst, arith, length-set}
+use Rattle.psi_arcs.specs.Held.{Listed}
+use Rattle.psi_arcs.specs.Joining.{Only}
+use Rattle.psi_arcs.specs.Windows.{Allows, MarkBefore}
+use Rattle.psi_arcs.proofs.RowsLemmas.{read-default}
+use Rattle.psi_arcs.proofs.Marked.{behind-begun, behind-next}
 use Rattle.psi_arcs.proofs.reach.mark_before.Goals as goal
+
+pub loop-level-init : goal.loop-level-init
+loop-level-init c =
+    let of = c.args.of.now in
+    let few = c.levels-levels.ensures.few in
+    let order = c.requires.order in
+    let inside = c.requires.inside in
+    let room = c.requires.room in
+    behind-begun of.arcs c.args.rule.now of.levels of.total c.total-total.ensures.ranged c.total-total.ensures.small c.args.low c.args.marks.now c.args.first (omega arith) c.requires.begin
 
 pub loop-level-preserved : goal.loop-level-preserved
 loop-level-preserved c =
-    before-next c.args.of.now.arcs c.args.rule.now c.args.of.now.levels c.args.of.now.total c.total.ensures.ranged
-    c.loop-level.level (c.loop-level.level + 1) c.window.result c.loop-level.marks c.mark_next.new.marks (omega arith) c.window.ensures
-    c.loop-level.invariant c.mark_next.ensures.row c.mark_next.ensures.rest
+    let of = c.args.of.now in
+    let few = c.levels-levels.ensures.few in
+    let inside = c.requires.inside in
+    let room = c.requires.room in
+    let long = c.loop-level.auto.marks in
+    let size = length-set c.args.marks.now c.args.low c.args.first in
+    let test = c.loop-level-test.true in
+    let low = c.loop-level.auto.level in
+    behind-next of.arcs c.args.rule.now of.levels of.total c.total-total.ensures.ranged c.total-total.ensures.small c.args.low c.loop-level.level c.window.result c.loop-level.marks
+    _ c.marks_past-past.result (omega arith) (omega arith) (read-default c.loop-level.marks c.loop-level.level (record { words = [] }) (omega arith)) c.window.ensures
+    c.marks_past-past.ensures c.loop-level.invariant
+
+pub returns : goal.returns
+returns c =
+    let of = c.args.of.now in
+    let test = c.loop-level-test.false in
+    let order = c.requires.order in
+    let end = c.loop-level.auto.level-end in
+    let same : c.loop-level.level ≡ c.args.high = omega arith in
+    subst (λ k. MarkBefore (Listed of.arcs) (Only (Listed of.arcs) (Allows c.args.rule.now)) c.args.low k c.loop-level.marks) same c.loop-level.invariant

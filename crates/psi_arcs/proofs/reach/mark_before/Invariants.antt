@@ -5,4 +5,4 @@ use Rattle.psi_arcs.specs.Windows.{Allows, MarkBefore}
 use Rattle.psi_arcs.proofs.reach.mark_before.Given as goal
 
 abbrev pub invariant-loop-level : goal.invariant-loop-level
-invariant-loop-level l = MarkBefore (Only (Listed l.of.arcs) (Allows l.rule)) l.level l.of.total l.marks
+invariant-loop-level l = MarkBefore (Listed l.of.arcs) (Only (Listed l.of.arcs) (Allows l.rule)) l.low l.level l.marks

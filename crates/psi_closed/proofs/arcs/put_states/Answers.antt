@@ -1,7 +1,7 @@
 -- Answers in the proof of `put_states`.
 use Rattle.std.proofs.Common.{refl, ◌≡◌, ◌∙◌, List, ℕ, sym, subst, inl, inr, arith, take}
 use Rattle.std.proofs.lemmas.List.{take_all}
-use Rattle.psi_arcs.specs.declared.nodes.Arc.{Arc}
+use Rattle.psi_arcs.specs.declared.ends.Arc.{Arc}
 use Rattle.psi_arcs.specs.Held.{Listed}
 use Rattle.psi_closed.specs.Closed.{all_arcs}
 use Rattle.psi_closed.proofs.ArcsLemmas.{arc}

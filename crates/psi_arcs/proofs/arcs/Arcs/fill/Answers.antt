@@ -1,38 +1,32 @@
 -- Answers in the proof of `Arcs::fill`.
-use Rattle.std.proofs.Common.{◌↔◌, ◌⊎◌, ◌∙◌, inl, inr, subst, arith}
-use Rattle.psi_arcs.specs.Held.{Listed, LeavesQueue}
-use Rattle.psi_arcs.proofs.Filled.{any-more}
+use Rattle.std.proofs.Common.{◌∙◌, arith}
+use Rattle.psi_arcs.specs.Held.{IsAny}
+use Rattle.psi_arcs.proofs.RowsLemmas.{arc_of}
+use Rattle.psi_arcs.proofs.Putting.{done-more, done-all}
 use Rattle.psi_arcs.proofs.arcs.Arcs.fill.Goals as goal
-
-pub fill_queue-requires-clause-absent : goal.fill_queue-requires-clause-absent
-fill_queue-requires-clause-absent c s v member = (let place = ((c.loop-level.invariant.arcs c.loop-level.level s v).0 member).place in omega arith)
 
 pub loop-level-preserved : goal.loop-level-preserved
 loop-level-preserved c =
     let test = c.loop-level-test.true in
     let levels = c.levels-level-end.ensures.value in
-    let cleared = c.clear.ensures.levels in
     let count = c.requires in
+    let total = c.loop-level.invariant.total in
     record {
       levels = c.fill_queue.ensures.levels ∙ c.loop-level.invariant.levels;
       total = c.fill_queue.ensures.total ∙ c.loop-level.invariant.total;
-      arcs = λ i s v. (let before = c.loop-level.invariant.arcs i s v in
-          let queue = subst (λ k. Listed c.fill_queue.new.self.arcs i s v ↔ (Listed c.loop-level.self.arcs i s v ⊎ LeavesQueue c.loop-level.level c.get.result k i s v))
-          c.loop-level.invariant.total (c.fill_queue.ensures.arcs i s v) in
-          let more = any-more c.args.caps.now c.args.self.now.total c.loop-level.level c.get.result i s v (omega arith) c.get.ensures in (
-            λ member. elim (queue.0 member) [ inl old ↦ more.0 (inl (before.0 old)) | inr new ↦ more.0 (inr new) ],
-            λ any. elim (more.1 any) [ inl old ↦ queue.1 (inl (before.1 old)) | inr new ↦ queue.1 (inr new) ],
-          ));
+      done = done-more 0 (IsAny c.args.caps.now c.args.self.now.total) c.args.self.now.arcs c.loop-level.self.arcs c.fill_queue.new.self.arcs c.loop-level.level
+          c.loop-level.invariant.done (omega arith)
+          (λ s v. (let own = c.fill_queue.ensures.own s v in let most = c.get.ensures in (
+            λ member. (let both = own.0 member in let few = both.0 in let sum = both.1 in record { place = omega arith; own = omega arith; sum = omega arith }),
+            λ any. (let few = any.own in let sum = any.sum in own.1 (omega arith, omega arith)),
+          )))
+          c.fill_queue.ensures.others;
     }
 
 pub returns-clause-arcs : goal.returns-clause-arcs
-returns-clause-arcs c l s v =
+returns-clause-arcs c =
     let test = c.loop-level-test.false in
-    let end = c.loop-level.auto.level-end in
     let levels = c.levels-level-end.ensures.value in
-    let cleared = c.clear.ensures.levels in
     let count = c.requires in
-    let all = c.loop-level.invariant.arcs l s v in (
-      λ member. (all.0 member).any,
-      λ any. all.1 (record { any = any; place = (let place = any.place in omega arith) }),
-    )
+    done-all (IsAny c.args.caps.now c.args.self.now.total) c.args.self.now.arcs c.loop-level.self.arcs c.loop-level.level c.loop-level.invariant.done
+    (λ l s v member. (let place = (c.total-total.ensures.ranged (arc_of l s v) member).place in omega arith)) (λ l s v any. (let place = any.place in omega arith))

@@ -1,36 +1,23 @@
 -- Answers in the proof of `Arcs::fill_queue`.
-use Rattle.std.proofs.Common.{◌≡◌, ◌+◌, ◌↔◌, ◌⊎◌, inl, inr, ◌∙◌, subst, arith}
-use Rattle.psi_arcs.specs.Held.{Listed, LeavesEnd, LeavesQueue}
-use Rattle.psi_arcs.proofs.Given.{more-both, more-same}
-use Rattle.psi_arcs.proofs.Filled.{QueueBelow, queue-more, queue-all}
+use Rattle.std.proofs.Common.{◌+◌, ◌≤◌, ◌∙◌, arith}
+use Rattle.psi_arcs.proofs.RowsLemmas.{arc_of}
+use Rattle.psi_arcs.proofs.Putting.{put-more, put-all, iff-trans, reached-leads}
 use Rattle.psi_arcs.proofs.arcs.Arcs.fill_queue.Goals as goal
-
-pub fill_end-requires-clause-absent : goal.fill_end-requires-clause-absent
-fill_end-requires-clause-absent c v member = elim ((c.loop-before.invariant.arcs c.args.level c.loop-before.before v).0 member) [
-  | inl old ↦ c.requires.absent c.loop-before.before v old
-  | inr below ↦ (let start = below.start in omega arith)
-]
 
 pub loop-before-preserved : goal.loop-before-preserved
 loop-before-preserved c = record {
-  levels = c.fill_end.ensures.levels ∙ c.loop-before.invariant.levels;
-  total = c.fill_end.ensures.total ∙ c.loop-before.invariant.total;
-  arcs = λ i s v. more-both (Listed c.fill_end.new.self.arcs i s v) (Listed c.loop-before.self.arcs i s v) (Listed c.args.self.now.arcs i s v)
-      (LeavesEnd c.args.level c.loop-before.before c.args.most c.args.self.now.total i s v) (QueueBelow c.args.level c.args.most c.args.self.now.total c.loop-before.before i s v)
-      (QueueBelow c.args.level c.args.most c.args.self.now.total (c.loop-before.before + 1) i s v)
-      (subst (λ k. Listed c.fill_end.new.self.arcs i s v ↔ (Listed c.loop-before.self.arcs i s v ⊎ LeavesEnd c.args.level c.loop-before.before c.args.most k i s v))
-      c.loop-before.invariant.total (c.fill_end.ensures.arcs i s v))
-      (c.loop-before.invariant.arcs i s v) (queue-more c.args.level c.args.most c.args.self.now.total c.loop-before.before i s v);
+  levels = c.put.ensures.levels ∙ c.loop-before.invariant.levels;
+  total = c.put.ensures.total ∙ c.loop-before.invariant.total;
+  done = put-more c.args.level (λ s v. (v ≤ c.args.most) × (s + v ≤ c.args.self.now.total)) c.args.self.now.arcs c.loop-before.self.arcs c.put.new.self.arcs c.loop-before.before
+      c.loop-before.invariant.done (λ v. iff-trans (c.put.ensures.own v) (reached-leads c.reached.result c.loop-before.before c.args.most c.total-total.result c.args.self.now.total c.total-total.ensures.value (let small = c.total-total.ensures.small in let same = c.total-total.ensures.value in omega arith) c.reached.ensures v)) c.put.ensures.others;
 }
 
-pub returns-clause-arcs : goal.returns-clause-arcs
-returns-clause-arcs c l s v =
-    let test = c.loop-before-test.false in
-    let end = c.loop-before.auto.before-end in
-    let total = c.total-before-end.ensures.value in
-    let last : c.loop-before.before ≡ c.args.self.now.total + 1 = omega arith in
-    more-same (Listed c.loop-before.self.arcs l s v) (Listed c.args.self.now.arcs l s v) (QueueBelow c.args.level c.args.most c.args.self.now.total (c.args.self.now.total + 1) l s v)
-    (LeavesQueue c.args.level c.args.most c.args.self.now.total l s v)
-    (subst (λ k. Listed c.loop-before.self.arcs l s v ↔ (Listed c.args.self.now.arcs l s v ⊎ QueueBelow c.args.level c.args.most c.args.self.now.total k l s v)) last
-    (c.loop-before.invariant.arcs l s v))
-    (queue-all c.args.level c.args.most c.args.self.now.total l s v)
+pub returns-clause-own : goal.returns-clause-own
+returns-clause-own c =
+    let end = c.loop-before-test.false in
+    let same = c.total-total.ensures.value in
+    put-all c.args.level c.args.self.now.total (λ s v. (v ≤ c.args.most) × (s + v ≤ c.args.self.now.total)) c.args.self.now.arcs c.loop-before.self.arcs c.loop-before.before c.loop-before.invariant.done (omega arith)
+    (λ s v member. (let sum = (c.total-total.ensures.ranged (arc_of c.args.level s v) member).sum in omega arith)) (λ s v given. (let sum = given.1 in omega arith))
+
+pub returns-clause-others : goal.returns-clause-others
+returns-clause-others c l s v other = c.loop-before.invariant.done.rest l s v (λ e less. other e)

@@ -1,54 +1,65 @@
 -- Answers in the proof of `Arcs::keep_useful`.
-use Rattle.std.proofs.Common.{◌+◌, ◌↔◌, ℕ, List, take, ◌∙◌, subst, arith}
-use Rattle.std.proofs.lemmas.List.{take_all}
-use Rattle.psi_arcs.specs.declared.nodes.Arc.{Arc}
+use Rattle.std.proofs.Common.{◌≡◌, ◌+◌, ◌-◌, ◌↔◌, ℕ, suc, true, ◌∙◌, subst, sym, arith}
+use Rattle.psi_arcs.specs.Sums.{has}
+use Rattle.psi_arcs.specs.Walks.{After, Useful}
 use Rattle.psi_arcs.specs.Held.{Listed}
 use Rattle.psi_arcs.specs.Joining.{Only}
-use Rattle.psi_arcs.specs.Marking.{Keeps}
-use Rattle.psi_arcs.proofs.WalksLemmas.{useful-map}
+use Rattle.psi_arcs.specs.Windows.{Allows}
+use Rattle.psi_arcs.proofs.RowsLemmas.{arc_of}
+use Rattle.psi_arcs.proofs.WalksLemmas.{before-zero, after-end, useful-map}
 use Rattle.psi_arcs.proofs.Marked.{tells-useful}
-use Rattle.psi_arcs.proofs.Given.{IsGiven, given-more, in-read, keeps-absent, kept-useful}
+use Rattle.psi_arcs.proofs.Putting.{done-more, done-next, done-all, iff-trans, keeps-same, keeps-useful}
 use Rattle.psi_arcs.proofs.arcs.Arcs.keep_useful.Goals as goal
 
-pub keep-requires-clause-level : goal.keep-requires-clause-level
-keep-requires-clause-level c =
-    let place = (c.total-total.ensures.ranged c.at.result (in-read c.args.of.now.arcs c.loop-place.place c.at.result c.at.ensures)).place in
-    let levels = c.loop-place.invariant.levels in
-    let same = c.requires.levels in
-    omega arith
+pub mark-requires-clause-first : goal.mark-requires-clause-first
+mark-requires-clause-first c s v listed =
+    let range = c.total-total.ensures.ranged (arc_of 0 s v) listed in
+    let sum = range.sum in
+    let few = c.total-total.ensures.small in
+    iff-trans (c.of.ensures s (omega arith)) (before-zero (Only (Listed c.args.self.now.arcs) (Allows c.any.result)) s)
 
-pub keep-requires-clause-sum : goal.keep-requires-clause-sum
-keep-requires-clause-sum c =
-    let sum = (c.total-total.ensures.ranged c.at.result (in-read c.args.of.now.arcs c.loop-place.place c.at.result c.at.ensures)).sum in
-    let total = c.loop-place.invariant.total in
-    let same = c.requires.total in
-    omega arith
+pub mark-requires-clause-last : goal.mark-requires-clause-last
+mark-requires-clause-last c s v listed =
+    let first = c.args.self.now in
+    let range = c.total-total.ensures.ranged (arc_of (c.levels-last.result - 1) s v) listed in
+    let sum = range.sum in
+    let few = c.total-total.ensures.small in
+    let value = c.total-total.ensures.value in
+    let some = c.levels-last.ensures.some in
+    let count = c.levels-last.ensures.value in
+    let last : first.levels ≡ suc (c.levels-last.result - 1) = omega arith in
+    let told = c.of-2.ensures (s + v) (omega arith) in
+    let after = after-end (Only (Listed first.arcs) (Allows c.any.result)) first.levels first.total (s + v) in
+    subst (λ k. (has c.of-2.result (s + v) ≡ true) ↔ After (Only (Listed first.arcs) (Allows c.any.result)) first.levels first.total k (s + v)) last
+    (λ given. after.0 (told.0 given ∙ value), λ reached. told.1 (after.1 reached ∙ sym value))
 
-pub keep-requires-clause-absent : goal.keep-requires-clause-absent
-keep-requires-clause-absent c =
-    let x = c.at.result in
-    keeps-absent c.args.of.now.arcs c.loop-place.place x c.len-place-end.ensures.distinct c.at.ensures c.mark.new.self c.loop-place.self.arcs
-    (c.loop-place.invariant.arcs x.level x.before x.value)
-
-pub loop-place-preserved : goal.loop-place-preserved
-loop-place-preserved c = record {
-  levels = c.keep.ensures.levels ∙ c.loop-place.invariant.levels;
-  total = c.keep.ensures.total ∙ c.loop-place.invariant.total;
-  arcs = λ i s v. given-more (Keeps c.mark.new.self) (take c.loop-place.place c.args.of.now.arcs) (take (c.loop-place.place + 1) c.args.of.now.arcs) c.at.result
-      c.loop-place.self.arcs c.keep.new.self.arcs i s v c.at.ensures (c.keep.ensures.arcs i s v) (c.loop-place.invariant.arcs i s v);
-}
+pub loop-level-preserved : goal.loop-level-preserved
+loop-level-preserved c =
+    let first = c.args.self.now in
+    let inv = c.loop-level.invariant in
+    let test = c.loop-level-test.true in
+    let P : ℕ → ℕ → Type 0 = λ _ _. Unit {0} in
+    let told = tells-useful first.arcs c.any.result first.levels first.total c.total-total.ensures.ranged c.total-total.ensures.small 0 (c.levels-last.result - 1) c.mark.new.self P
+    c.mark.ensures.marked c.mark.ensures.rule (λ i w small. (λ _. tt, λ _. c.any.ensures i w small)) in
+    record {
+      levels = c.keep_level.ensures.levels ∙ inv.levels;
+      total = c.keep_level.ensures.total ∙ inv.total;
+      done = done-more 0 (Useful (Listed first.arcs) first.levels first.total) first.arcs c.loop-level.self.arcs c.keep_level.new.self.arcs c.loop-level.level inv.done (omega arith)
+          (λ s v. iff-trans (c.keep_level.ensures.own s v) (iff-trans
+            (keeps-same (Listed c.loop-level.self.arcs) (Listed first.arcs) c.mark.new.self c.loop-level.level
+            (done-next 0 (Useful (Listed first.arcs) first.levels first.total) first.arcs c.loop-level.self.arcs c.loop-level.level inv.done) s v)
+            (iff-trans (keeps-useful (Listed first.arcs) first.levels first.total 0 (c.levels-last.result - 1) P c.mark.new.self told c.loop-level.level s v (omega arith) (omega arith))
+            (λ useful. useful-map (Only (Listed first.arcs) P) (Listed first.arcs) (λ i j w both. both.0) first.levels first.total c.loop-level.level s v useful,
+            λ useful. useful-map (Listed first.arcs) (Only (Listed first.arcs) P) (λ i j w listed. (listed, tt)) first.levels first.total c.loop-level.level s v useful))))
+          c.keep_level.ensures.others;
+    }
 
 pub returns-clause-arcs : goal.returns-clause-arcs
-returns-clause-arcs c l s v =
-    let of = c.args.of.now in
-    let P : ℕ → ℕ → Type 0 = λ _ _. Unit {0} in
-    let test = c.loop-place-test.false in
-    let count = c.len-place-end.ensures.value in
-    let all = take_all c.loop-place.place of.arcs (omega arith) in
-    let given = subst (λ (xs : List Arc). Listed c.loop-place.self.arcs l s v ↔ IsGiven (Keeps c.mark.new.self) xs l s v) all (c.loop-place.invariant.arcs l s v) in
-    let tells = tells-useful of.arcs c.any.result of.levels of.total c.total-total.ensures.ranged c.mark.new.self P c.total-total.ensures.small c.mark.ensures.marked c.mark.ensures.rule
-    (λ i w small. (λ _. tt, λ _. c.any.ensures i w small)) in
-    let kept = kept-useful of.arcs of.levels of.total P c.mark.new.self tells l s v in (
-      λ member. useful-map (Only (Listed of.arcs) P) (Listed of.arcs) (λ i j w both. both.0) of.levels of.total l s v (kept.0 (given.0 member)),
-      λ useful. given.1 (kept.1 (useful-map (Listed of.arcs) (Only (Listed of.arcs) P) (λ i j w listed. (listed, tt)) of.levels of.total l s v useful)),
-    )
+returns-clause-arcs c =
+    let first = c.args.self.now in
+    let test = c.loop-level-test.false in
+    let some = c.levels-last.ensures.some in
+    let count = c.levels-last.ensures.value in
+    done-all (Useful (Listed first.arcs) first.levels first.total) first.arcs c.loop-level.self.arcs c.loop-level.level c.loop-level.invariant.done
+    (λ l s v member. (let place = (c.total-total.ensures.ranged (arc_of l s v) member).place in omega arith))
+    (λ l s v useful. (let place = (c.total-total.ensures.ranged (arc_of l s v) useful.arc).place in omega arith))

@@ -1,13 +1,17 @@
 -- Invariants of the loops of `Arcs::step`.
-use Rattle.std.proofs.Common.{◌≡◌, ◌↔◌, ℕ, take}
+use Rattle.std.proofs.Common.{◌≡◌, min, max}
 use Rattle.psi_arcs.specs.Held.{Listed}
-use Rattle.psi_arcs.specs.Marking.{Gives}
-use Rattle.psi_arcs.proofs.Given.{IsGiven}
+use Rattle.psi_arcs.specs.Joining.{IsChanging, IsShort, IsFull, Joined}
+use Rattle.psi_arcs.specs.Marking.{TellsUseful}
+use Rattle.psi_arcs.proofs.Putting.{AreDone}
 use Rattle.psi_arcs.proofs.arcs.Arcs.step.Given as goal
 
-abbrev pub invariant-loop-place : goal.invariant-loop-place
-invariant-loop-place l = record {
+abbrev pub invariant-loop-level : goal.invariant-loop-level
+invariant-loop-level l = record {
   levels : l.self.levels ≡ l.fn.self.levels;
   total : l.self.total ≡ l.fn.self.total;
-  arcs : (i s v : ℕ) → Listed l.self.arcs i s v ↔ IsGiven (Gives l.reach l.from l.to) (take l.place l.of.arcs) i s v;
+  changing : TellsUseful (Listed l.fn.self.arcs) l.fn.self.levels l.fn.self.total (min l.from l.to) (max l.from l.to) (IsChanging l.from l.k l.to l.room) l.reach.changing;
+  short : TellsUseful (Listed l.fn.self.arcs) l.fn.self.levels l.fn.self.total (min l.from l.to) (max l.from l.to) (IsShort l.from l.k) l.reach.short;
+  full : TellsUseful (Listed l.fn.self.arcs) l.fn.self.levels l.fn.self.total (min l.from l.to) (max l.from l.to) (IsFull l.to l.room) l.reach.full;
+  done : AreDone (min l.from l.to) (Joined (Listed l.fn.self.arcs) l.fn.self.levels l.fn.self.total l.from l.k l.to l.room) l.fn.self.arcs l.self.arcs l.level;
 }

@@ -22,8 +22,7 @@ invariant_of-self c =
     let d = c.self.inside in
     let kept = c.self.invariant in
     let first = first-member c.args.states.now c.requires.some in
-    diagram-is d.caps d.held.total c.put_states.new.arcs d.spare c.args.states.now first.0 kept.valid kept.fits (omega arith) (omega arith) kept.spare_levels
-    kept.spare_total (arcs_are c) first.1
+    diagram-is d.caps d.held.total c.put_states.new.arcs c.args.states.now first.0 kept.valid kept.fits (omega arith) (omega arith) (arcs_are c) first.1
 
 pub returns : goal.returns
 returns c =

@@ -19,8 +19,8 @@ invariant_of-result c =
     let caps = c.args.caps in
     let k = c.args.total in
     let some = total-some caps k c.requires.fits.fits in
-    diagram-is caps k c.put_all.new.held c.put_all.new.spare (total_states caps k) some.0 c.requires.valid c.requires.fits c.put_all.ensures.levels
-    (c.put_all.ensures.total ∙ total_is c) c.put_all.ensures.spare_levels (c.put_all.ensures.spare_total ∙ total_is c) (arcs_are c)
+    diagram-is caps k c.put_all.new.held (total_states caps k) some.0 c.requires.valid c.requires.fits c.put_all.ensures.levels
+    (c.put_all.ensures.total ∙ total_is c) (arcs_are c)
     (In-total_states caps k some.0 some.1)
 
 pub returns : goal.returns

@@ -12,8 +12,8 @@ invariant_of-self c =
     let d = c.self.inside in
     let kept = c.self.invariant in
     let some = total-some d.caps d.held.total kept.fits.fits in
-    diagram-is d.caps d.held.total c.put_all.new.held c.put_all.new.spare (total_states d.caps d.held.total) some.0 kept.valid kept.fits c.put_all.ensures.levels
-    c.put_all.ensures.total c.put_all.ensures.spare_levels c.put_all.ensures.spare_total c.put_all.ensures.arcs (In-total_states d.caps d.held.total some.0 some.1)
+    diagram-is d.caps d.held.total c.put_all.new.held (total_states d.caps d.held.total) some.0 kept.valid kept.fits c.put_all.ensures.levels
+    c.put_all.ensures.total c.put_all.ensures.arcs (In-total_states d.caps d.held.total some.0 some.1)
 
 pub returns : goal.returns
 returns c =
