@@ -47,14 +47,14 @@ module _ (arcs : List Arc) (l : ℕ) (window : Window) (marks row old now : Sums
           record { enters = record { before = n; value = t - n; listed = arc.0; comes = sum; within = arc.1; marked = marked }; less = omega arith })
     ],
     λ below. (joined t small).1 (
-      let less = below.less in
-      elim (cases_lt below.enters.before n) [
-        | inl fits ↦ inl (before.1 (record { enters = below.enters; less = fits }))
-        | inr more ↦ (let same : below.enters.before ≡ n = omega arith in
-            let led = (leads below.enters.value).1 (subst (λ k. Listed arcs l k below.enters.value) same below.enters.listed, below.enters.within) in
-            let sum : n + below.enters.value ≡ t = ap (λ k. k + below.enters.value) (sym same) ∙ below.enters.comes in
-            inr (subst (λ k. has row k ≡ true) sum led.there))
-      ]),
+        let less = below.less in
+        elim (cases_lt below.enters.before n) [
+          | inl fits ↦ inl (before.1 (record { enters = below.enters; less = fits }))
+          | inr more ↦ (let same : below.enters.before ≡ n = omega arith in
+              let led = (leads below.enters.value).1 (subst (λ k. Listed arcs l k below.enters.value) same below.enters.listed, below.enters.within) in
+              let sum : n + below.enters.value ≡ t = ap (λ k. k + below.enters.value) (sym same) ∙ below.enters.comes in
+              inr (subst (λ k. has row k ≡ true) sum led.there))
+        ]),
   )
 
 -- a row leads to a marked end exactly where an arc exits there
@@ -86,10 +86,10 @@ module _ (arcs : List Arc) (rule : Rule) (n t : ℕ) (ranged : AreRanged n t arc
       → MarkBefore (Listed arcs) (Only (Listed arcs) (Allows rule)) low low (slice_set marks low first)
   behind-begun low marks first within begin = record {
     each = λ l s v above below listed. (
-      let e : low ≡ l = omega arith in
-      subst (λ k. (is_marked (slice_set marks low first) k s ≡ true) ↔ Before (Only (Listed arcs) (Allows rule)) k s) e
-      (subst (λ (x : Sums). (has x s ≡ true) ↔ Before (Only (Listed arcs) (Allows rule)) low s) (sym (read-own marks low first within))
-      (begin s v (subst (λ k. Listed arcs k s v) (sym e) listed))));
+        let e : low ≡ l = omega arith in
+        subst (λ k. (is_marked (slice_set marks low first) k s ≡ true) ↔ Before (Only (Listed arcs) (Allows rule)) k s) e
+        (subst (λ (x : Sums). (has x s ≡ true) ↔ Before (Only (Listed arcs) (Allows rule)) low s) (sym (read-own marks low first within))
+        (begin s v (subst (λ k. Listed arcs k s v) (sym e) listed))));
   }
 
   -- one queue more from the front
@@ -129,12 +129,12 @@ module _ (arcs : List Arc) (rule : Rule) (n t : ℕ) (ranged : AreRanged n t arc
       → MarkAfter (Listed arcs) (Only (Listed arcs) (Allows rule)) n t high high (slice_set marks (high + 1) last)
   ahead-begun high marks last within begin = record {
     each = λ l s v above below listed. (
-      let e : high ≡ l = omega arith in
-      let f : high + 1 ≡ suc high = omega arith in
-      subst (λ k. (is_marked (slice_set marks (high + 1) last) (suc k) (s + v) ≡ true) ↔ After (Only (Listed arcs) (Allows rule)) n t (suc k) (s + v)) e
-      (subst (λ (x : Sums). (has x (s + v) ≡ true) ↔ After (Only (Listed arcs) (Allows rule)) n t (suc high) (s + v))
-      (sym (ap (λ k. sums_at (slice_set marks (high + 1) last) k) (sym f) ∙ read-own marks (high + 1) last within))
-      (begin s v (subst (λ k. Listed arcs k s v) (sym e) listed))));
+        let e : high ≡ l = omega arith in
+        let f : high + 1 ≡ suc high = omega arith in
+        subst (λ k. (is_marked (slice_set marks (high + 1) last) (suc k) (s + v) ≡ true) ↔ After (Only (Listed arcs) (Allows rule)) n t (suc k) (s + v)) e
+        (subst (λ (x : Sums). (has x (s + v) ≡ true) ↔ After (Only (Listed arcs) (Allows rule)) n t (suc high) (s + v))
+        (sym (ap (λ k. sums_at (slice_set marks (high + 1) last) k) (sym f) ∙ read-own marks (high + 1) last within))
+        (begin s v (subst (λ k. Listed arcs k s v) (sym e) listed))));
   }
 
   -- one queue more from the back
@@ -176,8 +176,12 @@ module _ (arcs : List Arc) (rule : Rule) (n t : ℕ) (ranged : AreRanged n t arc
         let behind = (whole low s v listed).before in
         let sum = (ranged (arc_of low s v) listed).sum in
         let long = behind.1 in (
-          λ given. (behind.0, behind.1, walk-only (Listed arcs) (Only (Listed arcs) (Allows rule)) 0 0 behind.0 s
-              (λ l r u above below there. (let own = (ranged (arc_of l r u) there).sum in (there, free l u (omega arith) (omega arith)))) behind.2),
+          λ given. (
+            behind.0,
+            behind.1,
+            walk-only (Listed arcs) (Only (Listed arcs) (Allows rule)) 0 0 behind.0 s
+                (λ l r u above below there. (let own = (ranged (arc_of l r u) there).sum in (there, free l u (omega arith) (omega arith)))) behind.2,
+          ),
           λ before. full s (omega arith),
         )
 
@@ -186,8 +190,12 @@ module _ (arcs : List Arc) (rule : Rule) (n t : ℕ) (ranged : AreRanged n t arc
     whole-after high free s v listed =
         let ahead = (whole high s v listed).after in
         let sum = (ranged (arc_of high s v) listed).sum in (
-          λ given. (ahead.0, ahead.1, walk-only (Listed arcs) (Only (Listed arcs) (Allows rule)) (suc high) (s + v) ahead.0 t
-              (λ l r u above below there. (let own = (ranged (arc_of l r u) there).sum in (there, free l u (omega arith) (omega arith)))) ahead.2),
+          λ given. (
+            ahead.0,
+            ahead.1,
+            walk-only (Listed arcs) (Only (Listed arcs) (Allows rule)) (suc high) (s + v) ahead.0 t
+                (λ l r u above below there. (let own = (ranged (arc_of l r u) there).sum in (there, free l u (omega arith) (omega arith)))) ahead.2,
+          ),
           λ after. full (s + v) (omega arith),
         )
 

@@ -153,9 +153,10 @@ walk-allowed : (A : ℕ → ℕ → ℕ → Type 0) (P : ℕ → ℕ → Type 0)
     → Walk (Only A P) i s xs t
 walk-allowed A P i s [] t each walk = walk
 walk-allowed A P i s (v ∷ vs) t each walk =
-    let e : i + 0 ≡ i = omega arith in
-    ((walk.0, subst (λ k. P k v) e (each 0 (omega arith))),
-    walk-allowed A P (suc i) (s + v) vs t (λ j less. (let f : i + suc j ≡ suc i + j = omega arith in subst (λ k. P k (slice_index vs j)) f (each (suc j) (omega arith)))) walk.1)
+    let e : i + 0 ≡ i = omega arith in (
+      (walk.0, subst (λ k. P k v) e (each 0 (omega arith))),
+      walk-allowed A P (suc i) (s + v) vs t (λ j less. (let f : i + suc j ≡ suc i + j = omega arith in subst (λ k. P k (slice_index vs j)) f (each (suc j) (omega arith)))) walk.1,
+    )
 
 held-allowed : (A : ℕ → ℕ → ℕ → Type 0) (P : ℕ → ℕ → Type 0) (n t : ℕ) (x : List ℕ) → Held A n t x → ((l : ℕ) → P l (slice_index x l)) → Held (Only A P) n t x
 held-allowed A P n t x held each = (held.0, walk-allowed A P 0 0 x t (λ j less. (let e : j ≡ 0 + j = omega arith in subst (λ k. P k (slice_index x j)) e (each j))) held.1)
@@ -271,7 +272,7 @@ pub first-is : (arcs : List Arc) (l before total sum : ℕ) (row : Sums) (o : Op
     → ((t : ℕ) → t < 320 → has row t ≡ true → (before ≤ t) × (t ≤ total)) → total ≤ 256 → before ≤ sum → sum ≤ total → has row sum ≡ true
     → ((t : ℕ) → before ≤ t → t < sum → has row t ≡ true → ⊥)
     → MatchOption o ((t : ℕ) → sum + 1 ≤ t → t ≤ total → has row t ≡ true → ⊥)
-      (λ t. (sum + 1 ≤ t) × ((t ≤ total) × ((has row t ≡ true) × ((u : ℕ) → sum + 1 ≤ u → u < t → has row u ≡ true → ⊥))))
+    (λ t. (sum + 1 ≤ t) × ((t ≤ total) × ((has row t ≡ true) × ((u : ℕ) → sum + 1 ≤ u → u < t → has row u ≡ true → ⊥))))
     → IsFirst arcs l before (sum - before) (is_some o)
 first-is arcs l before total sum row o leads ranged small low high there least other =
     let told = other-told o ((t : ℕ) → sum + 1 ≤ t → t ≤ total → has row t ≡ true → ⊥)

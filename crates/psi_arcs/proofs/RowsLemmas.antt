@@ -69,8 +69,8 @@ below-distinct rows total zero = tt
 below-distinct rows total (suc n) =
     distinct-cond (keeps rows total (arc_number n)) (arc_number n) (arcs_below rows total n)
     (λ member. (let found = below-numbered rows total n (arc_number n) member in
-        let same = number-same n found.number found.is in
-        let less = found.less in absurd (omega arith)))
+    let same = number-same n found.number found.is in
+    let less = found.less in absurd (omega arith)))
     (below-distinct rows total n)
 
 -- the rows have the arc, and it is in range
@@ -205,7 +205,7 @@ module _ (rows : List Sums) (levels total : ℕ) (keep : AreRows rows levels tot
   written-others i r v other =
       let small = keep.small in
       let read : r + v ≤ total → row_of (slice_set rows e row) i r ≡ row_of rows i r =
-          λ sum. read-other rows e (i * 257 + r) row (λ same. other (omega arith) (omega arith)) in (
+      λ sum. read-other rows e (i * 257 + r) row (λ same. other (omega arith) (omega arith)) in (
         λ member. (let kept = listed-kept (slice_set rows e row) levels total i r v member in
             kept-listed rows levels total i r v keep.small (record { place = kept.place; sum = kept.sum; there = subst (λ (x : Sums). has x (r + v) ≡ true) (read kept.sum) kept.there })),
         λ member. (let kept = listed-kept rows levels total i r v member in

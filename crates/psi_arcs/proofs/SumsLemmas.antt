@@ -180,21 +180,24 @@ has-insert x sum t small less long =
     let old = has-bit x t in
     elim (cases_eq (t / 64) (sum / 64)) [
       | inl word ↦ (
-        let read : slice_index (slice_set x.words (sum / 64) (bit_or (slice_index x.words (sum / 64)) (1 * 2 ^ (sum % 64) % 18446744073709551616))) (t / 64) ≡ bit_or (slice_index x.words (sum / 64)) (1 * 2 ^ (sum % 64) % 18446744073709551616) =
-            ap (λ k. slice_index (slice_set x.words (sum / 64) (bit_or (slice_index x.words (sum / 64)) (1 * 2 ^ (sum % 64) % 18446744073709551616))) k) word
-            ∙ get_or-set_same x.words (sum / 64) (bit_or (slice_index x.words (sum / 64)) (1 * 2 ^ (sum % 64) % 18446744073709551616)) 0 (omega arith) in
-        elim (cases_eq (t % 64) (sum % 64)) [
-          | inl bit ↦ (λ given. inl (omega arith), λ either. new.1 (ap (λ n. bit_at n (t % 64)) read ∙ (ap (λ i. bit_at (bit_or (slice_index x.words (sum / 64)) (1 * 2 ^ (sum % 64) % 18446744073709551616)) i) bit
-              ∙ bit_at_set_same w64 (slice_index x.words (sum / 64)) (sum % 64) (omega arith))))
-          | inr other ↦ (
-            let same = ap (λ n. bit_at n (t % 64)) read ∙ (bit_at_set_other w64 (slice_index x.words (sum / 64)) (sum % 64) (omega arith) (t % 64) other ∙ ap (λ k. bit_at (slice_index x.words k) (t % 64)) (sym word)) in
-            (λ given. inr (old.1 (sym same ∙ new.0 given)), λ either. new.1 (same ∙ elim either [ inl e ↦ absurd (omega arith) | inr given ↦ old.0 given ])))
-        ])
+          let read : slice_index (slice_set x.words (sum / 64) (bit_or (slice_index x.words (sum / 64)) (1 * 2 ^ (sum % 64) % 18446744073709551616))) (t / 64) ≡ bit_or (slice_index x.words (sum / 64)) (1 * 2 ^ (sum % 64) % 18446744073709551616) =
+          ap (λ k. slice_index (slice_set x.words (sum / 64) (bit_or (slice_index x.words (sum / 64)) (1 * 2 ^ (sum % 64) % 18446744073709551616))) k) word
+          ∙ get_or-set_same x.words (sum / 64) (bit_or (slice_index x.words (sum / 64)) (1 * 2 ^ (sum % 64) % 18446744073709551616)) 0 (omega arith) in
+          elim (cases_eq (t % 64) (sum % 64)) [
+            | inl bit ↦ (
+              λ given. inl (omega arith),
+              λ either. new.1 (ap (λ n. bit_at n (t % 64)) read ∙ (ap (λ i. bit_at (bit_or (slice_index x.words (sum / 64)) (1 * 2 ^ (sum % 64) % 18446744073709551616)) i) bit
+                  ∙ bit_at_set_same w64 (slice_index x.words (sum / 64)) (sum % 64) (omega arith))),
+            )
+            | inr other ↦ (
+                let same = ap (λ n. bit_at n (t % 64)) read ∙ (bit_at_set_other w64 (slice_index x.words (sum / 64)) (sum % 64) (omega arith) (t % 64) other ∙ ap (λ k. bit_at (slice_index x.words k) (t % 64)) (sym word)) in
+                (λ given. inr (old.1 (sym same ∙ new.0 given)), λ either. new.1 (same ∙ elim either [ inl e ↦ absurd (omega arith) | inr given ↦ old.0 given ])))
+          ])
       | inr other ↦ (
-        let read : slice_index (slice_set x.words (sum / 64) (bit_or (slice_index x.words (sum / 64)) (1 * 2 ^ (sum % 64) % 18446744073709551616))) (t / 64) ≡ slice_index x.words (t / 64) =
-            get_or-set_other x.words (sum / 64) (t / 64) (bit_or (slice_index x.words (sum / 64)) (1 * 2 ^ (sum % 64) % 18446744073709551616)) 0 (λ e. other e) in
-        let same = ap (λ n. bit_at n (t % 64)) read in
-        (λ given. inr (old.1 (sym same ∙ new.0 given)), λ either. new.1 (same ∙ elim either [ inl e ↦ absurd (other (ap (λ k. k / 64) e)) | inr given ↦ old.0 given ])))
+          let read : slice_index (slice_set x.words (sum / 64) (bit_or (slice_index x.words (sum / 64)) (1 * 2 ^ (sum % 64) % 18446744073709551616))) (t / 64) ≡ slice_index x.words (t / 64) =
+          get_or-set_other x.words (sum / 64) (t / 64) (bit_or (slice_index x.words (sum / 64)) (1 * 2 ^ (sum % 64) % 18446744073709551616)) 0 (λ e. other e) in
+          let same = ap (λ n. bit_at n (t % 64)) read in
+          (λ given. inr (old.1 (sym same ∙ new.0 given)), λ either. new.1 (same ∙ elim either [ inl e ↦ absurd (other (ap (λ k. k / 64) e)) | inr given ↦ old.0 given ])))
     ]
 
 -- the words of a set whose numbers are one higher, or one lower
@@ -240,14 +243,14 @@ up-carry ws k =
 up-at : (ws : List ℕ) (t : ℕ) → ((j : ℕ) → j < 5 → slice_index ws j < 2 ^ 64) → suc t < 320 → bit_at (up-word ws (suc t / 64)) (suc t % 64) ≡ bit_at (slice_index ws (t / 64)) (t % 64)
 up-at ws t fits small = elim (cases_lt (t % 64) 63) [
   | inl less ↦ (
-    let word : suc t / 64 ≡ t / 64 = omega arith in
-    let bit : suc t % 64 ≡ suc (t % 64) = omega arith in
-    ap (λ k. bit_at (up-word ws k) (suc t % 64)) word ∙ (ap (λ i. bit_at (up-word ws (t / 64)) i) bit ∙ up-bit ws (t / 64) (t % 64) less fits (omega arith)))
+      let word : suc t / 64 ≡ t / 64 = omega arith in
+      let bit : suc t % 64 ≡ suc (t % 64) = omega arith in
+      ap (λ k. bit_at (up-word ws k) (suc t % 64)) word ∙ (ap (λ i. bit_at (up-word ws (t / 64)) i) bit ∙ up-bit ws (t / 64) (t % 64) less fits (omega arith)))
   | inr last ↦ (
-    let word : suc t / 64 ≡ suc (t / 64) = omega arith in
-    let bit : suc t % 64 ≡ 0 = omega arith in
-    let old : t % 64 ≡ 63 = omega arith in
-    ap (λ k. bit_at (up-word ws k) (suc t % 64)) word ∙ (ap (λ i. bit_at (up-word ws (suc (t / 64))) i) bit ∙ (up-carry ws (t / 64) ∙ ap (λ i. bit_at (slice_index ws (t / 64)) i) (sym old))))
+      let word : suc t / 64 ≡ suc (t / 64) = omega arith in
+      let bit : suc t % 64 ≡ 0 = omega arith in
+      let old : t % 64 ≡ 63 = omega arith in
+      ap (λ k. bit_at (up-word ws k) (suc t % 64)) word ∙ (ap (λ i. bit_at (up-word ws (suc (t / 64))) i) bit ∙ (up-carry ws (t / 64) ∙ ap (λ i. bit_at (slice_index ws (t / 64)) i) (sym old))))
 ]
 
 pub up-others : (x : Sums) → ((j : ℕ) → j < 5 → slice_index x.words j < 2 ^ 64) → (t : ℕ) → suc t < 320
@@ -290,23 +293,23 @@ down-words ws k = slice_index (down-word (slice_index ws 0) (slice_index ws 1) �
 down-at : (ws : List ℕ) (t : ℕ) → ((j : ℕ) → j < 5 → slice_index ws j < 2 ^ 64) → suc t < 320 → bit_at (down-words ws (t / 64)) (t % 64) ≡ bit_at (slice_index ws (suc t / 64)) (suc t % 64)
 down-at ws t fits small = elim (cases_lt (t % 64) 63) [
   | inl less ↦ (
-    let word : suc t / 64 ≡ t / 64 = omega arith in
-    let bit : suc t % 64 ≡ suc (t % 64) = omega arith in
-    five (λ k. bit_at (down-words ws k) (t % 64) ≡ bit_at (slice_index ws k) (suc (t % 64)))
-    (down-bit (slice_index ws 0) (slice_index ws 1) (t % 64) less) (down-bit (slice_index ws 1) (slice_index ws 2) (t % 64) less)
-    (down-bit (slice_index ws 2) (slice_index ws 3) (t % 64) less) (down-bit (slice_index ws 3) (slice_index ws 4) (t % 64) less)
-    (sym (bit_at-suc (slice_index ws 4) (t % 64))) (t / 64) (omega arith)
-    ∙ sym (ap (λ k. bit_at (slice_index ws k) (suc t % 64)) word ∙ ap (λ i. bit_at (slice_index ws (t / 64)) i) bit))
+      let word : suc t / 64 ≡ t / 64 = omega arith in
+      let bit : suc t % 64 ≡ suc (t % 64) = omega arith in
+      five (λ k. bit_at (down-words ws k) (t % 64) ≡ bit_at (slice_index ws k) (suc (t % 64)))
+      (down-bit (slice_index ws 0) (slice_index ws 1) (t % 64) less) (down-bit (slice_index ws 1) (slice_index ws 2) (t % 64) less)
+      (down-bit (slice_index ws 2) (slice_index ws 3) (t % 64) less) (down-bit (slice_index ws 3) (slice_index ws 4) (t % 64) less)
+      (sym (bit_at-suc (slice_index ws 4) (t % 64))) (t / 64) (omega arith)
+      ∙ sym (ap (λ k. bit_at (slice_index ws k) (suc t % 64)) word ∙ ap (λ i. bit_at (slice_index ws (t / 64)) i) bit))
   | inr last ↦ (
-    let word : suc t / 64 ≡ suc (t / 64) = omega arith in
-    let bit : suc t % 64 ≡ 0 = omega arith in
-    let old : t % 64 ≡ 63 = omega arith in
-    ap (λ i. bit_at (down-words ws (t / 64)) i) old
-    ∙ (five (λ k. k < 4 → bit_at (down-words ws k) 63 ≡ bit_at (slice_index ws (suc k)) 0)
-    (λ inside. down-carry (slice_index ws 0) (slice_index ws 1) (fits 0 (omega arith))) (λ inside. down-carry (slice_index ws 1) (slice_index ws 2) (fits 1 (omega arith)))
-    (λ inside. down-carry (slice_index ws 2) (slice_index ws 3) (fits 2 (omega arith))) (λ inside. down-carry (slice_index ws 3) (slice_index ws 4) (fits 3 (omega arith)))
-    (λ inside. absurd (omega arith)) (t / 64) (omega arith) (omega arith)
-    ∙ sym (ap (λ k. bit_at (slice_index ws k) (suc t % 64)) word ∙ ap (λ i. bit_at (slice_index ws (suc (t / 64))) i) bit)))
+      let word : suc t / 64 ≡ suc (t / 64) = omega arith in
+      let bit : suc t % 64 ≡ 0 = omega arith in
+      let old : t % 64 ≡ 63 = omega arith in
+      ap (λ i. bit_at (down-words ws (t / 64)) i) old
+      ∙ (five (λ k. k < 4 → bit_at (down-words ws k) 63 ≡ bit_at (slice_index ws (suc k)) 0)
+      (λ inside. down-carry (slice_index ws 0) (slice_index ws 1) (fits 0 (omega arith))) (λ inside. down-carry (slice_index ws 1) (slice_index ws 2) (fits 1 (omega arith)))
+      (λ inside. down-carry (slice_index ws 2) (slice_index ws 3) (fits 2 (omega arith))) (λ inside. down-carry (slice_index ws 3) (slice_index ws 4) (fits 3 (omega arith)))
+      (λ inside. absurd (omega arith)) (t / 64) (omega arith) (omega arith)
+      ∙ sym (ap (λ k. bit_at (slice_index ws k) (suc t % 64)) word ∙ ap (λ i. bit_at (slice_index ws (suc (t / 64))) i) bit)))
 ]
 
 pub down-others : (x : Sums) → ((j : ℕ) → j < 5 → slice_index x.words j < 2 ^ 64) → (t : ℕ) → suc t < 320

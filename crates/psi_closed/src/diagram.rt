@@ -54,11 +54,7 @@ impl Diagram {
         let mut held = Arcs::reserve(alloc, levels, total)?;
         let mut reach = Reach::reserve(alloc)?;
         put_all(&mut held, &mut reach, &caps);
-        Ok(Diagram {
-            caps,
-            held,
-            reach,
-        })
+        Ok(Diagram { caps, held, reach })
     }
 
     /// Holds all states of the total.

@@ -46,11 +46,12 @@ loop-level-preserved c =
       total = c.keep_level.ensures.total ∙ inv.total;
       done = done-more 0 (Useful (Listed first.arcs) first.levels first.total) first.arcs c.loop-level.self.arcs c.keep_level.new.self.arcs c.loop-level.level inv.done (omega arith)
           (λ s v. iff-trans (c.keep_level.ensures.own s v) (iff-trans
-            (keeps-same (Listed c.loop-level.self.arcs) (Listed first.arcs) c.mark.new.self c.loop-level.level
-            (done-next 0 (Useful (Listed first.arcs) first.levels first.total) first.arcs c.loop-level.self.arcs c.loop-level.level inv.done) s v)
-            (iff-trans (keeps-useful (Listed first.arcs) first.levels first.total 0 (c.levels-last.result - 1) P c.mark.new.self told c.loop-level.level s v (omega arith) (omega arith))
-            (λ useful. useful-map (Only (Listed first.arcs) P) (Listed first.arcs) (λ i j w both. both.0) first.levels first.total c.loop-level.level s v useful,
-            λ useful. useful-map (Listed first.arcs) (Only (Listed first.arcs) P) (λ i j w listed. (listed, tt)) first.levels first.total c.loop-level.level s v useful))))
+          (keeps-same (Listed c.loop-level.self.arcs) (Listed first.arcs) c.mark.new.self c.loop-level.level
+          (done-next 0 (Useful (Listed first.arcs) first.levels first.total) first.arcs c.loop-level.self.arcs c.loop-level.level inv.done) s v)
+          (iff-trans (keeps-useful (Listed first.arcs) first.levels first.total 0 (c.levels-last.result - 1) P c.mark.new.self told c.loop-level.level s v (omega arith) (omega arith)) (
+            λ useful. useful-map (Only (Listed first.arcs) P) (Listed first.arcs) (λ i j w both. both.0) first.levels first.total c.loop-level.level s v useful,
+            λ useful. useful-map (Listed first.arcs) (Only (Listed first.arcs) P) (λ i j w listed. (listed, tt)) first.levels first.total c.loop-level.level s v useful,
+          ))))
           c.keep_level.ensures.others;
     }
 

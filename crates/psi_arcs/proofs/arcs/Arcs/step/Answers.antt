@@ -35,19 +35,19 @@ loop-level-preserved c =
       levels = c.shift_level.ensures.levels ∙ inv.levels;
       total = c.shift_level.ensures.total ∙ inv.total;
       changing = subst (λ (m : Marks). TellsUseful (Listed first.arcs) first.levels first.total (min c.args.from c.args.to) (max c.args.from c.args.to)
-      (IsChanging c.args.from c.args.k c.args.to c.args.room) m) (sym c.shift_level.ensures.changing) inv.changing;
+          (IsChanging c.args.from c.args.k c.args.to c.args.room) m) (sym c.shift_level.ensures.changing) inv.changing;
       short = subst (λ (m : Marks). TellsUseful (Listed first.arcs) first.levels first.total (min c.args.from c.args.to) (max c.args.from c.args.to)
-      (IsShort c.args.from c.args.k) m) (sym c.shift_level.ensures.short) inv.short;
+          (IsShort c.args.from c.args.k) m) (sym c.shift_level.ensures.short) inv.short;
       full = subst (λ (m : Marks). TellsUseful (Listed first.arcs) first.levels first.total (min c.args.from c.args.to) (max c.args.from c.args.to)
-      (IsFull c.args.to c.args.room) m) (sym c.shift_level.ensures.full) inv.full;
+          (IsFull c.args.to c.args.room) m) (sym c.shift_level.ensures.full) inv.full;
       done = done-more (min c.args.from c.args.to) (Joined (Listed first.arcs) first.levels first.total c.args.from c.args.k c.args.to c.args.room) first.arcs c.loop-level.self.arcs
           c.shift_level.new.self.arcs c.loop-level.level inv.done (omega arith)
           (λ s v. iff-trans (c.shift_level.ensures.own s v) (iff-trans
-            (gives-same (Listed c.loop-level.self.arcs) (Listed first.arcs) c.loop-level.reach c.args.from c.args.to c.loop-level.level
-            (done-next (min c.args.from c.args.to) (Joined (Listed first.arcs) first.levels first.total c.args.from c.args.k c.args.to c.args.room) first.arcs c.loop-level.self.arcs
-            c.loop-level.level inv.done) s v)
-            (gives-joined (Listed first.arcs) first.levels first.total (min c.args.from c.args.to) (max c.args.from c.args.to) c.args.from c.args.k c.args.to c.args.room c.loop-level.reach
-            inv.changing inv.short inv.full c.loop-level.level s v (omega arith) (omega arith))))
+          (gives-same (Listed c.loop-level.self.arcs) (Listed first.arcs) c.loop-level.reach c.args.from c.args.to c.loop-level.level
+          (done-next (min c.args.from c.args.to) (Joined (Listed first.arcs) first.levels first.total c.args.from c.args.k c.args.to c.args.room) first.arcs c.loop-level.self.arcs
+          c.loop-level.level inv.done) s v)
+          (gives-joined (Listed first.arcs) first.levels first.total (min c.args.from c.args.to) (max c.args.from c.args.to) c.args.from c.args.k c.args.to c.args.room c.loop-level.reach
+          inv.changing inv.short inv.full c.loop-level.level s v (omega arith) (omega arith))))
           c.shift_level.ensures.others;
     }
 
