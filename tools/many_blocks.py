@@ -1,11 +1,11 @@
 """The blocks of streams that psi-many draws, and the folder in which finished ones are kept."""
 
+import collections
 import fcntl
 import hashlib
 import os
 import pathlib
 import re
-from typing import NamedTuple
 
 MOST_BLOCKS = 1_048_576
 FILE = re.compile(r"([0-9]{7,})\.([0-9a-f]{16})\.csv")
@@ -24,12 +24,8 @@ class Told(Exception):
         self.status = status
 
 
-class Block(NamedTuple):
-    """The streams of one call of `psi report`."""
-
-    number: int
-    first: int
-    count: int
+# The streams of one call of `psi report`.
+Block = collections.namedtuple("Block", "number first count")
 
 
 def digest_of(text):
@@ -139,7 +135,7 @@ class Folder:
 
     def tidy(self):
         """Removes what calls that were killed have begun to write."""
-        for file in self.blocks.glob("part.*"):
+        for file in (*self.blocks.glob("part.*"), *self.path.glob("merged.*")):
             file.unlink(missing_ok=True)
 
     def finished(self):

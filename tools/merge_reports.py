@@ -1,4 +1,4 @@
-#!/usr/bin/env python3
+#!/usr/bin/python3
 """merge_reports.py FILE..
 
 Merges reports, each of which is a text that `psi report` or this program printed of other streams
