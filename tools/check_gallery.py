@@ -1,16 +1,17 @@
 #!/usr/bin/env python3
 """check_gallery.py [PSI]
 
-Compares what the documents show with what the built program prints; PSI is its path, and
-crates/psi/out/psi where it isn't given. It looks at
+Compares what the gallery and the guides show with what the built program prints; PSI is its path,
+and crates/psi/out/psi where it isn't given. README.md and docs/TOUR.md are tried by try_docs.py. It
+looks at
 
 - each run in the comments of examples/*.toml: a line "`psi WORDS` prints", and behind it the text,
   four columns in;
-- each run in README.md and docs/*.md: a block of one line `./psi WORDS`, prose that ends with
+- each run in the guides, the other docs/*.md: a block of one line `./psi WORDS`, prose that ends with
   'prints', and a block with the text; or a block that begins with `$ ./psi WORDS`, with the text
   behind it;
-- each whole network in docs/*.md, a block of TOML that begins with its version: `check` takes it;
-- each log in docs/*.md, a block that begins with `psi-log`: `replay` accepts it for the network
+- each whole network in the guides, a block of TOML that begins with its version: `check` takes it;
+- each log in the guides, a block that begins with `psi-log`: `replay` accepts it for the network
   before it.
 
 A run is made in the folder of its gallery file, or at the top, and must end with the status that
@@ -100,7 +101,7 @@ def tell(file, what, wanted, got):
 
 def differing(program):
     """How many texts were compared, and how many differ."""
-    documents = [TOP / "README.md", *sorted((TOP / "docs").glob("*.md"))]
+    documents = sorted({*(TOP / "docs").glob("*.md")} - {TOP / "docs/TOUR.md"})
     compared = differs = 0
     runs = [*runs_of_gallery(), *(run for file in documents for run in runs_of_document(file))]
     for file, folder, words, text in runs:

@@ -1,0 +1,557 @@
+"""What README.md and docs/TOUR.md say in sentences and tables of what commands print, for
+try_docs.py: each phrase is made anew of what came, and compared.
+"""
+
+import csv
+import itertools
+import os
+import re
+import tomllib
+
+import mean_values
+from plotting.read_exact import read_exact
+from plotting.read_log import read_log
+from plotting.read_report import read_report
+
+# Commands that don't end with 0, but for those that print 'not coupled' or 'not constant'.
+STATUSES = {"./psi exact examples/central-server.toml 0 0 11 >central.txt": 1}
+NUMBERS = "no one two three four five six seven eight nine ten eleven twelve".split()
+GREATEST = 2**64 - 1
+DESK, LONGEST = "examples/single-server.toml", "examples/longest-queue.toml"
+
+# What has digits but isn't said of what a command prints.
+KNOWN = re.compile(
+    r"(?:Wilson|Vincent|Newell|Lavenberg) (?:19|20)\d\d|RFC 8439|ChaCha20|UTF-8|x86-64|M/M/1/K"
+    r"|Version 2\.0|2\^H|10\^20|\b1, 2, 4, (?:8, )?\.\.|## \d\. "
+)
+# Names in code that are neither paths nor commands nor compared.
+NAMES = {
+    "rt", "bin/", "split", "limit", "sample", "report", "couple", "exact", "closed", "replay",
+    "check", "trial", "reward", "not coupled", "rt ci",
+}
+# Passages in which nothing is compared, by their first and last words, each with the reason.
+UNTRIED = {
+    "README.md": [
+        # What the first build takes: measured.
+        ("The first build proves every crate", "Later calls build only where a source is newer."),
+        # tools/try_memory.py tries it.
+        ("With status 8 there is no line", "for the words themselves."),
+        ("`./psi` looks for changed files first,", "the built program itself:"),
+        # Measured by tools/measure_limits.py, in hours.
+        ("**Files of strangers.**", "which make every network that a trial can have."),
+        # tools/try_disk.py and tools/try_memory.py run it.
+        ("**What fails.**", "a word isn't UTF-8 | 13 | nothing |"),
+        # `rt ci` proves and tests it.
+        ("## What is proved", "the words are those of ChaCha20."),
+    ],
+    "docs/TOUR.md": [],
+}
+
+# A call for each status of README's table, as a command of the shell; what they need is made first.
+MAKE = r"""
+printf 'version = 3\n' >bad.toml
+printf 'none\n' >bad.log
+./psi sample examples/tandem-blocking.toml 0 0 log >tandem-0.log
+sed 's/^seed 0$/seed 1/' tandem-0.log >other.log
+printf 'version = 1\nsplit = 4096\n[[queue]]\nname = "a"\ncapacity = 4095\n[[event]]\n' >long.toml
+printf 'name = "in"\nkind = "arrival"\nrate = 1\nto = ["a"]\n' >>long.toml
+for room in 255 256; do
+    printf 'version = 1\n[[queue]]\nname = "a"\ncapacity = %s\n[[queue]]\n' $room
+    printf 'name = "b"\ncapacity = 255\n[[event]]\nname = "in"\nkind = "arrival"\n'
+    printf 'rate = 1\nto = ["a"]\n'
+done >both.toml
+head -n 12 both.toml >most.toml
+tail -n 12 both.toml >great.toml
+{ printf 'a = ['; yes '{},' | head -n 260000 | tr -d '\n'; printf ']'; } >nested.toml
+"""
+CALLS = {
+    0: ["./psi check examples/first.toml", "./psi sample examples/first.toml 0 0",
+        "./psi report examples/short-past.toml 0 0 10"],
+    1: ["./psi sample examples/central-server.toml 0 0",
+        "./psi exact examples/central-server.toml 0 0 4"],
+    2: ["./psi none", "./psi sample examples/first.toml 0 01"],
+    3: ["./psi check bad.toml"],
+    4: ["./psi replay examples/tandem-blocking.toml bad.log",
+        "./psi replay examples/tandem-blocking.toml other.log"],
+    5: ["./psi sample long.toml 0 0 log"],
+    6: ["./psi check absent.toml", "./psi replay examples/first.toml absent.log"],
+    7: ["./psi check examples/first.toml >/dev/full"],
+    8: ["ulimit -v 8000; exec crates/psi/out/psi check nested.toml"],
+    9: ["./psi reward examples/first.toml 0 0 none"],
+    10: ["./psi exact great.toml 0 0 1"],
+    11: ["./psi closed examples/first.toml 0 0 1"],
+    12: ["./psi closed examples/central-server.toml 0 0 19"],
+    13: [r'''./psi check "$(printf '\377')"'''],
+}
+# What stands for a word of README's tables.
+EXAMPLES = {
+    "NET": "examples/tandem-blocking.toml", "SEED": "0", "STREAM": "0", "FIRST": "0", "COUNT": "9",
+    "NUMBER": "5", "NAME": "parts", "H": "8", "LOG": "tandem-0.log", "TOTAL": "6",
+}
+
+
+class Absent(Exception):
+    """A command or a passage that is compared isn't there."""
+
+
+def said(document, clone, command):
+    """The lines that a command prints which the document shows."""
+    for block in document.commands():
+        for found, _, out, _ in clone.answer(block):
+            if found == command:
+                return out.splitlines()
+    raise Absent(command)
+
+
+def text_of(clone, name):
+    """The text of a file."""
+    return clone.read(name).decode()
+
+
+def sample_of(lines):
+    """The horizon and the state of a sample, or of a value like it."""
+    return int(lines[0].split()[1]), lines[1].split()[1]
+
+
+def report_of(lines):
+    """The values of a report by item and name."""
+    return {(item, name): int(value) for item, name, value in [*csv.reader(lines)][1:]}
+
+
+def claim_words(document, clone):
+    """The table of README's commands: each is one, and takes such words."""
+    clone.run("./psi sample examples/tandem-blocking.toml 0 0 log >tandem-0.log")
+    rows = re.findall(r"^\| `\./psi ([^`]*)` \| \w+", document.text, re.M)
+    commands = [row.split()[0] for row in rows]
+    document.hold(len(rows) == 10 and len({*commands}) == 9, f"other commands: {rows}")
+    for row in rows:
+        words = [EXAMPLES.get(word, word) for word in row.split()]
+        if words[0] == "closed":
+            words[1] = "examples/central-server.toml"
+        status, out, error = clone.run(f"./psi {' '.join(words)}")
+        document.hold(status == 0 and out, f"status {status} of ./psi {words}: {error}")
+        document.cover(f"`./psi {row}`")
+
+
+def claim_bounds(document, clone):
+    """How great the numbers may be: the bounds that the document tells are taken, what is beyond
+    isn't."""
+    found = re.search(
+        r"SEED, STREAM and FIRST are numbers up to ([\d,]+), COUNT is ([\d,]+) to ([\d,]+), NUMBER "
+        r"([\d,]+) to ([\d,]+), H ([\d,]+) to ([\d,]+), and TOTAL ([\d,]+) to ([\d,]+),",
+        document.prose,
+    )
+    if not found:
+        raise Absent("the bounds of the words")
+    document.cover(found[0])
+    great, *bounds = [int(number.replace(",", "")) for number in found.groups()]
+    net, closed = "examples/first.toml", "examples/central-server.toml"
+    calls = {
+        f"sample {net} {{}} 0": (0, great), f"sample {net} 0 {{}}": (0, great),
+        f"report {net} 0 {{}} 1": (0, great), f"report {net} 0 0 {{}}": (bounds[0], bounds[1]),
+        "trial {}": (bounds[2], bounds[3]), f"exact {net} 0 0 {{}}": (bounds[4], bounds[5]),
+        f"closed {closed} 0 0 {{}}": (bounds[6], bounds[7]),
+    }
+    for call, (least, most) in calls.items():
+        ends = ((least - 1, False), (least, True), (most, True), (most + 1, False))
+        for number, is_taken in ends:
+            status = clone.run(f"./psi {call.format(number)}")[0]
+            document.hold((status != 2) == is_taken, f"status {status} of {call} with {number}")
+    last = [clone.run(f"./psi report {net} 0 {GREATEST - 1} {count}")[0] for count in (2, 3)]
+    document.hold(last == [0, 2], "the last stream of a report may be one that isn't a stream")
+    states = [
+        clone.run(f"./psi sample {net} 0 {stream}")[1].split()[-1] for stream in range(3, 3 + 5)
+    ]
+    report = report_of(clone.run(f"./psi report {net} 0 3 5")[1].splitlines())
+    same = report["sum", "a"] == sum(map(int, states)) and report["samples", "-"] == len(states)
+    document.hold(same, f"the report of five streams from 3 on isn't that of {states}: {report}")
+    document.claim("of the streams FIRST to FIRST + COUNT - 1, the last of which must be a stream")
+
+
+def claim_gallery(document, clone):
+    """The table of the gallery's files."""
+    rows = re.findall(r"^\| `([^`]*\.toml)` \|", document.text, re.M)
+    files = os.listdir(clone.find("examples"))
+    document.hold(sorted(rows) == sorted(files), f"the gallery has {files}, the table {rows}")
+    for row in rows:
+        document.cover(f"`{row}`")
+
+
+def claim_statuses(document, clone):
+    """The table of statuses: each comes of its call, and the line on standard error with it."""
+    clone.answer(MAKE.strip())
+    rows = re.findall(r"^\| (\d+) \| ([^|\n]*) \| ((?:`[^`]*`(?:, )?)*) ?\|$", document.text, re.M)
+    document.hold([int(row[0]) for row in rows] == [*CALLS], f"other statuses: {rows}")
+    for number, meaning, lines in rows:
+        document.cover(f"| {number} | {meaning} | {lines}".strip())
+        forms = re.findall("`([^`]*)`", lines)
+        patterns = [re.sub(r"\b(?:[A-Z]+|(?<=line )L)\b", "[^ ]+", form) for form in forms] or [""]
+        ended = [clone.answer(call)[-1] for call in CALLS.get(int(number), [])]
+        errors, statuses = [one[3].strip() for one in ended], {one[1] for one in ended}
+        document.hold(statuses == {int(number)}, f"the status {number} is {statuses}: {errors}")
+        for pattern in patterns:
+            comes = any(re.fullmatch(pattern, error) for error in errors)
+            document.hold(comes, f"status {number}: no line is of the form {pattern}: {errors}")
+        for error in errors:
+            shown = any(re.fullmatch(pattern, error) for pattern in patterns)
+            document.hold(shown, f"status {number}: another line comes: {error}")
+
+
+    most = clone.run("./psi exact most.toml 0 0 1")
+    states = int(most[1].split()[1]) if most[0] == 1 else most
+    document.claim(f"`exact` of a network of more than {states:,} states")
+    document.claim("`closed` of a network that isn't closed")
+    document.claim("`closed` of a network without room for TOTAL customers")
+    first, second = (clone.run(call)[2] for call in CALLS[2])
+    both = [int(line.split()[-1]) for line in (first, second)]
+    document.hold(both == [1, 4], f"the words that offend are the first and the fourth: {both}")
+    document.claim(f"the first word that offends, counted from {both[0]} behind `./psi`, and E the")
+    event = int(clone.run(CALLS[11][0])[2].split()[-1])
+    document.claim(f"number of an event, counted from {event} in the order in which `check` prints")
+
+
+def claim_ends(document, clone):
+    """The ends that the script `./psi` adds."""
+    bare = [
+        folder for folder in os.environ["PATH"].split(":") if not os.path.exists(f"{folder}/rt")
+    ]
+    clone.run(
+        "mkdir -p unbuilt/crates failing && cp psi crates.txt unbuilt/ && "
+        "printf '#!/bin/sh\nexit 1\n' >failing/rt && chmod +x failing/rt"
+    )
+    absent = clone.run(f"PATH='{':'.join(bare)}' unbuilt/psi")[0]
+    fails = clone.run('PATH="$PWD/failing:$PATH" unbuilt/psi')[0]
+    document.claim(
+        f"The script `./psi` adds two ends of its own: {absent} where `rt` isn't on the PATH, "
+        f"{fails} where the build fails."
+    )
+
+
+def claim_readme(document, clone):
+    tandem = "./psi sample examples/tandem-blocking.toml 0 0"
+    horizon, state = sample_of(said(document, clone, tandem))
+    one, two, three = state.split(",")
+    document.claim(
+        f"that begin {horizon} steps before time zero, or earlier, hold {one}, {two} and {three} "
+        f"parts at time zero, under the random words of seed {tandem.split()[-2]} and stream "
+        f"{tandem.split()[-1]}."
+    )
+    document.claim(f"where all runs may be, from {horizon} steps before time zero on, until one")
+    tour = text_of(clone, "docs/TOUR.md")
+    steps = NUMBERS[len(re.findall(r"^## \d", tour, re.M))]
+    document.claim(f"goes in {steps} such steps from one queue to a closed network")
+    claim_words(document, clone)
+    claim_bounds(document, clone)
+    claim_gallery(document, clone)
+    claim_statuses(document, clone)
+    claim_ends(document, clone)
+    claim_many_samples(document, clone)
+    lines = said(document, clone, "./psi exact examples/longest-queue.toml 0 0 11")
+    found = read_exact("".join(f"{line}\n" for line in lines).encode())
+    split = key_of(clone, "longest-queue.toml", "split")
+    document.claim(
+        f"ends with `{lines[-2]}` and `{lines[-1]}`: all {found.states} states have met within "
+        f"{found.constant} steps, and the region run of this file, whose `split` is {split}, "
+        f"shows it from {found.region:,} steps on."
+    )
+    lines = said(document, clone, "./psi closed examples/central-server.toml 0 0 6")
+    document.claim(f"prints `{lines[0]}` and `{lines[1]}`. [The guide]")
+    lines = said(document, clone, "./psi replay examples/tandem-blocking.toml sample.log")
+    document.claim(
+        f"says `{lines[0]}` and `{lines[1]}`. That proves, whoever wrote the log, that every state "
+        f"which starts {lines[0].split()[1]} steps before time zero, or earlier, is "
+        f"{lines[1].split()[1]} at time zero."
+    )
+    claim_checker(document, clone, "checks logs by {} lines of Python that share nothing")
+
+
+def claim_checker(document, clone, phrase):
+    """How many lines the checker of logs has, in hundreds."""
+    count = len(text_of(clone, "tools/check_log.py").splitlines())
+    document.claim(phrase.format(round(count, -2)))
+
+
+def claim_many_samples(document, clone):
+    """The report, and the loop that draws the same samples one by one."""
+    call = "./psi report examples/tandem-blocking.toml 0 0 1000"
+    report = report_of(said(document, clone, call))
+    first, count = map(int, call.split()[-2:])
+    document.claim(f"samples the streams {first} to {first + count - 1} of seed {call.split()[3]},")
+    mean = report["sum", "cut"] / report["met", "-"]
+    document.claim(
+        f"So {report['horizon', '16']} of them are met at the horizon 16, and the first machine "
+        f"holds {report['least', 'cut']} to {report['greatest', 'cut']} parts, {mean:.3f} on "
+        "average over these samples."
+    )
+    loop = next((block for block in document.commands() if block.startswith("for stream")), None)
+    counts = [line.split() for line in clone.answer(loop)[-1][2].splitlines()] if loop else []
+    total = sum(int(number) for number, _, _ in counts)
+    cut = sum(int(number) * int(state.split(",")[0]) for number, _, state in counts)
+    same = (total, cut) == (report["met", "-"], report["sum", "cut"])
+    document.hold(same and len(counts) > 10, f"the loop counts {total} samples, {cut} parts")
+    in_order = [int(number) for number, _, _ in counts]
+    document.hold(in_order == sorted(in_order, reverse=True), "the loop's counts don't descend")
+    not_coupled = clone.run("./psi sample examples/short-past.toml 0 0")
+    within = 2 ** key_of(clone, "short-past.toml", "limit")
+    is_so = not_coupled[1] == f"not coupled within {within}\n"
+    document.hold(is_so, f"another text where a sample isn't coupled: {not_coupled}")
+    status, out, _ = clone.run("./psi report examples/short-past.toml 0 0 1")
+    document.hold(report_of(out.splitlines())["uncoupled", "-"] == 1, f"none is uncoupled: {out}")
+    document.claim(
+        "is counted as `not coupled within N` here and as `uncoupled` in a report, whose status is "
+        f"{status} all the same;"
+    )
+
+
+def desk_law(rate, service, room):
+    """The law of M/M/1/K: how often there are 0, 1, .. customers."""
+    weights = [(rate / service) ** number for number in range(room + 1)]
+    return [weight / sum(weights) for weight in weights]
+
+
+def log_of(document, clone, command):
+    """The log that a command of the document has written."""
+    said(document, clone, command)
+    return read_log(clone.read(command.rpartition(">")[2]))
+
+
+def written(document, clone, command):
+    """The report that a command of the document has written."""
+    said(document, clone, command)
+    return read_report(clone.read(command.rpartition(">")[2]))
+
+
+def key_of(clone, file, key):
+    """The first value of a key in a network of the gallery."""
+    return int(re.search(rf"^{key} = (\d+)", text_of(clone, f"examples/{file}"), re.M)[1])
+
+
+def claim_tour(document, clone):
+    steps = NUMBERS[len(re.findall(r"^## \d", document.text, re.M))]
+    document.claim(f"{steps.capitalize()} steps, each with a network of the [gallery]")
+    for number, step in enumerate(re.findall(r"^## (\d+)\. ", document.text, re.M), 1):
+        document.hold(int(step) == number, f"the step {step} stands where {number} should")
+    for claim in (
+        claim_forward, claim_doubling, claim_certificate, claim_envelopes, claim_splitting,
+        claim_exact, claim_never, claim_closed,
+    ):
+        claim(document, clone)
+
+
+def claim_forward(document, clone):
+    """1. A forward run is biased."""
+    horizon, state = sample_of(said(document, clone, f"./psi sample {DESK} 0 0"))
+    document.claim(f"so {NUMBERS[int(state)]} customers are there")
+    log = log_of(document, clone, f"./psi sample {DESK} 0 0 log >single.log")
+    room, (rate, service) = key_of(clone, "single-server.toml", "capacity"), rates_of_desk(clone)
+    document.claim(
+        f"a desk with room for {NUMBERS[room]}, M/M/1/K: customers come at rate {rate} and are "
+        f"served at rate {service}."
+    )
+    states = NUMBERS[room + 1]
+    met = -log.met
+    document.claim(f"![The {states} states become one {met} steps before time 0]")
+    document.claim(
+        f"The run begins {horizon} steps before time zero in all {states} states at once."
+    )
+    wall = wall_of(clone.read("single.log").decode())
+    document.claim(f"at {room} a customer who comes is turned away, at 0 there is nobody to serve")
+    document.claim(f"From {met} steps before time zero on one state is left")
+    document.hold(wall == room, f"the band closes at {wall}")
+    document.claim(f"at the upper wall, with {wall} customers")
+    document.claim(f"one of them is stopped, at {room} or at 0.")
+    law = desk_law(rate, service, room)
+    document.claim(
+        f"it is empty for {100 * law[0]:.0f} % of the time, and full for {100 * law[-1]:.0f} %."
+    )
+
+
+def rates_of_desk(clone):
+    """The rates at which customers come to the desk, and are served."""
+    return [int(rate) for rate in re.findall(r"^rate = (\d+)", text_of(clone, DESK), re.M)]
+
+
+def wall_of(text):
+    """Where the band of a log of one queue closes: the one state that is left first."""
+    for line in text.splitlines()[6:-1]:
+        words = line.split()
+        ends = words[4].split(",")[1:] if words[3:4] == ["move"] else words[4:5] * 2
+        if words[3:4] in (["move"], ["set"]) and len(words) == 5 and ends[0] == ends[1]:
+            return int(ends[0])
+    raise Absent("the log of the desk doesn't close")
+
+
+def claim_doubling(document, clone):
+    """2. The past is doubled, and its words are kept."""
+    least = int(said(document, clone, f"./psi couple {DESK} 0 0")[0].split()[1])
+    horizon, _ = sample_of(said(document, clone, f"./psi sample {DESK} 0 0"))
+    document.hold(horizon // 2 < least <= horizon, f"{horizon} isn't the first power from {least}")
+    document.claim(
+        f"since {least} steps would have done, and {horizon} is the first power of two that isn't "
+        "below."
+    )
+    limit = key_of(clone, "short-past.toml", "limit")
+    document.claim(
+        f"cut the past at {2**limit} steps: `short-past.toml` is the same desk with "
+        f"`limit = {limit}`."
+    )
+    short = report_of(said(document, clone, "./psi report examples/short-past.toml 0 0 1000"))
+    whole = written(document, clone, f"./psi report {DESK} 0 0 1000 >all-of-the-past.csv")
+    met, samples, total = short["met", "-"], short["samples", "-"], short["sum", "desk"]
+    document.claim(f"Of {samples:,} streams {met} are coupled within {2**limit} steps.")
+    document.claim(f"until {2**limit} steps are enough, the states of these {met} would be typical")
+    document.claim(f"Beside the report of all {whole.samples:,} they look like this")
+    law = desk_law(*rates_of_desk(clone), key_of(clone, "single-server.toml", "capacity"))
+    mean = sum(number * often for number, often in enumerate(law))
+    document.claim(
+        f"the mean of those that couple early is {total} / {met} = {total / met:.3f}, and that of "
+        f"all of them is {whole.queues[0].mean:.3f}; the formula for M/M/1/K says {mean:.3f}."
+    )
+    call = "./psi report examples/short-past.toml 0 0 1000 >at-most-64-steps.csv"
+    cut = written(document, clone, call)
+    both = [(whole.horizons.get(horizon), count) for horizon, count in cut.horizons.items()]
+    document.hold(all(one == other for one, other in both), f"the left bars differ: {both}")
+    document.claim("The left bars of both reports are equal")
+    document.claim("why `sample` says `not coupled` rather than something")
+    out = clone.run("./psi sample examples/short-past.toml 0 0")[1]
+    document.hold(out.startswith("not coupled "), f"a stream that isn't coupled: {out}")
+
+
+def claim_certificate(document, clone):
+    """3. What a certificate proves."""
+    net = "examples/tandem-blocking.toml"
+    accepted, state = said(document, clone, f"./psi replay {net} tandem.log")
+    other = said(document, clone, f"python3 tools/check_log.py {net} tandem.log")
+    document.hold(other == [accepted, state], f"check_log.py says {other}")
+    document.claim(f"Both say `{accepted}` and `{state}`.")
+    claim_checker(document, clone, "or by `tools/check_log.py`, {} lines of Python that share")
+    log = log_of(document, clone, f"./psi sample {net} 0 0 log >tandem.log")
+    states = 1
+    for room in re.findall(r"^capacity = (\d+)", text_of(clone, net), re.M):
+        states *= int(room) + 1
+    machines = NUMBERS[len(log.state)]
+    document.claim(f"`tandem-blocking.toml` is a production line of {machines} machines:")
+    document.claim(
+        f"![The states of the production line become one {-log.met} steps before time 0]"
+    )
+    document.claim(f"It begins with all {states} states, and")
+    document.claim(
+        f"may have been {log.horizon} steps before time zero, or earlier, is "
+        f"{','.join(map(str, log.state))} at time zero."
+    )
+    couple = clone.answer(f"./psi couple {net} 0 0")[0][2].splitlines()[0]
+    least = int(couple.split()[1])
+    document.claim(
+        f"It doesn't prove that {log.horizon} is the least horizon. Here `couple` says `{couple}`, "
+        f"while the picture shows one state from {-log.met} steps before time zero on: there the "
+        f"run of {log.horizon} steps happens to close. One that begins later closes there or "
+        f"later: a run of {least} steps still does before its end, and one of {least - 1} doesn't."
+    )
+
+
+def claim_envelopes(document, clone):
+    """4. What envelopes lose."""
+    log = log_of(document, clone, f"./psi sample {LONGEST} 0 0 log >longest.log")
+    queues, room = len(log.state), key_of(clone, "longest-queue.toml", "capacity")
+    document.claim(f"a job joins the *longest* of {NUMBERS[queues]} queues that has room.")
+    document.claim(f"![The box of {NUMBERS[queues]} queues stays wide for hundreds of steps")
+    document.claim(f"though there are only {(room + 1) ** queues} states.")
+    document.claim(f"it may be any of the {NUMBERS[queues]}.")
+    document.claim(f"drives it into a corner, here {-log.met:,} steps before time zero.")
+
+
+def claim_splitting(document, clone):
+    """5. What splitting regains."""
+    splits = [key_of(clone, f"longest-queue{end}.toml", "split") for end in ("", "-split")]
+    document.claim(
+        f"it is {splits[0]} in `longest-queue.toml`, and {splits[1]}, as many as there are states, "
+        "in `longest-queue-split.toml`"
+    )
+    one, many = (
+        written(document, clone, f"./psi report {file} 0 0 1000 >split-{split}.csv")
+        for file, split in zip((LONGEST, "examples/longest-queue-split.toml"), splits)
+    )
+    early = next(
+        horizon for horizon in many.horizons
+        if 2 * sum(count for at, count in many.horizons.items() if at <= horizon) > many.samples
+    )
+    late = max(
+        horizon for horizon in one.horizons
+        if 2 * sum(count for at, count in one.horizons.items() if at >= horizon) > one.samples
+    )
+    document.claim(
+        f"With `split = {splits[1]}` most streams are met at {early} steps or less, with "
+        f"`split = {splits[0]}` most need {late:,} or more."
+    )
+    document.claim(f"![With split {splits[1]} horizons are shorter, and means are the same]")
+    same = (one.queues, one.rewards) == (many.queues, many.rewards)
+    document.hold(same, "the two reports differ below the horizons")
+    document.claim("mean, least and greatest of each queue are the same to the last digit")
+
+
+def claim_exact(document, clone):
+    """6. What `exact` shows of it."""
+    said(document, clone, f"./psi exact {LONGEST} 0 0 11 >longest.txt")
+    found = read_exact(clone.read("longest.txt"))
+    document.claim(
+        f"![The image of {found.states} states is one state from {found.constant} steps on, the "
+        f"region from {found.region:,}]"
+    )
+    document.claim(
+        f"takes the {found.states} states to {found.images[1]} after one step, to "
+        f"{found.images[8]} after eight, and to one from {found.constant} steps on. The region run "
+        f"of this file needs {found.region:,}."
+    )
+    text = clone.answer("./psi exact examples/shortest-queue.toml 0 0 11")[0][2]
+    other = read_exact(text.encode())
+    document.hold(other.constant == other.region, f"the lines aren't one: {other}")
+    document.claim("In a monotone network the two lines are one, as in `shortest-queue.toml`.")
+
+
+def claim_never(document, clone):
+    """7. Why a network never couples."""
+    said(document, clone, "./psi exact examples/central-server.toml 0 0 11 >central.txt")
+    found = read_exact(clone.read("central.txt"))
+    sizes, room = found.images, key_of(clone, "central-server.toml", "capacity")
+    queues = text_of(clone, "examples/central-server.toml").count("[[queue]]")
+    left, totals = min(sizes.values()), queues * room + 1
+    first = next(horizon for horizon, size in sizes.items() if size == left)
+    document.hold(left == totals, f"{left} states are left, of {totals} totals")
+    document.claim(f"is a computer that runs {NUMBERS[room]} programs at once:")
+    document.claim(f"![The image of {found.states} states shrinks to {left} and stays there]")
+    document.claim(f"The image shrinks to {left} states and no further.")
+    document.claim(
+        f"{NUMBERS[queues].capitalize()} queues of {NUMBERS[room]} places hold 0 to "
+        f"{queues * room} customers, which are {totals} totals, and no event changes the total: "
+        f"states of the same total meet, in {first} steps at most here,"
+    )
+
+
+def claim_closed(document, clone):
+    """8. A closed network, beside mean value analysis."""
+    loop = next((block for block in document.commands() if block.startswith("for total")), "")
+    found = re.match(r"for total in ([\d ]+); do\n.* \$total (\d+) ", loop)
+    if not found:
+        raise Absent("the loop over the totals")
+    clone.answer(loop)
+    totals, count = found[1].split(), int(found[2])
+    words = [NUMBERS[int(total)] for total in totals]
+    document.hold(count == 1000, f"not a thousand samples but {count}")
+    document.claim(
+        f"A thousand samples each with {words[0]}, {words[1]} and {words[2]} programs are added up"
+    )
+    document.claim(
+        "![Horizons and means of the central server with "
+        f"{words[0]}, {words[1]} and {words[2]} programs]"
+    )
+    document.claim(f"room for all {words[2]} everywhere")
+    net = tomllib.loads(text_of(clone, "examples/central-server.toml"))
+    for total in totals:
+        report = read_report(clone.read(f"programs-{total}.csv"))
+        means = mean_values.means_of(mean_values.rates_of(net, int(total)), int(total))
+        pairs = zip(means, (queue.mean for queue in report.queues))
+        values = [f"{value:.3f}" for value in itertools.chain.from_iterable(pairs)]
+        document.claim(f"| {total} | {' | '.join(values)} |")
+
+
+CLAIMS = {"README.md": claim_readme, "docs/TOUR.md": claim_tour}
