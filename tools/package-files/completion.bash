@@ -1,0 +1,61 @@
+# Completion of psi's words for bash: its commands, network files, the rewards of a network, logs.
+
+_psi_rewards() {
+    # The names that stand in the tables of rewards of a network file.
+    awk '
+        /^[ \t]*\[/ { is_reward = /^[ \t]*\[\[[ \t]*reward[ \t]*\]\]/ }
+        is_reward && /^[ \t]*name[ \t]*=/ { gsub(/^[^=]*=[ \t]*["'\'']|["'\''].*$/, ""); print }
+    ' "$1" 2>/dev/null
+}
+
+_psi_files() {
+    # Folders, and the files whose names end so; a file of any name where none does.
+    local IFS=$'\n'
+    compopt -o filenames 2>/dev/null
+    COMPREPLY=($(compgen -d -- "$2") $(compgen -f -X "!*.$1" -- "$2"))
+    [ "${#COMPREPLY[@]}" -gt 0 ] || COMPREPLY=($(compgen -f -- "$2"))
+}
+
+_psi() {
+    local word=${COMP_WORDS[COMP_CWORD]} command=${COMP_WORDS[1]} net=${COMP_WORDS[2]}
+    COMPREPLY=()
+    case $COMP_CWORD:$command in
+    1:*) COMPREPLY=($(compgen -W "check sample report trial couple reward exact closed replay" \
+        -- "$word")) ;;
+    2:trial) ;;
+    2:*) _psi_files toml "$word" ;;
+    3:replay) _psi_files log "$word" ;;
+    5:sample) COMPREPLY=($(compgen -W log -- "$word")) ;;
+    5:reward) COMPREPLY=($(compgen -W "$(_psi_rewards "$net")" -- "$word")) ;;
+    esac
+}
+
+_psi_many() {
+    local word=${COMP_WORDS[COMP_CWORD]} before=${COMP_WORDS[COMP_CWORD - 1]}
+    COMPREPLY=()
+    case $before in
+    --out | --folder | --psi | --hosts | --merge) _psi_files '*' "$word" ;;
+    *)
+        if [ "$COMP_CWORD" -eq 1 ]; then
+            _psi_files toml "$word"
+        else
+            COMPREPLY=($(compgen -W "--out --folder --psi --block --jobs --hosts --ssh --slurm \
+                --sbatch --merge" -- "$word"))
+        fi
+        ;;
+    esac
+}
+
+_psi_plot() {
+    local word=${COMP_WORDS[COMP_CWORD]}
+    COMPREPLY=()
+    if [ "$COMP_CWORD" -eq 1 ]; then
+        COMPREPLY=($(compgen -W "coupling report exact" -- "$word"))
+    else
+        _psi_files '*' "$word"
+    fi
+}
+
+complete -F _psi psi
+complete -F _psi_many psi-many
+complete -F _psi_plot psi-plot
