@@ -44,7 +44,7 @@ LINK = re.compile(r"\]\(([^)\s]+)\)")
 DRAWS, WRITES = re.compile(r" -o (\S+\.svg)\b"), re.compile(r" (?:-o |>)(\w[\w.$-]*\.\w+)\b")
 SHOWN = re.compile(r"!\[[^\]]*\]\((?:docs/)?pictures/([^)]*)\)")
 NUMBER = re.compile(r"\d(?:[\d,.]*\d)?")
-SECONDS = 600
+BUILT, SECONDS = "crates/psi/out/psi", 600
 
 
 def commands_of(text):
@@ -70,7 +70,7 @@ class Clone:
         subprocess.run(["git", "clone", "-q", str(TOP), str(self.top)], check=True)
         self.answers, self.ran = {}, {}
         if program:
-            built = self.top / "crates/psi/out/psi"
+            built = self.top / BUILT
             built.parent.mkdir(parents=True)
             shutil.copy(program, built)
             os.utime(built, (time.time() + 1, time.time() + 1))
@@ -82,10 +82,11 @@ class Clone:
         return self.ran[command]
 
     def execute(self, command):
-        """Runs a command."""
+        """Runs a command; one that builds the program may take as long as it needs."""
+        is_built = (self.top / BUILT).exists()
         done = subprocess.run(
             ["sh", "-c", command], cwd=self.top, stdin=subprocess.DEVNULL, capture_output=True,
-            timeout=SECONDS if self.answers else None,
+            timeout=SECONDS if is_built else None,
         )
         texts = (done.stdout.decode("utf-8", "replace"), done.stderr.decode("utf-8", "replace"))
         return done.returncode, *texts
@@ -314,8 +315,8 @@ def try_changes(documents, clone):
                 clone.find(name).unlink(missing_ok=True)
             if not tried(document.name, changed_sign(document.text, place), clone).differences:
                 silent += 1
-                line = document.text.count("\n", 0, place) + 1
-                print(f"{document.name}: line {line}: a change of this isn't told: {what}")
+                where = f"{document.name}: line {document.text.count(chr(10), 0, place) + 1}"
+                print(f"{where}: a change of this isn't told: {what}", flush=True)
             # The files that the block writes are again as they were.
             if COMMAND.match(block):
                 clone.execute_all(block)
