@@ -262,6 +262,10 @@ def claim_readme(document, clone):
         f"which starts {lines[0].split()[1]} steps before time zero, or earlier, is "
         f"{lines[1].split()[1]} at time zero."
     )
+    out = clone.run("crates/psi/out/psi sample examples/tandem-blocking.toml 0 0 log")[1]
+    same = out == text_of(clone, "sample.log")
+    document.hold(same, "the built program and the script write different logs")
+    document.claim("`crates/psi/out/psi sample .. log` and `crates/psi/out/psi replay ..`.")
     claim_checker(document, clone, "checks logs by {} lines of Python that share nothing")
 
 
