@@ -299,6 +299,10 @@ def claim_many_samples(document, clone):
     within = 2 ** key_of(clone, "short-past.toml", "limit")
     is_so = not_coupled[1] == f"not coupled within {within}\n"
     document.hold(is_so, f"another text where a sample isn't coupled: {not_coupled}")
+    call = "examples/first.toml 3 1 40"
+    one, many = clone.run(f"./psi report {call}"), clone.run(f"tools/psi-many {call}")
+    document.hold(one[:2] == many[:2], f"psi-many prints another report: {many}")
+    document.claim("are drawn by `tools/psi-many NET SEED FIRST COUNT`: it goes on where it was")
     status, out, _ = clone.run("./psi report examples/short-past.toml 0 0 1")
     document.hold(report_of(out.splitlines())["uncoupled", "-"] == 1, f"none is uncoupled: {out}")
     document.claim(
