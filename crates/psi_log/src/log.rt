@@ -42,16 +42,16 @@ impl Model for Log {
 
 // The region with a number.
 #[tactic(auto, using(crate::proofs::ToldLemmas::region_zero, crate::proofs::ToldLemmas::region_next, crate::proofs::ToldLemmas::there_next))]
-fn region_of(parts: &Parts, i: u32) -> Kept
+fn region_of(parts: &Parts, i: u32) -> &Kept
     requires number { i ≤ vec_len parts.now.lines }
     requires whole { IsWhole parts.now }
-    ensures value { region_at (certificate_of parts.now) i ≡ Some (region_of parts.now.states.states result) }
-    ensures there { IsThere parts.now.header.queues parts.now.states.states result }
+    ensures value { region_at (certificate_of parts.now) i ≡ Some (region_of parts.now.states.states result.now) }
+    ensures there { IsThere parts.now.header.queues parts.now.states.states result.now }
 {
     if i == 0 {
-        return parts.begin;
+        return &parts.begin;
     }
-    parts.lines[i as usize - 1].region
+    &parts.lines[i as usize - 1].region
 }
 
 // The step with a number.
@@ -80,8 +80,8 @@ impl Log {
         ensures { option_map form (region_at self.now i) ≡ Some result }
     {
         match region_of(&self.parts, i) {
-            Kept::Box(bounds) => Form::Box(bounds),
-            Kept::Set { count, .. } => Form::Set { count },
+            Kept::Box(bounds) => Form::Box(*bounds),
+            Kept::Set { count, .. } => Form::Set { count: *count },
         }
     }
 
@@ -106,7 +106,7 @@ impl Log {
         // The number of states fits its type, and so does each place below it.
         let _count = self.parts.states.len();
         match region_of(&self.parts, i) {
-            Kept::Set { first, .. } => self.parts.states.get(first + j as usize),
+            Kept::Set { first, .. } => self.parts.states.get(*first + j as usize),
             Kept::Box(bounds) => bounds.lo(),
         }
     }

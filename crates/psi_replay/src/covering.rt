@@ -13,14 +13,15 @@ use psi_event::{EventLaw, Idle};
 use psi_region::covers_image;
 use psi_state::{Bounds, State};
 
-// Whether a region holds what the event makes of a state.
-fn holds_image<E: EventLaw>(event: &E, mut x: State, after: &Region<'_>) -> bool
+// Whether a region holds what the event makes of a state. The images of states that follow one another mostly do so
+// too, so each is looked for near the place `near` of the last one.
+fn holds_image<E: EventLaw>(event: &E, mut x: State, after: &Region<'_>, near: &mut u16) -> bool
     requires state { IsBelow x (E.capacities event.now) }
     requires after { IsRegion (length (E.capacities event.now)) (seen after.now) }
     ensures { result ≡ has (states_of (seen after.now)) (E.function event.now x) }
 {
     event.apply(&mut x);
-    after.holds(&x)
+    after.holds(&x, near)
 }
 
 // Whether a region holds what the event makes of each state of a box.
@@ -53,8 +54,9 @@ fn box_covers_each<E: EventLaw>(event: &E, before: &Bounds, after: &Region<'_>) 
     requires after { IsRegion (length (E.capacities event.now)) (seen after.now) }
     ensures { result ≡ covers (E.function event.now) (in_box before.now) (seen after.now) }
 {
+    let mut near = 0;
     for x in before.states() {
-        if !holds_image(event, x, after) {
+        if !holds_image(event, x, after, &mut near) {
             return false;
         }
     }
@@ -67,8 +69,9 @@ fn covers_set<E: EventLaw>(event: &E, before: &Set<'_>, after: &Region<'_>) -> b
     requires after { IsRegion (length (E.capacities event.now)) (seen after.now) }
     ensures { result ≡ covers (E.function event.now) (in_set before.now) (seen after.now) }
 {
+    let mut near = 0;
     for place in 0..before.len() {
-        if !holds_image(event, before.get(place), after) {
+        if !holds_image(event, before.get(place), after, &mut near) {
             return false;
         }
     }

@@ -86,7 +86,7 @@ fn judge_end(line: u32, last: &Region<'_>, end: &State) -> Result<(), Rejection>
     ensures { Gives (λ _. tt) result (judge_end line (seen last.now) end.now) }
 {
     Cause::NotSingle.unless(last.is_single(), line)?;
-    Cause::WrongState.unless(last.holds(end), line)
+    Cause::WrongState.unless(last.holds(end, &mut 0), line)
 }
 
 /// Judges a log by all its rules.

@@ -35,14 +35,15 @@ pub(crate) fn region_of(log: &Log, number: u32) -> Region<'_>
 }
 
 impl Region<'_> {
-    /// Whether a state is one of the region's.
-    pub(crate) fn holds(&self, x: &State) -> bool
+    /// Whether a state is one of the region's. In a set it is looked for at the place `near` and behind it first,
+    /// and where it is found, `near` becomes its place.
+    pub(crate) fn holds(&self, x: &State, near: &mut u16) -> bool
         requires { IsRegion (length x.now) (seen self.now) }
         ensures { result ≡ has (states_of (seen self.now)) x.now }
     {
         match self {
             Region::Box(bounds) => bounds.holds(x),
-            Region::Set(set) => set.holds(x),
+            Region::Set(set) => set.holds(x, near),
         }
     }
 

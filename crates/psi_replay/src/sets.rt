@@ -55,21 +55,39 @@ impl<'l> Set<'l> {
         self.log.state(self.number, place)
     }
 
-    /// Whether a state is one of them, which are in ascending order: found by halving.
-    pub(crate) fn holds(&self, x: &State) -> bool
+    /// Whether a state is one of them, which are in ascending order: found by halving, after a look at the place
+    /// `near` and the one behind it. Where it is found, `near` becomes its place.
+    pub(crate) fn holds(&self, x: &State, near: &mut u16) -> bool
         requires { IsRising self.now }
         ensures { result ≡ has self.now x.now }
     {
         let mut low = 0;
         let mut high = self.len();
+        let mut probe = *near;
         while low < high {
-            let middle = low + (high - low) / 2;
+            let middle = place_between(low, high, probe);
+            probe = near.saturating_add(1);
             match self.get(middle).cmp(x) {
                 Ordering::Less => low = middle + 1,
-                Ordering::Equal => return true,
+                Ordering::Equal => {
+                    *near = middle;
+                    return true;
+                }
                 Ordering::Greater => high = middle,
             }
         }
         false
     }
+}
+
+// The place that is probed, where it is between the two, and else the one in their middle.
+fn place_between(low: u16, high: u16, probe: u16) -> u16
+    requires { low < high }
+    ensures least { low ≤ result }
+    ensures most { result < high }
+{
+    if low <= probe && probe < high {
+        return probe;
+    }
+    low + (high - low) / 2
 }

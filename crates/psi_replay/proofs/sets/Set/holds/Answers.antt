@@ -1,5 +1,5 @@
 -- Answers in the proof of `Set::holds`.
-use Rattle.std.specs.Prelude.{◌+◌, ◌-◌, ◌/◌, ◌<◌}
+use Rattle.std.specs.Prelude.{◌<◌}
 use Rattle.std.proofs.Common.{sym, ◌∙◌, arith}
 use Rattle.psi_replay.proofs.ListLemmas.{has_none}
 use Rattle.psi_replay.proofs.SetLemmas.{search_behind, search_before, search_found}
@@ -7,7 +7,9 @@ use Rattle.psi_replay.proofs.sets.Set.holds.Goals as goal
 
 pub loop-low-preserved-in-Less : goal.loop-low-preserved-in-Less
 loop-low-preserved-in-Less c =
-    let middle = c.loop-low.low + (c.loop-low.high - c.loop-low.low) / 2 in
+    let middle = c.place_between-middle.result in
+    let least = c.place_between-middle.ensures.least in
+    let below = c.place_between-middle.ensures.most in
     let kept = c.loop-low.invariant in
     record {
       most = kept.most;
@@ -20,11 +22,13 @@ loop-low-preserved-in-Less c =
 
 pub returns-in-Equal : goal.returns-in-Equal
 returns-in-Equal c =
-    sym (search_found c.args.self.now (c.loop-low.low + (c.loop-low.high - c.loop-low.low) / 2) c.args.x.now c.get.result c.get.ensures (sym c.cmp.ensures ∙ c.in-Equal.is))
+    sym (search_found c.args.self.now c.place_between-middle.result c.args.x.now c.get.result c.get.ensures (sym c.cmp.ensures ∙ c.in-Equal.is))
 
 pub loop-low-preserved : goal.loop-low-preserved
 loop-low-preserved c =
-    let middle = c.loop-low.low + (c.loop-low.high - c.loop-low.low) / 2 in
+    let middle = c.place_between-middle.result in
+    let least = c.place_between-middle.ensures.least in
+    let below = c.place_between-middle.ensures.most in
     let kept = c.loop-low.invariant in
     let test = c.loop-low-test.true in
     let most = kept.most in
