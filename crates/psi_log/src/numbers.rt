@@ -14,7 +14,11 @@ fn with_digit(value: u64, byte: u8) -> Option<u64>
     requires most { byte ≤ 57 }
     ensures { MatchOption result (2 ^ 64 ≤ value * 10 + (byte - 48)) (λ n. n ≡ value * 10 + (byte - 48)) }
 {
-    value.checked_mul(10)?.checked_add((byte - b'0') as u64)
+    let digit = (byte - b'0') as u64;
+    if value < 1_000_000_000_000_000_000 {
+        return Some(value * 10 + digit);
+    }
+    value.checked_mul(10)?.checked_add(digit)
 }
 
 // The number that the digits at the front of a word write, where it has 64 bits, and how many they are.

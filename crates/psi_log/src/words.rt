@@ -70,7 +70,13 @@ fn commas(word: &[u8]) -> usize
     ensures value { result ≡ count_by is_comma word.now }
     ensures few { result ≤ length word.now }
 {
-    word.iter().filter(|byte| **byte == b',').count()
+    let mut count = 0;
+    for byte in word {
+        if *byte == b',' {
+            count += 1;
+        }
+    }
+    count
 }
 
 /// Whether the word has so many pieces.
