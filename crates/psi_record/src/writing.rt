@@ -32,8 +32,8 @@ const MANY: usize = 8_192;
 ///
 /// The run is that of the plan's network and words, from the header's horizon, 1 to 2 to the power `limit`
 /// steps before time zero; the header tells version 2. The run is done at most once, and the lengths of its
-/// lines are added up; no line is kept. The plan's network and its past's words stay as they were. The call
-/// takes no memory.
+/// lines are added up until those that are left surely fit; no line is kept. The plan's network and its past's
+/// words stay as they were. The call takes no memory.
 ///
 /// Where the run ends with this state alone, and the header has as many queues as the network, the log is one
 /// that a checker accepts, with the horizon and the state: each of its regions holds what the step's event
