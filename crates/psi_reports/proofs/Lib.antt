@@ -1,5 +1,5 @@
 -- The lemmas of this crate.
-mod OutcomesLemmas
+pub mod OutcomesLemmas
 mod NumberLemmas
 mod DigitLemmas
 mod NameLemmas
@@ -9,12 +9,12 @@ mod RowLemmas
 mod PlainLemmas
 mod RowReads
 mod ReadLaws
-mod SmallLemmas
+pub mod SmallLemmas
 mod CountLemmas
 mod FigureLemmas
 mod MergeLemmas
 mod HorizonCounts
 mod FiguresJoined
-mod MergeLaws
+pub mod MergeLaws
 mod JudgeLemmas
-mod SoundLaws
+pub mod SoundLaws
