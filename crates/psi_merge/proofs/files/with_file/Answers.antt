@@ -1,0 +1,25 @@
+-- Answers in the proof of `with_file`.
+use Rattle.psi_merge.proofs.Finding.{file-unmerged, file-merged, file-missed, told-missed}
+use Rattle.psi_merge.proofs.files.with_file.Goals as goal
+
+pub returns-in-Err-clause-found : goal.returns-in-Err-clause-found
+returns-in-Err-clause-found g c =
+    record {
+      answer = file-missed (g.F.Shelf.told c.args.shelf.now) c.args.whole c.args.name.now c.in-Err.ending c.in-Err.ensures.found.answer;
+      cause = c.in-Err.ensures.found.cause;
+    }
+
+pub returns-in-Ok-merged-clause-found : goal.returns-in-Ok-merged-clause-found
+returns-in-Ok-merged-clause-found g c =
+    record {
+      answer = file-merged (g.F.Shelf.told c.args.shelf.now) c.args.whole c.in-Ok.report c.in-Ok-merged.both c.args.name.now c.in-Ok.ensures.found.answer c.in-Ok-merged.ensures;
+      cause = tt;
+    }
+
+pub returns-in-Err-merged-clause-found : goal.returns-in-Err-merged-clause-found
+returns-in-Err-merged-clause-found g c =
+    record {
+      answer = file-unmerged (g.F.Shelf.told c.args.shelf.now) c.args.whole c.in-Ok.report c.args.name.now c.in-Err-merged.error c.unmerged.result c.in-Ok.ensures.found.answer
+          c.in-Err-merged.ensures c.unmerged.ensures.ending c.unmerged.ensures.memory;
+      cause = λ words there. told-missed _ words c.unmerged.result c.unmerged.ensures.told;
+    }

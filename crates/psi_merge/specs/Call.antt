@@ -1,0 +1,95 @@
+-- What a call of the program is seen to do.
+use Rattle.std.specs.Prelude.{◌≡◌, ℕ, ◌≤◌, List, [], ◌∷◌, length, Option, Some, IfSome, true, false, ◌⊎◌}
+use Rattle.std.specs.List.{flat_map}
+use Rattle.psi_state.specs.declared.Outcome.{Outcome}
+use Rattle.psi_network.specs.Network.{Network}
+use Rattle.psi_report.specs.Report.{report_text}
+use Rattle.psi_reports.specs.Small.{AreSamples}
+use Rattle.psi_merge.specs.declared.status.Status.{Status}
+use Rattle.psi_merge.specs.declared.status.Status.TheVariants.{Done, Usage, ReadFault, WriteFault, OutOfMemory}
+use Rattle.psi_merge.specs.Status.{IsReplied, IsReported}
+use Rattle.psi_merge.specs.Reply.{Reply, are_files, reply_to, unread_line, memory_line}
+use Rattle.psi_merge.specs.Seen.{ShelfSeen, HasUnread, SinkSeen, Grew, GrewByPart, IsUnchanged, HasFailed}
+
+-- a call: its words, the shelf that it reads and the two sinks that it writes
+pub record Call : Type 0 where
+  pub words : List (List ℕ)
+  pub shelf : ShelfSeen
+  pub out : SinkSeen
+  pub err : SinkSeen
+
+-- the reply to a call, where its shelf tells the files that are read
+abbrev pub reply_to_call : Call → Option Reply
+reply_to_call call = reply_to call.shelf.told call.words
+
+-- a file couldn't be read, and err tells which
+pub record ReadFaulted (call : Call) : Type 0 where
+  pub cause : HasUnread call.shelf call.words
+  pub out : IsUnchanged call.out
+  pub err : Grew call.err (unread_line cause.name)
+
+-- out failed within the reply's text
+pub record OutFaulted (call : Call) : Type 0 where
+  pub cause : HasFailed call.out
+  pub out : IfSome (reply_to_call call) (λ reply. GrewByPart call.out reply.out)
+  pub err : IsUnchanged call.err
+
+-- what err holds where it failed: a prefix of the reply's line, of the line on a failed read, or of the line on want of memory
+abbrev pub EndsWithin : Call → Reply → Type 0
+EndsWithin call reply =
+    GrewByPart call.err reply.err ⊎ (((cause : HasUnread call.shelf call.words) × GrewByPart call.err (unread_line cause.name)) ⊎ GrewByPart call.err memory_line)
+
+-- err failed within its text
+pub record ErrFaulted (call : Call) : Type 0 where
+  pub cause : HasFailed call.err
+  pub out : IsUnchanged call.out
+  pub err : IfSome (reply_to_call call) (EndsWithin call)
+
+-- memory ran out before anything was written, and err tells it
+pub record MemoryLacked (call : Call) : Type 0 where
+  pub words : are_files call.words ≡ true
+  pub out : IsUnchanged call.out
+  pub err : Grew call.err memory_line
+
+-- what the status of a call says of it
+pub record IsRun (call : Call) (result : Status) : Type 0 where
+  -- where the shelf tells the files that are read, a status of a reply, that is one from 0 to 5, is the reply's, whatever counts rose
+  pub status : IfSome (reply_to_call call) (λ reply. IsReplied result → result ≡ reply.status)
+  -- and with such a status each sink that tells what it holds grew by exactly the reply's text
+  pub out : IfSome (reply_to_call call) (λ reply. IsReplied result → Grew call.out reply.out)
+  pub err : IfSome (reply_to_call call) (λ reply. IsReplied result → Grew call.err reply.err)
+  -- where no count of out, of err or of a file that the words name rose in the call, the status is that of a reply, or 8
+  pub complete : ¬ (HasFailed call.out) → ¬ (HasFailed call.err) → ¬ (HasUnread call.shelf call.words) → IsReplied result ⊎ (result ≡ OutOfMemory)
+  -- status 2 comes only where the words aren't files, and where they aren't, it comes unless err fails
+  pub usage : result ≡ Usage → are_files call.words ≡ false
+  pub no_files : are_files call.words ≡ false → (result ≡ Usage) ⊎ (result ≡ WriteFault)
+  -- the causes of the statuses 6, 7 and 8, with what was written
+  pub read_fault : result ≡ ReadFault → ReadFaulted call
+  pub write_fault : result ≡ WriteFault → OutFaulted call ⊎ ErrFaulted call
+  pub no_memory : result ≡ OutOfMemory → MemoryLacked call
+  -- with the statuses 2 to 6 and 8 nothing is written to out, and with 0 nothing to err
+  pub silent_out : IsReported result → IsUnchanged call.out
+  pub silent_err : result ≡ Done → IsUnchanged call.err
+
+-- the shelf tells of each word the report of its list of samples of the network, which has at most 1,048,576 bytes
+abbrev pub AreReports : Network → (List ℕ → Option (List ℕ)) → List (List ℕ) → List (List Outcome) → Type 0
+AreReports net told [] [] = Unit {0}
+AreReports net told (word ∷ words) (outcomes ∷ lists) =
+    (told word ≡ Some (report_text net outcomes)) × (length (report_text net outcomes) ≤ 1048576) × AreReports net told words lists
+AreReports net told words lists = ⊥
+
+-- the lists, one behind the other
+abbrev pub all_of : List (List Outcome) → List Outcome
+all_of lists = flat_map (λ outcomes. outcomes) lists
+
+-- the call is done, and out grew by the report of all lists
+pub record IsMerged (call : Call) (result : Status) (net : Network) (lists : List (List Outcome)) : Type 0 where
+  pub done : result ≡ Done
+  pub text : Grew call.out (report_text net (all_of lists))
+
+-- where the words are files, the shelf tells of them the reports of lists of samples of one network, no count rose and memory didn't run out,
+-- out grew by the report of all lists, one behind the other
+abbrev pub MergesReports : Call → Status → Type 0
+MergesReports call result = (net : Network) (lists : List (List Outcome)) → are_files call.words ≡ true → AreReports net call.shelf.told call.words lists
+    → AreSamples net (all_of lists) → ¬ (HasFailed call.out) → ¬ (HasFailed call.err) → ¬ (HasUnread call.shelf call.words) → ¬ (result ≡ OutOfMemory)
+    → IsMerged call result net lists

@@ -1,0 +1,44 @@
+//! How the work of a call ends, before anything is written.
+
+ghost use Rattle.std.specs.Prelude.{◌≡◌};
+
+use crate::status::Status;
+
+/// How the work of a call ends, once its memory is taken and before anything is written. Each line ends with a line
+/// feed and tells the name of the file.
+#[derive(Drop, Debug)]
+pub(crate) enum Ending {
+    /// With the text of the report of all files.
+    Merged(Vec<u8>),
+    /// The words aren't names of files.
+    Usage,
+    /// A file is no report; with the line for err.
+    Refused(Vec<u8>),
+    /// A report is of another network; with the line for err.
+    OtherNetwork(Vec<u8>),
+    /// A number would be too large; with the line for err.
+    TooLarge(Vec<u8>),
+    /// A file couldn't be read; with the line for err.
+    Unread(Vec<u8>),
+    /// There was not enough memory.
+    OutOfMemory,
+}
+
+impl Ending {
+    ghost use Rattle.psi_merge.specs.Ended.{ending_reply};
+
+    /// The status of the call, once the text of the ending is written whole.
+    pub(crate) fn status(&self) -> Status
+        ensures { result ≡ (ending_reply self.now).status }
+    {
+        match self {
+            Ending::Merged(_) => Status::Done,
+            Ending::Usage => Status::Usage,
+            Ending::Refused(_) => Status::Refused,
+            Ending::OtherNetwork(_) => Status::OtherNetwork,
+            Ending::TooLarge(_) => Status::TooLarge,
+            Ending::Unread(_) => Status::ReadFault,
+            Ending::OutOfMemory => Status::OutOfMemory,
+        }
+    }
+}

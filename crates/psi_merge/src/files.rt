@@ -1,0 +1,173 @@
+//! The report of all files.
+
+ghost use Rattle.std.specs.Prelude.{◌≡◌, ◌≤◌, ℕ, List, ◌∷◌, Err, map, string_bytes, IfSome};
+ghost use Rattle.std.specs.List.{list_all};
+ghost use Rattle.psi_reports.specs.declared.error.MergeError.{MergeError};
+ghost use Rattle.psi_merge.specs.declared.status.Status.TheVariants as status;
+ghost use Rattle.psi_merge.specs.Reply.{line_reply, refused_line, merge_reply, report_at, with_file, with_files, whole_of, is_file};
+ghost use Rattle.psi_merge.specs.Ended.{MayEnd, IsUnreadOf, IsTold, IsFound, AreFound, IsEnding};
+
+use crate::ending::Ending;
+use crate::lines::{large_line, other_line, refused_line, unread_line};
+use crate::reports::{Cause, MOST_BYTES, ReportError, report_in};
+use psi_io::{Shelf, ShelfFault};
+use psi_reports::{MergeError, Report};
+use std::alloc::Global;
+
+// The ending on a file that is no report.
+fn refused(alloc: Global, name: &str, line: u64, cause: Cause) -> Ending
+    ensures ending { MayEnd result (Err (line_reply status.Refused (refused_line name.now (record { line = line; cause = cause })))) }
+    ensures told { IsTold result }
+{
+    match refused_line(alloc, name, line, cause) {
+        Ok(text) => Ending::Refused(text),
+        Err(_) => Ending::OutOfMemory,
+    }
+}
+
+// The ending on a report that isn't merged.
+fn unmerged(alloc: Global, name: &str, error: MergeError) -> Ending
+    ensures ending { IfSome (merge_reply name.now (Err error)) (MayEnd result) }
+    ensures told { IsTold result }
+    ensures memory { error ≡ MergeError.OutOfMemory → result ≡ Ending.OutOfMemory }
+{
+    match error {
+        MergeError::OtherNetwork { line } => match other_line(alloc, name, line) {
+            Ok(text) => Ending::OtherNetwork(text),
+            Err(_) => Ending::OutOfMemory,
+        },
+        MergeError::TooLarge => match large_line(alloc, name) {
+            Ok(text) => Ending::TooLarge(text),
+            Err(_) => Ending::OutOfMemory,
+        },
+        MergeError::OutOfMemory => Ending::OutOfMemory,
+    }
+}
+
+// The ending on a file that couldn't be read.
+fn unread(alloc: Global, name: &str) -> Ending
+    ensures { IsUnreadOf name.now result }
+{
+    match unread_line(alloc, name) {
+        Ok(text) => Ending::Unread(text),
+        Err(_) => Ending::OutOfMemory,
+    }
+}
+
+// The report of a file, or the ending for want of one.
+fn report_at<F: Shelf>(alloc: Global, shelf: &mut F, name: &str) -> Result<Report, Ending>
+    ensures found { IsFound (record { told = F.told shelf.old; faults_before = F.faults shelf.old; faults_after = F.faults shelf.new }) name.now
+        (report_at (F.told shelf.old) name.now) result }
+    ensures same { F.told shelf.new ≡ F.told shelf.old }
+    ensures counts { (other : List ℕ) → F.faults shelf.old other ≤ F.faults shelf.new other }
+{
+    let bytes = match shelf.read(alloc, name, MOST_BYTES) {
+        Ok(bytes) => bytes,
+        Err(ShelfFault::Failed) => return Err(unread(alloc, name)),
+        Err(ShelfFault::OutOfMemory) => return Err(Ending::OutOfMemory),
+    };
+    match report_in(alloc, bytes.as_slice()) {
+        Ok(report) => Ok(report),
+        Err(ReportError::Refused { line, cause }) => Err(refused(alloc, name, line, cause)),
+        Err(ReportError::OutOfMemory) => Err(Ending::OutOfMemory),
+    }
+}
+
+// The report of those before it and of a file, or the ending for want of one.
+fn with_file<F: Shelf>(
+    alloc: Global,
+    shelf: &mut F,
+    whole: Report,
+    name: &str,
+) -> Result<Report, Ending>
+    ensures found { IsFound (record { told = F.told shelf.old; faults_before = F.faults shelf.old; faults_after = F.faults shelf.new }) name.now
+        (with_file (F.told shelf.old) whole name.now) result }
+    ensures same { F.told shelf.new ≡ F.told shelf.old }
+    ensures counts { (other : List ℕ) → F.faults shelf.old other ≤ F.faults shelf.new other }
+{
+    let report = match report_at(alloc, shelf, name) {
+        Ok(report) => report,
+        Err(ending) => return Err(ending),
+    };
+    match whole.merged(alloc, report) {
+        Ok(both) => Ok(both),
+        Err(error) => Err(unmerged(alloc, name, error)),
+    }
+}
+
+// The report of those before them and of files, or the ending for want of one.
+fn with_files<F: Shelf>(
+    alloc: Global,
+    shelf: &mut F,
+    first: Report,
+    names: &[String],
+) -> Result<Report, Ending>
+    ensures { AreFound (record { told = F.told shelf.old; faults_before = F.faults shelf.old; faults_after = F.faults shelf.new }) (map string_bytes names.now)
+        (with_files (F.told shelf.old) first (map string_bytes names.now)) result }
+{
+    let mut whole = first;
+    for name in names {
+        match with_file(alloc, shelf, whole, name.as_str()) {
+            Ok(both) => whole = both,
+            Err(ending) => return Err(ending),
+        }
+    }
+    Ok(whole)
+}
+
+// The report of all files, or the ending for want of one.
+fn whole_of<F: Shelf>(
+    alloc: Global,
+    shelf: &mut F,
+    first: &str,
+    rest: &[String],
+) -> Result<Report, Ending>
+    ensures { AreFound (record { told = F.told shelf.old; faults_before = F.faults shelf.old; faults_after = F.faults shelf.new }) (first.now ∷ map string_bytes rest.now)
+        (whole_of (F.told shelf.old) (first.now ∷ map string_bytes rest.now)) result }
+{
+    match report_at(alloc, shelf, first) {
+        Ok(report) => with_files(alloc, shelf, report, rest),
+        Err(ending) => Err(ending),
+    }
+}
+
+// Whether a word is a file's name: it doesn't begin with a minus sign.
+fn is_file(word: &str) -> bool
+    ensures { result ≡ is_file word.now }
+{
+    match word.as_bytes() {
+        [byte, ..] => *byte != b'-',
+        [] => true,
+    }
+}
+
+// Whether all words are names of files.
+fn all_files(words: &[String]) -> bool
+    ensures { result ≡ list_all is_file (map string_bytes words.now) }
+{
+    for word in words {
+        if !is_file(word.as_str()) {
+            return false;
+        }
+    }
+    true
+}
+
+/// The work for the words, before the first byte is written. Words that aren't names of files take no memory.
+pub(crate) fn work<F: Shelf>(alloc: Global, words: &[String], shelf: &mut F) -> Ending
+    ensures { IsEnding (record { told = F.told shelf.old; faults_before = F.faults shelf.old; faults_after = F.faults shelf.new }) (map string_bytes words.now) result }
+{
+    let [first, rest @ ..] = words else {
+        return Ending::Usage;
+    };
+    if !all_files(words) {
+        return Ending::Usage;
+    }
+    match whole_of(alloc, shelf, first.as_str(), rest) {
+        Ok(report) => match report.text(alloc) {
+            Ok(text) => Ending::Merged(text),
+            Err(_) => Ending::OutOfMemory,
+        },
+        Err(ending) => ending,
+    }
+}

@@ -1,0 +1,61 @@
+//! The call that does all that the program does.
+
+ghost use Rattle.std.specs.Prelude.{map, string_bytes};
+ghost use Rattle.psi_merge.specs.Call.{Call, IsRun, MergesReports};
+
+use crate::files::work;
+use crate::status::Status;
+use crate::writing::finish;
+use psi_io::{Shelf, Sink};
+use std::alloc::Global;
+
+/// Reads the reports in the files that the words name, and prints the report of all their samples; it answers how that
+/// ended.
+///
+/// The words are names of files, one at least, none of which begins with a minus sign. Each file is read in the order of
+/// the words, and has the report of samples of one network, as `psi report` or this program prints it, in at most
+/// 1,048,576 bytes. The report of all is that of the samples of the first file, then those of the second, and so on: its
+/// counts and sums are the sums of theirs, its horizons are all of theirs, and its extremes the least and the greatest
+/// of theirs. Nothing is written to out unless all files are read and merged, and with any other status but `WriteFault`
+/// one line to err tells why.
+///
+/// | Status | Line |
+/// |---|---|
+/// | `Usage` | `psi_merge: usage: psi_merge FILE..` |
+/// | `Refused` | `psi_merge: refused CAUSE NAME line L FILE` |
+/// | `OtherNetwork` | `psi_merge: other network line L FILE` |
+/// | `TooLarge` | `psi_merge: too large FILE` |
+/// | `ReadFault` | `psi_merge: cannot read FILE` |
+/// | `OutOfMemory` | `psi_merge: out of memory` |
+///
+/// FILE is the word that names the first file for which there is no report of all. L is the first line of it that is
+/// wrong, counted from 1, or 0 for the text as a whole; of another network, the line of the first sum that isn't of the
+/// queue or the reward of the first file's sum at its place. CAUSE and NAME are `0 TooLong`, `1 Row` where a line is no
+/// row of a report, `2 Text` where each line is a row but the text isn't that of the report that they tell, and
+/// `3 Samples` where the rows aren't those of samples. A count of 64 bits or more, or a sum whose magnitude is 10^37 or
+/// more, is too large.
+pub(crate) fn run<F: Shelf, O: Sink, E: Sink>(
+    alloc: Global,
+    words: &[String],
+    shelf: &mut F,
+    out: &mut O,
+    err: &mut E,
+) -> Status
+    // What each status says of the words, the shelf and the sinks.
+    ensures call { IsRun (record {
+      words = map string_bytes words.now;
+      shelf = record { told = F.told shelf.old; faults_before = F.faults shelf.old; faults_after = F.faults shelf.new };
+      out = record { before = O.held out.old; after = O.held out.new; faults_before = O.faults out.old; faults_after = O.faults out.new };
+      err = record { before = E.held err.old; after = E.held err.new; faults_before = E.faults err.old; faults_after = E.faults err.new };
+    }) result }
+
+    // The headline: the reports of lists of samples of one network are merged into the report of all lists, one behind the other.
+    ensures headline { MergesReports (record {
+      words = map string_bytes words.now;
+      shelf = record { told = F.told shelf.old; faults_before = F.faults shelf.old; faults_after = F.faults shelf.new };
+      out = record { before = O.held out.old; after = O.held out.new; faults_before = O.faults out.old; faults_after = O.faults out.new };
+      err = record { before = E.held err.old; after = E.held err.new; faults_before = E.faults err.old; faults_after = E.faults err.new };
+    }) result }
+{
+    finish(&work(alloc, words, shelf), out, err)
+}

@@ -1,0 +1,70 @@
+//! The report that a file has.
+
+ghost use Rattle.std.specs.Prelude.{◌≡◌};
+ghost use Rattle.psi_merge.specs.Reports.{unread_at, report_in};
+ghost use Rattle.psi_merge.specs.Gives.{refused, Gives};
+
+use psi_reports::{ReadError, Report, read};
+use std::alloc::Global;
+
+/// The most bytes that a file may have.
+pub(crate) const MOST_BYTES: u32 = 1_048_576;
+
+/// Why a file is no report.
+#[derive(Clone, Copy, PartialEq, Eq, Debug)]
+pub enum Cause {
+    /// It has more than 1,048,576 bytes.
+    TooLong,
+    /// The line is no row of a report.
+    Row,
+    /// Each line is a row, but the text isn't that of the report that the rows tell.
+    Text,
+    /// The rows aren't those of samples: counts don't add up, horizons don't ascend, or a figure is missing.
+    Samples,
+}
+
+/// Why no report is given.
+#[derive(Clone, Copy, PartialEq, Eq, Debug)]
+pub(crate) enum ReportError {
+    /// The file is no report.
+    Refused {
+        /// The line, counted from 1; 0 for the text as a whole.
+        line: u64,
+        /// The cause.
+        cause: Cause,
+    },
+    /// Memory ran out.
+    OutOfMemory,
+}
+
+// A line that is no row, or a text that isn't that of its rows.
+fn unread_at(line: u64) -> ReportError
+    ensures { result ≡ refused (unread_at line) }
+{
+    let cause = if line == 0 { Cause::Text } else { Cause::Row };
+    ReportError::Refused { line, cause }
+}
+
+/// The report that bytes are, at most 1,048,576 of them.
+#[tactic(auto, unfolding(crate::specs::Reports::report_in))]
+pub(crate) fn report_in(alloc: Global, bytes: &[u8]) -> Result<Report, ReportError>
+    ensures { Gives result (report_in bytes.now) }
+{
+    if bytes.len() > MOST_BYTES as usize {
+        return Err(ReportError::Refused {
+            line: 0,
+            cause: Cause::TooLong,
+        });
+    }
+    match read(alloc, bytes) {
+        Ok(report) => match report.flaw() {
+            Some(line) => Err(ReportError::Refused {
+                line,
+                cause: Cause::Samples,
+            }),
+            None => Ok(report),
+        },
+        Err(ReadError::Refused { line }) => Err(unread_at(line)),
+        Err(ReadError::OutOfMemory) => Err(ReportError::OutOfMemory),
+    }
+}
