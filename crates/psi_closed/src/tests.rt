@@ -23,6 +23,33 @@ fn four(a: u16, b: u16, c: u16, d: u16) -> State
     state
 }
 
+// Two queues that hold `a` and `b` customers.
+fn two(a: u16, b: u16) -> State
+    ensures { result ≡ a ∷ b ∷ [] }
+{
+    let mut state = State::zero(2);
+    state.set(0, a);
+    state.set(1, b);
+    state
+}
+
+// The customer goes from the first queue to the second: of two states one is left.
+#[test]
+fn a_diagram_of_one_customer_follows_a_move(rt: HostRuntime) -> Result<(), Fail> {
+    let mut diagram = Diagram::reserve(rt.alloc(), two(1, 1), 1)?;
+    diagram.start();
+    assert_eq!(rt; diagram.arcs(), 4);
+    assert!(rt; diagram.single().is_none());
+    diagram.advance(&Move {
+        from: 0,
+        k: 1,
+        to: 1,
+    });
+    assert_eq!(rt; diagram.arcs(), 2);
+    assert_eq!(rt; diagram.single(), Some(two(0, 1)));
+    Ok(())
+}
+
 // The diagram of two crosswise states of four queues of capacity 1.
 fn crosswise(alloc: Global) -> Result<Diagram, Fail>
     ensures { IfOk result (λ diagram. diagram.caps ≡ 1 ∷ 1 ∷ 1 ∷ 1 ∷ []) }

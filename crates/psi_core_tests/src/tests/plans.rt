@@ -3,14 +3,31 @@
 ghost use Rattle.std.specs.Prelude.{◌≡◌, ◌≤◌, ◌∷◌, [], IfOk};
 ghost use Rattle.psi_state.specs.State.{AreCapacities};
 
-use super::queues::{capacities, holding, joining, leaving};
+use super::queues::{capacities, holding, joining as joining_part, leaving as leaving_part};
 use psi_event::EventLaw;
 use psi_horizon::Plan;
+use psi_kinds::Event;
 use psi_past::{ListPast, Past, SeedPast};
 use psi_rate::{System, Wheel};
 use psi_state::{Outcome, State, Step};
 use std::alloc::Global;
 use std::test::Fail;
+
+// One customer joins queue `queue`, which has room for `most` customers.
+fn joining(caps: State, queue: u8, most: u16) -> Result<Event, Fail>
+    requires { AreCapacities caps }
+    ensures { IfOk result (λ event. ⟦<Event as EventLaw>⟧.capacities event ≡ caps) }
+{
+    Ok(Event::Guarded(joining_part(caps, queue, most)?))
+}
+
+// One customer leaves queue `queue`, which has room for `most` customers, where it holds at least `k`.
+fn leaving(caps: State, queue: u8, most: u16, k: u16) -> Result<Event, Fail>
+    requires { AreCapacities caps }
+    ensures { IfOk result (λ event. ⟦<Event as EventLaw>⟧.capacities event ≡ caps) }
+{
+    Ok(Event::Guarded(leaving_part(caps, queue, most, k)?))
+}
 
 // The outcome of a sample that is met.
 fn met(horizon: u32, count: u16) -> Outcome {
