@@ -50,27 +50,22 @@ fn make_arcs(alloc: Global, calls: bool) -> Option<()> {
     let Ok(mut all) = Arcs::reserve(alloc, 3, 3) else {
         return None;
     };
-    let Ok(mut held) = Arcs::reserve(alloc, 3, 3) else {
-        return None;
-    };
     let Ok(mut reach) = Reach::reserve(alloc) else {
         return None;
     };
     if calls {
-        call_arcs(&mut all, &mut held, &mut reach);
+        call_arcs(&mut all, &mut reach);
     }
     Some(())
 }
 
-fn call_arcs(all: &mut Arcs, held: &mut Arcs, reach: &mut Reach)
+// A move of the arcs is called by the diagram's.
+fn call_arcs(all: &mut Arcs, reach: &mut Reach)
     requires levels { all.old.levels ≡ 3 }
     requires total { all.old.total ≡ 3 }
-    requires held_levels { held.old.levels ≡ 3 }
-    requires held_total { held.old.total ≡ 3 }
 {
     all.fill(&ring());
-    held.keep_useful(all, reach);
-    all.step(held, 0, 1, 1, 2, reach);
+    all.keep_useful(reach);
     let arc = Arc {
         level: 0,
         before: 0,
