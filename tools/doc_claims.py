@@ -15,6 +15,8 @@ from plotting.read_report import read_report
 
 # Commands that don't end with 0, but for those that print 'not coupled' or 'not constant'.
 STATUSES = {"./psi exact examples/central-server.toml 0 0 11 >central.txt": 1}
+# Commands that print the same for each stream, so that a change of the stream changes no text.
+ALIKE = ("./psi sample examples/central-server.toml 0 0",)
 NUMBERS = "no one two three four five six seven eight nine ten eleven twelve".split()
 GREATEST = 2**64 - 1
 DESK, LONGEST = "examples/single-server.toml", "examples/longest-queue.toml"

@@ -11,7 +11,7 @@ where it isn't given `./psi` builds its own, which takes some half an hour.
 - Sentences that say what comes, such as 'says `accepted 64`', and tables of words, files and
   statuses are compared as `doc_claims.py` says: each is made anew of what came, and has to stand in
   the document once.
-- Pictures that are drawn are those of docs/pictures, byte by byte.
+- Pictures that are drawn are those of docs/pictures, byte by byte but for the names of clip paths.
 - Links lead to files and headings that are there, and each piece of code in a sentence is a path, a
   command or a name that is listed.
 - A number or a piece of code that nothing of this compares is told, but in the passages that
@@ -43,6 +43,7 @@ SAYS_COMMAND = re.compile(r"`((?:rt|\./psi) [^`]*)` prints[^`]*$")
 LINK = re.compile(r"\]\(([^)\s]+)\)")
 DRAWS, WRITES = re.compile(r" -o (\S+\.svg)\b"), re.compile(r" (?:-o |>)(\w[\w.$-]*\.\w+)\b")
 SHOWN = re.compile(r"!\[[^\]]*\]\((?:docs/)?pictures/([^)]*)\)")
+CLIP = re.compile(rb"\bp[0-9a-f]{10}\b")
 NUMBER = re.compile(r"\d(?:[\d,.]*\d)?")
 BUILT, SECONDS = "crates/psi/out/psi", 600
 
@@ -187,6 +188,13 @@ def try_blocks(document, clone):
             printed = None
 
 
+def without_ids(picture):
+    """A picture whose clip paths are numbered: their names are made of all bits of numbers, the
+    last of which may be others elsewhere."""
+    names = {}
+    return CLIP.sub(lambda found: b"clip%d" % names.setdefault(found[0], len(names)), picture)
+
+
 def try_pictures(document, clone):
     """Compares the pictures that are drawn with those that are shown."""
     drawn = [name for block in document.commands() for name in DRAWS.findall(block)]
@@ -202,7 +210,8 @@ def try_pictures(document, clone):
         if versions[0] and versions[1] and versions[0][0] != versions[1][0]:
             print(f"{document.name}: {name} isn't compared: drawn by {versions[1][0].decode()}")
         else:
-            document.hold(shown == made, f"{name} isn't the picture in docs/pictures")
+            same = without_ids(shown) == without_ids(made)
+            document.hold(same, f"{name} isn't the picture in docs/pictures")
 
 
 def anchor_of(heading):
@@ -291,7 +300,7 @@ def changes_of(document):
         begin = block.start(2)
         for line in block[2].splitlines(keepends=True):
             signs = [place for place, sign in enumerate(line) if sign.isalnum()]
-            if signs and line.strip() != "...":
+            if signs and line.strip() not in ("...", *doc_claims.ALIKE):
                 yield begin + signs[-1], line.strip(), block[2]
             begin += len(line)
     within = [block.span() for block in blocks] + untried
