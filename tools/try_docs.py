@@ -42,6 +42,7 @@ INLINE = re.compile(r"`([^`\n]+)`")
 SAYS_COMMAND = re.compile(r"`((?:rt|\./psi) [^`]*)` prints[^`]*$")
 LINK = re.compile(r"\]\(([^)\s]+)\)")
 DRAWS, WRITES = re.compile(r" -o (\S+\.svg)\b"), re.compile(r" (?:-o |>)(\w[\w.$-]*\.\w+)\b")
+VARIABLE = re.compile(r"\$\w+")
 SHOWN = re.compile(r"!\[[^\]]*\]\((?:docs/)?pictures/([^)]*)\)")
 CLIP = re.compile(rb"\bp[0-9a-f]{10}\b")
 NUMBER = re.compile(r"\d(?:[\d,.]*\d)?")
@@ -321,7 +322,8 @@ def try_changes(documents, clone):
         for place, what, block in changes_of(document):
             made += 1
             for name in WRITES.findall(block):
-                clone.find(name).unlink(missing_ok=True)
+                for written in clone.top.glob(VARIABLE.sub("*", name)):
+                    written.unlink()
             if not tried(document.name, changed_sign(document.text, place), clone).differences:
                 silent += 1
                 where = f"{document.name}: line {document.text.count(chr(10), 0, place) + 1}"
