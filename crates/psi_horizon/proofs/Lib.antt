@@ -5,4 +5,3 @@ pub mod SampleLemmas
 mod CornersLemmas
 mod NumbersLemmas
 mod Running
-mod PackedLemmas

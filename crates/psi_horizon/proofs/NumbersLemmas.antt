@@ -1,11 +1,12 @@
 -- A run over the numbers that are kept is the run over all places.
-use Rattle.std.specs.Prelude.{◌≡◌, ℕ, zero, suc, ◌-◌, ◌<◌, ◌≤◌, List, [], ◌∷◌, ◌++◌, length, map, slice_get, slice_index, slice_index_or, option_map, All, Bool, true, false, nat_lt, if◌then◌else◌, Option, Some, None, refl}
-use Rattle.std.proofs.Common.{inl, inr, ap, sym, ◌∙◌, subst, take, arith}
+use Rattle.std.specs.Prelude.{◌≡◌, ℕ, zero, suc, ◌-◌, ◌+◌, ◌<◌, ◌≤◌, List, [], ◌∷◌, ◌++◌, length, map, slice_get, slice_index, slice_index_or, option_map, All, Bool, true, false, nat_eq, nat_lt, if◌then◌else◌, Option, Some, None, refl}
+use Rattle.std.proofs.Common.{inl, inr, ap, ap₂, sym, ◌∙◌, subst, take, arith, eq-eqb, ne_eqb}
 use Rattle.std.proofs.lemmas.Bool.{cases_lt, lt-ltb, le-ltb, ltb-true}
-use Rattle.std.proofs.lemmas.List.{get_or_past, length-append}
+use Rattle.std.proofs.lemmas.List.{get_or_past, length-append, append-nil}
 use Rattle.std.proofs.lemmas.List.Elements.{All-nil, All-cons, All-append}
 use Rattle.std.proofs.lemmas.Option.{get_or_from_slice_get, slice_get_within, slice_get-map}
-use Rattle.std.proofs.Math.Seq.{take-suc}
+use mir.Val.{bool_byte}
+use Rattle.std.proofs.Math.Seq.{take-suc, take-length, take-append_seam}
 use Rattle.psi_state.specs.State.{zeros}
 use Rattle.psi_rate.specs.Rates.{event_of}
 use Rattle.psi_rate.specs.Composition.{compose, function_at, picked, AreClosed, AreMonotone}
@@ -26,6 +27,32 @@ numbers-length rates words (suc t) =
     let last = one_if-length (nat_lt number (length rates)) number in
     let sum = length-append (numbers_below rates words t) (unless_idle (length rates) number) in
     omega arith
+
+-- the number of one place more is put to the others, and taken off again where it is that of idle
+number-kept : (count number n : ℕ) (before pushed : List ℕ) → number ≤ count → pushed ≡ before ++ number ∷ [] → n ≡ length pushed
+    → take (n - bool_byte (nat_eq number count)) pushed ≡ before ++ unless_idle count number
+number-kept count number n before pushed most same long = elim (cases_lt number count) [
+  | inl small ↦ (let one : nat_eq number count ≡ false = ne_eqb number count (λ e. omega arith) in
+      let all : n - bool_byte false ≡ length pushed = omega arith in
+      ap (λ (b : Bool). take (n - bool_byte b) pushed) one ∙ ap (λ k. take k pushed) all ∙ take-length pushed ∙ same
+      ∙ ap (λ (b : Bool). before ++ (if b then number ∷ [] else [])) (sym (lt-ltb number count small)))
+  | inr past ↦ (let e : number ≡ count = omega arith in
+      let more : length pushed ≡ length before + 1 = ap (λ (ns : List ℕ). length ns) same ∙ length-append before (number ∷ []) in
+      let less : n - bool_byte true ≡ length before = omega arith in
+      ap (λ (b : Bool). take (n - bool_byte b) pushed) (eq-eqb number count e) ∙ ap₂ (λ k (ns : List ℕ). take k ns) less same
+      ∙ take-append_seam before (number ∷ []) ∙ sym (append-nil before)
+      ∙ ap (λ (b : Bool). before ++ (if b then number ∷ [] else [])) (sym (le-ltb number count past)))
+]
+
+pub numbers-kept : (rates : List ℕ) (words : ℕ → ℕ) (place number idle word n : ℕ) (before pushed after : List ℕ) → before ≡ numbers_below rates words place
+    → word ≡ words place → number ≡ event_of rates word → idle ≡ length rates → number ≤ length rates → pushed ≡ before ++ number ∷ [] → n ≡ length pushed
+    → after ≡ take (n - bool_byte (nat_eq number idle)) pushed → after ≡ numbers_below rates words (place + 1)
+numbers-kept rates words place number idle word n before pushed after kept read is none most same long left =
+    let e : suc place ≡ place + 1 = omega arith in
+    left ∙ ap (λ k. take (n - bool_byte (nat_eq number k)) pushed) none
+    ∙ number-kept (length rates) number n before pushed most same long
+    ∙ ap₂ (λ (ns : List ℕ) k. ns ++ unless_idle (length rates) k) kept (is ∙ ap (event_of rates) read)
+    ∙ ap (numbers_below rates words) e
 
 -- each number is an event's
 one_if-all : (b : Bool) (n count : ℕ) → nat_lt n count ≡ b → All (λ k. k < count) (if b then n ∷ [] else [])

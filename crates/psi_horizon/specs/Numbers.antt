@@ -1,6 +1,7 @@
 -- The numbers of the events of a run, kept without those that are idle.
-use Rattle.std.specs.Prelude.{◌≡◌, ℕ, zero, suc, ◌<◌, List, [], ◌∷◌, ◌++◌, length, slice_index, slice_index_or, nat_lt, if◌then◌else◌, Option, Some, None}
+use Rattle.std.specs.Prelude.{◌≡◌, ℕ, zero, suc, ◌<◌, List, [], ◌∷◌, ◌++◌, length, slice_index, nat_lt, if◌then◌else◌, Option, Some, None}
 use Rattle.psi_rate.specs.Rates.{event_of}
+pub use Rattle.psi_packed.specs.Programs.{follow_numbers}
 
 -- a number, or nothing where it is that of idle, which is the count of the events
 abbrev pub unless_idle : ℕ → ℕ → List ℕ
@@ -10,11 +11,6 @@ unless_idle count number = if nat_lt number count then number ∷ [] else []
 abbrev pub numbers_below : List ℕ → (ℕ → ℕ) → ℕ → List ℕ
 numbers_below rates words zero = []
 numbers_below rates words (suc place) = numbers_below rates words place ++ unless_idle (length rates) (event_of rates (words place))
-
--- what the events of these numbers make of a state: that of the last number comes first
-abbrev pub follow_numbers : List (List ℕ → List ℕ) → List ℕ → List ℕ → List ℕ
-follow_numbers functions [] x = x
-follow_numbers functions (number ∷ numbers) x = slice_index_or functions number (λ y. y) (follow_numbers functions numbers x)
 
 -- each of the numbers is an event's
 pub record AreEvents (count : ℕ) (numbers : List ℕ) : Type 0 where

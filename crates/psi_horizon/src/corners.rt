@@ -111,11 +111,12 @@ fn keep_numbers<E: EventLaw, P: Past + Drop>(
     words.extend_to(horizon);
     // Called for its clause: there are as many rates as events.
     let _caps = system.caps();
+    let idle = system.wheel().events();
     for place in reached..horizon {
-        let (number, event) = system.pick(words.at(place));
-        if event.is_some() {
-            numbers.push_reserved(number);
-        }
+        let (number, _event) = system.pick(words.at(place));
+        // Kept, and given up at once where it is idle: a branch would often be foreseen wrongly.
+        numbers.push_reserved(number);
+        numbers.truncate(numbers.len() - (number == idle) as usize);
     }
 }
 

@@ -1,13 +1,13 @@
 //! The events of a monotone network on packed states, in as few words as its states fit.
 
-ghost use Rattle.std.specs.Prelude.{length, map, IfOk, IfSome};
+ghost use Rattle.std.specs.Prelude.{◌≡◌, length, map, IfOk, IfSome};
 ghost use Rattle.psi_state.specs.State.{zeros};
 ghost use Rattle.psi_packed.specs.Programs.{Prepares};
 ghost use Rattle.psi_horizon.specs.Numbers.{follow_numbers, AreEvents, IsOne};
 ghost use Rattle.psi_horizon.specs.Forms.{IsForm};
 
 use psi_event::EventLaw;
-use psi_packed::Program;
+use psi_packed::{Layout, Program};
 use psi_piecewise::PiecewiseLaw;
 use psi_rate::System;
 use psi_state::State;
@@ -35,30 +35,38 @@ pub(crate) fn form_of<E: PiecewiseLaw>(
 ) -> Result<Form, AllocError>
     ensures { IfOk result (λ form. IsForm system.now.caps (map E.function system.now.events) form) }
 {
-    if let Some(program) = program_of::<1, E>(alloc, system)? {
-        return Ok(Form::One(program));
+    let caps = system.caps();
+    if let Some(layout) = Layout::<1>::new(caps) {
+        let found = program_of(alloc, layout, system)?;
+        return Ok(found.map_or(Form::Plain, Form::One));
     }
-    if let Some(program) = program_of::<2, E>(alloc, system)? {
-        return Ok(Form::Two(program));
+    if let Some(layout) = Layout::<2>::new(caps) {
+        let found = program_of(alloc, layout, system)?;
+        return Ok(found.map_or(Form::Plain, Form::Two));
     }
-    if let Some(program) = program_of::<3, E>(alloc, system)? {
-        return Ok(Form::Three(program));
+    if let Some(layout) = Layout::<3>::new(caps) {
+        let found = program_of(alloc, layout, system)?;
+        return Ok(found.map_or(Form::Plain, Form::Three));
     }
-    if let Some(program) = program_of::<4, E>(alloc, system)? {
-        return Ok(Form::Four(program));
+    if let Some(layout) = Layout::<4>::new(caps) {
+        let found = program_of(alloc, layout, system)?;
+        return Ok(found.map_or(Form::Plain, Form::Four));
     }
     Ok(Form::Plain)
 }
 
-// The events on states in so many words, where they fit and each event tells its pieces.
+// The events on states that are packed so, where each tells its pieces.
 fn program_of<const K: usize, E: PiecewiseLaw>(
     alloc: Global,
+    layout: Layout<K>,
     system: &System<'_, E>,
 ) -> Result<Option<Program<K>>, AllocError>
+    requires { layout.caps ≡ system.now.caps }
     ensures { IfOk result (λ found. IfSome found (λ program. Prepares K system.now.caps (map E.function system.now.events) program)) }
 {
-    let events = system.events();
-    Program::new(alloc, system.caps(), events)
+    // Called for its clause: the events fit the capacities.
+    let _caps = system.caps();
+    Program::new(alloc, layout, system.events())
 }
 
 // The state in which the least and the greatest state have met after the events of the numbers, the last first, if
@@ -74,14 +82,10 @@ pub(crate) fn packed_meeting<const K: usize, E: EventLaw>(
         IsOne (follow_numbers functions numbers.now (zeros system.now.caps)) (follow_numbers functions numbers.now system.now.caps) result }
 {
     let caps = system.caps();
-    let mut greatest = program.pack(&caps);
-    let mut least = program.pack(&State::zero(caps.len()));
-    for place in (0..numbers.len()).rev() {
-        let number = numbers[place];
-        program.advance(number, &mut least);
-        program.advance(number, &mut greatest);
-    }
-    one_of(program.unpack(&least), program.unpack(&greatest))
+    let mut corners = program.pack(&State::zero(caps.len()), &caps);
+    program.follow(numbers, &mut corners);
+    let (least, greatest) = program.unpack(&corners);
+    one_of(least, greatest)
 }
 
 // The state that two states are, if they are one.

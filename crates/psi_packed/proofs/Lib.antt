@@ -6,3 +6,5 @@ mod Holding
 mod Changes
 mod Building
 mod Moving
+mod Pairing
+pub mod Following

@@ -1,6 +1,7 @@
 -- The loops over words.
-use Rattle.std.specs.Prelude.{◌≡◌, ℕ, ◌+◌, ◌-◌, ◌%◌, ◌^◌, ◌<◌, ◌≤◌, Bool, true, false, List, [], ◌∷◌, ◌++◌, length, map, slice_index, slice_set, slice_index_or, bit_and, if◌then◌else◌}
-use Rattle.std.proofs.Common.{ap, ap₂, sym, subst, ◌∙◌, arith, length-set, get_or-set_same, get_or-set_other, below_more}
+use Rattle.std.specs.Prelude.{◌≡◌, ℕ, ◌+◌, ◌-◌, ◌%◌, ◌^◌, ◌<◌, ◌≤◌, Bool, true, false, ◌&&◌, List, [], ◌∷◌, ◌++◌, length, map, slice_index, slice_set, slice_index_or, bit_and, if◌then◌else◌}
+use Rattle.std.proofs.Common.{refl, ap, ap₂, sym, subst, ◌∙◌, arith, length-set, get_or-set_same, get_or-set_other, below_more}
+use Rattle.std.proofs.lemmas.Bool.{true≢false}
 use Rattle.std.specs.Int.Bits.{and_zero_l}
 use Rattle.std.proofs.lemmas.Nat.{and_comm, and_mask}
 use Rattle.psi_state.specs.State.{IsBelow}
@@ -8,8 +9,7 @@ use Rattle.psi_event.specs.Law.{Function}
 use Rattle.psi_piecewise.specs.Piecewise.{if_on}
 use Rattle.std.proofs.lemmas.List.{get_or_append_left, get_or_push, map_push, length_push}
 use Rattle.psi_packed.specs.Packed.{Packing, packed}
-use Rattle.psi_packed.specs.Moves.{Moving, IsMoved, no_move}
-use Rattle.psi_packed.specs.Views.{moving_of}
+use Rattle.psi_packed.specs.Moves.{Moving, IsMoved, ChangesNothing, no_move}
 use Rattle.psi_packed.specs.declared.moves.Moves.{Moves}
 use Rattle.psi_packed.specs.Programs.{Prepared, Prepares, IsMoveFor}
 use Rattle.psi_packed.proofs.Changes.{moved-is}
@@ -65,12 +65,30 @@ moves-more count p functions moves k m long each own =
     (λ i under. subst (λ (n : Moving). IsMoveFor count p (slice_index_or functions i (λ x. x)) n) (sym (get_or_append_left moves (m ∷ []) no_move i (omega arith))) (each i under))
     (subst (λ (n : Moving). IsMoveFor count p (slice_index_or functions k (λ x. x)) n) (sym (get_or_push moves m no_move k long)) own)
 
+-- both of two tests hold
+pub and-first : (a b : Bool) → (a && b) ≡ true → a ≡ true
+and-first true b both = refl
+and-first false b both = both
+
+pub and-second : (a b : Bool) → (a && b) ≡ true → b ≡ true
+and-second true b both = both
+and-second false b both = absurd (true≢false (sym both))
+
+-- one more changes nothing by its second piece either
+pub alone-more : (count : ℕ) (moves : List Moving) (k : ℕ) (m : Moving) → length moves ≡ k → ((i : ℕ) → i < k → ChangesNothing count (slice_index_or moves i no_move).second)
+    → ChangesNothing count m.second → (i : ℕ) → i < k + 1 → ChangesNothing count (slice_index_or (moves ++ m ∷ []) i no_move).second
+alone-more count moves k m long each own =
+    below_more (λ i. ChangesNothing count (slice_index_or (moves ++ m ∷ []) i no_move).second) k
+    (λ i under. subst (λ (n : Moving). ChangesNothing count n.second) (sym (get_or_append_left moves (m ∷ []) no_move i (omega arith))) (each i under))
+    (subst (λ (n : Moving). ChangesNothing count n.second) (sym (get_or_push moves m no_move k long)) own)
+
 pub length-more : {X : Type 0} (xs more : List X) (x : X) (n : ℕ) → length xs ≡ n → more ≡ xs ++ x ∷ [] → length more ≡ n + 1
 length-more {X} xs more x n long same = ap (λ (ys : List X). length ys) same ∙ length_push xs x ∙ ap (λ k. k + 1) long
 
 -- the moves of a list with one more
-pub moving-push : {K : ℕ} (moves more : List (Moves K)) (m : Moves K) → more ≡ moves ++ m ∷ [] → map moving_of more ≡ map moving_of moves ++ moving_of m ∷ []
-moving-push {K} moves more m same = ap (λ (ms : List (Moves K)). map moving_of ms) same ∙ map_push moving_of moves m
+pub moving-push : {K : ℕ} (moving : Moves K → Moving) (moves more : List (Moves K)) (m : Moves K) → more ≡ moves ++ m ∷ []
+    → map moving more ≡ map moving moves ++ moving m ∷ []
+moving-push {K} moving moves more m same = ap (λ (ms : List (Moves K)). map moving ms) same ∙ map_push moving moves m
 
 -- the moves of a program do what its functions do
 pub program-moves : (count : ℕ) (p : Prepared) (caps : List ℕ) (functions : List Function) (s words moved : List ℕ) (number : ℕ)

@@ -35,6 +35,10 @@ pub record IsMoved (count : ℕ) (m : Moving) (x y : List ℕ) : Type 0 where
       ≡ ((slice_index x w + if_on (holds count m.offsets m.first x) (slice_index m.first.change w)) % 2 ^ 64
       + if_on (holds count m.offsets m.second x) (slice_index m.second.change w)) % 2 ^ 64
 
+-- masks of so many words whose piece changes no state
+abbrev pub ChangesNothing : ℕ → Masks → Type 0
+ChangesNothing count m = (w : ℕ) → w < count → slice_index m.change w ≡ 0
+
 -- the guard of a field of so many bits
 abbrev pub guard : ℕ → ℕ
 guard bits = 2 ^ (bits - 1)

@@ -1,10 +1,11 @@
 -- The events of a network on packed states.
-use Rattle.std.specs.Prelude.{◌≡◌, ℕ, ◌<◌, List, length, slice_index_or}
+use Rattle.std.specs.Prelude.{◌≡◌, ℕ, ◌<◌, List, [], ◌∷◌, length, slice_index_or, Bool, IsTrue}
+use Rattle.psi_state.specs.State.{IsBelow}
 use Rattle.psi_event.specs.Law.{Function, IsClosed}
 use Rattle.psi_piecewise.specs.declared.piecewise.Piecewise.{Piecewise}
 use Rattle.psi_piecewise.specs.Piecewise.{Does}
-use Rattle.psi_packed.specs.Packed.{Packing, IsPacking}
-use Rattle.psi_packed.specs.Moves.{Moving, IsMoveOf, no_move}
+use Rattle.psi_packed.specs.Packed.{Packing, IsPacking, packed}
+use Rattle.psi_packed.specs.Moves.{Moving, IsMoveOf, ChangesNothing, no_move}
 
 -- how the states are packed, and a move for each event
 pub record Prepared : Type 0 where
@@ -24,3 +25,20 @@ pub record Prepares (count : ℕ) (caps : List ℕ) (functions : List Function) 
   pub same_caps : p.packing.caps ≡ caps
   pub same_count : length p.moves ≡ length functions
   pub each : (i : ℕ) → i < length functions → IsMoveFor count p.packing (slice_index_or functions i (λ x. x)) (slice_index_or p.moves i no_move)
+
+-- the moves of a program, once for the low state and once for the high one: they are the same, and no second piece changes a state where that is said
+pub record IsTwice (count : ℕ) (p : Packing) (lows highs : List Moving) (first_alone : Bool) : Type 0 where
+  pub packing : IsPacking count p
+  pub same : highs ≡ lows
+  pub alone : IsTrue first_alone → (i : ℕ) → i < length lows → ChangesNothing count (slice_index_or lows i no_move).second
+
+-- what the events of these numbers make of a state: that of the last number comes first
+abbrev pub follow_numbers : List Function → List ℕ → List ℕ → List ℕ
+follow_numbers functions [] x = x
+follow_numbers functions (number ∷ numbers) x = slice_index_or functions number (λ y. y) (follow_numbers functions numbers x)
+
+-- words become those of the state that the functions of these numbers make of the state whose words they were
+abbrev pub Follows : ℕ → Prepared → List ℕ → List ℕ → List ℕ → Type 0
+Follows count p numbers before after =
+    (caps : List ℕ) (functions : List Function) (s : List ℕ) → Prepares count caps functions p → IsBelow s caps
+    → before ≡ packed count p.packing s → after ≡ packed count p.packing (follow_numbers functions numbers s)

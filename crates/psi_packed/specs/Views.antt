@@ -1,11 +1,31 @@
--- What the masks and moves of the code are seen as.
-use Rattle.std.specs.Prelude.{ℕ}
+-- What the pairs, masks and moves of the code are seen as.
+use Rattle.std.specs.Prelude.{ℕ, List, map}
 use Rattle.psi_packed.specs.Moves.{Masks as MaskLists, Moving}
+use Rattle.psi_packed.specs.declared.pairs.Pair.{Pair}
+use Rattle.psi_packed.specs.declared.pairs.Pairs.{Pairs}
 use Rattle.psi_packed.specs.declared.moves.Masks.{Masks}
 use Rattle.psi_packed.specs.declared.moves.Moves.{Moves}
 
-abbrev pub masks_of : {K : ℕ} → Masks K → MaskLists
-masks_of m = record { guards = m.guards.words; wanted = m.wanted.words; change = m.change.words }
+-- one word of each pair, and masks and moves with one word of each of their pairs
+abbrev pub words_by : {K : ℕ} → (Pair → ℕ) → Pairs K → List ℕ
+words_by word p = map word p.pairs
 
-abbrev pub moving_of : {K : ℕ} → Moves K → Moving
-moving_of m = record { offsets = m.offsets.words; first = masks_of m.first; second = masks_of m.second }
+abbrev pub masks_by : {K : ℕ} → (Pair → ℕ) → Masks K → MaskLists
+masks_by word m = record { guards = words_by word m.guards; wanted = words_by word m.wanted; change = words_by word m.change }
+
+abbrev pub moving_by : {K : ℕ} → (Pair → ℕ) → Moves K → Moving
+moving_by word m = record { offsets = words_by word m.offsets; first = masks_by word m.first; second = masks_by word m.second }
+
+-- the two words of a pair
+abbrev pub low_word : Pair → ℕ
+low_word p = p.low
+
+abbrev pub high_word : Pair → ℕ
+high_word p = p.high
+
+-- the words of the low state, and those of the high one
+abbrev pub lows : {K : ℕ} → Pairs K → List ℕ
+lows p = words_by low_word p
+
+abbrev pub highs : {K : ℕ} → Pairs K → List ℕ
+highs p = words_by high_word p

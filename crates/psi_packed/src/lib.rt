@@ -4,10 +4,12 @@
 
 mod layout;
 mod moves;
+mod pairs;
 mod program;
 #[cfg(test)]
 mod tests;
 
 pub use layout::{Layout, Packed};
 pub use moves::{Masks, Moves};
+pub use pairs::{Pair, Pairs};
 pub use program::Program;

@@ -1,28 +1,27 @@
 //! Events of pieces as masks on packed states.
 
-ghost use Rattle.std.specs.Prelude.{◌≡◌, ◌<◌, ◌+◌, ◌-◌, ◌%◌, ◌^◌, ℕ, slice_index, if◌then◌else◌};
-ghost use Rattle.psi_packed.specs.Views.{masks_of, moving_of};
-ghost use Rattle.psi_event.specs.Law.{Function};
-ghost use Rattle.psi_state.specs.State.{IsBelow};
+ghost use Rattle.std.specs.Prelude.{◌≡◌, ◌<◌, ◌+◌, ◌-◌, ◌%◌, ◌^◌, ◌↔◌, ℕ, IsTrue, slice_index, nat_eq, bit_and, if◌then◌else◌};
+ghost use Rattle.psi_packed.specs.Views.{lows, highs, low_word, high_word, masks_by, moving_by};
 ghost use Rattle.psi_piecewise.specs.Piecewise.{IsPiece, IsPiecewise};
-ghost use Rattle.psi_packed.specs.Moves.{AreMasksOf, IsMoveOf, IsMoved};
+ghost use Rattle.psi_packed.specs.Moves.{AreMasksOf, IsMoveOf, IsMoved, ChangesNothing};
 
 use crate::layout::{Layout, Packed};
+use crate::pairs::{Pair, Pairs};
 use psi_piecewise::{Piece, Piecewise};
 
-/// The masks of a piece: which guards are looked at, which of these are to be up, and what is added then.
+/// The masks of a piece, each twice: which guards are looked at, which of these are to be up, and what is added then.
 #[derive(Clone, Copy)]
 pub struct Masks<const K: usize> {
-    pub(crate) guards: Packed<K>,
-    pub(crate) wanted: Packed<K>,
-    pub(crate) change: Packed<K>,
+    pub(crate) guards: Pairs<K>,
+    pub(crate) wanted: Pairs<K>,
+    pub(crate) change: Pairs<K>,
 }
 
-/// An event of pieces on packed states: what is added to bring up the guards of the queues that are at their bounds or
-/// above them, and the masks of the two pieces.
+/// An event of pieces on two packed states: what is added to bring up the guards of the queues that are at their bounds or
+/// above them, and the masks of the two pieces. Each is there twice, once for each state.
 #[derive(Clone, Copy)]
 pub struct Moves<const K: usize> {
-    pub(crate) offsets: Packed<K>,
+    pub(crate) offsets: Pairs<K>,
     pub(crate) first: Masks<K>,
     pub(crate) second: Masks<K>,
 }
@@ -31,15 +30,40 @@ impl<const K: usize> Masks<K> {
     // The masks of a piece.
     fn of(layout: &Layout<K>, piece: &Piece) -> Masks<K>
         requires { IsPiece layout.now.caps piece.now }
-        ensures { AreMasksOf K layout.now piece.now (masks_of result) }
+        ensures masks { AreMasksOf K layout.now piece.now (masks_by low_word result) }
+        ensures twice { masks_by high_word result ≡ masks_by low_word result }
     {
         let ups = layout.pack(&piece.ups);
         let downs = layout.pack(&piece.downs);
         Masks {
-            guards: layout.guards(&piece.sides),
-            wanted: layout.wanted(&piece.sides),
-            change: difference(&ups, &downs),
+            guards: layout.guards(&piece.sides).twice(),
+            wanted: layout.wanted(&piece.sides).twice(),
+            change: difference(&ups, &downs).twice(),
         }
+    }
+
+    // Whether no state is changed by them.
+    fn changes_nothing(&self) -> bool
+        ensures { IsTrue result ↔ ChangesNothing K (masks_by low_word self.now) }
+    {
+        for at in 0..K {
+            if self.change.pairs[at].low != 0 {
+                return false;
+            }
+        }
+        true
+    }
+
+    // All bits one where, in this place, the guards that are looked at are up as they are to be, and none otherwise.
+    #[inline]
+    fn held_at(&self, at: usize, raised: Pair) -> Pair
+        requires { at < K }
+        ensures low { result.low ≡ (if nat_eq (bit_and raised.low (slice_index (lows self.now.guards) at)) (slice_index (lows self.now.wanted) at) then 2 ^ 64 - 1 else 0) }
+        ensures high { result.high ≡ (if nat_eq (bit_and raised.high (slice_index (highs self.now.guards) at)) (slice_index (highs self.now.wanted) at) then 2 ^ 64 - 1 else 0) }
+    {
+        raised
+            .and(self.guards.pairs[at])
+            .ones_if_equal(self.wanted.pairs[at])
     }
 }
 
@@ -47,35 +71,58 @@ impl<const K: usize> Moves<K> {
     /// The event of these pieces, on states that are packed so.
     pub fn of(layout: &Layout<K>, pieces: &Piecewise) -> Moves<K>
         requires { IsPiecewise layout.now.caps pieces.now }
-        ensures { IsMoveOf K layout.now pieces.now (moving_of result) }
+        ensures pieces { IsMoveOf K layout.now pieces.now (moving_by low_word result) }
+        ensures twice { moving_by high_word result ≡ moving_by low_word result }
     {
         Moves {
-            offsets: layout.offsets(&pieces.bounds),
+            offsets: layout.offsets(&pieces.bounds).twice(),
             first: Masks::of(layout, &pieces.first),
             second: Masks::of(layout, &pieces.second),
         }
     }
 
-    /// Puts what the event makes of the packed state in its place.
-    #[inline]
-    pub fn advance(&self, x: &mut Packed<K>)
-        ensures { IsMoved K (moving_of self.now) x.old.words x.new.words }
+    // Whether the second piece changes no state.
+    pub(crate) fn is_of_one_piece(&self) -> bool
+        ensures { IsTrue result ↔ ChangesNothing K (masks_by low_word self.now.second) }
     {
-        let mut first = u64::MAX;
-        let mut second = u64::MAX;
+        self.second.changes_nothing()
+    }
+
+    /// Puts what the event makes of each of the two packed states in its place.
+    #[inline]
+    pub fn advance(&self, x: &mut Pairs<K>)
+        ensures low { IsMoved K (moving_by low_word self.now) (lows x.old) (lows x.new) }
+        ensures high { IsMoved K (moving_by high_word self.now) (highs x.old) (highs x.new) }
+    {
+        let mut first = Pair::twice(u64::MAX);
+        let mut second = Pair::twice(u64::MAX);
         for at in 0..K {
-            let tested = x.words[at].wrapping_add(self.offsets.words[at]);
-            first &= all_ones_if(
-                tested & self.first.guards.words[at] == self.first.wanted.words[at],
-            );
-            second &= all_ones_if(
-                tested & self.second.guards.words[at] == self.second.wanted.words[at],
-            );
+            let raised = x.pairs[at].plus(self.offsets.pairs[at]);
+            first = first.and(self.first.held_at(at, raised));
+            second = second.and(self.second.held_at(at, raised));
         }
         for at in 0..K {
-            x.words[at] = x.words[at]
-                .wrapping_add(first & self.first.change.words[at])
-                .wrapping_add(second & self.second.change.words[at]);
+            x.pairs[at] = x.pairs[at]
+                .plus(first.and(self.first.change.pairs[at]))
+                .plus(second.and(self.second.change.pairs[at]));
+        }
+    }
+
+    // The same for an event whose second piece changes no state.
+    #[inline]
+    pub(crate) fn advance_by_first(&self, x: &mut Pairs<K>)
+        requires low { ChangesNothing K (masks_by low_word self.now.second) }
+        requires high { ChangesNothing K (masks_by high_word self.now.second) }
+        ensures low { IsMoved K (moving_by low_word self.now) (lows x.old) (lows x.new) }
+        ensures high { IsMoved K (moving_by high_word self.now) (highs x.old) (highs x.new) }
+    {
+        let mut held = Pair::twice(u64::MAX);
+        for at in 0..K {
+            let raised = x.pairs[at].plus(self.offsets.pairs[at]);
+            held = held.and(self.first.held_at(at, raised));
+        }
+        for at in 0..K {
+            x.pairs[at] = x.pairs[at].plus(held.and(self.first.change.pairs[at]));
         }
     }
 }
@@ -89,12 +136,4 @@ fn difference<const K: usize>(ups: &Packed<K>, downs: &Packed<K>) -> Packed<K>
         words[at] = ups.words[at].wrapping_sub(downs.words[at]);
     }
     Packed { words }
-}
-
-// All bits one where it holds, and none otherwise.
-#[inline]
-fn all_ones_if(holds: bool) -> u64
-    ensures { result ≡ (if holds then 2 ^ 64 - 1 else 0) }
-{
-    (holds as u64).wrapping_neg()
 }

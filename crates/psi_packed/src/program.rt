@@ -1,13 +1,15 @@
 //! The events of a network, made ready for packed states.
 
-ghost use Rattle.std.specs.Prelude.{◌≡◌, ◌<◌, ◌≤◌, ℕ, List, length, map, All, IfOk, IfSome, slice_index_or};
-ghost use Rattle.psi_event.specs.Law.{Function};
-ghost use Rattle.psi_state.specs.State.{AreCapacities, IsBelow};
+ghost use Rattle.std.specs.Prelude.{◌≡◌, ◌<◌, ℕ, List, length, map, slice_index, slice_index_or, All, IfOk, IfSome, EachIndex};
+ghost use Rattle.psi_state.specs.State.{IsBelow};
 ghost use Rattle.psi_packed.specs.Packed.{packed};
-ghost use Rattle.psi_packed.specs.Programs.{Prepares};
+ghost use Rattle.psi_packed.specs.Moves.{ChangesNothing, no_move};
+ghost use Rattle.psi_packed.specs.Programs.{Prepares, Follows};
+ghost use Rattle.psi_packed.specs.Views.{lows, highs};
 
-use crate::layout::{Layout, Packed};
+use crate::layout::Layout;
 use crate::moves::Moves;
+use crate::pairs::Pairs;
 use psi_piecewise::PiecewiseLaw;
 use psi_state::State;
 use std::alloc::{AllocError, Global};
@@ -18,71 +20,114 @@ use std::marker::Model;
 pub struct Program<const K: usize> {
     layout: Layout<K>,
     moves: Vec<Moves<K>>,
+    // Where it is true, no second piece changes a state.
+    first_alone: bool,
 }
 
 impl<const K: usize> Model for Program<K> {
     ghost use Rattle.std.specs.Prelude.{map};
-    ghost use Rattle.psi_packed.specs.Packed.{IsPacking};
-    ghost use Rattle.psi_packed.specs.Programs.{Prepared};
-    ghost use Rattle.psi_packed.specs.Views.{moving_of};
+    ghost use Rattle.psi_packed.specs.Programs.{Prepared, IsTwice};
+    ghost use Rattle.psi_packed.specs.Views.{low_word, high_word, moving_by};
 
     ghost Value = { Prepared };
 
-    ghost view = { λ p. record { packing = p.layout; moves = map moving_of p.moves.items } };
+    ghost view = { λ p. record { packing = p.layout; moves = map (moving_by low_word) p.moves.items } };
 
-    ghost invariant = { λ p. IsPacking K p.layout };
+    ghost invariant = { λ p. IsTwice K p.layout (map (moving_by low_word) p.moves.items) (map (moving_by high_word) p.moves.items) p.first_alone };
 }
 
 impl<const K: usize> Program<K> {
-    /// The events on packed states; `None` where the states don't fit `K` words, or an event tells no pieces.
+    /// The events on states that are packed so; `None` where an event tells no pieces.
     ///
     /// # Errors
     ///
     /// `AllocError` where there is no memory for it; no clause says when that is. No other call takes memory.
     pub fn new<E: PiecewiseLaw>(
         alloc: Global,
-        caps: State,
+        layout: Layout<K>,
         events: &[E],
     ) -> Result<Option<Program<K>>, AllocError>
-        requires caps { AreCapacities caps }
-        requires same { All (λ e. E.capacities e ≡ caps) events.now }
-        ensures { IfOk result (λ program. IfSome program (λ p. Prepares K caps (map E.function events.now) p)) }
+        requires { All (λ e. E.capacities e ≡ layout.caps) events.now }
+        ensures { IfOk result (λ program. IfSome program (λ p. Prepares K layout.entry.caps (map E.function events.now) p)) }
     {
-        let Some(layout) = Layout::new(caps) else {
-            return Ok(None);
-        };
         let mut moves = Vec::with_capacity(alloc, events.len())?;
+        let mut first_alone = true;
         for event in events {
             let Some(pieces) = event.piecewise() else {
                 return Ok(None);
             };
-            moves.push_reserved(Moves::of(&layout, &pieces));
+            let own = Moves::of(&layout, &pieces);
+            first_alone &= own.is_of_one_piece();
+            moves.push_reserved(own);
         }
-        Ok(Some(Program { layout, moves }))
+        Ok(Some(Program {
+            layout,
+            moves,
+            first_alone,
+        }))
     }
 
-    /// The state, packed. It is within the capacities.
-    pub fn pack(&self, x: &State) -> Packed<K>
-        requires { IsBelow x.now self.now.packing.caps }
-        ensures { result.words ≡ packed K self.now.packing x.now }
+    /// Two states, packed. They are within the capacities.
+    pub fn pack(&self, low: &State, high: &State) -> Pairs<K>
+        requires low { IsBelow low.now self.now.packing.caps }
+        requires high { IsBelow high.now self.now.packing.caps }
+        ensures low { lows result ≡ packed K self.now.packing low.now }
+        ensures high { highs result ≡ packed K self.now.packing high.now }
     {
-        self.layout.pack(x)
+        Pairs::of(&self.layout.pack(low), &self.layout.pack(high))
     }
 
-    /// The state that is packed.
-    pub fn unpack(&self, x: &Packed<K>) -> State
-        ensures { (s : List ℕ) → IsBelow s self.now.packing.caps → x.now.words ≡ packed K self.now.packing s → result ≡ s }
+    /// The two states that are packed.
+    pub fn unpack(&self, x: &Pairs<K>) -> (State, State)
+        ensures low { (s : List ℕ) → IsBelow s self.now.packing.caps → lows x.now ≡ packed K self.now.packing s → result.0 ≡ s }
+        ensures high { (s : List ℕ) → IsBelow s self.now.packing.caps → highs x.now ≡ packed K self.now.packing s → result.1 ≡ s }
     {
-        self.layout.unpack(x)
+        (self.layout.unpack(&x.low()), self.layout.unpack(&x.high()))
     }
 
-    /// Puts what the event of this number makes of the packed state in its place.
-    #[inline]
-    pub fn advance(&self, number: u16, x: &mut Packed<K>)
-        requires { number < length self.now.moves }
-        ensures { (caps : List ℕ) (functions : List Function) (s : List ℕ) → Prepares K caps functions self.now → IsBelow s caps
-            → x.old.words ≡ packed K self.now.packing s → x.new.words ≡ packed K self.now.packing (slice_index_or functions number (λ y. y) s) }
+    /// Puts what the events of these numbers make of each of the two packed states in its place: the last number's event
+    /// comes first.
+    pub fn follow(&self, numbers: &[u16], x: &mut Pairs<K>)
+        requires numbers { EachIndex numbers.now (λ i. slice_index numbers.now i < length self.now.moves) }
+        ensures low { Follows K self.now numbers.now (lows x.old) (lows x.new) }
+        ensures high { Follows K self.now numbers.now (highs x.old) (highs x.new) }
     {
-        self.moves[number as usize].advance(x);
+        if self.first_alone {
+            self.follow_first(numbers, x);
+        } else {
+            self.follow_both(numbers, x);
+        }
+    }
+
+    // The same by both pieces. Where the words come from and go to is kept out of the loop: each pair is then one register.
+    #[inline(never)]
+    fn follow_both(&self, numbers: &[u16], x: &mut Pairs<K>)
+        requires numbers { EachIndex numbers.now (λ i. slice_index numbers.now i < length self.now.moves) }
+        ensures low { Follows K self.now numbers.now (lows x.old) (lows x.new) }
+        ensures high { Follows K self.now numbers.now (highs x.old) (highs x.new) }
+    {
+        let moves = self.moves.as_slice();
+        // In a variable of its own it stays in registers.
+        let mut own = *x;
+        for place in (0..numbers.len()).rev() {
+            moves[numbers[place] as usize].advance(&mut own);
+        }
+        *x = own;
+    }
+
+    // The same by the first pieces alone, where no second piece changes a state.
+    #[inline(never)]
+    fn follow_first(&self, numbers: &[u16], x: &mut Pairs<K>)
+        requires numbers { EachIndex numbers.now (λ i. slice_index numbers.now i < length self.now.moves) }
+        requires alone { (i : ℕ) → i < length self.now.moves → ChangesNothing K (slice_index_or self.now.moves i no_move).second }
+        ensures low { Follows K self.now numbers.now (lows x.old) (lows x.new) }
+        ensures high { Follows K self.now numbers.now (highs x.old) (highs x.new) }
+    {
+        let moves = self.moves.as_slice();
+        let mut own = *x;
+        for place in (0..numbers.len()).rev() {
+            moves[numbers[place] as usize].advance_by_first(&mut own);
+        }
+        *x = own;
     }
 }

@@ -5,7 +5,7 @@ ghost use Rattle.psi_state.specs.State.{AreCapacities, IsBelow};
 ghost use Rattle.psi_event.specs.Idle.{unchanged};
 ghost use Rattle.psi_event.specs.IdleLaws.{unchanged-closed};
 
-use crate::{Layout, Moves, Packed, Program};
+use crate::{Layout, Moves, Packed, Pairs, Program};
 use psi_event::{EventLaw, Idle};
 use psi_piecewise::{AT_LEAST, BELOW, Piece, Piecewise, PiecewiseLaw};
 use psi_state::{Bounds, State};
@@ -67,17 +67,24 @@ fn pack<const K: usize>(rt: &impl Abort, layout: &Layout<K>, x: &State) -> Packe
     layout.pack(x)
 }
 
-// A state, packed by a program of these capacities.
+// Two states, packed by a program of these capacities.
 fn pack_by<const K: usize>(
     rt: &impl Abort,
     program: &Program<K>,
     caps: &State,
-    x: &State,
-) -> Packed<K>
+    low: &State,
+    high: &State,
+) -> Pairs<K>
     requires { program.now.packing.caps ≡ caps.now }
 {
-    assert!(rt; is_within(x, caps));
-    program.pack(x)
+    assert!(rt; is_within(low, caps));
+    assert!(rt; is_within(high, caps));
+    program.pack(low, high)
+}
+
+// Two packed states.
+fn pairs<const K: usize>(low: [u64; K], high: [u64; K]) -> Pairs<K> {
+    Pairs::of(&Packed { words: low }, &Packed { words: high })
 }
 
 // The move of pieces.
@@ -173,17 +180,14 @@ fn a_state_of_two_queues_is_one_word(rt: HostRuntime) {
 fn a_customer_moves_where_there_is_room(rt: HostRuntime) {
     let layout = Layout::<1>::new(room()).expect(&rt, "one word for two queues");
     let transfer = move_of(&rt, &layout, &transfer());
-    // From (2, 4) to (1, 5), where the second queue is full: the next customer is lost, and then none is left.
-    let mut x = Packed { words: [66] };
-    for word in [81, 80, 80] {
+    assert!(rt; !transfer.is_of_one_piece());
+    // The low state goes from (2, 4) to (1, 5), where the second queue is full: the next customer is lost, and then none is
+    // left. The high one goes from (3, 0) to (2, 1), (1, 2) and (0, 3).
+    let mut x = pairs([66], [3]);
+    for (low, high) in [(81, 18), (80, 33), (80, 48)] {
         transfer.advance(&mut x);
-        assert_eq!(rt; x.words, [word]);
-    }
-    // From (3, 0) to (2, 1); (0, 4) stays.
-    for (before, after) in [(3, 18), (64, 64)] {
-        let mut x = Packed { words: [before] };
-        transfer.advance(&mut x);
-        assert_eq!(rt; x.words, [after]);
+        assert_eq!(rt; x.low().words, [low]);
+        assert_eq!(rt; x.high().words, [high]);
     }
 }
 
@@ -208,10 +212,12 @@ fn the_seventeenth_queue_is_in_the_second_word(rt: HostRuntime) {
         second: Piece::empty(17),
     };
     let event = move_of(&rt, &layout, &pieces);
-    let mut x = Packed { words: [0, 4] };
+    assert!(rt; event.is_of_one_piece());
+    let mut x = pairs([0, 4], [1, 3]);
     for _time in 0..2 {
         event.advance(&mut x);
-        assert_eq!(rt; x.words, [1, 3]);
+        assert_eq!(rt; x.low().words, [1, 3]);
+        assert_eq!(rt; x.high().words, [1, 3]);
     }
 }
 
@@ -236,24 +242,22 @@ fn a_program_has_a_move_for_each_event(rt: HostRuntime) -> Result<(), Fail> {
             idle: Idle::new(caps),
         },
     ];
-    let program = Program::<1>::new(rt.alloc(), caps, &events)?.expect(&rt, "events of pieces");
-    let mut x = pack_by(&rt, &program, &caps, &pair(2, 4));
-    program.advance(1, &mut x);
-    assert_eq!(rt; x.words, [66]);
-    assert_eq!(rt; program.unpack(&x), pair(2, 4));
+    let layout = Layout::<1>::new(caps).expect(&rt, "one word for two queues");
+    let program = Program::new(rt.alloc(), layout, &events)?.expect(&rt, "events of pieces");
+    let mut x = pack_by(&rt, &program, &caps, &pair(2, 4), &pair(3, 5));
+    program.follow(&[1, 0], &mut x);
+    assert_eq!(rt; x.low().words, [66]);
+    let (low, high) = program.unpack(&x);
+    assert_eq!(rt; low, pair(2, 4));
+    assert_eq!(rt; high, pair(3, 5));
     Ok(())
 }
 
 #[test]
-fn a_program_needs_pieces_and_room(rt: HostRuntime) -> Result<(), Fail> {
-    let small = room();
-    let idle = [Idle::new(small)];
-    assert!(rt; Program::<1>::new(rt.alloc(), small, &idle)?.is_none());
-    let caps = even(17, 5);
-    let still = [Still {
-        idle: Idle::new(caps),
-    }];
-    assert!(rt; Program::<1>::new(rt.alloc(), caps, &still)?.is_none());
-    assert!(rt; Program::<2>::new(rt.alloc(), caps, &still)?.is_some());
+fn a_program_needs_pieces(rt: HostRuntime) -> Result<(), Fail> {
+    let caps = room();
+    let layout = Layout::<1>::new(caps).expect(&rt, "one word for two queues");
+    let idle = [Idle::new(caps)];
+    assert!(rt; Program::new(rt.alloc(), layout, &idle)?.is_none());
     Ok(())
 }

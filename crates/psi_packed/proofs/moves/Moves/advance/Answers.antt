@@ -1,16 +1,53 @@
 use Rattle.std.proofs.Common.{◌≡◌, arith, subst}
-use Rattle.psi_packed.specs.Views.{masks_of}
+use Rattle.psi_packed.specs.Views.{lows, highs, low_word, high_word, masks_by}
 use Rattle.psi_packed.specs.Moves.{holds}
-use Rattle.psi_packed.proofs.Moving.{ones, changed-more}
+use Rattle.psi_packed.proofs.Moving.{ones}
+use Rattle.psi_packed.proofs.Pairing.{low-at, high-at, ones-more, masked-both, pairs-more}
 use Rattle.psi_packed.proofs.moves.Moves.advance.Goals as goal
+
+pub loop-at-preserved : goal.loop-at-preserved
+loop-at-preserved g c =
+    let at = c.loop-at.at in
+    let x = c.args.x.now in
+    let move = c.args.self.now in
+    let kept = c.loop-at.invariant in
+    record {
+      first_low = ones-more at (lows move.offsets) (masks_by low_word move.first) (lows x) c.loop-at.first.low c.plus-raised.result.low c.held_at.result.low c.and-first.result.low _ _
+          kept.first_low c.plus-raised.ensures.low (low-at x.pairs at) (low-at move.offsets.pairs at) c.held_at.ensures.low c.and-first.ensures.low;
+      first_high = ones-more at (highs move.offsets) (masks_by high_word move.first) (highs x) c.loop-at.first.high c.plus-raised.result.high c.held_at.result.high c.and-first.result.high _ _
+          kept.first_high c.plus-raised.ensures.high (high-at x.pairs at) (high-at move.offsets.pairs at) c.held_at.ensures.high c.and-first.ensures.high;
+      second_low = ones-more at (lows move.offsets) (masks_by low_word move.second) (lows x) c.loop-at.second.low c.plus-raised.result.low c.held_at-in-loop-at.result.low c.and-second.result.low _ _
+          kept.second_low c.plus-raised.ensures.low (low-at x.pairs at) (low-at move.offsets.pairs at) c.held_at-in-loop-at.ensures.low c.and-second.ensures.low;
+      second_high = ones-more at (highs move.offsets) (masks_by high_word move.second) (highs x) c.loop-at.second.high c.plus-raised.result.high c.held_at-in-loop-at.result.high c.and-second.result.high _ _
+          kept.second_high c.plus-raised.ensures.high (high-at x.pairs at) (high-at move.offsets.pairs at) c.held_at-in-loop-at.ensures.high c.and-second.ensures.high;
+    }
 
 pub loop-at-2-preserved : goal.loop-at-2-preserved
 loop-at-2-preserved g c =
+    let at = c.loop-at-2.at in
+    let x = c.args.x.now in
+    let y = c.loop-at-2.x.pairs in
     let move = c.args.self.now in
-    let x = c.args.x.now.words in
+    let tests = c.loop-at.invariant in
     let end : c.loop-at.at ≡ g.row.K = omega arith in
-    changed-more g.row.K c.loop-at-2.at (holds g.row.K move.offsets.words (masks_of move.first) x) (holds g.row.K move.offsets.words (masks_of move.second) x)
-    c.loop-at.first c.loop-at.second move.first.change.words move.second.change.words x c.loop-at-2.x.words (omega arith)
-    (subst (λ n. c.loop-at.first ≡ ones (holds n move.offsets.words (masks_of move.first) x)) end c.loop-at.invariant.first)
-    (subst (λ n. c.loop-at.second ≡ ones (holds n move.offsets.words (masks_of move.second) x)) end c.loop-at.invariant.second)
-    c.loop-at-2.invariant
+    let made = c.plus-in-loop-at-2.result in
+    record {
+      low = pairs-more low_word g.row.K at (holds g.row.K (lows move.offsets) (masks_by low_word move.first) (lows x)) (holds g.row.K (lows move.offsets) (masks_by low_word move.second) (lows x))
+          c.loop-at.first.low c.loop-at.second.low (lows move.first.change) (lows move.second.change) (lows x) y made (omega arith)
+          (subst (λ n. c.loop-at.first.low ≡ ones (holds n (lows move.offsets) (masks_by low_word move.first) (lows x))) end tests.first_low)
+          (subst (λ n. c.loop-at.second.low ≡ ones (holds n (lows move.offsets) (masks_by low_word move.second) (lows x))) end tests.second_low)
+          (masked-both at c.loop-at.first.low c.loop-at.second.low (lows move.first.change) (lows move.second.change) (lows c.loop-at-2.x)
+          made.low c.plus.result.low c.and.result.low c.and-in-loop-at-2.result.low _ _ _
+          c.plus-in-loop-at-2.ensures.low c.plus.ensures.low c.and.ensures.low c.and-in-loop-at-2.ensures.low
+          (low-at y at) (low-at move.first.change.pairs at) (low-at move.second.change.pairs at))
+          c.loop-at-2.invariant.low;
+      high = pairs-more high_word g.row.K at (holds g.row.K (highs move.offsets) (masks_by high_word move.first) (highs x)) (holds g.row.K (highs move.offsets) (masks_by high_word move.second) (highs x))
+          c.loop-at.first.high c.loop-at.second.high (highs move.first.change) (highs move.second.change) (highs x) y made (omega arith)
+          (subst (λ n. c.loop-at.first.high ≡ ones (holds n (highs move.offsets) (masks_by high_word move.first) (highs x))) end tests.first_high)
+          (subst (λ n. c.loop-at.second.high ≡ ones (holds n (highs move.offsets) (masks_by high_word move.second) (highs x))) end tests.second_high)
+          (masked-both at c.loop-at.first.high c.loop-at.second.high (highs move.first.change) (highs move.second.change) (highs c.loop-at-2.x)
+          made.high c.plus.result.high c.and.result.high c.and-in-loop-at-2.result.high _ _ _
+          c.plus-in-loop-at-2.ensures.high c.plus.ensures.high c.and.ensures.high c.and-in-loop-at-2.ensures.high
+          (high-at y at) (high-at move.first.change.pairs at) (high-at move.second.change.pairs at))
+          c.loop-at-2.invariant.high;
+    }

@@ -1,0 +1,17 @@
+use Rattle.std.proofs.Common.{◌≡◌, slice_index, sym, ◌∙◌, below_more}
+use Rattle.std.proofs.lemmas.Bool.{true≢false}
+use Rattle.psi_packed.specs.Views.{lows}
+use Rattle.psi_packed.proofs.Pairing.{low-at}
+use Rattle.psi_packed.proofs.moves.Masks.changes_nothing.Goals as goal
+
+pub returns-then-self-at-ne0 : goal.returns-then-self-at-ne0
+returns-then-self-at-ne0 g c =
+    let at = c.loop-at.at in
+    let change = c.args.self.now.change in
+    (λ no. absurd (true≢false (sym no)), λ nothing. absurd (c.if-self-at-ne0.true (low-at change.pairs at ∙ nothing at c.loop-at-test.true)))
+
+pub loop-at-preserved : goal.loop-at-preserved
+loop-at-preserved g c =
+    let at = c.loop-at.at in
+    let change = c.args.self.now.change in
+    below_more (λ w. slice_index (lows change) w ≡ 0) at c.loop-at.invariant (sym (low-at change.pairs at) ∙ c.if-self-at-ne0.false)

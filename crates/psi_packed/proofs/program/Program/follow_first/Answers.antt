@@ -1,0 +1,67 @@
+use Rattle.std.proofs.Common.{rules, ◌≡◌, ◌-◌, ◌<◌, ◌≤◌, length, map, slice_index, slice_index_or, drop, ap, sym, subst, ◌∙◌, arith}
+use Rattle.psi_packed.specs.Moves.{Moving, IsMoved, ChangesNothing, no_move}
+use Rattle.psi_packed.specs.Programs.{Prepared, Follows}
+use Rattle.psi_packed.specs.Views.{lows, highs, low_word, high_word, moving_by}
+use Rattle.psi_packed.proofs.Following.{follows-none, follows-more, move-read}
+use Rattle.psi_packed.proofs.program.Program.follow_first.Goals as goal
+
+pub loop-place-init : goal.loop-place-init
+loop-place-init g c = record {
+  low = follows-none g.row.K c.args.self.now c.args.numbers.now (lows c.args.x.now);
+  high = follows-none g.row.K c.args.self.now c.args.numbers.now (highs c.args.x.now);
+}
+
+pub loop-place-preserved : goal.loop-place-preserved
+loop-place-preserved g c =
+    let p = c.args.self.now in
+    let numbers = c.args.numbers.now in
+    let i = c.loop-place.place in
+    let own = c.loop-place.own in
+    let new = c.advance_by_first.new.x in
+    let items = c.self.inside.moves.items in
+    let some : 1 ≤ i = c.loop-place-test.true in
+    let within : i ≤ length numbers = c.loop-place.auto.place in
+    let number = slice_index numbers (i - 1) in
+    let small : number < length p.moves = c.requires.numbers (i - 1) (omega arith) in
+    let m = c.index-moves-numbers.result in
+    let low_moves : map (moving_by {K = g.row.K} low_word) items ≡ p.moves = ap (λ (q : Prepared). q.moves) c.self.view_is in
+    let low_move : moving_by low_word m ≡ slice_index_or p.moves number no_move =
+    move-read p (moving_by low_word) items c.as_slice-moves.result.now number m low_moves c.as_slice-moves.ensures.value c.index-moves-numbers.is small in
+    let high_move : moving_by high_word m ≡ slice_index_or p.moves number no_move =
+    move-read p (moving_by high_word) items c.as_slice-moves.result.now number m (c.self.invariant.same ∙ low_moves) c.as_slice-moves.ensures.value c.index-moves-numbers.is small in
+    record {
+      low = follows-more g.row.K p numbers i (lows c.args.x.now) (lows own) (lows new) some within small
+          (subst (λ (n : Moving). IsMoved g.row.K n (lows own) (lows new)) low_move c.advance_by_first.ensures.low) c.loop-place.invariant.low;
+      high = follows-more g.row.K p numbers i (highs c.args.x.now) (highs own) (highs new) some within small
+          (subst (λ (n : Moving). IsMoved g.row.K n (highs own) (highs new)) high_move c.advance_by_first.ensures.high) c.loop-place.invariant.high;
+    }
+
+pub returns-clause-low : goal.returns-clause-low
+returns-clause-low g c =
+    let none : c.loop-place.place ≡ 0 = omega arith in
+    subst (λ n. Follows g.row.K c.args.self.now (drop n c.args.numbers.now) (lows c.args.x.now) (lows c.loop-place.own)) none c.loop-place.invariant.low
+
+pub returns-clause-high : goal.returns-clause-high
+returns-clause-high g c =
+    let none : c.loop-place.place ≡ 0 = omega arith in
+    subst (λ n. Follows g.row.K c.args.self.now (drop n c.args.numbers.now) (highs c.args.x.now) (highs c.loop-place.own)) none c.loop-place.invariant.high
+
+pub advance_by_first-requires : goal.advance_by_first-requires
+advance_by_first-requires g c =
+    let p = c.args.self.now in
+    let numbers = c.args.numbers.now in
+    let i = c.loop-place.place in
+    let items = c.self.inside.moves.items in
+    let some : 1 ≤ i = c.loop-place-test.true in
+    let within : i ≤ length numbers = c.loop-place.auto.place in
+    let number = slice_index numbers (i - 1) in
+    let small : number < length p.moves = c.requires.numbers (i - 1) (omega arith) in
+    let m = c.index-moves-numbers.result in
+    let low_moves : map (moving_by {K = g.row.K} low_word) items ≡ p.moves = ap (λ (q : Prepared). q.moves) c.self.view_is in
+    let low_move : moving_by low_word m ≡ slice_index_or p.moves number no_move =
+    move-read p (moving_by low_word) items c.as_slice-moves.result.now number m low_moves c.as_slice-moves.ensures.value c.index-moves-numbers.is small in
+    let high_move : moving_by high_word m ≡ slice_index_or p.moves number no_move =
+    move-read p (moving_by high_word) items c.as_slice-moves.result.now number m (c.self.invariant.same ∙ low_moves) c.as_slice-moves.ensures.value c.index-moves-numbers.is small in
+    let low : ChangesNothing g.row.K (moving_by low_word m).second = subst (λ (n : Moving). ChangesNothing g.row.K n.second) (sym low_move) (c.requires.alone number small) in
+    let high : ChangesNothing g.row.K (moving_by high_word m).second = subst (λ (n : Moving). ChangesNothing g.row.K n.second) (sym high_move) (c.requires.alone number small) in
+    (search rules, (search rules, (low, high)))
