@@ -8,7 +8,6 @@ ghost use Rattle.psi_horizon.specs.Planned.{IsOver};
 ghost use Rattle.psi_couple.specs.Coupling.{coupled_within, IsCoupled, ReachesCoupled, CouplesWithin};
 
 use crate::answers::Coupled;
-use crate::running::run_whole;
 use psi_event::EventLaw;
 use psi_horizon::Plan;
 use psi_past::Past;
@@ -74,25 +73,11 @@ fn least_up_to<E: EventLaw, P: Past + Drop>(
     let mut high = met;
     while high - low > 1 {
         let middle = low + (high - low) / 2;
-        if ending(plan, middle).is_some() {
+        if plan.ending(middle).is_some() {
             high = middle;
         } else {
             low = middle;
         }
     }
     high
-}
-
-// The one state with which the run of a horizon ends, if it ends with one.
-fn ending<E: EventLaw, P: Past + Drop>(plan: &mut Plan<'_, E, P>, horizon: u32) -> Option<State>
-    requires some { 1 ≤ horizon }
-    requires most { horizon ≤ 2 ^ plan.old.system.limit }
-    ensures ending { let f = system_functions E.function plan.old.system (P.words plan.old.past) in
-        result ≡ ending_at plan.old.system.split f plan.old.system.caps horizon }
-    ensures system { plan.new.system ≡ plan.old.system }
-    ensures words { P.words plan.new.past ≡ P.words plan.old.past }
-    ensures over { IsOver plan.new.run }
-{
-    run_whole(plan, horizon);
-    plan.single()
 }

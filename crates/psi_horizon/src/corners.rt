@@ -65,7 +65,7 @@ pub(crate) fn first_meeting<E: EventLaw, P: Past + Drop>(
 
 // The one state with which the run of a horizon ends, if it ends with one, where each event is monotone. The numbers of
 // the shorter horizon `reached` are kept, and those of this one then.
-fn ending<E: EventLaw, P: Past + Drop>(
+pub(crate) fn ending<E: EventLaw, P: Past + Drop>(
     system: &System<'_, E>,
     words: &mut Kept<P>,
     numbers: &mut Vec<u16>,

@@ -39,7 +39,7 @@ pub(crate) fn first_ending<E: EventLaw, P: Past + Drop>(
 
 // The one state with which the run of a horizon ends, if it ends with one. The region goes through the
 // run.
-fn ending<E: EventLaw, P: Past + Drop>(
+pub(crate) fn ending<E: EventLaw, P: Past + Drop>(
     system: &System<'_, E>,
     words: &mut Kept<P>,
     region: &mut Region,

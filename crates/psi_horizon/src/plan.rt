@@ -20,8 +20,8 @@ ghost use Rattle.psi_horizon.specs.Planned.{IsOver, onward};
 ghost use Rattle.psi_horizon.specs.contracts.plan.Plan.{the_row};
 ghost use mir.Syntax.{named};
 
-use crate::corners::{are_monotone, first_meeting};
-use crate::doubling::{first_ending, follow_word};
+use crate::corners::{self, are_monotone, first_meeting};
+use crate::doubling::{self, first_ending, follow_word};
 use crate::form::{Form, form_of};
 use psi_event::EventLaw;
 use psi_past::{Kept, Past};
@@ -164,6 +164,35 @@ impl<'n, E: EventLaw, P: Past + Drop> Plan<'n, E, P> {
             self.is_monotone,
             &mut self.numbers,
             &self.form,
+        )
+    }
+
+    /// The one state with which the region run of this horizon, 1 to 2 to the power `limit` steps, ends;
+    /// `None` exactly where it ends with more. The state is within the capacities.
+    ///
+    /// Where every event is monotone no region is followed, but the least and the greatest state alone.
+    /// Afterwards no run is begun.
+    pub fn ending(&mut self, horizon: u32) -> Option<State>
+        requires some { 1 ≤ horizon }
+        requires most { horizon ≤ 2 ^ self.old.system.limit }
+        ensures ending { let f = system_functions E.function self.old.system (P.words self.old.past) in
+            result ≡ ending_at self.old.system.split f self.old.system.caps horizon }
+        ensures within { IfSome result (λ s. IsBelow s self.old.system.caps) }
+        ensures system { self.new.system ≡ self.old.system }
+        ensures words { P.words self.new.past ≡ P.words self.old.past }
+        ensures run { self.new.run ≡ None }
+    {
+        // Called for its clause: the events fit the capacities.
+        let _caps = self.system.caps();
+        self.run = None;
+        ending_after(
+            &self.system,
+            &mut self.words,
+            &mut self.region,
+            self.is_monotone,
+            &mut self.numbers,
+            &self.form,
+            horizon,
         )
     }
 
@@ -321,5 +350,36 @@ fn first_outcome<E: EventLaw, P: Past + Drop>(
         first_meeting(system, words, numbers, form)
     } else {
         first_ending(system, words, region)
+    }
+}
+
+// The one state with which the run of a horizon ends, if it ends with one. Where each event is known to be monotone,
+// the run is followed by its corners, and otherwise by the region.
+fn ending_after<E: EventLaw, P: Past + Drop>(
+    system: &System<'_, E>,
+    words: &mut Kept<P>,
+    region: &mut Region,
+    is_monotone: bool,
+    numbers: &mut Vec<u16>,
+    form: &Form,
+    horizon: u32,
+) -> Option<State>
+    requires form { IsForm system.now.caps (map E.function system.now.events) form.now }
+    requires room { 2 ^ system.now.limit ≤ words.old.most }
+    requires split { region.old.split ≡ system.now.split }
+    requires monotone { IsTrue is_monotone → All (λ f. IsMonotone system.now.caps f) (map E.function system.now.events) }
+    requires number_room { IsTrue is_monotone → 2 ^ system.now.limit ≤ vec_capacity numbers.old }
+    requires most { horizon ≤ 2 ^ system.now.limit }
+    ensures ending { result ≡ ending_at system.now.split (system_functions E.function system.now (P.words words.old.past)) system.now.caps horizon }
+    ensures words { P.words words.new.past ≡ P.words words.old.past }
+    ensures most { words.new.most ≡ words.old.most }
+    ensures split { region.new.split ≡ region.old.split }
+    ensures capacity { vec_capacity numbers.new ≡ vec_capacity numbers.old }
+{
+    if is_monotone {
+        numbers.clear();
+        corners::ending(system, words, numbers, form, 0, horizon)
+    } else {
+        doubling::ending(system, words, region, horizon)
     }
 }

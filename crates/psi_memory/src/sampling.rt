@@ -24,11 +24,12 @@ pub(crate) fn make(alloc: Global, calls: bool, net: &Net) -> Option<()> {
     Some(())
 }
 
-// A sample, and a run of one step with its region.
+// A sample, the state with which a run ends, and a run of one step with its region.
 fn call_plan<E: EventLaw, P: Past + Drop>(plan: &mut Plan<'_, E, P>)
     ensures { plan.new.system ≡ plan.old.system }
 {
     let _outcome = plan.sample();
+    let _ending = plan.ending(1);
     plan.begin(1);
     let Some(_step) = plan.advance() else {
         return;

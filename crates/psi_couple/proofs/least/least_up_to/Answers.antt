@@ -3,6 +3,7 @@ use Rattle.std.proofs.Common.{ℕ, ◌+◌, ◌-◌, ◌/◌, ap, sym, ◌∙◌
 use Rattle.psi_rate.specs.Composition.{Parts, system_functions}
 use Rattle.psi_rate.proofs.FunctionsLemmas.{functions-closed}
 use Rattle.psi_horizon.specs.Runs.{ending_at}
+use Rattle.psi_couple.proofs.PlansLemmas.{none-over}
 use Rattle.psi_couple.proofs.CouplingLemmas.{ending-found, ending-missed}
 use Rattle.psi_couple.proofs.least.least_up_to.Goals as goal
 
@@ -24,7 +25,7 @@ loop-high-preserved-then-is_some g c =
           (omega arith) is (sym c.is_some.ensures ∙ c.if-is_some.true) kept.one;
       system = c.ending.ensures.system ∙ kept.system;
       words = c.ending.ensures.words ∙ kept.words;
-      over = c.ending.ensures.over;
+      over = none-over c.ending.new.self.run c.ending.ensures.run;
     }
 
 pub loop-high-preserved : goal.loop-high-preserved
@@ -45,5 +46,5 @@ loop-high-preserved g c =
       one = kept.one;
       system = c.ending.ensures.system ∙ kept.system;
       words = c.ending.ensures.words ∙ kept.words;
-      over = c.ending.ensures.over;
+      over = none-over c.ending.new.self.run c.ending.ensures.run;
     }
