@@ -7,41 +7,48 @@ use Rattle.psi_arcs.specs.declared.ends.Arc.{Arc}
 use Rattle.psi_arcs.specs.declared.sums.Sums.{Sums}
 use Rattle.psi_arcs.specs.declared.marks.Marks.{Marks}
 use Rattle.psi_arcs.specs.declared.marks.Reach.{Reach}
+use Rattle.psi_arcs.specs.declared.spans.Span.{Span}
 use Rattle.psi_arcs.specs.Sums.{has, Leads}
 use Rattle.psi_arcs.specs.Walks.{Walk, Held, Useful}
 use Rattle.psi_arcs.specs.Held.{Listed, IsThis, IsFirst}
 use Rattle.psi_arcs.specs.Joining.{past, here, Only, IsChanging, IsShort, IsFull, IsShiftable, IsOutside, Joined}
+use Rattle.psi_arcs.specs.Spans.{IsSpan}
 use Rattle.psi_arcs.specs.Marking.{IsReached, Keeps, TellsUseful, Shifts, Gives}
 use Rattle.psi_arcs.proofs.WalksLemmas.{held-useful, useful-held}
-use Rattle.psi_arcs.proofs.Marked.{past-yes, past-no, here-no}
+use Rattle.psi_arcs.proofs.Marked.{past-small, past-yes, past-no, here-no}
 
--- the first n rows of a queue are written, and the others are as they were
-pub record IsPut (level : ℕ) (P : ℕ → ℕ → Type 0) (first now : List Arc) (n : ℕ) : Type 0 where
-  pub own : (s v : ℕ) → s < n → Listed now level s v ↔ P s v
-  pub rest : (l s v : ℕ) → (l ≡ level → s < n → ⊥) → Listed now l s v ↔ Listed first l s v
+-- the rows of a queue from `low` to below n are written, and the others are as they were
+pub record IsPut (level : ℕ) (P : ℕ → ℕ → Type 0) (first now : List Arc) (low n : ℕ) : Type 0 where
+  pub own : (s v : ℕ) → low ≤ s → s < n → Listed now level s v ↔ P s v
+  pub rest : (l s v : ℕ) → (l ≡ level → low ≤ s → s < n → ⊥) → Listed now l s v ↔ Listed first l s v
 
-pub put-none : (level : ℕ) (P : ℕ → ℕ → Type 0) (first : List Arc) → IsPut level P first first 0
-put-none level P first = record { own = λ s v less. absurd (omega arith); rest = λ l s v other. (λ member. member, λ member. member) }
+pub put-none : (level : ℕ) (P : ℕ → ℕ → Type 0) (first : List Arc) (low : ℕ) → IsPut level P first first low low
+put-none level P first low = record { own = λ s v above less. absurd (omega arith); rest = λ l s v other. (λ member. member, λ member. member) }
 
-pub put-more : (level : ℕ) (P : ℕ → ℕ → Type 0) (first now new : List Arc) (n : ℕ) → IsPut level P first now n → ((v : ℕ) → Listed new level n v ↔ P n v)
-    → ((l s v : ℕ) → (l ≡ level → s ≡ n → ⊥) → Listed new l s v ↔ Listed now l s v) → IsPut level P first new (n + 1)
-put-more level P first now new n before own others = record {
-  own = λ s v less. elim (cases_eq s n) [
+pub put-more : (level : ℕ) (P : ℕ → ℕ → Type 0) (first now new : List Arc) (low n : ℕ) → IsPut level P first now low n → low ≤ n → ((v : ℕ) → Listed new level n v ↔ P n v)
+    → ((l s v : ℕ) → (l ≡ level → s ≡ n → ⊥) → Listed new l s v ↔ Listed now l s v) → IsPut level P first new low (n + 1)
+put-more level P first now new low n before order own others = record {
+  own = λ s v above less. elim (cases_eq s n) [
     | inl same ↦ subst (λ k. Listed new level k v ↔ P k v) (sym same) (own v)
-    | inr other ↦ (let step = others level s v (λ _ e. other e) in let old = before.own s v (omega arith) in
+    | inr other ↦ (let step = others level s v (λ _ e. other e) in let old = before.own s v above (omega arith) in
         (λ member. old.0 (step.0 member), λ given. step.1 (old.1 given)))
   ];
-  rest = λ l s v other. (let step = others l s v (λ e same. other e (omega arith)) in let old = before.rest l s v (λ e less. other e (omega arith)) in
+  rest = λ l s v other. (let step = others l s v (λ e same. other e (omega arith) (omega arith)) in let old = before.rest l s v (λ e above less. other e above (omega arith)) in
       (λ member. old.0 (step.0 member), λ member. step.1 (old.1 member)));
 }
 
-pub put-all : (level total : ℕ) (P : ℕ → ℕ → Type 0) (first now : List Arc) (n : ℕ) → IsPut level P first now n → total < n → ((s v : ℕ) → Listed first level s v → s ≤ total)
-    → ((s v : ℕ) → P s v → s ≤ total) → (s v : ℕ) → Listed now level s v ↔ P s v
-put-all level total P first now n done past ranged small s v = elim (cases_lt s n) [
-  | inl less ↦ done.own s v less
-  | inr more ↦ (let old = done.rest level s v (λ _ less. omega arith) in
-      (λ member. absurd (let range = ranged s v (old.0 member) in omega arith), λ given. absurd (let range = small s v given in omega arith)))
-]
+-- where no arc leaves an end elsewhere, nor is to, all of the queue is as it is to be
+pub put-all : (level : ℕ) (P : ℕ → ℕ → Type 0) (first now : List Arc) (low n : ℕ) → IsPut level P first now low n → ((s v : ℕ) → Listed first level s v → (low ≤ s) × (s < n))
+    → ((s v : ℕ) → P s v → (low ≤ s) × (s < n)) → (s v : ℕ) → Listed now level s v ↔ P s v
+put-all level P first now low n done ranged small s v =
+    let elsewhere : (low ≤ s → s < n → ⊥) → Listed now level s v ↔ P s v = λ apart. (let old = done.rest level s v (λ _ above less. apart above less) in (
+      λ member. absurd (let range = ranged s v (old.0 member) in apart range.0 range.1),
+      λ given. absurd (let range = small s v given in apart range.0 range.1),
+    )) in
+    elim (cases_lt s n) [
+      | inr more ↦ elsewhere (λ _ less. omega arith)
+      | inl less ↦ elim (cases_lt s low) [ inl below ↦ elsewhere (λ above _. omega arith) | inr above ↦ done.own s v above less ]
+    ]
 
 -- the queues from `low` to below n are written, and the others are as they were
 pub record AreDone (low : ℕ) (Q : ℕ → ℕ → ℕ → Type 0) (first now : List Arc) (n : ℕ) : Type 0 where
@@ -262,6 +269,30 @@ gives-range A reach from to l total ranged shiftable s v gives = elim gives [
     | inr k ↦ (let sum = ranged s v k.there in omega arith)
   ]
 ]
+
+-- an empty row is left by no arc
+pub none-left : (arcs : List Arc) (l s : ℕ) (row : Sums) → ((v : ℕ) → Leads row s v ↔ Listed arcs l s v) → ((t : ℕ) → t < 320 → has row t ≡ false) → (v : ℕ) → Listed arcs l s v → ⊥
+none-left arcs l s row leads none v listed = (let led = (leads v).1 listed in true≢false (sym led.there ∙ none (s + v) led.small))
+
+-- the end of what is given is in the span or beside it
+pub gives-near : (arcs : List Arc) (reach : Reach) (from to l total : ℕ) (span : Span) → IsSpan arcs total l span → ((s v : ℕ) → Listed arcs l s v → s + v ≤ total)
+    → ((s v : ℕ) → Listed arcs l s v → IsReached reach.changing l s v → IsShiftable from to total l s v) → (s v : ℕ) → Gives (Listed arcs) reach from to l s v
+    → (span.first ≤ s + 1) × ((s < span.end + 1) × (s ≤ total))
+gives-near arcs reach from to l total span is ranged shiftable s v gives =
+    let few = gives-range (Listed arcs) reach from to l total ranged shiftable s v gives in
+    elim gives [
+      | inl shifts ↦ (let within = is.each shifts.sum shifts.own shifts.keeps.there in
+          let above = within.0 in
+          let less = within.1 in
+          let sums = shifts.shifted.sums in
+          let gone = past-small from l in
+          let came = past-small to l in
+          (omega arith, (omega arith, few)))
+      | inr stays ↦ (let within : (span.first ≤ s) × (s < span.end) = elim stays [ inl k ↦ is.each s v k.there | inr k ↦ is.each s v k.there ] in
+          let above = within.0 in
+          let less = within.1 in
+          (omega arith, (omega arith, few)))
+    ]
 
 other-told : (o : Option ℕ) (P : Type 0) (Q : ℕ → Type 0) → MatchOption o P Q → ((is_some o ≡ true) → (w : ℕ) × Q w) × ((is_some o ≡ false) → P)
 other-told None P Q told = (λ e. absurd (false≢true e), λ _. told)

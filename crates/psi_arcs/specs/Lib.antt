@@ -5,4 +5,5 @@ pub mod Sums
 pub mod Held
 pub mod Rows
 pub mod Windows
+pub mod Spans
 pub mod Marking

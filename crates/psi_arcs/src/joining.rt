@@ -10,6 +10,7 @@ ghost use Rattle.psi_arcs.specs.Marking.{IsReached, Keeps, Shifts, Gives};
 
 use crate::arcs::Arcs;
 use crate::marks::{Marks, Reach};
+use crate::spans::{Span, span_of, tell_spans, widened};
 use crate::sums::Sums;
 use crate::windows::Rule;
 
@@ -92,19 +93,22 @@ fn given(of: &Arcs, level: u8, before: u16, from: u8, to: u8, reach: &Reach) -> 
     changed.or(&short.or(&full))
 }
 
-// Writes the sums to which arcs lead after the move that leave queue `level`, for each number of customers before it.
-fn give_rows(of: &Arcs, level: u8, from: u8, to: u8, reach: &mut Reach)
+// Writes the sums to which arcs lead after the move that leave queue `level`, for each number of customers before it
+// that is in the span.
+fn give_rows(of: &Arcs, level: u8, span: Span, from: u8, to: u8, reach: &mut Reach)
     requires level { level < of.now.levels }
+    requires inside { span.end ≤ of.now.total + 1 }
     requires shiftable { (s v : ℕ) → Listed of.now.arcs level s v → IsReached reach.old.changing level s v → IsShiftable from to of.now.total level s v }
-    ensures arcs { (s v : ℕ) → s ≤ of.now.total
+    ensures arcs { (s v : ℕ) → span.first ≤ s → s < span.end
         → Leads (sums_at reach.new.next.items s) s v ↔ Gives (Listed of.now.arcs) reach.old from to level s v }
-    ensures ranged { (s t : ℕ) → s ≤ of.now.total → t < 320 → has (sums_at reach.new.next.items s) t ≡ true → (s ≤ t) × (t ≤ of.now.total) }
+    ensures ranged { (s t : ℕ) → span.first ≤ s → s < span.end → t < 320 → has (sums_at reach.new.next.items s) t ≡ true → (s ≤ t) × (t ≤ of.now.total) }
     ensures changing { reach.new.changing ≡ reach.old.changing }
     ensures short { reach.new.short ≡ reach.old.short }
     ensures full { reach.new.full ≡ reach.old.full }
 {
-    let total = of.total();
-    for before in 0..total + 1 {
+    // Called for its clause: sums are small.
+    let _total = of.total();
+    for before in span.first..span.end {
         let row = given(of, level, before, from, to, reach);
         reach.next[before as usize] = row;
     }
@@ -120,8 +124,18 @@ impl Arcs {
         // Called for their clauses: the arcs are in range.
         let total = self.total();
         let last = self.levels() - 1;
+        tell_spans(self, 0, last, reach.spans.as_mut_slice());
+        let spans = reach.spans.as_slice();
         let marks = &mut reach.changing;
-        marks.mark(self, Rule::any(), 0, last, Sums::of(0), Sums::of(total));
+        marks.mark(
+            self,
+            spans,
+            Rule::any(),
+            0,
+            last,
+            Sums::of(0),
+            Sums::of(total),
+        );
         for level in 0..last + 1 {
             self.keep_level(level, marks);
         }
@@ -180,9 +194,10 @@ impl Arcs {
         ensures short { reach.new.short ≡ reach.old.short }
         ensures full { reach.new.full ≡ reach.old.full }
     {
-        give_rows(self, level, from, to, reach);
         let total = self.total();
-        for before in 0..total + 1 {
+        let span = widened(span_of(self, level), total);
+        give_rows(self, level, span, from, to, reach);
+        for before in span.first..span.end {
             let row = reach.next[before as usize];
             self.put(level, before, row);
         }

@@ -11,6 +11,7 @@ mod filling;
 mod joining;
 mod marks;
 mod reach;
+mod spans;
 mod sums;
 mod windows;
 

@@ -2,6 +2,7 @@
 
 ghost use Rattle.std.specs.Prelude.{◌≡◌, length};
 
+use crate::spans::Span;
 use crate::sums::Sums;
 use crate::windows::Rule;
 
@@ -22,6 +23,8 @@ pub struct Reach {
     pub(crate) changing: Marks,
     pub(crate) short: Marks,
     pub(crate) full: Marks,
+    pub(crate) spans: Vec<Span>,
     pub(crate) next: Vec<Sums>,
+    ghost spans_all: { length spans.items ≡ 32 },
     ghost next_all: { length next.items ≡ 257 },
 }

@@ -6,10 +6,12 @@ ghost use Rattle.psi_arcs.specs.Walks.{Before, After, Useful};
 ghost use Rattle.psi_arcs.specs.Held.{Listed};
 ghost use Rattle.psi_arcs.specs.Windows.{IsWithin, Allows, Enters, EntersBelow, Exits, MarkBefore, MarkAfter};
 ghost use Rattle.psi_arcs.specs.Joining.{Only, IsChanging, IsShort, IsFull};
+ghost use Rattle.psi_arcs.specs.Spans.{IsSpan, AreSpans};
 ghost use Rattle.psi_arcs.specs.Marking.{AreMarked, IsReached, Keeps, TellsUseful};
 
 use crate::arcs::{Arcs, OutOfMemory};
 use crate::marks::{Marks, Reach};
+use crate::spans::{Span, no_spans, tell_spans};
 use crate::sums::Sums;
 use crate::windows::{Rule, Window};
 use std::alloc::{AllocError, Global};
@@ -63,14 +65,17 @@ fn and_past(past: Sums, of: &Arcs, level: u8, before: u16, window: Window, marks
     past.or(&windowed(of, level, before, window))
 }
 
-// The ends past queue `level` to which its arcs within the window lead from marked ends.
-fn marks_past(of: &Arcs, level: u8, window: Window, marks: &Sums) -> Sums
+// The ends past queue `level` to which its arcs within the window lead from marked ends. All its arcs leave ends in the
+// span.
+fn marks_past(of: &Arcs, level: u8, span: Span, window: Window, marks: &Sums) -> Sums
     requires level { level < of.now.levels }
+    requires span { IsSpan of.now.arcs of.now.total level span }
     ensures { (t : ℕ) → t < 320 → (has result t ≡ true) ↔ Enters of.now.arcs level t window marks.now }
 {
-    let total = of.total();
+    // Called for its clause: sums are small.
+    let _total = of.total();
     let mut past = Sums::none();
-    for before in 0..total + 1 {
+    for before in span.first..span.end {
         past = and_past(past, of, level, before, window, marks);
     }
     past
@@ -89,14 +94,16 @@ fn exits(of: &Arcs, level: u8, before: u16, window: Window, marks: &Sums) -> boo
     !windowed(of, level, before, window).and(marks).is_none()
 }
 
-// The ends of queue `level` that its arcs within the window leave to marked ends.
-fn marks_before(of: &Arcs, level: u8, window: Window, marks: &Sums) -> Sums
+// The ends of queue `level` that its arcs within the window leave to marked ends. All its arcs leave ends in the span.
+fn marks_before(of: &Arcs, level: u8, span: Span, window: Window, marks: &Sums) -> Sums
     requires level { level < of.now.levels }
+    requires span { IsSpan of.now.arcs of.now.total level span }
     ensures { (s : ℕ) → s < 320 → (has result s ≡ true) ↔ Exits of.now.arcs level s window marks.now }
 {
-    let total = of.total();
+    // Called for its clause: sums are small.
+    let _total = of.total();
     let mut left = Sums::none();
-    for before in 0..total + 1 {
+    for before in span.first..span.end {
         left.insert_if(exits(of, level, before, window, marks), before);
     }
     left
@@ -104,8 +111,18 @@ fn marks_before(of: &Arcs, level: u8, window: Window, marks: &Sums) -> Sums
 
 // Marks the ends that are reached from the first queue over arcs that the rule allows, from queue `low` to queue
 // `high`: those of queue `low` are given.
-fn mark_before(of: &Arcs, rule: &Rule, low: u8, high: u8, first: Sums, marks: &mut [Sums])
+fn mark_before(
+    of: &Arcs,
+    spans: &[Span],
+    rule: &Rule,
+    low: u8,
+    high: u8,
+    first: Sums,
+    marks: &mut [Sums],
+)
     requires room { length marks.old ≡ 33 }
+    requires span_room { length spans.now ≡ 32 }
+    requires spans { AreSpans of.now.arcs of.now.total low high spans.now }
     requires order { low ≤ high }
     requires inside { high < of.now.levels }
     requires begin { (s v : ℕ) → Listed of.now.arcs low s v → (has first s ≡ true) ↔ Before (Only (Listed of.now.arcs) (Allows rule.now)) low s }
@@ -117,15 +134,25 @@ fn mark_before(of: &Arcs, rule: &Rule, low: u8, high: u8, first: Sums, marks: &m
     marks[low as usize] = first;
     for level in low..high {
         let own = marks[level as usize];
-        let past = marks_past(of, level, rule.window(level), &own);
+        let past = marks_past(of, level, spans[level as usize], rule.window(level), &own);
         marks[level as usize + 1] = past;
     }
 }
 
 // Marks the ends from which the end past the last queue, with all customers, is reached over arcs that the rule
 // allows, past queue `low` to past queue `high`: those past queue `high` are given.
-fn mark_after(of: &Arcs, rule: &Rule, low: u8, high: u8, last: Sums, marks: &mut [Sums])
+fn mark_after(
+    of: &Arcs,
+    spans: &[Span],
+    rule: &Rule,
+    low: u8,
+    high: u8,
+    last: Sums,
+    marks: &mut [Sums],
+)
     requires room { length marks.old ≡ 33 }
+    requires span_room { length spans.now ≡ 32 }
+    requires spans { AreSpans of.now.arcs of.now.total low high spans.now }
     requires order { low ≤ high }
     requires inside { high < of.now.levels }
     requires begin { (s v : ℕ) → Listed of.now.arcs high s v
@@ -139,7 +166,7 @@ fn mark_after(of: &Arcs, rule: &Rule, low: u8, high: u8, last: Sums, marks: &mut
     let mut level = high;
     while level > low {
         let own = marks[level as usize + 1];
-        let left = marks_before(of, level, rule.window(level), &own);
+        let left = marks_before(of, level, spans[level as usize], rule.window(level), &own);
         marks[level as usize] = left;
         level -= 1;
     }
@@ -157,8 +184,19 @@ impl Marks {
     }
 
     /// Marks the ends that are reached over arcs that the rule allows, from queue `low` to queue `high`: those of queue
-    /// `low` and those past queue `high` are given.
-    pub(crate) fn mark(&mut self, of: &Arcs, rule: Rule, low: u8, high: u8, first: Sums, last: Sums)
+    /// `low` and those past queue `high` are given, and the spans of these queues.
+    pub(crate) fn mark(
+        &mut self,
+        of: &Arcs,
+        spans: &[Span],
+        rule: Rule,
+        low: u8,
+        high: u8,
+        first: Sums,
+        last: Sums,
+    )
+        requires span_room { length spans.now ≡ 32 }
+        requires spans { AreSpans of.now.arcs of.now.total low high spans.now }
         requires order { low ≤ high }
         requires inside { high < of.now.levels }
         requires first { (s v : ℕ) → Listed of.now.arcs low s v → (has first s ≡ true) ↔ Before (Only (Listed of.now.arcs) (Allows rule)) low s }
@@ -167,8 +205,16 @@ impl Marks {
         ensures rule { self.new.rule ≡ rule }
         ensures marked { AreMarked (Listed of.now.arcs) of.now.levels of.now.total low high self.new }
     {
-        mark_before(of, &rule, low, high, first, self.before.as_mut_slice());
-        mark_after(of, &rule, low, high, last, self.after.as_mut_slice());
+        mark_before(
+            of,
+            spans,
+            &rule,
+            low,
+            high,
+            first,
+            self.before.as_mut_slice(),
+        );
+        mark_after(of, spans, &rule, low, high, last, self.after.as_mut_slice());
         self.rule = rule;
     }
 
@@ -198,11 +244,13 @@ impl Reach {
         let changing = Marks::reserve(alloc)?;
         let short = Marks::reserve(alloc)?;
         let full = Marks::reserve(alloc)?;
+        let spans = no_spans(alloc)?;
         let next = no_sums(alloc, 257)?;
         Ok(Reach {
             changing,
             short,
             full,
+            spans,
             next,
         })
     }
@@ -223,11 +271,13 @@ impl Reach {
         let low = from.min(to);
         let high = from.max(to);
         let all = Sums::all();
+        tell_spans(of, low, high, self.spans.as_mut_slice());
+        let spans = self.spans.as_slice();
         let changing = Rule::changing(from, k, to, room);
         let short = Rule::short(from, k);
         let full = Rule::full(to, room);
-        self.changing.mark(of, changing, low, high, all, all);
-        self.short.mark(of, short, low, high, all, all);
-        self.full.mark(of, full, low, high, all, all);
+        self.changing.mark(of, spans, changing, low, high, all, all);
+        self.short.mark(of, spans, short, low, high, all, all);
+        self.full.mark(of, spans, full, low, high, all, all);
     }
 }

@@ -17,23 +17,23 @@ loop-before-preserved c =
     let row = c.given-row.result in
     let long = c.loop-before.reach.next_all in
     let small = c.total-total.ensures.small in
-    let value = c.total-total.ensures.value in
+    let inside = c.requires.inside in
     let test = c.loop-before-test.true in
     let own = read-own c.loop-before.reach.next.items c.loop-before.before c.given-row.result (omega arith) in
     record {
-      arcs = λ s v less. elim (cases_eq s c.loop-before.before) [
+      arcs = λ s v above less. elim (cases_eq s c.loop-before.before) [
         | inl same ↦ subst (λ k. Leads (sums_at (slice_set c.loop-before.reach.next.items c.loop-before.before c.given-row.result) k) k v
             ↔ Gives (Listed c.args.of.now.arcs) c.args.reach.now c.args.from c.args.to c.args.level k v) (sym same)
             (subst (λ (x : Sums). Leads x c.loop-before.before v ↔ Gives (Listed c.args.of.now.arcs) c.args.reach.now c.args.from c.args.to c.args.level c.loop-before.before v) (sym own)
             (iff-trans (c.given-row.ensures.arcs v) (gives-reach (Listed c.args.of.now.arcs) c.loop-before.reach c.args.reach.now c.args.from c.args.to c.args.level c.loop-before.before v
             c.loop-before.invariant.changing c.loop-before.invariant.short c.loop-before.invariant.full)))
         | inr other ↦ subst (λ (x : Sums). Leads x s v ↔ Gives (Listed c.args.of.now.arcs) c.args.reach.now c.args.from c.args.to c.args.level s v)
-            (sym (read-other c.loop-before.reach.next.items c.loop-before.before s c.given-row.result other)) (c.loop-before.invariant.arcs s v (omega arith))
+            (sym (read-other c.loop-before.reach.next.items c.loop-before.before s c.given-row.result other)) (c.loop-before.invariant.arcs s v above (omega arith))
       ];
-      ranged = λ s t less within given. elim (cases_eq s c.loop-before.before) [
+      ranged = λ s t above less within given. elim (cases_eq s c.loop-before.before) [
         | inl same ↦ subst (λ k. (k ≤ t) × (t ≤ c.args.of.now.total)) (sym same)
             (c.given-row.ensures.ranged t within (subst (λ (x : Sums). has x t ≡ true) (ap (λ k. sums_at (slice_set c.loop-before.reach.next.items c.loop-before.before c.given-row.result) k) same ∙ own) given))
-        | inr other ↦ c.loop-before.invariant.ranged s t (omega arith) within
+        | inr other ↦ c.loop-before.invariant.ranged s t above (omega arith) within
             (subst (λ (x : Sums). has x t ≡ true) (read-other c.loop-before.reach.next.items c.loop-before.before s c.given-row.result other) given)
       ];
       changing = c.loop-before.invariant.changing;

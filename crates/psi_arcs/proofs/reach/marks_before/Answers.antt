@@ -2,13 +2,12 @@
 use Rattle.std.proofs.Common.{inl, inr, sym, ◌∙◌, subst, arith}
 use Rattle.std.proofs.lemmas.Bool.{true≢false, cases_eq, cases_Bool}
 use Rattle.psi_arcs.specs.Windows.{Exits}
-use Rattle.psi_arcs.proofs.RowsLemmas.{arc_of}
 use Rattle.psi_arcs.proofs.reach.marks_before.Goals as goal
 
 pub loop-before-init : goal.loop-before-init
 loop-before-init c s small = (
   λ given. absurd (true≢false (sym given ∙ c.none-left.ensures s small)),
-  λ below. absurd (let less = below.1 in omega arith),
+  λ below. absurd (let less = below.1 in let within = c.requires.span.each s below.0.value below.0.listed in let low = within.0 in omega arith),
 )
 
 pub loop-before-preserved : goal.loop-before-preserved
@@ -30,8 +29,7 @@ loop-before-preserved c s small =
 
 pub returns : goal.returns
 returns c s small =
-    let test = c.loop-before-test.false in
-    let value = c.total-total.ensures.value in (
+    let test = c.loop-before-test.false in (
       λ given. ((c.loop-before.invariant s small).0 given).0,
-      λ exits. (c.loop-before.invariant s small).1 (exits, (let sum = (c.total-total.ensures.ranged (arc_of c.args.level s exits.value) exits.listed).sum in omega arith)),
+      λ exits. (c.loop-before.invariant s small).1 (exits, (let within = c.requires.span.each s exits.value exits.listed in let high = within.1 in omega arith)),
     )

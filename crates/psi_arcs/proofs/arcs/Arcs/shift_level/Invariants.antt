@@ -9,5 +9,5 @@ abbrev pub invariant-loop-before : goal.invariant-loop-before
 invariant-loop-before l = record {
   levels : l.self.levels ≡ l.fn.self.levels;
   total : l.self.total ≡ l.fn.self.total;
-  done : IsPut l.level (λ s v. Gives (Listed l.fn.self.arcs) l.fn.reach l.from l.to l.level s v) l.fn.self.arcs l.self.arcs l.before;
+  done : IsPut l.level (λ s v. Gives (Listed l.fn.self.arcs) l.fn.reach l.from l.to l.level s v) l.fn.self.arcs l.self.arcs l.initial.before l.before;
 }
