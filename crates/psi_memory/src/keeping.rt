@@ -89,7 +89,7 @@ fn call_pool<E: EventLaw>(pool: &mut Pool, event: &E)
     pool.step(event);
     let _there = pool.contains(&full);
     let _states = pool.walk();
-    let _single = (pool.len(), pool.only());
+    let _single = (pool.len(), pool.most(), pool.only());
     pool.clear();
 }
 

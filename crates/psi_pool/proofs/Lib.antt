@@ -6,4 +6,5 @@ pub mod Chains
 pub mod Seeking
 pub mod Relinking
 pub mod Keeping
+pub mod Counting
 pub mod Within

@@ -1,5 +1,5 @@
 -- The states of the first nodes, by their places.
-use Rattle.std.proofs.Common.{◌≡◌, ℕ, zero, suc, ◌<◌, ◌≤◌, List, [], ◌∷◌, length, get_or, take, map, inl, inr, ap, sym, ◌∙◌, subst, arith, refl}
+use Rattle.std.proofs.Common.{◌≡◌, ℕ, zero, suc, ◌<◌, ◌≤◌, List, [], ◌∷◌, ◌++◌, length, get_or, take, map, inl, inr, ap, sym, ◌∙◌, subst, arith, refl}
 use Rattle.std.proofs.lemmas.Bool.{cases_lt}
 use Rattle.std.proofs.lemmas.List.{get_or_default, length-map, length-take-le}
 use Rattle.std.proofs.Math.Seq.{take-length}
@@ -80,6 +80,16 @@ distinct-more (m ∷ nodes) (suc n) within distinct absent = (
       ]),
   distinct-more nodes n (omega arith) distinct.1 (λ member. absent (inr member)),
 )
+
+-- one node more
+pub states-next : (nodes : List Node) (n : ℕ) → n < length nodes → states nodes (suc n) ≡ states nodes n ++ (node_at nodes n).state ∷ []
+states-next [] n within = absurd (omega arith)
+states-next (m ∷ nodes) zero within = ap (λ (xs : List (List ℕ)). m.state ∷ xs) (none nodes)
+  where
+    none : (ns : List Node) → states ns 0 ≡ []
+    none [] = refl
+    none (w ∷ ns) = refl
+states-next (m ∷ nodes) (suc n) within = ap (λ (xs : List (List ℕ)). m.state ∷ xs) (states-next nodes n (omega arith))
 
 -- the first nodes, on their own
 pub states-take : (nodes : List Node) (n : ℕ) → states (take n nodes) (length (take n nodes)) ≡ states nodes n

@@ -55,7 +55,7 @@ insert-short : (x : List ℕ) (ys : List (List ℕ)) → length (insert_state x 
 insert-short x [] = omega arith
 insert-short x (y ∷ ys) = insert-match x y ys (insert_state x ys) (state_cmp x y) (insert-short x ys)
 
-ascending-short : (xs : List (List ℕ)) → length (ascending xs) ≤ length xs
+pub ascending-short : (xs : List (List ℕ)) → length (ascending xs) ≤ length xs
 ascending-short [] = omega arith
 ascending-short (x ∷ xs) = (let rest = ascending-short xs in let more = insert-short x (ascending xs) in omega arith)
 

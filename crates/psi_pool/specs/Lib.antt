@@ -2,3 +2,4 @@
 pub mod Pooled
 pub mod Buckets
 pub mod Nodes
+pub mod Tables

@@ -1,5 +1,5 @@
 -- Nodes that are linked by index into the buckets of a hash table.
-use Rattle.std.specs.Prelude.{◌≡◌, ◌≢◌, ℕ, ◌+◌, ◌*◌, ◌<◌, ◌≤◌, List, [], ◌∷◌, length, map, take, slice_index, get_or}
+use Rattle.std.specs.Prelude.{◌≡◌, ◌≢◌, ℕ, ◌<◌, ◌≤◌, List, [], ◌∷◌, map, take, slice_index, get_or}
 use Rattle.psi_state.specs.Members.{In}
 use Rattle.psi_state.specs.Ascending.{IsDistinct, HaveSame}
 use Rattle.psi_pool.specs.declared.nodes.Node.{Node}
@@ -56,15 +56,8 @@ module _ (used : ℕ) (nodes : List Node) where
     pub some : (i : ℕ) → i < n → (b : ℕ) × (b < used) × In i (chain b)
     pub one : (i b c : ℕ) → b < used → c < used → In i (chain b) → In i (chain c) → b ≡ c
 
--- what a pool keeps: the nodes in use are its first, they are linked into chains, no state stands twice, and there is room to list them all
-pub record IsPool (nodes : List Node) (heads : List ℕ) (used len most room : ℕ) : Type 0 where
-  pub count : length nodes ≡ most
-  pub buckets : length heads ≡ 4 * most + 1
-  pub small : most ≤ 4096
-  pub some : 1 ≤ used
-  pub few : used ≤ 4 * most + 1
-  pub fits : len ≤ most
-  pub linked : IsLinked used nodes heads len
-  pub chained : AreChained used nodes heads len
-  pub distinct : IsDistinct (states nodes len)
-  pub listed : most ≤ room
+  -- the first n nodes are linked into chains, and no state stands twice
+  pub record AreLinked (heads : List ℕ) (n : ℕ) : Type 0 where
+    pub linked : IsLinked heads n
+    pub chained : AreChained heads n
+    pub distinct : IsDistinct (states nodes n)

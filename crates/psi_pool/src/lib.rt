@@ -7,6 +7,8 @@
 
 mod hashing;
 mod nodes;
+mod pace;
 mod pool;
+mod table;
 
 pub use pool::{OutOfMemory, Pool};

@@ -7,6 +7,7 @@
 ghost use Rattle.std.specs.Prelude.{◌≡◌, ℕ, ◌+◌, ◌<◌, ◌≤◌, ◌↔◌, List, IsTrue, IfOk, MatchOption, length, map, slice_index, vec_capacity};
 ghost use Rattle.psi_state.specs.State.{IsBelow};
 ghost use Rattle.psi_state.specs.Members.{In};
+ghost use Rattle.psi_state.specs.Sets.{ascending, single};
 ghost use Rattle.psi_pool.specs.Buckets.{bucket};
 ghost use Rattle.psi_pool.specs.Nodes.{node_at, states, IsLinked, IsNew, HoldSet};
 
@@ -120,33 +121,73 @@ fn home_if_new(nodes: &[Node], heads: &[u16], place: usize) -> Option<usize>
     Some(home)
 }
 
-/// Moves the states of the first `len` nodes on by the event, and links these nodes anew into the first
-/// `used` buckets. Answers how many nodes are in use from then on. It stays out of the way of a box's step.
-#[inline(never)]
-pub(crate) fn relink<E: EventLaw>(
-    nodes: &mut [Node],
-    heads: &mut [u16],
-    used: usize,
-    len: usize,
-    e: &E,
-) -> usize
+/// Whether one of the nodes has the state `x`, however they are linked.
+pub(crate) fn stands_in(nodes: &[Node], x: &State) -> bool
+    ensures { IsTrue result ↔ In x.now (states nodes.now (length nodes.now)) }
+{
+    for node in nodes {
+        if node.state == *x {
+            return true;
+        }
+    }
+    false
+}
+
+/// The number of different states in the nodes. Its work grows with the square of the nodes.
+pub(crate) fn count_states(nodes: &[Node]) -> u16
+    requires { length nodes.now ≤ 4096 }
+    ensures { result ≡ length (ascending (states nodes.now (length nodes.now))) }
+{
+    let mut count = 0;
+    for place in 0..nodes.len() {
+        if !stands_in(&nodes[..place], &nodes[place].state) {
+            count += 1;
+        }
+    }
+    count
+}
+
+/// The state of the nodes where all have the same one; `None` where there is no node or not one state.
+pub(crate) fn one_state(nodes: &[Node]) -> Option<State>
+    ensures { result ≡ single (ascending (states nodes.now (length nodes.now))) }
+{
+    if nodes.is_empty() {
+        return None;
+    }
+    let first = nodes[0].state;
+    for node in nodes {
+        if node.state != first {
+            return None;
+        }
+    }
+    Some(first)
+}
+
+/// Moves the states of the first `len` nodes on by the event. Their links are as they were.
+#[inline]
+pub(crate) fn move_first<E: EventLaw>(nodes: &mut [Node], len: usize, e: &E)
+    requires len { len ≤ length nodes.old }
+    requires below { (x : List ℕ) → In x (states nodes.old len) → IsBelow x (E.capacities e.now) }
+    ensures { states nodes.new len ≡ map (E.function e.now) (states nodes.old len) }
+{
+    move_on(&mut nodes[..len], e);
+}
+
+/// Links the first `len` nodes anew into the first `used` buckets. Answers how many nodes are in use from then on.
+pub(crate) fn relink(nodes: &mut [Node], heads: &mut [u16], used: usize, len: usize) -> usize
     requires some { 1 ≤ used }
     requires few { used ≤ 16385 }
     requires used { used ≤ length heads.old }
     requires small { len ≤ 4096 }
     requires len { len ≤ length nodes.old }
-    requires below { (x : List ℕ) → In x (states nodes.old len) → IsBelow x (E.capacities e.now) }
-    ensures holds { HoldSet used nodes.new heads.new result (map (E.function e.now) (states nodes.old len)) }
+    ensures holds { HoldSet used nodes.new heads.new result (states nodes.old len) }
     ensures fewer { result ≤ len }
 {
-    let held = &mut nodes[..len];
-    move_on(held, e);
     empty(&mut heads[..used]);
-    link_all(held, &mut heads[..used])
+    link_all(&mut nodes[..len], &mut heads[..used])
 }
 
-// Moves the state of each node on by the event. It is a pass of its own, since hashing reads in eights what
-// the event wrote in twos, and would wait for it.
+// Moves the state of each node on by the event.
 fn move_on<E: EventLaw>(nodes: &mut [Node], e: &E)
     requires { (x : List ℕ) → In x (states nodes.old (length nodes.old)) → IsBelow x (E.capacities e.now) }
     ensures { (i : ℕ) → i < length nodes.old → (node_at nodes.new i).state ≡ E.function e.now (node_at nodes.old i).state }

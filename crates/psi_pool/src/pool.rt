@@ -1,17 +1,19 @@
 //! The set of states.
 
-ghost use Rattle.std.specs.Prelude.{◌≡◌, ◌+◌, ◌*◌, ◌<◌, ◌≤◌, ◌↔◌, ◌⊎◌, ℕ, List, [], IsTrue, IfOk, length};
+ghost use Rattle.std.specs.Prelude.{◌≡◌, ◌<◌, ◌≤◌, ◌↔◌, ◌⊎◌, ℕ, List, [], IsTrue, IfOk, length};
 ghost use Rattle.std.specs.Prelude.{⊤};
 ghost use Rattle.std.specs.Borrow.{sem, follows_so};
 ghost use mathlib.Core.Option.{none};
 ghost use Rattle.psi_state.specs.State.{IsBelow};
 ghost use Rattle.psi_state.specs.Members.{In};
 ghost use Rattle.psi_state.specs.Sets.{insert_state, image, single};
-ghost use Rattle.psi_state.specs.Ascending.{IsRising};
+ghost use Rattle.psi_state.specs.Ascending.{IsRising, HaveSame};
+ghost use Rattle.psi_pool.specs.Tables.{held, IsTable};
 ghost use Rattle.psi_pool.specs.contracts.pool.Pool.{the_row};
 
-use crate::hashing::bucket_of;
-use crate::nodes::{Node, empty, free_heads, free_nodes, gather, has, relink};
+use crate::nodes::{gather, one_state};
+use crate::pace::Pace;
+use crate::table::Table;
 use psi_event::EventLaw;
 use psi_state::State;
 use std::alloc::{AllocError, Global};
@@ -31,17 +33,14 @@ impl From<AllocError> for OutOfMemory {
 ///
 /// All its memory is taken by `reserve`: one vector of nodes, linked by index, the heads of the buckets, and
 /// room for the list of the states. No other call takes memory. The work of a step grows with the number of
-/// states, not with the room for them: it passes over each state and over four buckets for each, and looks for
-/// each among those of its bucket. The hash is fixed, so a network can be made whose states share one bucket, and
-/// then the work grows with the square of their number.
+/// states, not with the room for them: it moves each on. States that became one may stand several times until
+/// the next links, which come after 4 to 1,024 steps: these pass over four buckets for each state, and look for
+/// each among those of its bucket. The hash is fixed, so a network can be made whose states share one bucket,
+/// and then the work of the links grows with the square of their number.
 #[derive(Drop)]
 pub struct Pool {
-    // The nodes in use are the first `len`.
-    nodes: Vec<Node>,
-    // The buckets in use are the first `used`.
-    heads: Vec<u16>,
-    used: u16,
-    len: u16,
+    table: Table,
+    pace: Pace,
     most: u16,
     order: Vec<State>,
 }
@@ -49,26 +48,14 @@ pub struct Pool {
 impl Model for Pool {
     ghost use Rattle.std.specs.Prelude.{vec_capacity};
     ghost use Rattle.psi_state.specs.Sets.{ascending};
-    ghost use Rattle.psi_pool.specs.Nodes.{states, IsPool};
+    ghost use Rattle.psi_pool.specs.Tables.{held, IsPool};
     ghost use Rattle.psi_pool.specs.Pooled.{Pooled};
 
     ghost Value = { Pooled };
 
-    ghost view = { λ p. record {
-      most = p.most;
-      states = ascending (states p.nodes.items p.len);
-    } };
+    ghost view = { λ p. record { most = p.most; states = ascending (held p.table) } };
 
-    ghost invariant = { λ p. IsPool p.nodes.items p.heads.items p.used p.len p.most (vec_capacity p.order) };
-}
-
-// The number of buckets for so many states: four for each keep the chains short where the hash spreads the
-// states, which no clause promises.
-fn buckets_for(states: u16) -> u16
-    requires { states ≤ 4096 }
-    ensures { result ≡ 4 * states + 1 }
-{
-    4 * states + 1
+    ghost invariant = { λ p. IsPool p.table p.most (vec_capacity p.order) };
 }
 
 impl Pool {
@@ -80,15 +67,11 @@ impl Pool {
         requires most { most ≤ 4096 }
         ensures { IfOk result (λ pool. pool ≡ record { most = most; states = [] }) }
     {
-        let used = buckets_for(most);
-        let nodes = free_nodes(alloc, most)?;
-        let heads = free_heads(alloc, used)?;
+        let table = Table::reserve(alloc, most)?;
         let order = Vec::with_capacity(alloc, most as usize)?;
         Ok(Pool {
-            nodes,
-            heads,
-            used,
-            len: 0,
+            table,
+            pace: Pace::start(),
             most,
             order,
         })
@@ -96,33 +79,41 @@ impl Pool {
 
     /// The number of states.
     ///
-    /// Its other clauses are how a caller learns what every `Pool` keeps: there are no more states than
-    /// there is room for, and their list is ascending without repeats.
+    /// The work may grow with the square of their number where `step` was called since the last `walk`. Its other
+    /// clauses are those of `most`.
     pub fn len(&self) -> u16
         ensures value { result ≡ length self.now.states }
         ensures few { length self.now.states ≤ self.now.most }
         ensures rising { IsRising self.now.states }
     {
-        self.len
+        self.table.count()
+    }
+
+    /// The number of states that there is room for.
+    ///
+    /// Its other clauses are how a caller learns what every `Pool` keeps: there are no more states than
+    /// there is room for, and their list is ascending without repeats.
+    pub fn most(&self) -> u16
+        ensures value { result ≡ self.now.most }
+        ensures few { length self.now.states ≤ self.now.most }
+        ensures rising { IsRising self.now.states }
+    {
+        self.most
     }
 
     /// Takes all states out; the room stays.
     pub fn clear(&mut self)
         ensures { self.new ≡ record { most = self.old.most; states = [] } }
     {
-        empty(self.heads.as_mut_slice());
-        self.used = buckets_for(self.most);
-        self.len = 0;
+        self.table.clear();
+        self.pace = Pace::start();
     }
 
     /// Whether `x` is in the set.
     pub fn contains(&self, x: &State) -> bool
         ensures { IsTrue result ↔ In x.now self.now.states }
     {
-        let home = bucket_of(x, self.used as usize);
-        let nodes = &self.nodes[..self.len as usize];
-        let heads = &self.heads[..self.used as usize];
-        has(nodes, heads, home, x)
+        self.table.has(x)
     }
 
     /// Puts `x` into the set, and answers whether it was not there. There has to be room for it, or it is
@@ -133,19 +124,8 @@ impl Pool {
         ensures most { self.new.most ≡ self.old.most }
         ensures fresh { IsTrue result ↔ (In x self.old.states → ⊥) }
     {
-        let home = bucket_of(&x, self.used as usize);
-        let nodes = &self.nodes[..self.len as usize];
-        let heads = &self.heads[..self.used as usize];
-        if has(nodes, heads, home, &x) {
-            return false;
-        }
-        self.nodes[self.len as usize] = Node {
-            state: x,
-            next: self.heads[home],
-        };
-        self.heads[home] = self.len;
-        self.len += 1;
-        true
+        self.table.link();
+        self.table.put(x)
     }
 
     /// Moves each state on by the event: the set becomes its image. States that the event makes one are
@@ -155,14 +135,8 @@ impl Pool {
         ensures states { self.new.states ≡ image (E.function e.now) self.old.states }
         ensures most { self.new.most ≡ self.old.most }
     {
-        self.used = buckets_for(self.len);
-        self.len = relink(
-            self.nodes.as_mut_slice(),
-            self.heads.as_mut_slice(),
-            self.used as usize,
-            self.len as usize,
-            e,
-        ) as u16;
+        self.table.move_on(e);
+        link_when_due(&mut self.table, &mut self.pace);
     }
 
     /// The states in ascending order. The set stays as it is.
@@ -170,7 +144,11 @@ impl Pool {
         ensures states { result.now ≡ self.old.states }
         ensures* same { sem 𝓛 (follows_so the_row the_row self.entry.ghost_name none (λ _ _. ⊤) (λ v. v ≡ self.old)) }
     {
-        gather(&self.nodes[..self.len as usize], &mut self.order);
+        self.table.link();
+        gather(
+            &self.table.nodes[..self.table.len as usize],
+            &mut self.order,
+        );
         self.order.sort_unstable();
         self.order.as_slice()
     }
@@ -179,9 +157,20 @@ impl Pool {
     pub fn only(&self) -> Option<State>
         ensures { result ≡ single self.now.states }
     {
-        if self.len != 1 {
-            return None;
-        }
-        Some(self.nodes[0].state)
+        one_state(&self.table.nodes[..self.table.len as usize])
+    }
+}
+
+// Links the nodes anew where there are several and it is time to.
+fn link_when_due(table: &mut Table, pace: &mut Pace)
+    requires { IsTable table.old }
+    ensures table { IsTable table.new }
+    ensures members { HaveSame (held table.new) (held table.old) }
+    ensures room { length table.new.nodes.items ≡ length table.old.nodes.items }
+{
+    if table.len > 1 && pace.is_due() {
+        let before = table.len;
+        table.link();
+        pace.adapt(before, table.len);
     }
 }

@@ -112,7 +112,7 @@ impl Region {
         ensures split { self.new.split ≡ self.old.split }
     {
         // Called for its clause: the set is ascending, and the corners are in order.
-        let _count = self.pool.len();
+        let _room = self.pool.most();
         let _queues = self.bounds.len();
         self.settle();
     }
@@ -157,7 +157,7 @@ impl Region {
         ensures* same { sem 𝓛 (follows_so the_row the_row self.entry.ghost_name none (λ _ _. ⊤) (λ v. v ≡ self.old)) }
     {
         // Called for its clause: the set is ascending and has room for its states.
-        let _count = self.pool.len();
+        let _room = self.pool.most();
         self.pool.walk()
     }
 

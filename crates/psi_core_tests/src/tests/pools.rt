@@ -91,6 +91,27 @@ fn states_that_become_one_leave_room(rt: HostRuntime) -> Result<(), Fail> {
     Ok(())
 }
 
+#[test]
+fn states_that_became_one_count_once(rt: HostRuntime) -> Result<(), Fail> {
+    let caps = capacities(1);
+    let mut pool = Pool::reserve(rt.alloc(), 4)?;
+    fill(&mut pool, &caps, 4);
+    let arrival = joining(caps, 0, 1)?;
+    moved(&mut pool, &arrival, &caps);
+    assert_eq!(rt; (pool.len(), pool.only()), (2, None));
+    assert!(rt; pool.contains(&pair(1, 1)));
+    assert!(rt; !pool.contains(&pair(0, 1)));
+    moved(&mut pool, &leaving(caps, 1, 1, 1)?, &caps);
+    assert_eq!(rt; (pool.len(), pool.only()), (1, Some(pair(1, 0))));
+    moved(&mut pool, &arrival, &caps);
+    moved(&mut pool, &arrival, &caps);
+    moved(&mut pool, &arrival, &caps);
+    assert_eq!(rt; (pool.len(), pool.only()), (1, Some(pair(1, 0))));
+    assert!(rt; put(&mut pool, pair(0, 0), &caps, 4));
+    assert_eq!(rt; pool.walk(), [pair(0, 0), pair(1, 0)].as_slice());
+    Ok(())
+}
+
 // One customer joins both queues of capacity 1, where both have room.
 fn forking(caps: State) -> Result<Guarded, GuardRefusal>
     requires { AreCapacities caps }

@@ -7,4 +7,4 @@ pub returns-clause-area : goal.returns-clause-area
 returns-clause-area c =
     let held = c.self.inside in
     c.settle.ensures.area
-    ∙ rested-held c.args.self.now.split held.split held.is_split held.bounds held.pool.states c.args.self.now c.self.view_is c.len-count.ensures.rising c.len-queues.ensures.ordered
+    ∙ rested-held c.args.self.now.split held.split held.is_split held.bounds held.pool.states c.args.self.now c.self.view_is c.most-room.ensures.rising c.len-queues.ensures.ordered

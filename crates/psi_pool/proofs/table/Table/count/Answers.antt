@@ -1,0 +1,6 @@
+-- Answers in the proof of `Table::count`.
+use Rattle.psi_pool.proofs.Keeping.{table-length}
+use Rattle.psi_pool.proofs.table.Table.count.Goals as goal
+
+pub returns-then-self : goal.returns-then-self
+returns-then-self c = table-length c.args.self.now c.requires c.if-self.true

@@ -1,0 +1,23 @@
+-- Answers in the proof of `Table::put`.
+use Rattle.std.proofs.Common.{◌<◌, inl, inr, length, refl}
+use Rattle.psi_state.specs.Members.{In}
+use Rattle.psi_pool.specs.Tables.{held}
+use Rattle.psi_pool.proofs.Keeping.{seek-whole, seek-absent, table-inserted, members-inserted}
+use Rattle.psi_pool.proofs.table.Table.put.Goals as goal
+
+pub returns-clause-table : goal.returns-clause-table
+returns-clause-table c =
+    let t = c.args.self.now in
+    let told = seek-whole t.nodes.items c.deref.result.now t.len c.args.x c.has.result c.deref.ensures.value c.has.ensures in
+    let absent : In c.args.x (held t) → ⊥ = seek-absent (held t) c.args.x c.has.result told c.if-has.false in
+    let free : t.len < length t.nodes.items = elim c.requires.room [ inl fewer ↦ fewer | inr member ↦ absurd (absent member) ] in
+    table-inserted t c.args.x c.bucket_of-home.result c.index.result.now c.requires.table c.requires.linked refl refl refl refl
+    c.bucket_of-home.ensures.value c.bucket_of-home.ensures.within c.index.ensures free absent
+
+pub returns-clause-members : goal.returns-clause-members
+returns-clause-members c =
+    let t = c.args.self.now in
+    let told = seek-whole t.nodes.items c.deref.result.now t.len c.args.x c.has.result c.deref.ensures.value c.has.ensures in
+    let absent : In c.args.x (held t) → ⊥ = seek-absent (held t) c.args.x c.has.result told c.if-has.false in
+    let free : t.len < length t.nodes.items = elim c.requires.room [ inl fewer ↦ fewer | inr member ↦ absurd (absent member) ] in
+    members-inserted t.nodes.items t.len (record { state = c.args.x; next = c.index.result.now }) free

@@ -1,0 +1,169 @@
+//! The nodes of a set with the buckets that they are linked into.
+//!
+//! A list of states with repeats stands for its set as well, so an event moves the nodes alone. The links are
+//! made anew now and then, and repeats fall away.
+
+ghost use Rattle.std.specs.Prelude.{◌≡◌, ℕ, ◌*◌, ◌+◌, ◌<◌, ◌≤◌, ◌↔◌, ◌⊎◌, true, List, ◌∷◌, IsTrue, IfOk, length, map};
+ghost use Rattle.psi_state.specs.State.{IsBelow};
+ghost use Rattle.psi_state.specs.Members.{In};
+ghost use Rattle.psi_state.specs.Sets.{ascending};
+ghost use Rattle.psi_state.specs.Ascending.{HaveSame};
+ghost use Rattle.psi_pool.specs.Tables.{held, IsTable};
+
+use crate::hashing::bucket_of;
+use crate::nodes::{
+    Node, count_states, empty, free_heads, free_nodes, has, move_first, relink, stands_in,
+};
+use psi_event::EventLaw;
+use psi_state::State;
+use std::alloc::{AllocError, Global};
+
+/// Nodes, of which the first hold the states of a set, and the buckets of a hash table.
+#[derive(Drop)]
+pub(crate) struct Table {
+    // The nodes in use are the first `len`.
+    pub(crate) nodes: Vec<Node>,
+    // The buckets in use are the first `used`.
+    pub(crate) heads: Vec<u16>,
+    pub(crate) used: u16,
+    pub(crate) len: u16,
+    // Whether the nodes in use are linked, each state once. Else a state may stand in several of them.
+    pub(crate) is_linked: bool,
+}
+
+// The number of buckets for so many states: four for each keep the chains short where the hash spreads the
+// states, which no clause promises.
+fn buckets_for(states: u16) -> u16
+    requires { states ≤ 4096 }
+    ensures { result ≡ 4 * states + 1 }
+{
+    4 * states + 1
+}
+
+impl Table {
+    /// Room for `most` states; none is there.
+    pub(crate) fn reserve(alloc: Global, most: u16) -> Result<Table, AllocError>
+        requires { most ≤ 4096 }
+        ensures table { IfOk result (λ table. IsTable table) }
+        ensures none { IfOk result (λ table. table.len ≡ 0) }
+        ensures room { IfOk result (λ table. length table.nodes.items ≡ most) }
+    {
+        let used = buckets_for(most);
+        let nodes = free_nodes(alloc, most)?;
+        let heads = free_heads(alloc, used)?;
+        Ok(Table {
+            nodes,
+            heads,
+            used,
+            len: 0,
+            is_linked: true,
+        })
+    }
+
+    /// Takes all states out.
+    pub(crate) fn clear(&mut self)
+        requires { IsTable self.old }
+        ensures table { IsTable self.new }
+        ensures none { self.new.len ≡ 0 }
+        ensures room { length self.new.nodes.items ≡ length self.old.nodes.items }
+    {
+        empty(self.heads.as_mut_slice());
+        self.used = buckets_for(self.nodes.len() as u16);
+        self.len = 0;
+        self.is_linked = true;
+    }
+
+    /// The number of states. Where the nodes aren't linked, the work grows with the square of the nodes.
+    pub(crate) fn count(&self) -> u16
+        requires { IsTable self.now }
+        ensures { result ≡ length (ascending (held self.now)) }
+    {
+        if self.is_linked {
+            return self.len;
+        }
+        count_states(&self.nodes[..self.len as usize])
+    }
+
+    /// Whether one of the states is `x`.
+    pub(crate) fn has(&self, x: &State) -> bool
+        requires { IsTable self.now }
+        ensures { IsTrue result ↔ In x.now (held self.now) }
+    {
+        let nodes = &self.nodes[..self.len as usize];
+        if !self.is_linked {
+            return stands_in(nodes, x);
+        }
+        let home = bucket_of(x, self.used as usize);
+        let heads = &self.heads[..self.used as usize];
+        has(nodes, heads, home, x)
+    }
+
+    /// Puts the state in where it isn't there, and answers whether it was not. The nodes are linked.
+    pub(crate) fn put(&mut self, x: State) -> bool
+        requires table { IsTable self.old }
+        requires linked { self.old.is_linked ≡ true }
+        requires room { (self.old.len < length self.old.nodes.items) ⊎ In x (held self.old) }
+        ensures table { IsTable self.new }
+        ensures members { HaveSame (held self.new) (x ∷ held self.old) }
+        ensures room { length self.new.nodes.items ≡ length self.old.nodes.items }
+        ensures fresh { IsTrue result ↔ (In x (held self.old) → ⊥) }
+    {
+        let home = bucket_of(&x, self.used as usize);
+        let nodes = &self.nodes[..self.len as usize];
+        let heads = &self.heads[..self.used as usize];
+        if has(nodes, heads, home, &x) {
+            return false;
+        }
+        self.nodes[self.len as usize] = Node {
+            state: x,
+            next: self.heads[home],
+        };
+        self.heads[home] = self.len;
+        self.len += 1;
+        true
+    }
+
+    /// Moves each state on by the event. The nodes aren't linked from then on.
+    pub(crate) fn move_on<E: EventLaw>(&mut self, e: &E)
+        requires table { IsTable self.old }
+        requires below { (x : List ℕ) → In x (held self.old) → IsBelow x (E.capacities e.now) }
+        ensures table { IsTable self.new }
+        ensures states { held self.new ≡ map (E.function e.now) (held self.old) }
+        ensures room { length self.new.nodes.items ≡ length self.old.nodes.items }
+    {
+        self.is_linked = false;
+        move_first(self.nodes.as_mut_slice(), self.len as usize, e);
+    }
+
+    /// Links the nodes where they aren't linked: from then on each state stands in one of them.
+    pub(crate) fn link(&mut self)
+        requires { IsTable self.old }
+        ensures table { IsTable self.new }
+        ensures linked { self.new.is_linked ≡ true }
+        ensures members { HaveSame (held self.new) (held self.old) }
+        ensures room { length self.new.nodes.items ≡ length self.old.nodes.items }
+    {
+        if !self.is_linked {
+            self.link_anew();
+        }
+    }
+
+    // Links the nodes anew. It stays out of the way of a step.
+    #[inline(never)]
+    fn link_anew(&mut self)
+        requires { IsTable self.old }
+        ensures table { IsTable self.new }
+        ensures linked { self.new.is_linked ≡ true }
+        ensures members { HaveSame (held self.new) (held self.old) }
+        ensures room { length self.new.nodes.items ≡ length self.old.nodes.items }
+    {
+        self.used = buckets_for(self.len);
+        self.len = relink(
+            self.nodes.as_mut_slice(),
+            self.heads.as_mut_slice(),
+            self.used as usize,
+            self.len as usize,
+        ) as u16;
+        self.is_linked = true;
+    }
+}
