@@ -91,6 +91,7 @@ fn call_pool<E: EventLaw>(pool: &mut Pool, event: &E)
     let _states = pool.walk();
     let _single = (pool.len(), pool.most(), pool.only());
     pool.clear();
+    pool.add(full);
 }
 
 fn call_region<E: EventLaw>(region: &mut Region, event: &E) {

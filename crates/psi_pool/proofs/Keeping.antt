@@ -163,6 +163,12 @@ members-inserted nodes len m free =
 pub states-there : (xs : List (List ℕ)) (x : List ℕ) → In x xs → insert_state x (ascending xs) ≡ ascending xs
 states-there xs x member = insert_state-there x (ascending xs) (ascending-rising xs) (In-ascending x xs member)
 
+pub members-through : (x : List ℕ) (xs ys zs : List (List ℕ)) → HaveSame xs (x ∷ ys) → HaveSame ys zs → HaveSame xs (x ∷ zs)
+members-through x xs ys zs first second = record {
+  there = λ z member. elim (first.there z member) [ inl e ↦ inl e | inr old ↦ inr (second.there z old) ];
+  back = λ z member. first.back z (elim member [ inl e ↦ inl e | inr old ↦ inr (second.back z old) ]);
+}
+
 -- where the nodes are linked, the count of those in use is that of the set
 pub table-length : (t : Table) → IsTable t → t.is_linked ≡ true → t.len ≡ length (ascending (held t))
 table-length t ok linked =
@@ -189,6 +195,14 @@ table-free t old most p x ok linked same is count fits =
       | inl fewer ↦ inl (omega arith)
       | inr member ↦ inr (same.back x (In-of_ascending x (held old) (subst (λ (q : Pooled). In x q.states) (sym is) member)))
     ]
+
+-- where all nodes are in use and linked, the set has as many states
+pub table-full : (t old : Table) → IsTable t → t.is_linked ≡ true → HaveSame (held t) (held old) → length (ascending (held old)) < length t.nodes.items
+    → t.len < length t.nodes.items
+table-full t old ok linked same room =
+    let own = table-length t ok linked in
+    let sets = ap (λ (xs : List (List ℕ)). length xs) (ascending-members (held t) (held old) same) in
+    omega arith
 
 -- the states of a set are those of the nodes in use
 pub seen : (xs : List (List ℕ)) (most : ℕ) (p : Pooled) (x : List ℕ) → record { most = most; states = ascending xs } ≡ p → In x xs → In x p.states

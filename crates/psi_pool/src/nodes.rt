@@ -16,8 +16,8 @@ use psi_event::EventLaw;
 use psi_state::State;
 use std::alloc::{AllocError, Global};
 
-// The link to no node: the most nodes there can be, so that none stands at this place.
-const NONE: u16 = 4096;
+/// The link to no node: the most nodes there can be, so that none stands at this place.
+pub(crate) const NONE: u16 = 4096;
 
 /// A state, and the link to the node before it in its bucket.
 #[derive(Clone, Copy)]

@@ -7,7 +7,7 @@ const MOST: u16 = 1024;
 
 /// After how many steps the nodes are linked anew, and how many of these are left.
 ///
-/// Repeats make the next steps dearer, and links cost about two steps. So the links come at once oftener where they
+/// Repeats make the next steps dearer, and links cost about as much as a step. So the links come oftener where they
 /// took many states away, and more seldom where they took few.
 #[derive(Clone, Copy)]
 pub(crate) struct Pace {

@@ -128,6 +128,17 @@ impl Pool {
         self.table.put(x)
     }
 
+    /// Puts `x` into the set, whether it was there or not: cheaper than `insert`, which tells. There has to be room
+    /// for a state more.
+    #[inline]
+    pub fn add(&mut self, x: State)
+        requires room { length self.old.states < self.old.most }
+        ensures states { self.new.states ≡ insert_state x self.old.states }
+        ensures most { self.new.most ≡ self.old.most }
+    {
+        self.table.push(x);
+    }
+
     /// Moves each state on by the event: the set becomes its image. States that the event makes one are
     /// one from then on. All states have to be within the event's capacities.
     pub fn step<E: EventLaw>(&mut self, e: &E)

@@ -12,7 +12,7 @@ ghost use Rattle.psi_pool.specs.Tables.{held, IsTable};
 
 use crate::hashing::bucket_of;
 use crate::nodes::{
-    Node, count_states, empty, free_heads, free_nodes, has, move_first, relink, stands_in,
+    NONE, Node, count_states, empty, free_heads, free_nodes, has, move_first, relink, stands_in,
 };
 use psi_event::EventLaw;
 use psi_state::State;
@@ -121,6 +121,39 @@ impl Table {
         self.heads[home] = self.len;
         self.len += 1;
         true
+    }
+
+    /// Puts the state in, whether it is there or not. The nodes aren't linked from then on.
+    #[inline]
+    pub(crate) fn push(&mut self, x: State)
+        requires table { IsTable self.old }
+        requires room { length (ascending (held self.old)) < length self.old.nodes.items }
+        ensures table { IsTable self.new }
+        ensures members { HaveSame (held self.new) (x ∷ held self.old) }
+        ensures room { length self.new.nodes.items ≡ length self.old.nodes.items }
+    {
+        self.make_room();
+        self.nodes[self.len as usize] = Node {
+            state: x,
+            next: NONE,
+        };
+        self.len += 1;
+        self.is_linked = false;
+    }
+
+    // Lets a node be free: where all are in use, some states stand in several.
+    #[inline]
+    fn make_room(&mut self)
+        requires table { IsTable self.old }
+        requires room { length (ascending (held self.old)) < length self.old.nodes.items }
+        ensures table { IsTable self.new }
+        ensures free { self.new.len < length self.new.nodes.items }
+        ensures members { HaveSame (held self.new) (held self.old) }
+        ensures room { length self.new.nodes.items ≡ length self.old.nodes.items }
+    {
+        if self.len as usize == self.nodes.len() {
+            self.link();
+        }
     }
 
     /// Moves each state on by the event. The nodes aren't linked from then on.

@@ -186,6 +186,6 @@ fn fill(bounds: &Bounds, pool: &mut Pool)
     ensures most { pool.new.most ≡ pool.old.most }
 {
     for x in bounds.states() {
-        pool.insert(x);
+        pool.add(x);
     }
 }
