@@ -1,12 +1,12 @@
 -- What the loops over parts and queues know.
-use Rattle.std.specs.Prelude.{◌≡◌, ℕ, zero, suc, ◌+◌, ◌<◌, ◌≤◌, true, false, ◌⊎◌, nat_eq, nat_le, List, [], ◌∷◌, length, map, slice_index, slice_set, Option, Some, None, refl}
+use Rattle.std.specs.Prelude.{◌≡◌, ℕ, zero, suc, ◌+◌, ◌<◌, ◌≤◌, true, false, not, ◌&&◌, if◌then◌else◌, ◌⊎◌, nat_eq, nat_lt, nat_le, List, [], ◌∷◌, length, map, slice_index, slice_set, Option, Some, None, refl}
 use Rattle.std.proofs.Common.{inl, inr, ap, sym, ◌∙◌, arith, length-set, get_or-set_same, get_or-set_other}
 use Rattle.std.proofs.lemmas.Bool.{cases_eq, eq-eqb, and_from, and_left, and_right, or_left, or_right, le-leb, lt-leb}
 use Rattle.std.proofs.lemmas.List.{ext_get_or}
 use Rattle.psi_state.specs.State.{IsBelow, numbers_from}
 use Rattle.psi_event.proofs.ChoiceLemmas.{first_some-found, first_some-none}
 use Rattle.psi_guard.specs.declared.parts.Part.{Part}
-use Rattle.psi_guard.specs.Guarding.{moved, allows, all_allow, guarded, free_part, part_of, leasts, over_queues}
+use Rattle.psi_guard.specs.Guarding.{moved, allows, all_allow, guarded, free_part, part_of, leasts, around_most, around_least, both_with, exceeds, falls_short, rise, fall, over_queues}
 use Rattle.psi_guard.specs.Refusals.{AreGuards, at, names}
 use Rattle.psi_guard.specs.PlacesLaws.{named_or_free, part_of-at}
 use Rattle.psi_guard.specs.Rule.{RefusesSome, rule}
@@ -144,3 +144,17 @@ queues-found caps f i a place is before = first_some-found f 0 (length caps) i a
 
 pub queues-none : {A : Type 0} (caps : List ℕ) (f : ℕ → Option A) (i : ℕ) → length caps ≤ i → ((j : ℕ) → j < i → f j ≡ None) → over_queues caps f ≡ None
 queues-none caps f i over before = first_some-none f 0 (length caps) (λ j low high. before j (omega arith))
+
+-- no queue is shown to rise beside one that can't hold more than its most
+pub rises-none : (caps : List ℕ) (parts : List Part) (p : ℕ) → exceeds caps parts p ≡ false → over_queues caps (rise caps parts p) ≡ None
+rises-none caps parts p out =
+    queues-none caps (rise caps parts p) (length caps) (omega arith) (λ q small.
+    ap (λ b. if b && (not (nat_eq p q) && nat_lt (part_of caps parts q).least (moved (part_of caps parts q) (part_of caps parts q).least))
+    then Some (around_most caps parts p) else None) out)
+
+-- and none to fall beside one that can't hold less than its least
+pub falls-none : (caps : List ℕ) (parts : List Part) (p : ℕ) → falls_short caps parts p ≡ false → over_queues caps (fall caps parts p) ≡ None
+falls-none caps parts p out =
+    queues-none caps (fall caps parts p) (length caps) (omega arith) (λ q small.
+    ap (λ b. if b && (not (nat_eq p q) && nat_lt (moved (part_of caps parts q) (part_of caps parts q).most) (part_of caps parts q).most)
+    then Some (both_with q (part_of caps parts q).most (around_least caps parts p)) else None) out)

@@ -21,7 +21,7 @@ impl Guarded {
     pub(crate) fn first_rise(&self) -> Option<(State, State)>
         ensures { result ≡ over_pairs self.now.caps (rise self.now.caps self.now.parts) }
     {
-        self.first_over(|p| self.first_over(|q| self.rise(p, q)))
+        self.first_over(|p| self.rise_beside(p))
     }
 
     // The first queue that plunges below its least.
@@ -35,7 +35,7 @@ impl Guarded {
     pub(crate) fn first_fall(&self) -> Option<(State, State)>
         ensures { result ≡ over_pairs self.now.caps (fall self.now.caps self.now.parts) }
     {
-        self.first_over(|p| self.first_over(|q| self.fall(p, q)))
+        self.first_over(|p| self.fall_beside(p))
     }
 
     // The first answer of a test over the queues, by their numbers.
@@ -61,6 +61,18 @@ impl Guarded {
             return Some(self.around_most(p));
         }
         None
+    }
+
+    // The first queue that rises, unless queue `p` holds more than its most: none where it can't hold more.
+    fn rise_beside(&self, p: u8) -> Option<(State, State)>
+        requires { p < length self.now.caps }
+        ensures { result ≡ over_queues self.now.caps (rise self.now.caps self.now.parts p) }
+    {
+        if self.part_of(p).most < self.caps.get(p) {
+            self.first_over(|q| self.rise(p, q))
+        } else {
+            None
+        }
     }
 
     // Queue `q` rises, unless queue `p` holds more than its most.
@@ -89,6 +101,18 @@ impl Guarded {
             return Some(self.around_least(p));
         }
         None
+    }
+
+    // The first queue that falls, unless queue `p` holds less than its least: none where it can't hold less.
+    fn fall_beside(&self, p: u8) -> Option<(State, State)>
+        requires { p < length self.now.caps }
+        ensures { result ≡ over_queues self.now.caps (fall self.now.caps self.now.parts p) }
+    {
+        if 0 < self.part_of(p).least {
+            self.first_over(|q| self.fall(p, q))
+        } else {
+            None
+        }
     }
 
     // Queue `q` falls, unless queue `p` holds less than its least.

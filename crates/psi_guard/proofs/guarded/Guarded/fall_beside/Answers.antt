@@ -1,0 +1,13 @@
+-- Answers in the proof of `Guarded::fall_beside`.
+use Rattle.std.proofs.Common.{◌≤◌, ap, sym, slice_index, arith}
+use Rattle.std.proofs.lemmas.Bool.{le-ltb}
+use Rattle.psi_guard.specs.Guarding.{part_of}
+use Rattle.psi_guard.proofs.Steps.{falls-none}
+use Rattle.psi_guard.proofs.guarded.Guarded.fall_beside.Goals as goal
+
+pub returns-else-part_of-gt0 : goal.returns-else-part_of-gt0
+returns-else-part_of-gt0 c =
+    let event = c.args.self.now in
+    let least = ap (λ p. p.least) c.part_of.ensures.value in
+    let empty : (part_of event.caps event.parts c.args.p).least ≤ 0 = omega (arith, c.if-part_of-gt0.false) in
+    sym (falls-none event.caps event.parts c.args.p (le-ltb 0 (part_of event.caps event.parts c.args.p).least empty))
