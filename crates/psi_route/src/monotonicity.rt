@@ -1,7 +1,7 @@
 //! Whether a route keeps the order of states, and two states whose order it breaks.
 
 use crate::route::Route;
-use crate::table_search::{first_at_least, first_below};
+use crate::table_search::{first_at_least_near, first_below};
 use psi_state::State;
 
 impl Route {
@@ -78,8 +78,11 @@ impl Route {
             return None;
         }
         let mut found = None;
+        let mut near = 0;
         for w in 0..self.cap(b) {
-            found = self.earlier(a, b, w, found);
+            let (fall, first) = self.first_fall(a, b, w, near);
+            found = self.earlier(a, b, w, fall, found);
+            near = first;
         }
         match found {
             None => None,
@@ -101,16 +104,24 @@ impl Route {
         own.greatest(0, last) < other.least(0, end) || other.greatest(0, end) < own.least(0, last)
     }
 
-    // The least fall of place `a` past place `b` with up to `w` customers, from the least with fewer.
-    fn earlier(&self, a: u8, b: u8, w: u16, found: Option<(u16, u16)>) -> Option<(u16, u16)>
+    // The least fall of place `a` past place `b` with up to `w` customers, from that with `w` and the least with fewer.
+    fn earlier(
+        &self,
+        a: u8,
+        b: u8,
+        w: u16,
+        fall: Option<u16>,
+        found: Option<(u16, u16)>,
+    ) -> Option<(u16, u16)>
         requires first { a < length self.now.targets }
         requires second { b < length self.now.targets }
         requires number { w < slice_index self.now.caps (slice_index self.now.targets b) }
         requires tables { 0 < length self.now.tables.items }
+        requires fall { MatchOption fall (NoFall (shape_of self.now) a b w) (λ v. IsFall (shape_of self.now) a b w v) }
         requires found { AreFalls (shape_of self.now) a b w found }
         ensures { AreFalls (shape_of self.now) a b (w + 1) result }
     {
-        match (self.first_fall(a, b, w), found) {
+        match (fall, found) {
             (None, _) => found,
             (Some(v), Some((least, _))) if v >= least => found,
             (Some(v), _) => Some((v, w)),
@@ -118,24 +129,28 @@ impl Route {
     }
 
     // The least number of customers at place `a` at which one more takes its key from above that of place
-    // `b` with `w` to below it.
-    fn first_fall(&self, a: u8, b: u8, w: u16) -> Option<u16>
+    // `b` with `w` to below it; and the least number whose key isn't below that of place `b`, which is looked
+    // for near `near`.
+    fn first_fall(&self, a: u8, b: u8, w: u16, near: u16) -> (Option<u16>, u16)
         requires first { a < length self.now.targets }
         requires second { b < length self.now.targets }
         requires number { w < slice_index self.now.caps (slice_index self.now.targets b) }
         requires tables { 0 < length self.now.tables.items }
-        ensures { MatchOption result (NoFall (shape_of self.now) a b w) (λ v. IsFall (shape_of self.now) a b w v) }
+        requires near { near ≤ slice_index self.now.caps (slice_index self.now.targets a) }
+        ensures fall { MatchOption result.0 (NoFall (shape_of self.now) a b w) (λ v. IsFall (shape_of self.now) a b w v) }
+        ensures near { result.1 ≤ slice_index self.now.caps (slice_index self.now.targets a) }
     {
         if a == b {
-            return None;
+            return (None, near);
         }
         let table = &self.tables[a as usize];
         let bound = self.weight(b, w) as u64 + (a < b) as u64;
-        let below = first_below(table, first_at_least(table, bound), bound);
+        let first = first_at_least_near(table, near, bound);
+        let below = first_below(table, first, bound);
         if below == table.len() {
-            return None;
+            return (None, first);
         }
-        Some(below - 1)
+        (Some(below - 1), first)
     }
 
     // The pair made of the two places and their numbers of customers.

@@ -4,13 +4,44 @@ ghost use Rattle.std.specs.Prelude.{ℕ, ◌-◌, ◌<◌, ◌≤◌, length, sl
 
 use psi_index::IndexTable;
 
-// The first place whose value is at least the bound, or the number of values where there is none.
-pub(crate) fn first_at_least(table: &IndexTable, bound: u64) -> u16
+// The first place whose value is at least the bound, or the number of values where there is none. Where it is the place
+// `near`, or lies soon behind it, it is found in a few steps.
+pub(crate) fn first_at_least_near(table: &IndexTable, near: u16, bound: u64) -> u16
+    requires { near ≤ length table.now }
     ensures within { result ≤ length table.now }
     ensures before { (k : ℕ) → k < result → slice_index table.now k < bound }
     ensures found { result < length table.now → bound ≤ slice_index table.now result }
 {
-    first_at_least_between(table, 0, table.len(), bound)
+    if near > 0 && table.greatest(0, near - 1) as u64 >= bound {
+        return first_at_least_between(table, 0, near, bound);
+    }
+    let end = near + SOON.min(table.len() - near);
+    let place = first_at_least_along(table, near, end, bound);
+    if place < end {
+        return place;
+    }
+    first_at_least_between(table, end, table.len(), bound)
+}
+
+// How many places are looked at one after another.
+const SOON: u16 = 4;
+
+// The first place from `first` on and before `past` whose value is at least the bound, or `past` where there is none:
+// for a few places.
+fn first_at_least_along(table: &IndexTable, first: u16, past: u16, bound: u64) -> u16
+    requires ordered { first ≤ past }
+    requires within { past ≤ length table.now }
+    ensures from { first ≤ result }
+    ensures within { result ≤ past }
+    ensures before { (k : ℕ) → first ≤ k → k < result → slice_index table.now k < bound }
+    ensures found { result < past → bound ≤ slice_index table.now result }
+{
+    for place in first..past {
+        if table.at(place) as u64 >= bound {
+            return place;
+        }
+    }
+    past
 }
 
 // The first place from `first` on and before `past` whose value is at least the bound, or `past` where there is none.

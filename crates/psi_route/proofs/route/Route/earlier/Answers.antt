@@ -9,4 +9,4 @@ pub returns-in-None-default : goal.returns-in-None-default
 returns-in-None-default c =
     falls-none (shape_of c.args.self.now) c.args.a c.args.b c.args.w c.args.found c.requires.found
     (subst (λ (o : Option ℕ). MatchOption o (NoFall (shape_of c.args.self.now) c.args.a c.args.b c.args.w) (λ v. IsFall (shape_of c.args.self.now) c.args.a c.args.b c.args.w v))
-    c.in-None-default.is-0 c.first_fall.ensures)
+    c.in-None-default.is-0 c.requires.fall)
