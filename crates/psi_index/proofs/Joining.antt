@@ -63,12 +63,12 @@ least_of-below (x ∷ []) (suc k) small = absurd (omega arith)
 least_of-below (x ∷ y ∷ ys) zero small = omega arith
 least_of-below (x ∷ y ∷ ys) (suc k) small = let rest = least_of-below (y ∷ ys) k (omega arith) in omega arith
 
-length-slice_range : (values : List ℕ) (first past : ℕ) → first ≤ past → past ≤ length values → length (slice_range values first past) ≡ past - first
+pub length-slice_range : (values : List ℕ) (first past : ℕ) → first ≤ past → past ≤ length values → length (slice_range values first past) ≡ past - first
 length-slice_range values first past ordered within =
     let rest : length (drop first values) ≡ length values - first = length-drop {A = ℕ} first values in
     length-take-le {A = ℕ} (past - first) (drop first values) (omega arith)
 
-slice_index-slice_range : (values : List ℕ) (first past k : ℕ) → k < past - first → slice_index (slice_range values first past) k ≡ slice_index values (first + k)
+pub slice_index-slice_range : (values : List ℕ) (first past k : ℕ) → k < past - first → slice_index (slice_range values first past) k ≡ slice_index values (first + k)
 slice_index-slice_range values first past k small =
     get_or-take {A = ℕ} (past - first) (drop first values) k 0 small ∙ get_or-drop {A = ℕ} first values k 0
 

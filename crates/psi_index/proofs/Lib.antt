@@ -1,3 +1,4 @@
 -- The lemmas of this crate.
 mod Joining
+mod Rising
 mod Widths

@@ -1,5 +1,5 @@
 -- The least and the greatest value of a stretch of a list, and lists that rise.
-use Rattle.std.specs.Prelude.{◌≡◌, ℕ, ◌+◌, ◌-◌, ◌^◌, ◌<◌, ◌≤◌, ◌↔◌, Bool, IsTrue, List, [], ◌∷◌, length, map, min, max, slice_index, slice_range}
+use Rattle.std.specs.Prelude.{◌≡◌, ℕ, ◌+◌, ◌-◌, ◌^◌, ◌<◌, ◌≤◌, List, [], ◌∷◌, length, min, max, slice_index, slice_range}
 
 -- the least number of a list
 abbrev pub least_of : List ℕ → ℕ
@@ -40,9 +40,3 @@ pub record AreLeast (values : List ℕ) (width : ℕ) (entries : List ℕ) : Typ
 -- what is left of the greatest number of 32 bits
 abbrev pub complement : ℕ → ℕ
 complement value = 2 ^ 32 - 1 - value
-
--- values, the complements of the values, and whether the values rise
-pub record IsTable (low high : List ℕ) (rises : Bool) : Type 0 where
-  pub valid : IsValueList low
-  pub complements : high ≡ map complement low
-  pub risen : IsTrue rises ↔ IsRising low

@@ -1,6 +1,6 @@
 -- What a sparse table keeps.
-use Rattle.std.specs.Prelude.{◌≡◌, ℕ, ◌+◌, ◌^◌, ◌<◌, ◌≤◌, List, length, min, slice_index, slice_index_or}
-use Rattle.psi_index.specs.Extremes.{AreLeast}
+use Rattle.std.specs.Prelude.{◌≡◌, ℕ, ◌+◌, ◌^◌, ◌<◌, ◌≤◌, ◌↔◌, Bool, false, IsTrue, List, length, map, min, slice_index, slice_index_or}
+use Rattle.psi_index.specs.Extremes.{AreLeast, IsRising, IsValueList, complement}
 use Rattle.psi_index.specs.declared.level.Level.{Level}
 
 -- each number is the lesser of one of the halves and the one so many places on
@@ -16,3 +16,11 @@ pub record AreLevels (values : List ℕ) (levels : List Level) : Type 0 where
 pub record IsSparse (values : List ℕ) (levels : List Level) : Type 0 where
   pub levels_of : AreLevels values levels
   pub enough : (e : ℕ) → 2 ^ e ≤ length values → e ≤ length levels
+
+-- values and whether they rise; where they don't, their levels, their complements and the levels of these
+pub record IsTable (values : List ℕ) (low : List Level) (complements : List ℕ) (high : List Level) (rises : Bool) : Type 0 where
+  pub valid : IsValueList values
+  pub risen : IsTrue rises ↔ IsRising values
+  pub turned : rises ≡ false → complements ≡ map complement values
+  pub least : rises ≡ false → IsSparse values low
+  pub most : rises ≡ false → IsSparse complements high

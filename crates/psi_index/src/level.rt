@@ -30,7 +30,7 @@ pub(crate) fn levels_of(alloc: Global, values: &[u32]) -> Result<Vec<Level>, All
     ensures enough { IfOk result (λ levels. (e : ℕ) → 2 ^ e ≤ length values.now → e ≤ length levels.items) }
 {
     let count = values.len().ilog2();
-    let mut levels = Vec::new(alloc);
+    let mut levels = Vec::with_capacity(alloc, count as usize)?;
     for made in 0..count {
         let level = next_level(alloc, values, &levels)?;
         levels.push(level)?;

@@ -4,19 +4,22 @@ ghost use Rattle.std.specs.Prelude.{◌≡◌, ℕ, ◌<◌, ◌≤◌, ◌↔�
 ghost use Rattle.psi_index.specs.Extremes.{IsRising, IsValueList, complement, greatest_of, least_of, stretch};
 
 use crate::OutOfMemory;
-use crate::minima::Minima;
+use crate::level::{Level, levels_of};
+use crate::minima::least_within;
 use std::alloc::{AllocError, Global};
 use std::marker::Model;
 
 /// A list of 1 to 65,535 values of 32 bits, by their places from 0 on.
 ///
-/// It is seen as the list of the values. Beside them it keeps their complements, what is left of the greatest
-/// number of 32 bits, and the least value and complement of each stretch whose length is a power of two of at
-/// least 2: for 65,535 values fewer than 2 million numbers of 4 bytes in all.
+/// It is seen as the list of the values. Where they don't rise, it keeps beside them their complements, what is left
+/// of the greatest number of 32 bits, and the least value and complement of each stretch whose length is a power of
+/// two of at least 2: for 65,535 values fewer than 2 million numbers of 4 bytes in all.
 #[derive(Drop, Debug)]
 pub struct IndexTable {
-    low: Minima,
-    high: Minima,
+    values: Vec<u32>,
+    low: Vec<Level>,
+    complements: Vec<u32>,
+    high: Vec<Level>,
     rises: bool,
 }
 
@@ -25,11 +28,11 @@ impl Model for IndexTable {
 
     ghost Value = { List ℕ };
 
-    ghost use Rattle.psi_index.specs.Extremes.{IsTable};
+    ghost use Rattle.psi_index.specs.Levels.{IsTable};
 
-    ghost view = { λ table. table.low };
+    ghost view = { λ table. table.values.items };
 
-    ghost invariant = { λ table. IsTable table.low table.high table.rises };
+    ghost invariant = { λ table. IsTable table.values.items table.low.items table.complements.items table.high.items table.rises };
 }
 
 impl IndexTable {
@@ -42,10 +45,44 @@ impl IndexTable {
         requires few { length values.items ≤ 65535 }
         ensures { IfOk result (λ table. table ≡ values.items) }
     {
-        let high = Minima::new(alloc, complements(alloc, &values)?)?;
-        let rises = is_rising(&values);
-        let low = Minima::new(alloc, values)?;
-        Ok(IndexTable { low, high, rises })
+        if is_rising(&values) {
+            Ok(IndexTable::rising(alloc, values))
+        } else {
+            IndexTable::sparse(alloc, values)
+        }
+    }
+
+    // The table of values that rise.
+    fn rising(alloc: Global, values: Vec<u32>) -> IndexTable
+        requires valid { IsValueList values.items }
+        requires rises { IsRising values.items }
+        ensures { result ≡ values.items }
+    {
+        IndexTable {
+            values,
+            low: Vec::new(alloc),
+            complements: Vec::new(alloc),
+            high: Vec::new(alloc),
+            rises: true,
+        }
+    }
+
+    // The table of values that don't.
+    fn sparse(alloc: Global, values: Vec<u32>) -> Result<IndexTable, OutOfMemory>
+        requires valid { IsValueList values.items }
+        requires falls { ¬ IsRising values.items }
+        ensures { IfOk result (λ table. table ≡ values.items) }
+    {
+        let low = levels_of(alloc, &values)?;
+        let complements = complements(alloc, &values)?;
+        let high = levels_of(alloc, &complements)?;
+        Ok(IndexTable {
+            values,
+            low,
+            complements,
+            high,
+            rises: false,
+        })
     }
 
     /// The number of values, 1 to 65,535.
@@ -56,7 +93,7 @@ impl IndexTable {
         ensures value { result ≡ length self.now }
         ensures valid { IsValueList self.now }
     {
-        self.low.values.len() as u16
+        self.values.len() as u16
     }
 
     /// The value at place `i`; places are counted from 0.
@@ -65,7 +102,7 @@ impl IndexTable {
         requires { i < length self.now }
         ensures { result ≡ slice_index self.now i }
     {
-        self.low.values[i as usize]
+        self.values[i as usize]
     }
 
     /// The least of the values at the places from `from` to `to`, both included.
@@ -76,7 +113,10 @@ impl IndexTable {
         ensures below { (k : ℕ) → from ≤ k → k ≤ to → result ≤ slice_index self.now k }
         ensures reached { (k : ℕ) × (from ≤ k) × (k ≤ to) × (slice_index self.now k ≡ result) }
     {
-        self.low.least(from, to)
+        if self.rises {
+            return self.at(from);
+        }
+        least_within(&self.values, &self.low, from, to)
     }
 
     /// The greatest of the values at the places from `from` to `to`, both included.
@@ -87,7 +127,10 @@ impl IndexTable {
         ensures above { (k : ℕ) → from ≤ k → k ≤ to → slice_index self.now k ≤ result }
         ensures reached { (k : ℕ) × (from ≤ k) × (k ≤ to) × (slice_index self.now k ≡ result) }
     {
-        u32::MAX - self.high.least(from, to)
+        if self.rises {
+            return self.at(to);
+        }
+        u32::MAX - least_within(&self.complements, &self.high, from, to)
     }
 
     /// Whether no value is below the one before it.
