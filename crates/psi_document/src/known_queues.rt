@@ -17,6 +17,8 @@ pub struct KnownQueues {
     pub names: IndexSet<Name>,
     /// Their capacities in that order.
     pub caps: State,
+    /// The fingerprints of the names, as [`fingerprints`](crate::fingerprints) has them: a look-up by them is faster.
+    pub fingerprints: [u64; 32],
     ghost listed: { AreListed queues.items },
     ghost named: { names.keys ≡ map (λ q. q.name) queues.items },
     ghost held: { caps ≡ map (λ q. q.capacity) queues.items },

@@ -5,12 +5,14 @@
 //! queues that were read before ([`KnownQueues`]).
 #![tactic(auto)]
 
+mod digests;
 mod keys;
 mod known_queues;
 mod names;
 mod references;
 mod refusals;
 
+pub use digests::fingerprints;
 pub use keys::{
     array_in, elements_in, find, integer_in, integer_or_zero, no_unknown, number_in, number_or,
     present, required_number, table_in, text_in,

@@ -1,6 +1,6 @@
 //! References to queues: by one name, or by a list of names.
 
-ghost use Rattle.std.specs.Prelude.{◌≡◌, ◌<◌, ℕ, [], length, map, IfOk, OnOk};
+ghost use Rattle.std.specs.Prelude.{◌≡◌, ◌<◌, ℕ, [], length, map, Some, IfSome, IfOk, OnOk};
 ghost use Rattle.toml.specs.View.{view};
 ghost use Rattle.psi_network.specs.Name.{name_of};
 ghost use Rattle.psi_document.specs.Refusal.{Gives};
@@ -8,6 +8,7 @@ ghost use Rattle.psi_document.specs.Values.{seen, required, each};
 ghost use Rattle.psi_document.specs.References.{number_of, queue_in, target_in, target_step, targets_in, some_targets_in};
 ghost use Rattle.psi_document.specs.Targets.{AreTargets};
 
+use crate::digests::fingerprint;
 use crate::keys::{array_in, present, text_in};
 use crate::known_queues::KnownQueues;
 use crate::read;
@@ -16,10 +17,27 @@ use psi_network::name_of;
 use psi_state::Queues;
 use toml::Value;
 
+// The number of the queue whose fingerprint the text has and which it names, if there is one.
+fn number_by_fingerprint(known: &KnownQueues, text: &str) -> Option<usize>
+    ensures { IfSome result (λ number. number_of known.now.names.keys (name_of text.now) ≡ Some number) }
+{
+    let names = known.names.as_slice();
+    let wanted = fingerprint(text.as_bytes());
+    for number in 0..names.len() {
+        if known.fingerprints[number] == wanted && names[number].bytes() == text.as_bytes() {
+            return Some(number);
+        }
+    }
+    None
+}
+
 // The number of the queue that a text names.
 fn number_of(known: &KnownQueues, text: &str) -> Option<usize>
     ensures { result ≡ number_of known.now.names.keys (name_of text.now) }
 {
+    if let Some(number) = number_by_fingerprint(known, text) {
+        return Some(number);
+    }
     match name_of(text) {
         Some(name) => known.names.get_index_of(&name),
         None => None,

@@ -10,8 +10,8 @@ ghost use Rattle.psi_net.specs.QueueTables.{queue_of, queue_step, queues_in, que
 
 use indexmap::IndexSet;
 use psi_document::{
-    Cause, KnownQueues, NetError, Place, Section, elements_in, find, no_unknown, number_or,
-    present, read, required_name, required_number, table_in, unless_taken,
+    Cause, KnownQueues, NetError, Place, Section, elements_in, find, fingerprints, no_unknown,
+    number_or, present, read, required_name, required_number, table_in, unless_taken,
 };
 use psi_network::{Name, Queue, capacities};
 use std::alloc::Global;
@@ -108,9 +108,11 @@ pub(crate) fn queues(alloc: Global, value: Option<&Value>) -> Result<KnownQueues
 {
     let list = read!(listed_queues(alloc, value));
     let caps = capacities(list.queues.as_slice());
+    let fingerprints = fingerprints(&list.names);
     Ok(KnownQueues {
         queues: list.queues,
         names: list.names,
         caps,
+        fingerprints,
     })
 }

@@ -5,7 +5,7 @@ use Rattle.psi_event.proofs.ChoiceLemmas.{first_some-none, first_some-found}
 use Rattle.psi_route.specs.Routing.{Shape, routing, weight, crosses, pair_of, pair_at, pair_from, pair_between}
 use Rattle.psi_route.proofs.ActingLemmas.{then_some-true, then_some-false}
 use Rattle.psi_route.proofs.Upset.{crosses-is, is-crosses}
-use Rattle.psi_route.specs.Falls.{NoFall, NoFalls, IsFall, IsLeastFall, AreFalls}
+use Rattle.psi_route.specs.Falls.{NoFall, NoFalls, IsFall, IsLeastFall, IsPast, AreFalls}
 
 -- the least number whose value, and that of one more, lie on both sides of the bound for another place's value
 pub fall-found : (s : Shape) (table : List ℕ) (a b w first below bound : ℕ) → table ≡ get_or s.tables a [] → a < length s.targets → b < length s.targets
@@ -59,20 +59,30 @@ fall-found s table a b w first below bound own place other few apart room room_b
     below_apart : (m n : ℕ) → m ≤ n → (m ≡ n → ⊥) → m < n
     below_apart m n most other = elim (cases_lt m n) [ inl less ↦ less | inr more ↦ absurd (other (omega arith)) ]
 
+-- past the found numbers there is no fall
+all-none : (s : Shape) (a b w : ℕ) → a < length s.targets → b < length s.targets → NoFall s a b w (slice_index s.caps (slice_index s.targets a))
+    → (v : ℕ) → crosses (routing s) a b v w ≡ false
+all-none s a b w first second none v = elim (cases_Bool (crosses (routing s) a b v w)) [
+  | inr fails ↦ fails
+  | inl passes ↦ (let cross = is-crosses (routing s) a b v w first second passes in none.each v cross.room)
+]
+
 -- one number more, past which no key falls
-pub falls-none : (s : Shape) (a b n : ℕ) (found : Option (ℕ × ℕ)) → AreFalls s a b n found → NoFall s a b n → AreFalls s a b (n + 1) found
-falls-none s a b n None before no_more = record {
+pub falls-none : (s : Shape) (a b n past : ℕ) (found : Option (ℕ × ℕ)) → a < length s.targets → b < length s.targets → AreFalls s a b n found
+    → IsPast s a b found past → NoFall s a b n past → AreFalls s a b (n + 1) found
+falls-none s a b n past None first second before limit no_more = record {
   each = λ v w small. elim (cases_lt w n) [
     | inl less ↦ before.each v w less
-    | inr more ↦ (let e : n ≡ w = omega arith in subst (λ k. crosses (routing s) a b v k ≡ false) e (no_more.each v))
+    | inr more ↦ (let e : n ≡ w = omega arith in subst (λ k. crosses (routing s) a b v k ≡ false) e
+        (all-none s a b n first second (subst (λ k. NoFall s a b n k) limit no_more) v))
   ];
 }
-falls-none s a b n (Some p) before no_more = record {
+falls-none s a b n past (Some p) first second before limit no_more = record {
   few = (let few : p.1 < n = before.few in omega arith);
   here = before.here;
   before = λ v w small less. elim (cases_lt w n) [
     | inl under ↦ before.before v w under less
-    | inr more ↦ (let e : n ≡ w = omega arith in subst (λ k. crosses (routing s) a b v k ≡ false) e (no_more.each v))
+    | inr more ↦ (let e : n ≡ w = omega arith in subst (λ k. crosses (routing s) a b v k ≡ false) e (no_more.each v (omega (arith, limit))))
   ];
   at = before.at;
 }

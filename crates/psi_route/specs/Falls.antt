@@ -1,12 +1,16 @@
 -- Falls of a key past another one, and the least of them that are found so far.
-use Rattle.std.specs.Prelude.{◌≡◌, ℕ, ◌<◌, Option, MatchOption, true, false}
+use Rattle.std.specs.Prelude.{◌≡◌, ℕ, ◌+◌, ◌<◌, slice_index, Option, MatchOption, true, false}
 use Rattle.psi_route.specs.Routing.{Shape, routing, crosses}
 
 -- the keys of the places a and b of a route of this shape
 module _ (s : Shape) (a b : ℕ) where
-  -- no number of customers at place a lets its key fall past that of place b with w customers
-  pub record NoFall (w : ℕ) : Type 0 where
-    pub each : (v : ℕ) → crosses (routing s) a b v w ≡ false
+  -- none of the first numbers of customers at place a lets its key fall past that of place b with w customers
+  pub record NoFall (w past : ℕ) : Type 0 where
+    pub each : (v : ℕ) → v + 1 < past → crosses (routing s) a b v w ≡ false
+
+  -- how many numbers of customers at place a there are to look at: up to those of the fall that is found, or all
+  abbrev pub IsPast : Option (ℕ × ℕ) → ℕ → Type 0
+  IsPast found past = MatchOption found (past ≡ slice_index s.caps (slice_index s.targets a)) (λ p. past ≡ p.0 + 1)
 
   -- v is the least number that does
   pub record IsFall (w v : ℕ) : Type 0 where

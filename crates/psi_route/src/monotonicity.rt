@@ -7,7 +7,7 @@ use psi_state::State;
 impl Route {
     ghost use Rattle.std.specs.Prelude.{◌≡◌, ◌+◌, ◌<◌, ◌≤◌, length, slice_index, MatchOption, IsTrue};
     ghost use Rattle.psi_route.specs.Routing.{full_but, pair_of, pair_between, pair_behind, first_pair, batch_pair, upset_of};
-    ghost use Rattle.psi_route.specs.Falls.{NoFall, NoFalls, IsFall, AreFalls};
+    ghost use Rattle.psi_route.specs.Falls.{NoFall, NoFalls, IsFall, IsPast, AreFalls};
     ghost use Rattle.psi_route.specs.Route.{shape_of};
 
     // The two states whose order the route breaks, if there are any.
@@ -80,8 +80,9 @@ impl Route {
         let mut found = None;
         let mut near = 0;
         for w in 0..self.cap(b) {
-            let (fall, first) = self.first_fall(a, b, w, near);
-            found = self.earlier(a, b, w, fall, found);
+            let past = self.past(a, b, w, found);
+            let (fall, first) = self.first_fall(a, b, w, near, past);
+            found = self.earlier(a, b, w, past, fall, found);
             near = first;
         }
         match found {
@@ -104,12 +105,27 @@ impl Route {
         own.greatest(0, last) < other.least(0, end) || other.greatest(0, end) < own.least(0, last)
     }
 
+    // How many numbers of customers at place `a` may have a fall that is less than the found one.
+    fn past(&self, a: u8, b: u8, w: u16, found: Option<(u16, u16)>) -> u16
+        requires first { a < length self.now.targets }
+        requires second { b < length self.now.targets }
+        requires found { AreFalls (shape_of self.now) a b w found }
+        ensures past { IsPast (shape_of self.now) a b found result }
+        ensures within { result ≤ slice_index self.now.caps (slice_index self.now.targets a) }
+    {
+        match found {
+            None => self.cap(a),
+            Some((v, _)) => v + 1,
+        }
+    }
+
     // The least fall of place `a` past place `b` with up to `w` customers, from that with `w` and the least with fewer.
     fn earlier(
         &self,
         a: u8,
         b: u8,
         w: u16,
+        past: u16,
         fall: Option<u16>,
         found: Option<(u16, u16)>,
     ) -> Option<(u16, u16)>
@@ -117,7 +133,8 @@ impl Route {
         requires second { b < length self.now.targets }
         requires number { w < slice_index self.now.caps (slice_index self.now.targets b) }
         requires tables { 0 < length self.now.tables.items }
-        requires fall { MatchOption fall (NoFall (shape_of self.now) a b w) (λ v. IsFall (shape_of self.now) a b w v) }
+        requires past { IsPast (shape_of self.now) a b found past }
+        requires fall { MatchOption fall (NoFall (shape_of self.now) a b w past) (λ v. IsFall (shape_of self.now) a b w v) }
         requires found { AreFalls (shape_of self.now) a b w found }
         ensures { AreFalls (shape_of self.now) a b (w + 1) result }
     {
@@ -130,14 +147,15 @@ impl Route {
 
     // The least number of customers at place `a` at which one more takes its key from above that of place
     // `b` with `w` to below it; and the least number whose key isn't below that of place `b`, which is looked
-    // for near `near`.
-    fn first_fall(&self, a: u8, b: u8, w: u16, near: u16) -> (Option<u16>, u16)
+    // for near `near`. The first `past` numbers are looked at.
+    fn first_fall(&self, a: u8, b: u8, w: u16, near: u16, past: u16) -> (Option<u16>, u16)
         requires first { a < length self.now.targets }
         requires second { b < length self.now.targets }
         requires number { w < slice_index self.now.caps (slice_index self.now.targets b) }
         requires tables { 0 < length self.now.tables.items }
         requires near { near ≤ slice_index self.now.caps (slice_index self.now.targets a) }
-        ensures fall { MatchOption result.0 (NoFall (shape_of self.now) a b w) (λ v. IsFall (shape_of self.now) a b w v) }
+        requires past { past ≤ slice_index self.now.caps (slice_index self.now.targets a) }
+        ensures fall { MatchOption result.0 (NoFall (shape_of self.now) a b w past) (λ v. IsFall (shape_of self.now) a b w v) }
         ensures near { result.1 ≤ slice_index self.now.caps (slice_index self.now.targets a) }
     {
         if a == b {
@@ -146,8 +164,11 @@ impl Route {
         let table = &self.tables[a as usize];
         let bound = self.weight(b, w) as u64 + (a < b) as u64;
         let first = first_at_least_near(table, near, bound);
-        let below = first_below(table, first, bound);
-        if below == table.len() {
+        if first >= past {
+            return (None, first);
+        }
+        let below = first_below(table, first, past, bound);
+        if below == past {
             return (None, first);
         }
         (Some(below - 1), first)

@@ -95,16 +95,17 @@ pub(crate) fn past_last_below(table: &IndexTable, first: u16, past: u16, bound: 
     low
 }
 
-// The first place from `first` on whose value is below the bound, or the number of values where there is none.
-pub(crate) fn first_below(table: &IndexTable, first: u16, bound: u64) -> u16
-    requires { first ≤ length table.now }
+// The first place from `first` on and before `past` whose value is below the bound, or `past` where there is none.
+pub(crate) fn first_below(table: &IndexTable, first: u16, past: u16, bound: u64) -> u16
+    requires ordered { first ≤ past }
+    requires within { past ≤ length table.now }
     ensures from { first ≤ result }
-    ensures within { result ≤ length table.now }
+    ensures within { result ≤ past }
     ensures before { (k : ℕ) → first ≤ k → k < result → bound ≤ slice_index table.now k }
-    ensures found { result < length table.now → slice_index table.now result < bound }
+    ensures found { result < past → slice_index table.now result < bound }
 {
     let mut low = first;
-    let mut high = table.len();
+    let mut high = past;
     if low < high && table.least(low, high - 1) as u64 >= bound {
         return high;
     }

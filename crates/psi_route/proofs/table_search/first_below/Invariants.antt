@@ -1,5 +1,5 @@
 -- Invariants of the loops of `first_below`.
-use Rattle.std.proofs.Common.{◌<◌, ◌≤◌, ◌-◌, ℕ, length, slice_index}
+use Rattle.std.proofs.Common.{◌<◌, ◌≤◌, ◌-◌, ℕ, slice_index}
 use Rattle.psi_route.proofs.table_search.first_below.Given as goal
 
 abbrev pub invariant-loop-low : goal.invariant-loop-low
@@ -7,9 +7,9 @@ invariant-loop-low l =
     record {
       from : l.first ≤ l.low;
       ordered : l.low ≤ l.high;
-      within : l.high ≤ length l.table;
+      within : l.high ≤ l.past;
       before : (k : ℕ) → l.first ≤ k → k < l.low → l.bound ≤ slice_index l.table k;
-      reached : l.high < length l.table → (k : ℕ) × (l.first ≤ k) × (k ≤ l.high) × (slice_index l.table k < l.bound);
+      reached : l.high < l.past → (k : ℕ) × (l.first ≤ k) × (k ≤ l.high) × (slice_index l.table k < l.bound);
     }
 
 abbrev pub decreases-loop-low : goal.decreases-loop-low

@@ -1,5 +1,5 @@
 -- Answers in the proof of `Guarded::fall_beside`.
-use Rattle.std.proofs.Common.{◌≤◌, ap, sym, slice_index, arith}
+use Rattle.std.proofs.Common.{◌≤◌, ap, sym, arith}
 use Rattle.std.proofs.lemmas.Bool.{le-ltb}
 use Rattle.psi_guard.specs.Guarding.{part_of}
 use Rattle.psi_guard.proofs.Steps.{falls-none}

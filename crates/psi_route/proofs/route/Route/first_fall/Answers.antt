@@ -15,8 +15,9 @@ returns-clause-fall c =
     (omega (arith, c.requires.first)) refl in
     let long : length c.index-table.result.now ≡ slice_index s.caps (slice_index s.targets c.args.a) =
     ap (λ (t : List ℕ). length t) own ∙ valid.fitted c.args.a (omega (arith, c.requires.first)) in
-    let within : c.first_below-below.result < length c.index-table.result.now = grind arith in
+    let less : c.first_below-below.result < c.args.past = grind arith in
+    let within : c.first_below-below.result < length c.index-table.result.now = omega (arith, less, long, c.requires.past) in
     fall-found s c.index-table.result.now c.args.a c.args.b c.args.w c.first_at_least_near-first.result c.first_below-below.result
     _ own c.requires.first c.requires.second valid.few c.if-a-b.false
     (omega (arith, long, within)) c.requires.number (λ under. grind arith) (λ over. grind arith) c.first_below-below.ensures.from c.first_at_least_near-first.ensures.before
-    (c.first_at_least_near-first.ensures.found (omega (arith, within, c.first_below-below.ensures.from))) c.first_below-below.ensures.before (c.first_below-below.ensures.found within)
+    (c.first_at_least_near-first.ensures.found (omega (arith, within, c.first_below-below.ensures.from))) c.first_below-below.ensures.before (c.first_below-below.ensures.found less)

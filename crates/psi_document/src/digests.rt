@@ -1,0 +1,43 @@
+//! Numbers by which most texts are told apart at once.
+
+ghost use Rattle.std.specs.Prelude.{◌+◌, ◌≤◌, length};
+
+use indexmap::IndexSet;
+use psi_network::Name;
+
+/// The fingerprints of at most 32 names, by their places; behind the last one stands 0.
+pub fn fingerprints(names: &IndexSet<Name>) -> [u64; 32] {
+    let mut all = [0; 32];
+    for (place, name) in names.as_slice().iter().take(32).enumerate() {
+        all[place] = fingerprint(name.bytes());
+    }
+    all
+}
+
+// A number made of a text's first eight bytes and its last eight; of all its bytes where it has no eight.
+pub(crate) fn fingerprint(text: &[u8]) -> u64 {
+    if text.len() < 8 {
+        let mut all = 0;
+        for byte in text {
+            all = all << 8 | *byte as u64;
+        }
+        return all;
+    }
+    eight(text, 0) ^ eight(text, text.len() - 8).rotate_left(13)
+}
+
+// The eight bytes from a place on, as a number.
+fn eight(text: &[u8], first: usize) -> u64
+    requires { first + 8 ≤ length text.now }
+{
+    u64::from_le_bytes([
+        text[first],
+        text[first + 1],
+        text[first + 2],
+        text[first + 3],
+        text[first + 4],
+        text[first + 5],
+        text[first + 6],
+        text[first + 7],
+    ])
+}
