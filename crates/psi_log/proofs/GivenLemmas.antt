@@ -120,7 +120,7 @@ set_shape queues xs some is =
     (and_from (nat_le 1 (length (map numbers_text xs))) (nat_le (length (map numbers_text xs)) 4096) (le-leb _ _ (omega arith)) (le-leb _ _ (omega arith)))
     (states_shaped queues xs some is.each)
 
-set_again : (n queues : ℕ) (before : Option Corners) (xs : List (List ℕ)) → 1 ≤ queues → IsSet queues xs → IsRead n queues before (in_set xs)
+pub set_again : (n queues : ℕ) (before : Option Corners) (xs : List (List ℕ)) → 1 ≤ queues → IsSet queues xs → IsRead n queues before (in_set xs)
 unfolding form_of set_form read_given
 set_again n queues None xs some is = record {
   given = given_set (map numbers_text xs);
@@ -169,7 +169,7 @@ region_again n queues (Some from) (in_box to) some few is region = move_again n 
 region_again n queues (Some from) (in_set xs) some few is region = set_again n queues (Some from) xs some region
 
 -- and have no space or line feed
-region_lacks : (c queues : ℕ) (r : Region) → c < 44 → IsRegion queues r → lacks c (codes "box") ≡ true → lacks c (codes "set") ≡ true → list_all (lacks c) (region_words r) ≡ true
+pub region_lacks : (c queues : ℕ) (r : Region) → c < 44 → IsRegion queues r → lacks c (codes "box") ≡ true → lacks c (codes "set") ≡ true → list_all (lacks c) (region_words r) ≡ true
 region_lacks c queues (in_box b) small is box set =
     and_from (lacks c (codes "box")) (list_all (lacks c) (numbers_text b.lo ∷ numbers_text b.hi ∷ [])) box
     (and_from (lacks c (numbers_text b.lo)) (list_all (lacks c) (numbers_text b.hi ∷ [])) (state_lacks c queues b.lo small is.lo)

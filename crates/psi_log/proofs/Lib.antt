@@ -20,4 +20,6 @@ pub mod ToldLemmas
 pub mod StepLemmas
 mod OrderLemmas
 pub mod TurnLemmas
+mod ScanLemmas
+mod SetLineLemmas
 mod Worked

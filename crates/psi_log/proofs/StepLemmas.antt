@@ -12,11 +12,13 @@ use Rattle.psi_log.specs.Words.{line_of, words_of}
 use Rattle.psi_log.specs.Reading.{box_before, read_step, read_steps}
 use Rattle.psi_log.specs.Kept.{region_of, IsThere}
 use Rattle.psi_log.specs.Lines.{entry_of, HasRegion}
+use Rattle.psi_log.specs.Scanned.{next_step}
 use Rattle.psi_log.specs.declared.regions.Kept.{Kept}
 use Rattle.psi_log.specs.declared.regions.Kept.TheVariants.{Box, Set}
 use Rattle.psi_log.specs.declared.steps.Line.{Line}
 use Rattle.psi_log.specs.declared.refusals.LogError.{LogError}
 use Rattle.psi_log.specs.declared.refusals.LogError.TheVariants.{Refused, OutOfMemory}
+use Rattle.psi_log.proofs.WordLemmas.{bind_ok, ok_same}
 
 -- a region stays what it is while states are put behind its own
 front_of : {X : Type 0} (old new : List X) (first count : ℕ) → take (length old) new ≡ old → first + count ≤ length old → take count (drop first new) ≡ take count (drop first old)
@@ -102,3 +104,59 @@ steps_end h k n before text front none = rw none (ap (λ (es : List Entry). Ok (
 -- what stays in one step and in the next stays in both
 pub states_kept : {X : Type 0} (first old new : List X) → length first ≤ length old → take (length first) old ≡ first → take (length old) new ≡ old → take (length first) new ≡ first
 states_kept first old new small kept then = sym (take-take (length first) (length old) new small) ∙ ap (take (length first)) then ∙ kept
+
+-- one line with its step
+pub next_ok : (h : Header) (n : ℕ) (before : Option Corners) (text : List ℕ) (line : List ℕ × List ℕ) (e : Entry) → line_of n text ≡ Ok line
+    → read_step h n before (words_of line.0) ≡ Ok e → next_step h n before text ≡ Ok (e, line.1)
+unfolding next_step
+next_ok h n before text line e cut read = rw (cut, read) refl
+
+pub next_line_refused : (h : Header) (n : ℕ) (before : Option Corners) (text : List ℕ) (error : LogError) → IsLogError error (line_of n text) → IsLogError error (next_step h n before text)
+unfolding next_step
+next_line_refused h n before text (Refused l cause) fails = rw fails refl
+next_line_refused h n before text OutOfMemory fails = tt
+
+pub next_step_refused : (h : Header) (n : ℕ) (before : Option Corners) (text : List ℕ) (line : List ℕ × List ℕ) (error : LogError) → line_of n text ≡ Ok line
+    → IsLogError error (read_step h n before (words_of line.0)) → IsLogError error (next_step h n before text)
+unfolding next_step
+next_step_refused h n before text line (Refused l cause) cut fails = rw (cut, fails) refl
+next_step_refused h n before text line OutOfMemory cut fails = tt
+
+-- a reading in two steps that is refused is refused, whatever goes on from it
+two_refused : {A E B C : Type 0} (refusal : Refusal) (a : Result A Refusal) (f : A → Result E Refusal) (g : A → E → C) (k : A → E → Result B Refusal)
+    → (a >>= (λ (x : A). f x >>= (λ (e : E). Ok (g x e)))) ≡ Err refusal → (a >>= (λ (x : A). f x >>= (λ (e : E). k x e))) ≡ Err refusal
+two_refused {E = E} {B = B} {C = C} refusal (Ok x) f g k h = go (f x) h
+  where
+    go : (r : Result E Refusal) → (r >>= (λ (e : E). Ok (g x e))) ≡ Err refusal → (r >>= (λ (e : E). k x e)) ≡ Err refusal
+    go (Ok e) h = absurd cc
+    go (Err other) h = ap (λ (s : Refusal). Err s) (same other h)
+      where
+        same : (other : Refusal) → ◌≡◌ {A = Result C Refusal} (Err other) (Err refusal) → other ≡ refusal
+        same other h = cc
+two_refused {C = C} refusal (Err other) f g k h = ap (λ (s : Refusal). Err s) (same other h)
+  where
+    same : (other : Refusal) → ◌≡◌ {A = Result C Refusal} (Err other) (Err refusal) → other ≡ refusal
+    same other h = cc
+
+pub next_refused : (h : Header) (count n : ℕ) (before : Option Corners) (text : List ℕ) (front : List Entry) (error : LogError) (whole : Result (List Entry × List ℕ) Refusal)
+    → IsLogError error (next_step h n before text) → (k : ℕ) → k ≡ suc count → behind front (read_steps h k n before text) ≡ whole → IsLogError error whole
+unfolding read_steps next_step
+next_refused h count n before text front (Refused l cause) whole fails k size same =
+    let refused : read_steps h (suc count) n before text ≡ Err (record { line = l; cause = cause }) =
+    two_refused (record { line = l; cause = cause }) (line_of n text) (λ (line : List ℕ × List ℕ). read_step h n before (words_of line.0)) (λ (line : List ℕ × List ℕ) (e : Entry). (e, line.1))
+    (λ (line : List ℕ × List ℕ) (e : Entry). read_steps h count (n + 1) (box_before h.version e.region) line.1 >>= (λ (m : List Entry × List ℕ). Ok (e ∷ m.0, m.1))) fails in
+    sym same ∙ ap (λ (j : ℕ). behind front (read_steps h j n before text)) size ∙ ap (behind front) refused
+next_refused h count n before text front OutOfMemory whole fails k size same = tt
+
+pub next_pushed : (h : Header) (k count n : ℕ) (before next : Option Corners) (text rest : List ℕ) (old new : List (List ℕ)) (ls ms : List Line) (l : Line)
+    (whole : Result (List Entry × List ℕ) Refusal) → k ≡ suc count → take (length old) new ≡ old → All (HasRegion h.queues old) ls → ms ≡ ls ++ l ∷ []
+    → next_step h n before text ≡ Ok (entry_of new l, rest) → next ≡ box_before h.version (region_of new l.region)
+    → behind (map (entry_of old) ls) (read_steps h k n before text) ≡ whole → behind (map (entry_of new) ms) (read_steps h count (n + 1) next rest) ≡ whole
+unfolding next_step
+next_pushed h k count n before next text rest old new ls ms l whole size kept all is read from same =
+    let line = bind_ok (line_of n text) (λ (line : List ℕ × List ℕ). read_step h n before (words_of line.0) >>= (λ (e : Entry). Ok (e, line.1))) (entry_of new l, rest) read in
+    let entry = bind_ok (read_step h n before (words_of line.0.0)) (λ (e : Entry). Ok (e, line.0.1)) (entry_of new l, rest) line.2 in
+    let both : (entry.0, line.0.1) ≡ (entry_of new l, rest) = ok_same _ _ entry.2 in
+    let step : read_step h n before (words_of line.0.0) ≡ Ok (entry_of new l) = entry.1 ∙ ap (λ (p : Entry × List ℕ). Ok p.0) both in
+    ap (λ (t : List ℕ). behind (map (entry_of new) ms) (read_steps h count (n + 1) next t)) (sym (ap (λ (p : Entry × List ℕ). p.1) both))
+    ∙ step_pushed h k count n before next text old new ls ms l line.0 whole size kept all is line.1 step from same

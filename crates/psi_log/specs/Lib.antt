@@ -10,3 +10,4 @@ pub mod Kept
 pub mod Lines
 pub mod Parts
 pub mod Told
+pub mod Scanned

@@ -11,6 +11,8 @@ mod numbers;
 mod parts;
 mod refusals;
 mod regions;
+mod scan;
+mod set_line;
 mod state_list;
 mod steps;
 mod words;

@@ -84,12 +84,12 @@ fn is_in_order(states: &StateList, place: usize) -> bool
     if place + 1 == count {
         return true;
     }
-    states.get(place).cmp(&states.get(place + 1)).is_lt()
+    states.is_below_next(place)
 }
 
-// Whether the states from a place on are in ascending lexicographic order.
+/// Whether the states from a place on are in ascending lexicographic order.
 #[tactic(auto, using(crate::proofs::OrderLemmas::order_none))]
-fn ascends(states: &StateList, first: usize) -> bool
+pub(crate) fn ascends(states: &StateList, first: usize) -> bool
     ensures { result ≡ ascends (drop first states.now.states) }
 {
     for place in first..states.len() {

@@ -1,6 +1,8 @@
 //! States of one length, in one vector of numbers.
 
-ghost use Rattle.std.specs.Prelude.{◌≡◌, ◌∷◌, [], ◌++◌, ◌+◌, ◌*◌, ◌<◌, ◌≤◌, length, take, drop, Some, OnOk};
+ghost use Rattle.std.specs.Prelude.{◌≡◌, ◌∷◌, [], MatchOption, ◌++◌, ◌+◌, ◌*◌, ◌<◌, ◌≤◌, length, take, drop, Some, OnOk};
+ghost use Rattle.std.specs.Ordering.{is_lt, nat_cmp};
+ghost use Rattle.std.specs.Cmp.Lexicographic.{slice_cmp};
 ghost use Rattle.std.specs.List.{slice_get};
 ghost use Rattle.psi_log.specs.Rows.{States, rows};
 
@@ -95,5 +97,25 @@ impl StateList {
         ensures { slice_get self.now.states place ≡ Some result }
     {
         state_at(&self.numbers, place * self.queues as usize, self.queues)
+    }
+
+    // The numbers of the state at a place.
+    #[tactic(auto, using(crate::proofs::RowsLemmas::length_rows, crate::proofs::RowsLemmas::rows_get, crate::proofs::RowsLemmas::rows_room))]
+    fn row(&self, place: usize) -> &[u16]
+        requires { place < length self.now.states }
+        ensures { slice_get self.now.states place ≡ Some result.now }
+    {
+        let first = place * self.queues as usize;
+        &self.numbers[first..first + self.queues as usize]
+    }
+
+    /// Whether the state at a place, counted from 0, is lexicographically below the next one.
+    pub(crate) fn is_below_next(&self, place: usize) -> bool
+        requires { place + 1 < length self.now.states }
+        ensures { MatchOption (slice_get self.now.states place) ⊥ (λ x. MatchOption (slice_get self.now.states (place + 1)) ⊥ (λ y. result ≡ is_lt (slice_cmp nat_cmp x y))) }
+    {
+        // Called for its clause: the number of states fits its type.
+        let _count = self.len();
+        self.row(place).cmp(self.row(place + 1)).is_lt()
     }
 }

@@ -5,12 +5,14 @@ ghost use Rattle.std.specs.List.{All};
 ghost use Rattle.psi_log.specs.Refusal.{IsLogError};
 ghost use Rattle.psi_log.specs.Reading.{read_step, read_steps};
 ghost use Rattle.psi_log.specs.Lines.{entry_of, HasRegion};
+ghost use Rattle.psi_log.specs.Scanned.{next_step};
 
 use crate::forms::form_of;
 use crate::header::greatest_horizon;
 use crate::numbers::number_in;
 use crate::refusals::{Cause, LogError};
 use crate::regions::{Kept, box_before, read_given};
+use crate::set_line::read_set_line;
 use crate::state_list::StateList;
 use crate::words::read_words;
 use psi_lines::Header;
@@ -64,6 +66,61 @@ fn read_step(
     })
 }
 
+// The step whose line begins a text, word by word, and what follows the line. The vector holds its words.
+#[tactic(auto, using(crate::proofs::StepLemmas::next_ok, crate::proofs::StepLemmas::next_line_refused, crate::proofs::StepLemmas::next_step_refused))]
+fn read_by_words<'t>(
+    header: &Header,
+    line: u32,
+    before: Option<&Bounds>,
+    text: &'t [u8],
+    words: &mut Vec<&'t [u8]>,
+    states: &mut StateList,
+) -> Result<(Line, &'t [u8]), LogError>
+    requires some { 1 ≤ header.now.queues }
+    requires few { header.now.queues ≤ 32 }
+    requires before { IfSome before (λ from. length from.now.lo ≡ header.now.queues) }
+    requires queues { states.old.queues ≡ header.now.queues }
+    ensures queues { states.new.queues ≡ header.now.queues }
+    ensures value { IfOk result (λ read. next_step header.now line (option_copied before.entry) text.now ≡ Ok (entry_of states.new.states read.0, read.1.now)) }
+    ensures refused { IfErr result (λ error. IsLogError error (next_step header.now line (option_copied before.entry) text.now)) }
+    ensures there { IfOk result (λ read. HasRegion header.now.queues states.new.states read.0) }
+    ensures kept { OnOk result (take (length states.old.states) states.new.states ≡ states.old.states) }
+    ensures more { OnOk result (length states.old.states ≤ length states.new.states) }
+{
+    let rest = read_words(line, text, words)?;
+    let read = read_step(header, line, before, words, states)?;
+    Ok((read, rest))
+}
+
+// The step whose line begins a text, and what follows the line: in one pass where it can be read so.
+#[tactic(auto, using(crate::proofs::StepLemmas::states_kept))]
+fn read_next<'t>(
+    header: &Header,
+    line: u32,
+    before: Option<&Bounds>,
+    text: &'t [u8],
+    words: &mut Vec<&'t [u8]>,
+    states: &mut StateList,
+) -> Result<(Line, &'t [u8]), LogError>
+    requires some { 1 ≤ header.now.queues }
+    requires few { header.now.queues ≤ 32 }
+    requires before { IfSome before (λ from. length from.now.lo ≡ header.now.queues) }
+    requires queues { states.old.queues ≡ header.now.queues }
+    ensures queues { states.new.queues ≡ header.now.queues }
+    ensures value { IfOk result (λ read. next_step header.now line (option_copied before.entry) text.now ≡ Ok (entry_of states.new.states read.0, read.1.now)) }
+    ensures refused { IfErr result (λ error. IsLogError error (next_step header.now line (option_copied before.entry) text.now)) }
+    ensures there { IfOk result (λ read. HasRegion header.now.queues states.new.states read.0) }
+    ensures kept { OnOk result (take (length states.old.states) states.new.states ≡ states.old.states) }
+    ensures more { OnOk result (length states.old.states ≤ length states.new.states) }
+{
+    match read_set_line(header, text, states) {
+        Ok(Some(read)) => return Ok(read),
+        Ok(None) => {}
+        Err(_) => return Err(LogError::OutOfMemory),
+    }
+    read_by_words(header, line, before, text, words, states)
+}
+
 /// As many lines of steps as the horizon, from line 7 on, and what follows them; the states of their sets are
 /// put behind those of the list. The vector holds the words of one line after another.
 ///
@@ -94,10 +151,13 @@ pub(crate) fn read_steps<'t>(
     let mut from = before;
     let mut rest = text;
     for line in 7..7 + header.horizon {
-        rest = read_words(line, rest, words)?;
-        let read = read_step(header, line, from.as_ref(), words, states)?;
+        let (read, after) = match read_next(header, line, from.as_ref(), rest, words, states) {
+            Ok(next) => next,
+            Err(error) => return Err(error),
+        };
         from = box_before(header.version, &read.region);
         lines.push(read)?;
+        rest = after;
     }
     Ok((lines, rest))
 }

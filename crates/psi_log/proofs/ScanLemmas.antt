@@ -1,0 +1,102 @@
+-- What stands in a text, byte by byte.
+use Rattle.std.specs.Prelude.{◌≡◌, ◌⊎◌, ℕ, ◌+◌, ◌-◌, ◌*◌, ◌<◌, ◌≤◌, ◌^◌, ◌/◌, ◌%◌, List, [], ◌∷◌, ◌++◌, length, map, take, drop, slice_index, refl}
+use Rattle.std.specs.Fmt.{decimal}
+use Rattle.std.proofs.Common.{get_or, set, ap, sym, ◌∙◌, subst, arith, length-append, inl, inr}
+use Rattle.std.proofs.lemmas.Fmt.{decimal_digit, decimal_step}
+use Rattle.std.proofs.lemmas.List.{take_more, take-set, take_all, drop_all, length-set, get_or-set_same, drop-append-le, take-append-le, append-nil, map-append}
+use Rattle.std.proofs.Math.Seq.{take-add}
+use Rattle.psi_state.specs.State.{IsVector}
+use Rattle.psi_state.specs.Members.{In}
+use Rattle.psi_lines.specs.Log.{IsState}
+use Rattle.psi_lines.specs.Text.{numbers_text}
+use Rattle.psi_lines.specs.Room.{Puts, spaced_words}
+use Rattle.psi_lines.proofs.JoinedLemmas.{then, then_words, one_word, numbers_text_first, numbers_text_more}
+use Rattle.psi_log.specs.Scanned.{Stands, AreScanned}
+
+pub byte_stands : (text : List ℕ) (at byte : ℕ) → at < length text → get_or text at 0 ≡ byte → Stands text at (at + 1) (byte ∷ [])
+byte_stands text at byte small is = record {
+  front = take_more text at 0 small ∙ ap (λ (b : ℕ). take at text ++ (b ∷ [])) is;
+  place = refl;
+  len = refl;
+}
+
+pub digit_stands : (text : List ℕ) (at byte digit : ℕ) → at < length text → get_or text at 0 ≡ byte → 48 + digit ≡ byte → Stands text at (at + 1) ((48 + digit) ∷ [])
+digit_stands text at byte digit small is value = byte_stands text at (48 + digit) small (is ∙ sym value)
+
+pub word_stands : (text word : List ℕ) (at : ℕ) → at + length word ≤ length text → take (at + length word - at) (drop at text) ≡ word → Stands text at (at + length word) word
+word_stands text word at room is = record {
+  front = (let size : at + length word - at ≡ length word = omega arith in
+      take-add at (length word) text ∙ ap (λ (w : List ℕ). take at text ++ w) (ap (λ (k : ℕ). take k (drop at text)) (sym size) ∙ is));
+  place = refl;
+  len = refl;
+}
+
+pub digit_first : (text : List ℕ) (at end digit : ℕ) → digit ≤ 9 → Stands text at end ((48 + digit) ∷ []) → Stands text at end (decimal digit)
+digit_first text at end digit small there = subst (λ (w : List ℕ). Stands text at end w) (sym (decimal_digit digit (omega arith))) there
+
+pub digit_more : (text : List ℕ) (at place end value digit : ℕ) → 1 ≤ value → value ≤ 999999 → digit ≤ 9 → Stands text at place (decimal value)
+    → Stands text place end ((48 + digit) ∷ []) → Stands text at end (decimal (10 * value + digit))
+digit_more text at place end value digit some few small front last =
+    let front_is : (10 * value + digit) / 10 ≡ value = omega arith in
+    let last_is : (10 * value + digit) % 10 ≡ digit = omega arith in
+    let step : decimal (10 * value + digit) ≡ decimal ((10 * value + digit) / 10) ++ ((48 + (10 * value + digit) % 10) ∷ []) = decimal_step (10 * value + digit) (omega arith) (omega arith) in
+    then (decimal value) ((48 + digit) ∷ []) (decimal (10 * value + digit)) front last (sym (rw (front_is, last_is) at step))
+
+-- the first number of a state
+pub state_first : (text : List ℕ) (at end n : ℕ) (zeros x : List ℕ) → 1 ≤ length zeros → x ≡ set zeros 0 n → Stands text at end (decimal n) → Stands text at end (numbers_text (take 1 x))
+state_first text at end n zeros x some is there =
+    let long : length x ≡ length zeros = ap length is ∙ length-set zeros 0 n in
+    let first : slice_index x 0 ≡ n = ap (λ (y : List ℕ). slice_index y 0) is ∙ get_or-set_same zeros 0 n 0 (omega arith) in
+    subst (λ (w : List ℕ). Stands text at end w) (sym (numbers_text_first x (omega arith) ∙ ap decimal first)) there
+
+-- and one more, behind a comma
+pub state_more : (text : List ℕ) (at place end q n : ℕ) (x y : List ℕ) → 1 ≤ q → q < length x → y ≡ set x q n → Stands text at place (numbers_text (take q x))
+    → Stands text place (place + 1) (44 ∷ []) → Stands text (place + 1) end (decimal n) → Stands text at end (numbers_text (take (q + 1) y))
+state_more text at place end q n x y some small is front comma number =
+    let long : length y ≡ length x = ap length is ∙ length-set x q n in
+    let same : take q y ≡ take q x = ap (take q) is ∙ take-set x q n in
+    let last : slice_index y q ≡ n = ap (λ (z : List ℕ). slice_index z q) is ∙ get_or-set_same x q n 0 small in
+    let text_is : numbers_text (take (q + 1) y) ≡ numbers_text (take q x) ++ (44 ∷ decimal n) =
+    numbers_text_more y q some (omega arith) ∙ ap (λ (t : List ℕ). numbers_text t ++ (44 ∷ decimal (slice_index y q))) same
+    ∙ ap (λ (v : ℕ). numbers_text (take q x) ++ (44 ∷ decimal v)) last in
+    then (numbers_text (take q x)) (44 ∷ decimal n) (numbers_text (take (q + 1) y)) front (then (44 ∷ []) (decimal n) (44 ∷ decimal n) comma number refl) (sym text_is)
+
+-- numbers of 16 bits for so many queues
+pub is_state : (queues : ℕ) (x : List ℕ) → length x ≡ queues → IsVector x → IsState queues x
+is_state queues x count is = record { count = count; each = is.each }
+
+-- no state so far
+pub scanned_none : (queues : ℕ) (text : List ℕ) (at : ℕ) (old : List (List ℕ)) → AreScanned queues text at at old old
+unfolding spaced_words
+scanned_none queues text at old =
+    let none : drop (length old) old ≡ [] = drop_all (length old) old (omega arith) in
+    record {
+      kept = take_all (length old) old (omega arith);
+      more = omega arith;
+      each = λ x there. absurd (subst (λ (xs : List (List ℕ)). In x xs) none there);
+      words = subst (λ (xs : List (List ℕ)). Stands text at at (spaced_words (map numbers_text xs))) (sym none)
+          (record { front = sym (append-nil (take at text)); place = omega arith; len = refl });
+    }
+
+in_push : {X : Type 0} (xs : List X) (x y : X) → In y (xs ++ x ∷ []) → In y xs ⊎ (y ≡ x)
+in_push [] x y there = elim there [ inl e ↦ inr e | inr t ↦ absurd t ]
+in_push (z ∷ xs) x y there = elim there [ inl e ↦ inl (inl e) | inr t ↦ elim (in_push xs x y t) [ inl u ↦ inl (inr u) | inr e ↦ inr e ] ]
+
+-- and one more, behind a space
+pub scanned_more : (queues : ℕ) (text : List ℕ) (at place end : ℕ) (old new newer : List (List ℕ)) (x : List ℕ) → AreScanned queues text at place old new
+    → newer ≡ new ++ x ∷ [] → Stands text place (place + 1) (32 ∷ []) → Stands text (place + 1) end (numbers_text x) → IsState queues x → AreScanned queues text at end old newer
+scanned_more queues text at place end old new newer x are is space word state =
+    let more = are.more in
+    let behind : drop (length old) newer ≡ drop (length old) new ++ x ∷ [] = ap (drop (length old)) is ∙ drop-append-le (length old) new (x ∷ []) more in
+    let one : Stands text place end (spaced_words (numbers_text x ∷ [])) =
+    subst (λ (w : List ℕ). Stands text place end w) (sym (one_word (numbers_text x))) (then (32 ∷ []) (numbers_text x) (32 ∷ numbers_text x) space word refl) in
+    record {
+      kept = ap (take (length old)) is ∙ take-append-le (length old) new (x ∷ []) more ∙ are.kept;
+      more = (let long : length newer ≡ length new + 1 = ap length is ∙ length-append new (x ∷ []) in omega arith);
+      each = λ y there. elim (in_push (drop (length old) new) x y (subst (λ (ys : List (List ℕ)). In y ys) behind there)) [
+        | inl t ↦ are.each y t
+        | inr e ↦ subst (λ (z : List ℕ). IsState queues z) (sym e) state
+      ];
+      words = then_words (map numbers_text (drop (length old) new)) (numbers_text x ∷ []) (map numbers_text (drop (length old) newer)) are.words one
+          (ap (map numbers_text) behind ∙ map-append numbers_text (drop (length old) new) (x ∷ []));
+    }

@@ -1,0 +1,96 @@
+-- The line of a step with a set, read in one pass.
+use Rattle.std.specs.Prelude.{◌≡◌, ℕ, ◌+◌, ◌<◌, ◌≤◌, List, [], ◌∷◌, ◌++◌, length, map, take, drop, codes, true, Option, Some, None, Result, Ok, refl}
+use Rattle.std.specs.List.{list_all, flat_map}
+use Rattle.std.specs.Fmt.{decimal}
+use Rattle.std.proofs.Common.{ap, sym, ◌∙◌, subst, arith, append_assoc}
+use Rattle.std.proofs.lemmas.Bool.{and_from}
+use Rattle.std.proofs.lemmas.List.{take-append-drop, take_all, append-nil, length-drop}
+use Rattle.psi_state.specs.State.{Corners}
+use Rattle.psi_state.specs.declared.outcome.Step.{Step}
+use Rattle.psi_lines.specs.declared.header.Header.{Header}
+use Rattle.psi_lines.specs.Log.{in_set, Entry, greatest_horizon, IsSet}
+use Rattle.psi_lines.specs.Text.{line_text, numbers_text, region_words, step_text}
+use Rattle.psi_lines.specs.Room.{spaced, spaced_words}
+use Rattle.psi_lines.proofs.JoinedLemmas.{then, then_words, one_word, three_pieces}
+use Rattle.psi_lines.proofs.LinePieces.{step_pieces}
+use Rattle.psi_log.specs.Refusal.{Refusal, ◌>>=◌}
+use Rattle.psi_log.specs.Words.{line_of, words_of, number_in}
+use Rattle.psi_log.specs.Regions.{form_of, ascends}
+use Rattle.psi_log.specs.Reading.{read_step}
+use Rattle.psi_log.specs.Scanned.{Stands, AreScanned, next_step}
+use Rattle.psi_log.proofs.WordLemmas.{lacks}
+use Rattle.psi_log.proofs.NumberLemmas.{number_again, decimal_lacks}
+use Rattle.psi_log.proofs.StateLemmas.{rising_found}
+use Rattle.psi_log.proofs.RegionLemmas.{words_after}
+use Rattle.psi_log.proofs.GivenLemmas.{set_again, region_lacks}
+use Rattle.psi_log.proofs.LineLemmas.{words_line, words_again, horizon_small}
+
+-- the beginning of a step's line
+pub step_stands : (text : List ℕ) (a b end number event : ℕ) → Stands text 0 5 (codes "step ") → Stands text 5 a (decimal number) → Stands text a b (32 ∷ []) → Stands text b end (decimal event)
+    → Stands text 0 end (codes "step" ++ spaced_words (decimal number ∷ decimal event ∷ []))
+unfolding spaced_words
+step_stands text a b end number event first second space third =
+    then (codes "step ") (decimal number ++ (32 ∷ decimal event)) _ first
+    (then (decimal number) (32 ∷ decimal event) (decimal number ++ (32 ∷ decimal event)) second (then (32 ∷ []) (decimal event) (32 ∷ decimal event) space third refl) refl)
+    (ap (λ (t : List ℕ). codes "step " ++ (decimal number ++ (32 ∷ t))) (sym (append-nil (decimal event))))
+
+step_is : Step → List (List ℕ) → Entry
+step_is s xs = record { step = s; region = in_set xs }
+
+whole : (before : Option Corners) (xs : List (List ℕ)) → words_after before (in_set xs) ≡ region_words (in_set xs)
+whole None xs = refl
+whole (Some from) xs = refl
+
+set_step_again : (h : Header) (n : ℕ) (before : Option Corners) (s : Step) (xs : List (List ℕ)) → 1 ≤ h.queues → IsSet h.queues xs
+    → 1 ≤ s.number → s.number ≤ greatest_horizon h.version → s.event ≤ 1024
+    → read_step h n before (codes "step" ∷ decimal s.number ∷ decimal s.event ∷ region_words (in_set xs)) ≡ Ok (record { step = s; region = in_set xs })
+unfolding read_step
+set_step_again h n before s xs some is least high kind =
+    let read = set_again n h.queues before xs some is in
+    let form : form_of n h.queues before (region_words (in_set xs)) ≡ Ok read.given = ap (form_of n h.queues before) (sym (whole before xs)) ∙ read.form in
+    let most = horizon_small h.version in
+    let time : number_in n 1 (greatest_horizon h.version) (decimal s.number) ≡ Ok s.number = number_again n 1 (greatest_horizon h.version) s.number (omega arith) least high in
+    let event : number_in n 0 1024 (decimal s.event) ≡ Ok s.event = number_again n 0 1024 s.event (omega arith) (omega arith) kind in
+    rw (form, time, event, read.region) refl
+
+set_step_lacks : (c queues : ℕ) (s : Step) (xs : List (List ℕ)) → c < 44 → IsSet queues xs → s.number ≤ 4194304 → s.event ≤ 1024
+    → lacks c (codes "step") ≡ true → lacks c (codes "box") ≡ true → lacks c (codes "set") ≡ true
+    → list_all (lacks c) (codes "step" ∷ decimal s.number ∷ decimal s.event ∷ region_words (in_set xs)) ≡ true
+set_step_lacks c queues s xs small is high kind step box set =
+    and_from (lacks c (codes "step")) (list_all (lacks c) (decimal s.number ∷ decimal s.event ∷ region_words (in_set xs))) step
+    (and_from (lacks c (decimal s.number)) (list_all (lacks c) (decimal s.event ∷ region_words (in_set xs))) (decimal_lacks c s.number (omega arith) (omega arith))
+    (and_from (lacks c (decimal s.event)) (list_all (lacks c) (region_words (in_set xs))) (decimal_lacks c s.event (omega arith) (omega arith))
+    (region_lacks c queues (in_set xs) small is box set)))
+
+next_again : (h : Header) (n : ℕ) (before : Option Corners) (s : Step) (xs : List (List ℕ)) (rest : List ℕ) → 1 ≤ h.queues → IsSet h.queues xs
+    → 1 ≤ s.number → s.number ≤ greatest_horizon h.version → s.event ≤ 1024
+    → next_step h n before (step_text s (region_words (in_set xs)) ++ rest) ≡ Ok (record { step = s; region = in_set xs }, rest)
+unfolding next_step step_text
+next_again h n before s xs rest some is least high kind =
+    let most = horizon_small h.version in
+    let line = words_line n (codes "step" ∷ decimal s.number ∷ decimal s.event ∷ region_words (in_set xs)) rest (set_step_lacks 10 h.queues s xs (omega arith) is (omega arith) kind refl refl refl) in
+    let cut = words_again (codes "step") (decimal s.number ∷ decimal s.event ∷ region_words (in_set xs)) (set_step_lacks 32 h.queues s xs (omega arith) is (omega arith) kind refl refl refl) in
+    let step = set_step_again h n before s xs some is least high kind in
+    rw (line, cut, step) refl
+
+-- a line that stands at the beginning of a text is read as its step
+pub set_line : (h : Header) (n : ℕ) (before : Option Corners) (text : List ℕ) (at end first count : ℕ) (s : Step) (old new : List (List ℕ)) → 1 ≤ h.queues
+    → 1 ≤ s.number → s.number ≤ greatest_horizon h.version → s.event ≤ 1024 → Stands text 0 at (codes "step" ++ spaced_words (decimal s.number ∷ decimal s.event ∷ []))
+    → Stands text at (at + 4) (codes " set") → AreScanned h.queues text (at + 4) end old new → Stands text end (end + 1) (10 ∷ [])
+    → first ≡ length old → length new ≡ first + count → 1 ≤ count → count ≤ 4096 → ascends (drop first new) ≡ true
+    → next_step h n before text ≡ Ok (record { step = s; region = in_set (take count (drop first new)) }, drop (end + 1) text)
+set_line h n before text at end first count s old new some least high kind head name are feed is long one few order =
+    let xs : take count (drop first new) ≡ drop (length old) new =
+    take_all count (drop first new) (omega (arith, length-drop first new)) ∙ ap (λ (k : ℕ). drop k new) is in
+    let size : length (drop (length old) new) ≡ count = omega (arith, length-drop (length old) new) in
+    let set : IsSet h.queues (drop (length old) new) =
+    record { some = omega arith; few = omega arith; each = are.each; rising = rising_found (drop (length old) new) (ap (λ (k : ℕ). ascends (drop k new)) (sym is) ∙ order) } in
+    let words : Stands text at end (spaced_words (region_words (in_set (drop (length old) new)))) =
+    then_words (codes "set" ∷ []) (map numbers_text (drop (length old) new)) (region_words (in_set (drop (length old) new)))
+    (subst (λ (w : List ℕ). Stands text at (at + 4) w) (sym (one_word (codes "set"))) name) are.words refl in
+    let line : Stands text 0 (end + 1) (step_text s (region_words (in_set (drop (length old) new)))) =
+    three_pieces _ _ _ _ head words feed (step_pieces s (region_words (in_set (drop (length old) new)))) in
+    let text_is : text ≡ step_text s (region_words (in_set (drop (length old) new))) ++ drop (end + 1) text =
+    sym (take-append-drop (end + 1) text) ∙ ap (λ (t : List ℕ). t ++ drop (end + 1) text) line.front in
+    ap (next_step h n before) text_is ∙ next_again h n before s (drop (length old) new) (drop (end + 1) text) some set least high kind
+    ∙ ap (λ (ys : List (List ℕ)). Ok (record { step = s; region = in_set ys }, drop (end + 1) text)) (sym xs)

@@ -1,0 +1,110 @@
+//! The line of a step with a set, read in one pass over its bytes.
+
+ghost use Rattle.std.specs.Prelude.{◌≡◌, ◌∷◌, [], ◌++◌, ℕ, Option, ◌≤◌, length, take, codes, decimal, Ok, IfOk, IfSome, OnOk};
+ghost use Rattle.psi_state.specs.State.{Corners};
+ghost use Rattle.psi_lines.specs.Log.{greatest_horizon};
+ghost use Rattle.psi_lines.specs.Room.{spaced_words};
+ghost use Rattle.psi_log.specs.Lines.{entry_of, HasRegion};
+ghost use Rattle.psi_log.specs.Scanned.{Stands, AreScanned, next_step};
+
+use crate::header::greatest_horizon;
+use crate::regions::{Kept, ascends};
+use crate::scan::{has_byte, has_word, number_at, state_at};
+use crate::state_list::StateList;
+use crate::steps::Line;
+use psi_lines::Header;
+use psi_state::Step;
+use std::alloc::AllocError;
+
+// The step whose line begins a text, and the place behind its event.
+#[tactic(auto, using(crate::proofs::SetLineLemmas::step_stands))]
+fn step_at(version: u8, text: &[u8]) -> Option<(Step, usize)>
+    ensures least { IfSome result (λ read. 1 ≤ read.0.number) }
+    ensures most { IfSome result (λ read. read.0.number ≤ greatest_horizon version) }
+    ensures event { IfSome result (λ read. read.0.event ≤ 1024) }
+    ensures there { IfSome result (λ read. Stands text.now 0 read.1 (codes "step" ++ spaced_words (decimal read.0.number ∷ decimal read.0.event ∷ []))) }
+{
+    if !has_word(text, 0, b"step ") {
+        return None;
+    }
+    let (number, end) = number_at(text, 5)?;
+    if number < 1 || number > greatest_horizon(version) || !has_byte(text, end, b' ') {
+        return None;
+    }
+    let (event, end) = number_at(text, end + 1)?;
+    if event > 1024 {
+        return None;
+    }
+    let event = event as u16;
+    Some((Step { number, event }, end))
+}
+
+// Puts the states that stand in a text from a place on, each behind a space, behind those of the list, and gives
+// the place behind them: at most 4,096 states.
+fn read_rows(
+    text: &[u8],
+    at: usize,
+    queues: u8,
+    states: &mut StateList,
+) -> Result<Option<usize>, AllocError>
+    requires some { 1 ≤ queues }
+    requires few { queues ≤ 32 }
+    requires queues { states.old.queues ≡ queues }
+    requires within { at ≤ length text.now }
+    ensures queues { states.new.queues ≡ queues }
+    ensures kept { OnOk result (take (length states.old.states) states.new.states ≡ states.old.states) }
+    ensures more { OnOk result (length states.old.states ≤ length states.new.states) }
+    ensures rows { IfOk result (λ read. IfSome read (λ end. AreScanned queues text.now at end states.old.states states.new.states)) }
+{
+    let mut end = at;
+    for _ in 0..4096 {
+        if !has_byte(text, end, b' ') {
+            return Ok(Some(end));
+        }
+        let Some((x, next)) = state_at(text, end + 1, queues) else {
+            return Ok(None);
+        };
+        // Called for its clause: the range of the numbers.
+        let _queues = x.len();
+        states.push(&x)?;
+        end = next;
+    }
+    Ok(Some(end))
+}
+
+/// The step with a set whose line begins a text, and what follows the line, where it is written as it is to be; the
+/// states are put behind those of the list. Where nothing is given, nothing is said of the line.
+pub(crate) fn read_set_line<'t>(
+    header: &Header,
+    text: &'t [u8],
+    states: &mut StateList,
+) -> Result<Option<(Line, &'t [u8])>, AllocError>
+    requires some { 1 ≤ header.now.queues }
+    requires few { header.now.queues ≤ 32 }
+    requires queues { states.old.queues ≡ header.now.queues }
+    ensures queues { states.new.queues ≡ header.now.queues }
+    ensures kept { OnOk result (take (length states.old.states) states.new.states ≡ states.old.states) }
+    ensures more { OnOk result (length states.old.states ≤ length states.new.states) }
+    ensures value { IfOk result (λ line. IfSome line (λ read. (n : ℕ) (before : Option Corners) → next_step header.now n before text.now ≡ Ok (entry_of states.new.states read.0, read.1.now))) }
+    ensures there { IfOk result (λ line. IfSome line (λ read. HasRegion header.now.queues states.new.states read.0)) }
+{
+    let Some((step, at)) = step_at(header.version, text) else {
+        return Ok(None);
+    };
+    if !has_word(text, at, b" set") {
+        return Ok(None);
+    }
+    let first = states.len();
+    let Some(end) = read_rows(text, at + 4, header.queues, states)? else {
+        return Ok(None);
+    };
+    let count = states.len() - first;
+    if count == 0 || count > 4096 || !has_byte(text, end, b'\n') || !ascends(states, first) {
+        return Ok(None);
+    }
+    let region = Kept::Set {
+        first,
+        count: count as u16,
+    };
+    Ok(Some((Line { step, region }, &text[end + 1..])))
+}
