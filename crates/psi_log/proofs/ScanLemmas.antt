@@ -42,6 +42,11 @@ digit_more text at place end value digit some few small front last =
     let step : decimal (10 * value + digit) ≡ decimal ((10 * value + digit) / 10) ++ ((48 + (10 * value + digit) % 10) ∷ []) = decimal_step (10 * value + digit) (omega arith) (omega arith) in
     then (decimal value) ((48 + digit) ∷ []) (decimal (10 * value + digit)) front last (sym (rw (front_is, last_is) at step))
 
+pub two_digits : (text : List ℕ) (at place end first second : ℕ) → 1 ≤ first → first ≤ 9 → second ≤ 9 → Stands text at place ((48 + first) ∷ [])
+    → Stands text place end ((48 + second) ∷ []) → Stands text at end (decimal (10 * first + second))
+two_digits text at place end first second some few small front last =
+    digit_more text at place end first second some (omega arith) small (digit_first text at place first few front) last
+
 -- the first number of a state
 pub state_first : (text : List ℕ) (at end n : ℕ) (zeros x : List ℕ) → 1 ≤ length zeros → x ≡ set zeros 0 n → Stands text at end (decimal n) → Stands text at end (numbers_text (take 1 x))
 state_first text at end n zeros x some is there =

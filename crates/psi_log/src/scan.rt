@@ -68,8 +68,8 @@ pub(crate) fn number_at(text: &[u8], at: usize) -> Option<(u32, usize)>
 }
 
 // The number of 16 bits that stands at a place, and the place behind it.
-#[inline]
-fn small_at(text: &[u8], at: usize) -> Option<(u16, usize)>
+#[inline(never)]
+fn any_small_at(text: &[u8], at: usize) -> Option<(u16, usize)>
     ensures within { IfSome result (λ read. read.1 ≤ length text.now) }
     ensures there { IfSome result (λ read. Stands text.now at read.1 (decimal read.0)) }
 {
@@ -78,6 +78,25 @@ fn small_at(text: &[u8], at: usize) -> Option<(u16, usize)>
         return None;
     }
     Some((number as u16, end))
+}
+
+// The same, at once where it has one or two digits.
+#[inline]
+#[tactic(auto, using(crate::proofs::ScanLemmas::digit_first, crate::proofs::ScanLemmas::two_digits))]
+fn small_at(text: &[u8], at: usize) -> Option<(u16, usize)>
+    ensures within { IfSome result (λ read. read.1 ≤ length text.now) }
+    ensures there { IfSome result (λ read. Stands text.now at read.1 (decimal read.0)) }
+{
+    let first = digit_at(text, at)?;
+    let next = at + 1;
+    let Some(second) = digit_at(text, next) else {
+        return Some((first as u16, next));
+    };
+    if first >= 1 && digit_at(text, next + 1).is_none() {
+        let number = 10 * first + second;
+        return Some((number as u16, next + 1));
+    }
+    any_small_at(text, at)
 }
 
 /// The state of so many queues that stands at a place, and the place behind it.

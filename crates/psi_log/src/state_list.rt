@@ -41,16 +41,16 @@ fn row_of(x: &State) -> [u16; 32]
     row
 }
 
-// The state whose numbers stand in the vector from a place on.
-fn state_at(numbers: &[u16], first: usize, queues: u8) -> State
+// The state of these numbers.
+fn state_of(row: &[u16], queues: u8) -> State
     requires some { 1 ≤ queues }
     requires few { queues ≤ 32 }
-    requires there { first + queues ≤ length numbers.now }
-    ensures { result ≡ take queues (drop first numbers.now) }
+    requires count { length row.now ≡ queues }
+    ensures { result ≡ row.now }
 {
     let mut x = State::zero(queues);
     for queue in 0..queues {
-        x.set(queue, numbers[first + queue as usize]);
+        x.set(queue, row[queue as usize]);
     }
     x
 }
@@ -91,19 +91,19 @@ impl StateList {
     }
 
     /// The state at a place, counted from 0.
-    #[tactic(auto, using(crate::proofs::RowsLemmas::length_rows, crate::proofs::RowsLemmas::rows_get, crate::proofs::RowsLemmas::rows_room))]
     pub(crate) fn get(&self, place: usize) -> State
         requires { place < length self.now.states }
         ensures { slice_get self.now.states place ≡ Some result }
     {
-        state_at(&self.numbers, place * self.queues as usize, self.queues)
+        state_of(self.row(place), self.queues)
     }
 
     // The numbers of the state at a place.
     #[tactic(auto, using(crate::proofs::RowsLemmas::length_rows, crate::proofs::RowsLemmas::rows_get, crate::proofs::RowsLemmas::rows_room))]
     fn row(&self, place: usize) -> &[u16]
         requires { place < length self.now.states }
-        ensures { slice_get self.now.states place ≡ Some result.now }
+        ensures state { slice_get self.now.states place ≡ Some result.now }
+        ensures count { length result.now ≡ self.now.queues }
     {
         let first = place * self.queues as usize;
         &self.numbers[first..first + self.queues as usize]

@@ -1,6 +1,6 @@
 //! The states of a region that is a set.
 
-ghost use Rattle.std.specs.Prelude.{◌≡◌, ◌<◌, ◌≤◌, length, Some, slice_get};
+ghost use Rattle.std.specs.Prelude.{◌≡◌, ◌<◌, ◌≤◌, length, Some, IsTrue, slice_get};
 ghost use Rattle.psi_state.specs.Ascending.{IsRising};
 ghost use Rattle.psi_replay.specs.Verdict.{states_of, has};
 ghost use Rattle.psi_replay.specs.Numbered.{nth_region, IsSetAt};
@@ -55,18 +55,42 @@ impl<'l> Set<'l> {
         self.log.state(self.number, place)
     }
 
-    /// Whether a state is one of them, which are in ascending order: found by halving, after a look at the place
-    /// `near` and the one behind it. Where it is found, `near` becomes its place.
+    // Whether a state stands at a place.
+    fn has_at(&self, place: u16, x: &State) -> bool
+        ensures { IsTrue result → slice_get self.now place ≡ Some x.now }
+    {
+        if place >= self.len() {
+            return false;
+        }
+        self.get(place) == *x
+    }
+
+    /// Whether a state is one of them, which are in ascending order. It is looked for behind the place `near` and
+    /// at it, and else by halving. Where it is found, `near` becomes its place.
     pub(crate) fn holds(&self, x: &State, near: &mut u16) -> bool
+        requires { IsRising self.now }
+        ensures { result ≡ has self.now x.now }
+    {
+        let next = near.saturating_add(1);
+        if self.has_at(next, x) {
+            *near = next;
+            return true;
+        }
+        if self.has_at(*near, x) {
+            return true;
+        }
+        self.holds_anywhere(x, near)
+    }
+
+    // The same by halving alone.
+    fn holds_anywhere(&self, x: &State, near: &mut u16) -> bool
         requires { IsRising self.now }
         ensures { result ≡ has self.now x.now }
     {
         let mut low = 0;
         let mut high = self.len();
-        let mut probe = *near;
         while low < high {
-            let middle = place_between(low, high, probe);
-            probe = near.saturating_add(1);
+            let middle = middle_of(low, high);
             match self.get(middle).cmp(x) {
                 Ordering::Less => low = middle + 1,
                 Ordering::Equal => {
@@ -80,14 +104,11 @@ impl<'l> Set<'l> {
     }
 }
 
-// The place that is probed, where it is between the two, and else the one in their middle.
-fn place_between(low: u16, high: u16, probe: u16) -> u16
+// The place in the middle between two.
+fn middle_of(low: u16, high: u16) -> u16
     requires { low < high }
     ensures least { low ≤ result }
     ensures most { result < high }
 {
-    if low <= probe && probe < high {
-        return probe;
-    }
     low + (high - low) / 2
 }

@@ -1,49 +1,10 @@
 -- Answers in the proof of `Set::holds`.
-use Rattle.std.specs.Prelude.{◌<◌}
-use Rattle.std.proofs.Common.{sym, ◌∙◌, arith}
-use Rattle.psi_replay.proofs.ListLemmas.{has_none}
-use Rattle.psi_replay.proofs.SetLemmas.{search_behind, search_before, search_found}
+use Rattle.std.proofs.Common.{sym, refl}
+use Rattle.psi_replay.proofs.ListLemmas.{has_at}
 use Rattle.psi_replay.proofs.sets.Set.holds.Goals as goal
 
-pub loop-low-preserved-in-Less : goal.loop-low-preserved-in-Less
-loop-low-preserved-in-Less c =
-    let middle = c.place_between-middle.result in
-    let least = c.place_between-middle.ensures.least in
-    let below = c.place_between-middle.ensures.most in
-    let kept = c.loop-low.invariant in
-    record {
-      most = kept.most;
-      between = λ k is.
-          (let old = kept.between k is in
-          let behind : middle < k = search_behind c.args.self.now middle k c.args.x.now c.get.result c.requires c.get.ensures (sym c.cmp.ensures ∙ c.in-Less.is) is in
-          let top : k < c.loop-low.high = old.1 in
-          (omega arith, top));
-    }
+pub returns-then-has_at : goal.returns-then-has_at
+returns-then-has_at c = sym (has_at c.args.self.now c.args.x.now _ (c.if-has_at.ensures refl))
 
-pub returns-in-Equal : goal.returns-in-Equal
-returns-in-Equal c =
-    sym (search_found c.args.self.now c.place_between-middle.result c.args.x.now c.get.result c.get.ensures (sym c.cmp.ensures ∙ c.in-Equal.is))
-
-pub loop-low-preserved : goal.loop-low-preserved
-loop-low-preserved c =
-    let middle = c.place_between-middle.result in
-    let least = c.place_between-middle.ensures.least in
-    let below = c.place_between-middle.ensures.most in
-    let kept = c.loop-low.invariant in
-    let test = c.loop-low-test.true in
-    let most = kept.most in
-    record {
-      most = omega arith;
-      between = λ k is.
-          (let old = kept.between k is in
-          (old.0, search_before c.args.self.now middle k c.args.x.now c.get.result c.requires c.get.ensures (sym c.cmp.ensures ∙ c.in-Greater.is) is));
-    }
-
-pub returns : goal.returns
-returns c =
-    sym (has_none c.args.self.now c.args.x.now (λ k is.
-    (let old = c.loop-low.invariant.between k is in
-    let first = old.0 in
-    let second = old.1 in
-    let over = c.loop-low-test.false in
-    omega arith)))
+pub returns-then-has_at-2 : goal.returns-then-has_at-2
+returns-then-has_at-2 c = sym (has_at c.args.self.now c.args.x.now _ (c.if-has_at-2.ensures refl))

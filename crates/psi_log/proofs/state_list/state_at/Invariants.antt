@@ -1,6 +1,0 @@
--- Invariants of the loops of `state_list::state_at`.
-use Rattle.std.specs.Prelude.{◌≡◌, length, take, drop}
-use Rattle.psi_log.proofs.state_list.state_at.Given as goal
-
-abbrev pub invariant-loop-queue : goal.invariant-loop-queue
-invariant-loop-queue l = (length l.x ≡ l.queues) × (take l.queue l.x ≡ take l.queue (drop l.first l.numbers))

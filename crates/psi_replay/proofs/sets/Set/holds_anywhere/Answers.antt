@@ -1,0 +1,49 @@
+-- Answers in the proof of `Set::holds_anywhere`.
+use Rattle.std.specs.Prelude.{◌<◌}
+use Rattle.std.proofs.Common.{sym, ◌∙◌, arith}
+use Rattle.psi_replay.proofs.ListLemmas.{has_none}
+use Rattle.psi_replay.proofs.SetLemmas.{search_behind, search_before, search_found}
+use Rattle.psi_replay.proofs.sets.Set.holds_anywhere.Goals as goal
+
+pub loop-low-preserved-in-Less : goal.loop-low-preserved-in-Less
+loop-low-preserved-in-Less c =
+    let middle = c.middle_of-middle.result in
+    let least = c.middle_of-middle.ensures.least in
+    let below = c.middle_of-middle.ensures.most in
+    let kept = c.loop-low.invariant in
+    record {
+      most = kept.most;
+      between = λ k is.
+          (let old = kept.between k is in
+          let behind : middle < k = search_behind c.args.self.now middle k c.args.x.now c.get.result c.requires c.get.ensures (sym c.cmp.ensures ∙ c.in-Less.is) is in
+          let top : k < c.loop-low.high = old.1 in
+          (omega arith, top));
+    }
+
+pub returns-in-Equal : goal.returns-in-Equal
+returns-in-Equal c =
+    sym (search_found c.args.self.now c.middle_of-middle.result c.args.x.now c.get.result c.get.ensures (sym c.cmp.ensures ∙ c.in-Equal.is))
+
+pub loop-low-preserved : goal.loop-low-preserved
+loop-low-preserved c =
+    let middle = c.middle_of-middle.result in
+    let least = c.middle_of-middle.ensures.least in
+    let below = c.middle_of-middle.ensures.most in
+    let kept = c.loop-low.invariant in
+    let test = c.loop-low-test.true in
+    let most = kept.most in
+    record {
+      most = omega arith;
+      between = λ k is.
+          (let old = kept.between k is in
+          (old.0, search_before c.args.self.now middle k c.args.x.now c.get.result c.requires c.get.ensures (sym c.cmp.ensures ∙ c.in-Greater.is) is));
+    }
+
+pub returns : goal.returns
+returns c =
+    sym (has_none c.args.self.now c.args.x.now (λ k is.
+    (let old = c.loop-low.invariant.between k is in
+    let first = old.0 in
+    let second = old.1 in
+    let over = c.loop-low-test.false in
+    omega arith)))
