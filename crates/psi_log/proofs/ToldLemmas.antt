@@ -1,5 +1,5 @@
 -- What the readers of a log tell, of its parts.
-use Rattle.std.specs.Prelude.{◌≡◌, ℕ, zero, suc, ◌+◌, ◌-◌, ◌<◌, ◌≤◌, List, [], length, map, take, drop, Option, Some, None, option_map, refl}
+use Rattle.std.specs.Prelude.{◌≡◌, ℕ, zero, suc, ◌+◌, ◌-◌, ◌<◌, ◌≤◌, List, [], length, map, take, drop, Option, Some, None, option_map, MatchOption, refl}
 use Rattle.std.specs.List.{slice_get}
 use Rattle.std.proofs.Common.{get_or, ap, sym, ◌∙◌, arith}
 use Rattle.std.proofs.lemmas.List.{length-map, length-take-le, length-drop, get_or-take, get_or-drop}
@@ -55,6 +55,13 @@ set_state queues states first count place x there small is =
     let value : get_or (take count (drop first states)) place [] ≡ x =
     get_or-take count (drop first states) place [] (omega arith) ∙ get_or-drop first states place [] ∙ get_or_from_slice_get states (first + place) x [] is in
     slice_get-get_or (take count (drop first states)) place [] small ∙ ap (λ (y : List ℕ). Some y) value
+
+pub set_leq : (queues : ℕ) (states : List (List ℕ)) (first count place : ℕ) (P : List ℕ → Type 0) → IsThere queues states (Set first count) → place < length (take count (drop first states))
+    → MatchOption (slice_get states (first + place)) ⊥ P → MatchOption (slice_get (take count (drop first states)) place) ⊥ P
+set_leq queues states first count place P there small tells =
+    let within = set_place queues states first count place there small in
+    let x : slice_get states (first + place) ≡ Some (get_or states (first + place) []) = slice_get-get_or states (first + place) [] within in
+    rw (set_state queues states first count place (get_or states (first + place) []) there small x) (rw x at tells)
 
 -- a region whose form is a set has a state at each place below its count
 pub has_state : (region : Option Region) (count place : ℕ) → option_map form region ≡ Some (told.Set count) → place < count → HasState place region

@@ -1,6 +1,7 @@
 //! A log in memory.
 
-ghost use Rattle.std.specs.Prelude.{◌≡◌, ◌⊎◌, ◌+◌, ◌<◌, ◌≤◌, Ok, Err, Some, length, vec_len, option_map, option_and_then, IfOk};
+ghost use Rattle.std.specs.Prelude.{◌≡◌, ◌⊎◌, ◌+◌, ◌<◌, ◌≤◌, Ok, Err, Some, length, vec_len, option_map, option_and_then, IfOk, IsTrue, MatchOption, ◌↔◌};
+ghost use Rattle.psi_state.specs.State.{IsBelow};
 ghost use Rattle.psi_lines.specs.Log.{Certificate, IsLog};
 ghost use Rattle.psi_lines.specs.Text.{IsLogOf};
 ghost use Rattle.psi_log.specs.Refusal.{Gives};
@@ -108,6 +109,22 @@ impl Log {
         match region_of(&self.parts, i) {
             Kept::Set { first, .. } => self.parts.states.get(*first + j as usize),
             Kept::Box(bounds) => bounds.lo(),
+        }
+    }
+
+    /// Whether the state at place `j` of a region that is a set has at most as many customers in each queue as
+    /// `most` has; regions and places are counted as in [`Log::state`].
+    #[tactic(auto, using(crate::proofs::ToldLemmas::set_place, crate::proofs::ToldLemmas::lines_count))]
+    pub fn state_leq(&self, i: u32, j: u16, most: &State) -> bool
+        requires number { i ≤ self.now.header.horizon }
+        requires place { HasState j (region_at self.now i) }
+        ensures { MatchOption (option_and_then (state_in j) (region_at self.now i)) ⊥ (λ x. IsTrue result ↔ IsBelow x most.now) }
+    {
+        // The number of states fits its type, and so does each place below it.
+        let _count = self.parts.states.len();
+        match region_of(&self.parts, i) {
+            Kept::Set { first, .. } => self.parts.states.leq(*first + j as usize, most),
+            Kept::Box(_) => false,
         }
     }
 

@@ -1,9 +1,10 @@
 //! States of one length, in one vector of numbers.
 
-ghost use Rattle.std.specs.Prelude.{◌≡◌, ◌∷◌, [], MatchOption, ◌++◌, ◌+◌, ◌*◌, ◌<◌, ◌≤◌, length, take, drop, Some, OnOk};
+ghost use Rattle.std.specs.Prelude.{◌≡◌, ◌↔◌, ◌∷◌, [], IsTrue, MatchOption, OnErr, ◌++◌, ◌+◌, ◌*◌, ◌<◌, ◌≤◌, length, take, drop, Some, OnOk};
 ghost use Rattle.std.specs.Ordering.{is_lt, nat_cmp};
 ghost use Rattle.std.specs.Cmp.Lexicographic.{slice_cmp};
 ghost use Rattle.std.specs.List.{slice_get};
+ghost use Rattle.psi_state.specs.State.{IsBelow};
 ghost use Rattle.psi_log.specs.Rows.{States, rows};
 
 use psi_state::State;
@@ -29,16 +30,32 @@ impl Model for StateList {
     ghost invariant = { λ s. (1 ≤ s.queues) × (s.queues ≤ 32) × (length s.numbers.items ≡ s.count * s.queues) };
 }
 
-// The numbers of a state, and zeros behind them.
-fn row_of(x: &State) -> [u16; 32]
-    ensures whole { length result ≡ 32 }
-    ensures front { take (length x.now) result ≡ x.now }
+// Puts the numbers of a state behind others.
+fn push_numbers(numbers: &mut Vec<u16>, x: &State) -> Result<(), AllocError>
+    ensures pushed { OnOk result (numbers.new.items ≡ numbers.old.items ++ x.now) }
+    ensures kept { OnErr result (numbers.new.items ≡ numbers.old.items) }
 {
-    let mut row = [0u16; 32];
-    for queue in 0..x.len() {
-        row[queue as usize] = x.get(queue);
+    let queues = x.len();
+    numbers.reserve(queues as usize)?;
+    for queue in 0..queues {
+        numbers.push_reserved(x.get(queue));
     }
-    row
+    Ok(())
+}
+
+// Whether the numbers of a state are each at most those of another.
+fn is_below(row: &[u16], most: &State) -> bool
+    ensures { IsTrue result ↔ IsBelow row.now most.now }
+{
+    if row.len() != most.len() as usize {
+        return false;
+    }
+    for queue in 0..most.len() {
+        if row[queue as usize] > most.get(queue) {
+            return false;
+        }
+    }
+    true
 }
 
 // The state of these numbers.
@@ -84,8 +101,7 @@ impl StateList {
         ensures queues { self.new.queues ≡ self.old.queues }
         ensures states { OnOk result (self.new.states ≡ self.old.states ++ x.now ∷ []) }
     {
-        let row = row_of(x);
-        self.numbers.extend_from_slice(&row[..x.len() as usize])?;
+        push_numbers(&mut self.numbers, x)?;
         self.count += 1;
         Ok(())
     }
@@ -117,5 +133,13 @@ impl StateList {
         // Called for its clause: the number of states fits its type.
         let _count = self.len();
         self.row(place).cmp(self.row(place + 1)).is_lt()
+    }
+
+    /// Whether the state at a place, counted from 0, is componentwise at most another.
+    pub(crate) fn leq(&self, place: usize, most: &State) -> bool
+        requires { place < length self.now.states }
+        ensures { MatchOption (slice_get self.now.states place) ⊥ (λ x. IsTrue result ↔ IsBelow x most.now) }
+    {
+        is_below(self.row(place), most)
     }
 }

@@ -1,5 +1,6 @@
 -- Regions of a log, and the tests of their states by corners or one after another.
-use Rattle.std.specs.Prelude.{◌≡◌, ◌↔◌, ℕ, zero, suc, ◌<◌, ◌≤◌, List, [], ◌∷◌, length, Bool, true, ◌==◌, nat_le, IsTrue, Option, Some, None, is_some, MatchOption, option_map, unwrap_or, slice_get, refl}
+use Rattle.std.specs.Prelude.{◌≡◌, ◌↔◌, ℕ, zero, suc, ◌+◌, ◌<◌, ◌≤◌, List, [], ◌∷◌, length, drop, Bool, true, false, ◌==◌, nat_le, IsTrue, Option, Some, None, is_some, MatchOption, option_map, unwrap_or, slice_get, refl}
+use Rattle.std.specs.List.{list_all}
 use Rattle.std.specs.Cmp.Lexicographic.{pointwise}
 use Rattle.std.proofs.Common.{inl, inr, ap, sym, subst, arith}
 use Rattle.std.proofs.lemmas.Bool.{eq-eqb, eqb-true, le-leb, lt-leb, leb-true}
@@ -15,7 +16,7 @@ use Rattle.psi_log.specs.declared.form.Form.TheVariants.{Box, Set}
 use Rattle.psi_log.proofs.StateLemmas.{below_found, below_again}
 use Rattle.psi_replay.specs.Verdict.{states_of, has, covers, is_within}
 use Rattle.psi_replay.specs.Numbered.{nth_region}
-use Rattle.psi_replay.proofs.ListLemmas.{same_test, all_each, all_from, has-In, has-from_In, In-slice_get}
+use Rattle.psi_replay.proofs.ListLemmas.{same_test, all_more, all_fails, all_each, all_from, has-In, has-from_In, In-slice_get}
 
 -- a region whose form is a box is that box, and one whose form is a set is the set of its states
 pub shown_box : (found : Option Region) (begin : Region) (bounds : Corners) → option_map form found ≡ Some (Box bounds) → in_box bounds ≡ unwrap_or found begin
@@ -53,6 +54,26 @@ nth_regional c (suc i) is small =
 -- the test of two states by code is that of the definition
 pub below_test : (x y : List ℕ) (r : Bool) → (IsTrue r ↔ IsBelow x y) → r ≡ pointwise nat_le x y
 below_test x y r tells = same_test r (pointwise nat_le x y) (λ is. below_again x y (tells.0 is)) (λ is. tells.1 (below_found x y is))
+
+-- the test of the state at a place takes the loop one step on, or ends it
+abbrev pub Tells : Bool → List ℕ → List (List ℕ) → ℕ → Type 0
+Tells r caps xs i = MatchOption (slice_get xs i) ⊥ (λ (x : List ℕ). IsTrue r ↔ IsBelow x caps)
+
+told_at : (o : Option (List ℕ)) (P : List ℕ → Type 0) → MatchOption o ⊥ P → (x : List ℕ) × (o ≡ Some x) × P x
+told_at None P tells = absurd tells
+told_at (Some x) P tells = (x, refl, tells)
+
+pub within_more : (caps : List ℕ) (xs : List (List ℕ)) (i : ℕ) (r whole : Bool) → Tells r caps xs i → r ≡ true
+    → list_all (λ (x : List ℕ). pointwise nat_le x caps) (drop i xs) ≡ whole → list_all (λ (x : List ℕ). pointwise nat_le x caps) (drop (i + 1) xs) ≡ whole
+within_more caps xs i r whole tells passes so_far =
+    let at = told_at (slice_get xs i) (λ (x : List ℕ). IsTrue r ↔ IsBelow x caps) tells in
+    all_more (λ (x : List ℕ). pointwise nat_le x caps) xs i at.0 r whole at.1 (below_test at.0 caps r at.2) passes so_far
+
+pub within_fails : (caps : List ℕ) (xs : List (List ℕ)) (i : ℕ) (r whole : Bool) → Tells r caps xs i → r ≡ false
+    → list_all (λ (x : List ℕ). pointwise nat_le x caps) (drop i xs) ≡ whole → false ≡ whole
+within_fails caps xs i r whole tells fails so_far =
+    let at = told_at (slice_get xs i) (λ (x : List ℕ). IsTrue r ↔ IsBelow x caps) tells in
+    all_fails (λ (x : List ℕ). pointwise nat_le x caps) xs i at.0 r whole at.1 (below_test at.0 caps r at.2) fails so_far
 
 -- a box is within the capacities exactly where its upper corner is
 pub box_within : (caps : List ℕ) (b : Corners) (hi : List ℕ) (r : Bool) → IsBelow b.lo b.hi → hi ≡ b.hi → (IsTrue r ↔ IsBelow hi caps) → r ≡ is_within caps (in_box b)

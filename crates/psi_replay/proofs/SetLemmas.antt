@@ -1,5 +1,5 @@
 -- The states of a region that is a set, and the search for one among them.
-use Rattle.std.specs.Prelude.{◌≡◌, ℕ, zero, suc, ◌<◌, List, [], ◌∷◌, length, true, Option, Some, None, option_map, option_and_then, unwrap_or, slice_get}
+use Rattle.std.specs.Prelude.{◌≡◌, ℕ, zero, suc, ◌<◌, List, [], ◌∷◌, length, true, Option, Some, None, option_map, option_and_then, unwrap_or, slice_get, MatchOption}
 use Rattle.std.specs.declared.cmp.Ordering.TheVariants.{Less, Equal, Greater}
 use Rattle.std.proofs.Common.{inl, inr, ap, ◌∙◌, subst, arith}
 use Rattle.std.proofs.lemmas.Bool.{cases_lt}
@@ -39,6 +39,12 @@ pub states_get : (found : Option Region) (begin : Region) (count place : ℕ) (x
 states_get None begin count place x is get = absurd cc
 states_get (Some (in_box bounds)) begin count place x is get = absurd cc
 states_get (Some (in_set states)) begin count place x is get = get
+
+pub states_leq : (found : Option Region) (begin : Region) (count place : ℕ) (P : List ℕ → Type 0) → option_map form found ≡ Some (Set count)
+    → MatchOption (option_and_then (state_in place) found) ⊥ P → MatchOption (slice_get (states_of (unwrap_or found begin)) place) ⊥ P
+states_leq None begin count place P is tells = absurd cc
+states_leq (Some (in_box bounds)) begin count place P is tells = absurd cc
+states_leq (Some (in_set states)) begin count place P is tells = tells
 
 -- an earlier state of an ascending list is below a later one
 pub rising_places : (xs : List (List ℕ)) (j k : ℕ) (x y : List ℕ) → IsRising xs → slice_get xs j ≡ Some x → slice_get xs k ≡ Some y → j < k → state_cmp x y ≡ Less

@@ -93,7 +93,7 @@ fn set_is_within(set: &Set<'_>, caps: &State) -> bool
     ensures { result ≡ is_within caps.now (in_set set.now) }
 {
     for place in 0..set.len() {
-        if !set.get(place).leq(caps) {
+        if !set.leq(place, caps) {
             return false;
         }
     }

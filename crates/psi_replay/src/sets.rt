@@ -1,6 +1,7 @@
 //! The states of a region that is a set.
 
-ghost use Rattle.std.specs.Prelude.{◌≡◌, ◌<◌, ◌≤◌, length, Some, IsTrue, slice_get};
+ghost use Rattle.std.specs.Prelude.{◌≡◌, ◌<◌, ◌≤◌, ◌↔◌, length, Some, IsTrue, MatchOption, slice_get};
+ghost use Rattle.psi_state.specs.State.{IsBelow};
 ghost use Rattle.psi_state.specs.Ascending.{IsRising};
 ghost use Rattle.psi_replay.specs.Verdict.{states_of, has};
 ghost use Rattle.psi_replay.specs.Numbered.{nth_region, IsSetAt};
@@ -53,6 +54,15 @@ impl<'l> Set<'l> {
         ensures { slice_get self.now place ≡ Some result }
     {
         self.log.state(self.number, place)
+    }
+
+    /// Whether the state at a place, counted from 0, is componentwise at most another.
+    #[tactic(auto, using(crate::proofs::SetLemmas::states_place, crate::proofs::SetLemmas::states_leq))]
+    pub(crate) fn leq(&self, place: u16, most: &State) -> bool
+        requires { place < length self.now }
+        ensures { MatchOption (slice_get self.now place) ⊥ (λ x. IsTrue result ↔ IsBelow x most.now) }
+    {
+        self.log.state_leq(self.number, place, most)
     }
 
     // Whether a state stands at a place.
