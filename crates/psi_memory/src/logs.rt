@@ -145,7 +145,8 @@ fn call_log(log: &Log) {
     let _begin = log.region(0);
     match log.region(last) {
         Form::Set { count } if count > 0 => {
-            let _state = log.state(last, 0);
+            let state = log.state(last, 0);
+            let _within = log.state_leq(last, 0, &state);
         }
         _ => {}
     }
