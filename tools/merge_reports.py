@@ -1,194 +1,246 @@
 #!/usr/bin/python3
 """merge_reports.py FILE..
 
-Merges reports, each of which is a text that `psi report` or this program printed of other streams
-of the same network, and prints the report of all. docs/FORMATS.md, 'The report', has the form of
-such a text.
+Merges reports, each of which is a text that `psi report`, `psi_merge` or this program printed of
+other streams of the same network, and prints the report of all. docs/FORMATS.md, 'The report' and
+'Reports, merged', has the form of such a text, and what of it is refused.
 
-A report is read strictly: a file is refused by a line on standard error, `merge_reports: refused
-FILE line N CAUSE`, where a line isn't of the form, or where the counts don't add up. Of the counts
-the first line that is wrong is told, and a report of other queues or rewards than the first file's
-is refused at the line where they differ. The exit status is 0 where the report is printed, 2 where
-no file is named, 3 where one is refused, 6 where one can't be read, and 7 where the report can't be
-written.
+It says what `psi_merge` says, with `merge_reports` in front and with the same exit status: 2 where
+no file is named, 3 where one is no report, 4 where one is of another network, 5 where a number
+would be too large, 6 where one can't be read, and 7 where the report can't be written. Both are
+written from that page alone; they share no code.
 """
 
-import io
 import re
 import sys
 
-HEADING = b"item,name,value\n"
-COUNT = rb"(0|[1-9][0-9]*)\n"
-VALUE = rb"(0|-?[1-9][0-9]*)\n"
-NAME = rb"([A-Za-z0-9_-]{1,32}),"
-HORIZON = re.compile(rb"horizon,([1-9][0-9]*)," + COUNT)
-PREFIXES = b"", b"reward-"
+MOST_BYTES = 1_048_576
+MOST_COUNT, MOST_VALUE = 2**64 - 1, 10**37 - 1
+MOST_STEPS, MOST_CUSTOMERS = 2**22, 65_535
+# Of the rewards the greatest magnitude: 32 queues, their customers, and a weight of 10^9.
+MOST_WORTH = 32 * 65_535 * 10**9
+MOST = {b"": 32, b"reward-": 64}
+NAME = re.compile(rb"[A-Za-z0-9_-]{1,32}")
+NUMBER = re.compile(rb"-?[0-9]*")
+FIGURE = re.compile(rb"(reward-)?(sum|least|greatest)")
 
 
 class Refused(Exception):
-    """A line, counted from 1, that isn't as it should be, and why."""
+    """Why a file isn't merged: the exit status, and what is said before its name."""
 
-    def __init__(self, line, cause):
-        super().__init__(f"line {line} {cause}")
-
-
-class Lines:
-    """The lines of a text, read one after the other."""
-
-    def __init__(self, text):
-        self.lines = io.BytesIO(text).readlines()
-        self.place = 0
-
-    def has(self, pattern):
-        """The parts of the next line, which is done with, or none where it isn't of the form."""
-        text = self.lines[self.place] if self.place < len(self.lines) else b""
-        found = re.fullmatch(pattern, text)
-        self.place += bool(found)
-        return found and found.groups()
-
-    def wants(self, pattern, cause="Shape"):
-        """The number at the end of the next line, which has to be of the form."""
-        found = self.has(pattern)
-        if found is None:
-            raise Refused(self.place + 1, cause if self.place < len(self.lines) else "Truncated")
-        return int(found[-1]) if found else None
-
-    def holds(self, fact, cause="Counts"):
-        """Refuses the line before where something isn't so."""
-        if not fact:
-            raise Refused(self.place, cause)
+    def __init__(self, status, said):
+        super().__init__(said)
+        self.status = status
 
 
-class Value:
-    """What a report says of a queue or a reward: sum, least and greatest over the met samples."""
+def refusal(cause, line):
+    return Refused(3, f"refused {cause} line {line}")
 
-    def __init__(self, sort, name, total, extremes):
-        self.sort, self.name, self.total, self.extremes = sort, name, total, extremes
 
-    def rows(self):
-        """Its records: what each says, and the value."""
-        numbers = zip((b"sum", b"least", b"greatest"), (self.total, *self.extremes))
-        return [b"%s%s,%s,%d\n" % (self.sort, word, self.name, value) for word, value in numbers]
+class Figure:
+    """A sum or an extreme of a queue or a reward: of what sort, which of them, its name, its value."""
 
-    def add(self, other):
-        """Adds what another report says of the same."""
-        self.total += other.total
-        both = [*self.extremes, *other.extremes]
-        self.extremes = (min(both), max(both)) if both else ()
+    def __init__(self, sort, word, name, value):
+        self.sort, self.word, self.name, self.value = sort, word, name, value
+
+    def row(self):
+        return b"%s%s,%s,%d\n" % (self.sort, self.word, self.name, self.value)
 
 
 class Report:
-    """What a report says: counts, the number of samples met at each horizon, and the values."""
+    """What a report says: how many samples there are, how many are met and at which horizons, and
+    the figures of the queues and the rewards.
+    """
 
-    def __init__(self, uncoupled, horizons, values):
-        self.uncoupled, self.horizons, self.values = uncoupled, horizons, values
+    def __init__(self):
+        self.samples, self.met, self.horizons, self.figures = 0, 0, [], []
 
     def text(self):
         """The report as `psi report` prints it."""
-        met = sum(self.horizons.values())
-        rows = [HEADING, b"samples,-,%d\n" % (met + self.uncoupled), b"met,-,%d\n" % met]
-        rows.append(b"uncoupled,-,%d\n" % self.uncoupled)
-        rows += [b"horizon,%d,%d\n" % (t, self.horizons[t]) for t in sorted(self.horizons)]
-        return b"".join(rows + [row for value in self.values for row in value.rows()])
+        counts = self.samples, self.met, max(self.samples - self.met, 0)
+        rows = [b"item,name,value\n", b"samples,-,%d\nmet,-,%d\nuncoupled,-,%d\n" % counts]
+        rows += [b"horizon,%d,%d\n" % horizon for horizon in self.horizons]
+        return b"".join(rows + [figure.row() for figure in self.figures])
 
-    def add(self, other):
-        """Adds a report of other streams of the same network."""
-        self.uncoupled += other.uncoupled
-        for horizon, count in other.horizons.items():
-            self.horizons[horizon] = self.horizons.get(horizon, 0) + count
-        for mine, others in zip(self.values, other.values):
-            mine.add(others)
+    def sums(self):
+        return [(figure.sort, figure.name) for figure in self.figures if figure.word == b"sum"]
 
 
-def read_value(lines, sort, met):
-    """The next queue or reward, or none where another line follows."""
-    found = lines.has(sort + b"sum," + NAME + VALUE)
-    if found is None:
+def number(word, least, most):
+    """The number that a field is, or none where it is no number of the range. No digit is 0."""
+    if not NUMBER.fullmatch(word) or (least >= 0 and word.startswith(b"-")):
         return None
-    name, total, extremes = found[0], int(found[1]), ()
-    if met:
-        words = (sort + word + re.escape(name) for word in (b"least,", b"greatest,"))
-        extremes = tuple(lines.wants(word + b"," + VALUE) for word in words)
-    low, high = extremes or (0, 0)
-    lines.holds(low <= high and low * met <= total <= high * met)
-    return Value(sort, name, total, extremes)
+    digits = word.removeprefix(b"-").lstrip(b"0") or b"0"
+    if len(digits) > len(b"%d" % most):
+        return None
+    value = -int(digits) if word.startswith(b"-") else int(digits)
+    return value if least <= value <= most else None
 
 
-def read_horizons(lines, met):
-    """How many samples are met at each horizon; these ascend, and the numbers are `met` in all."""
-    horizons = {}
-    while found := lines.has(HORIZON):
-        horizon, count = map(int, found)
-        lines.holds(count > 0 and horizon & (horizon - 1) == 0, "Number")
-        lines.holds(horizon > max(horizons, default=0), "Order")
-        horizons[horizon] = count
-    lines.holds(sum(horizons.values()) == met)
-    return horizons
+def take(report, item, name, value):
+    """Takes what a row tells, and says whether it is one."""
+    if item in (b"item", b"uncoupled"):
+        return True
+    if item in (b"samples", b"met"):
+        count = number(value, 0, MOST_COUNT)
+        setattr(report, item.decode(), count)
+        return count is not None
+    if item == b"horizon":
+        counts = number(name, 0, MOST_COUNT), number(value, 0, MOST_COUNT)
+        report.horizons.append(counts)
+        return None not in counts
+    found, figure = FIGURE.fullmatch(item), number(value, -MOST_VALUE, MOST_VALUE)
+    if not found or not NAME.fullmatch(name) or not value or figure is None:
+        return False
+    report.figures.append(Figure(found[1] or b"", found[2], name, figure))
+    return True
+
+
+def is_extreme(figure, word, of):
+    """Whether a figure is the least or the greatest value of what a sum is of, in its range."""
+    low = -MOST_WORTH if of.sort else 0
+    high = MOST_WORTH if of.sort else MOST_CUSTOMERS
+    is_of = (figure.sort, figure.word, figure.name) == (of.sort, word, of.name)
+    return is_of and low <= figure.value <= high
+
+
+def wrong_in(figures, met):
+    """The first of the figures of a queue or a reward that is wrong, of which the sum is the first,
+    or none: the extremes are those of the sum where samples are met, and allow it.
+    """
+    total = figures[0]
+    if not met:
+        return 0 if total.value else None
+    for place, word in (1, b"least"), (2, b"greatest"):
+        if place == len(figures) or not is_extreme(figures[place], word, total):
+            return place
+    low, high = figures[1].value, figures[2].value
+    if low > high:
+        return 2
+    others = met - 1
+    return None if others * low + high <= total.value <= low + others * high else 0
+
+
+def flaw_in_figures(figures, met):
+    """The place of the first figure that may not stand there, that behind all where figures are
+    missing, or none.
+    """
+    names, place = {b"": set(), b"reward-": set()}, 0
+    while place < len(figures):
+        figure = figures[place]
+        known = names[figure.sort]
+        in_order = not names[b"reward-"] if figure.sort == b"" else names[b""]
+        if figure.word != b"sum" or not in_order:
+            return place
+        if figure.name in known or len(known) == MOST[figure.sort]:
+            return place
+        known.add(figure.name)
+        width = 3 if met else 1
+        wrong = wrong_in(figures[place : place + width], met)
+        if wrong is not None:
+            return place + wrong
+        place += width
+    return None if names[b""] else 0
+
+
+def flaw(report):
+    """The first line that no report of samples has there, or none."""
+    if report.met > report.samples:
+        return 3
+    line, last, left = 5, 0, report.met
+    for horizon, count in report.horizons:
+        is_power = 0 < horizon <= MOST_STEPS and horizon & (horizon - 1) == 0
+        if not is_power or horizon <= last or not 0 < count <= left:
+            return line
+        line, last, left = line + 1, horizon, left - count
+    if left:
+        return line
+    place = flaw_in_figures(report.figures, report.met)
+    return None if place is None else line + place
 
 
 def read(text):
     """The report that a text is; raises Refused where it is none."""
-    lines = Lines(text)
-    lines.wants(HEADING, "NotReport")
-    samples = lines.wants(b"samples,-," + COUNT)
-    met = lines.wants(b"met,-," + COUNT)
-    uncoupled = lines.wants(b"uncoupled,-," + COUNT)
-    lines.holds(samples == met + uncoupled and samples > 0)
-    horizons = read_horizons(lines, met)
-    values = []
-    for sort in PREFIXES:
-        names = set()
-        while value := read_value(lines, sort, met):
-            lines.holds(value.name not in names, "Name")
-            names.add(value.name)
-            values.append(value)
-        if not values:
-            lines.wants(b"sum," + NAME + VALUE)
-    if lines.place < len(lines.lines):
-        raise Refused(lines.place + 1, "Shape")
-    return Report(uncoupled, horizons, values)
+    if len(text) > MOST_BYTES:
+        raise refusal("0 TooLong", 0)
+    report = Report()
+    for line, row in enumerate(text.split(b"\n"), 1):
+        fields = row.split(b",")
+        if fields != [b""] and (len(fields) != 3 or not take(report, *fields)):
+            raise refusal("1 Row", line)
+    if report.text() != text:
+        raise refusal("2 Text", 0)
+    wrong = flaw(report)
+    if wrong is not None:
+        raise refusal("3 Samples", wrong)
+    return report
 
 
 def place_of_difference(first, report):
     """The line of a report at which its queues and rewards differ from another's; 0 for nowhere."""
-    names, others = ([(value.sort, value.name) for value in one.values] for one in (report, first))
-    line = 5 + len(report.horizons)
-    for place in range(max(len(names), len(others))):
-        if names[place : place + 1] != others[place : place + 1]:
-            return line
-        line += len(report.values[place].rows())
-    return 0
+    sums, others = report.sums(), first.sums()
+    same = 0
+    while same < min(len(sums), len(others)) and sums[same] == others[same]:
+        same += 1
+    if len(sums) == len(others) == same:
+        return 0
+    return 5 + len(report.horizons) + same * (3 if report.met else 1)
+
+
+def both_figures(first, other):
+    """What the figures of two reports come to together."""
+    if not first.met or not other.met:
+        return other.figures if not first.met else first.figures
+    both = []
+    for one, two in zip(first.figures, other.figures):
+        join = {b"least": min, b"greatest": max}.get(one.word, lambda y, z: y + z)
+        both.append(Figure(one.sort, one.word, one.name, join(one.value, two.value)))
+    return both
+
+
+def together(first, other):
+    """The report of the samples of two; raises Refused where it isn't one."""
+    line = place_of_difference(first, other)
+    if line:
+        raise Refused(4, f"other network line {line}")
+    both, horizons = Report(), dict(first.horizons)
+    both.samples, both.met = first.samples + other.samples, first.met + other.met
+    for horizon, count in other.horizons:
+        horizons[horizon] = horizons.get(horizon, 0) + count
+    both.horizons, both.figures = sorted(horizons.items()), both_figures(first, other)
+    large = [place for place, figure in enumerate(both.figures) if abs(figure.value) > MOST_VALUE]
+    if both.samples > MOST_COUNT:
+        raise Refused(5, "too large line 2")
+    if max(both.met, *horizons.values(), 0) > MOST_COUNT:
+        raise Refused(5, "too large line 3")
+    if large:
+        raise Refused(5, f"too large line {5 + len(other.horizons) + large[0]}")
+    return both
 
 
 def merged(files):
-    """The report of all files; raises Refused, with the file in front, where one is refused."""
+    """The report of all files; raises Refused, with the file behind, where one is refused."""
     whole = None
     for file in files:
         with open(file, "rb") as opened:
-            text = opened.read()
+            text = opened.read(MOST_BYTES + 1)
         try:
             report = read(text)
-            line = place_of_difference(whole or report, report)
-            if line:
-                raise Refused(line, "OtherNetwork")
+            whole = together(whole, report) if whole else report
         except Refused as refused:
-            raise ValueError(f"refused {file} {refused}") from None
-        if whole:
-            whole.add(report)
-        else:
-            whole = report
+            raise Refused(refused.status, f"{refused} {file}") from None
     return whole
 
 
 def main(files):
-    if not files:
-        print("merge_reports: no file", file=sys.stderr)
+    if not files or any(file.startswith("-") for file in files):
+        print("merge_reports: usage: merge_reports.py FILE..", file=sys.stderr)
         return 2
     try:
         text = merged(files).text()
-    except ValueError as refused:
+    except Refused as refused:
         print(f"merge_reports: {refused}", file=sys.stderr)
-        return 3
+        return refused.status
     except OSError as fault:
         print(f"merge_reports: cannot read {fault.filename}", file=sys.stderr)
         return 6

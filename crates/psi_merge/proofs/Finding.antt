@@ -93,7 +93,7 @@ ok-go_on next (Some (Ok d)) c Is found is = (let same : d ≡ c = cc in subst (�
 merges-reply : (name : List ℕ) (merging : Result Contents MergeError) (error : MergeError) (ending : Ending) → Merges (Err error) merging
     → IfSome (merge_reply name (Err error)) (MayEnd ending) → (error ≡ merge.OutOfMemory → ending ≡ OutOfMemory) → IfSome (merge_reply name merging) (MayBe (Err ending))
 merges-reply name merging (merge.OtherNetwork line) ending is may memory = rw is may
-merges-reply name merging merge.TooLarge ending is may memory = rw is may
+merges-reply name merging (merge.TooLarge line) ending is may memory = rw is may
 merges-reply name merging merge.OutOfMemory ending is may memory = rw (memory refl) (may-some (merge_reply name merging) OutOfMemory (λ whole. tt))
 
 pub file-unmerged : (told : List ℕ → Option (List ℕ)) (c d : Contents) (name : List ℕ) (error : MergeError) (ending : Ending)

@@ -1,20 +1,16 @@
 -- The reports of lists of samples of one network, merged.
-use Rattle.std.specs.Prelude.{◌≡◌, ℕ, ◌^◌, ◌<◌, ◌≤◌, List, [], ◌∷◌, ◌++◌, length, map, Option, Some, None, IfSome, Ok, true, All, ◌⊎◌, refl}
+use Rattle.std.specs.Prelude.{◌≡◌, ℕ, ◌+◌, ◌<◌, ◌≤◌, List, [], ◌∷◌, ◌++◌, length, Option, Some, None, IfSome, Ok, true, ◌⊎◌, refl}
 use Rattle.std.proofs.Common.{inl, inr, ap, sym, ◌∙◌, subst, append_assoc, arith}
 use Rattle.std.proofs.lemmas.Bool.{le-leb}
-use Rattle.std.proofs.lemmas.List.{append-nil, map-append, length-append}
-use Rattle.std.proofs.lemmas.List.Elements.{All-nil, All-cons, All-head, All-tail, All-weaker}
+use Rattle.std.proofs.lemmas.List.{append-nil, length-append}
 use Rattle.psi_state.specs.declared.Outcome.{Outcome}
 use Rattle.psi_network.specs.Network.{Network}
-use Rattle.psi_report.specs.Samples.{met_states, met_horizons}
-use Rattle.psi_report.specs.Quantities.{Quantity, queue_quantities, reward_quantities}
 use Rattle.psi_report.specs.Report.{report_text}
-use Rattle.psi_report.proofs.TotalsLemmas.{met_states-append, met_horizons-append}
 use Rattle.psi_reports.specs.Outcomes.{contents_of}
-use Rattle.psi_reports.specs.Small.{IsSmall, IsMeasured, AreSamples}
 use Rattle.psi_reports.proofs.SmallLemmas.{report-is-read}
 use Rattle.psi_reports.proofs.OutcomesLemmas.{report_text-contents}
 use Rattle.psi_reports.proofs.MergeLaws.{reports-merged}
+use Rattle.psi_reports.proofs.SampleLemmas.{few-samples, of-left, of-right}
 use Rattle.psi_reports.proofs.SoundLaws.{report-sound}
 use Rattle.psi_merge.specs.declared.status.Status.{Status}
 use Rattle.psi_merge.specs.declared.status.Status.TheVariants.{OutOfMemory}
@@ -22,85 +18,58 @@ use Rattle.psi_merge.specs.Status.{IsReplied}
 use Rattle.psi_merge.specs.Reports.{report_in}
 use Rattle.psi_merge.specs.Reply.{text_reply, report_at, with_files, whole_of, are_files, reply_to}
 use Rattle.psi_merge.specs.Seen.{Grew}
-use Rattle.psi_merge.specs.Call.{Call, reply_to_call, IsRun, AreReports, all_of, MergesReports}
+use Rattle.psi_merge.specs.Call.{Call, reply_to_call, IsRun, AreReports, AreFewOf, all_of, MergesReports}
 
 -- ---- samples in two parts
 
-all-left : {A : Type 0} (P : A → Type 0) (xs ys : List A) → All P (xs ++ ys) → All P xs
-all-left P [] ys all = All-nil P
-all-left P (x ∷ xs) ys all = All-cons P x xs (All-head P x (xs ++ ys) all) (all-left P xs ys (All-tail P x (xs ++ ys) all))
+few-left : (net : Network) (outcomes others : List Outcome) → AreFewOf net (outcomes ++ others) → AreFewOf net outcomes
+few-left net outcomes others are = record {
+  samples = of-left net outcomes others are.samples;
+  few = (let count = length-append outcomes others in let few = are.few in omega arith);
+}
 
-all-right : {A : Type 0} (P : A → Type 0) (xs ys : List A) → All P (xs ++ ys) → All P ys
-all-right P [] ys all = all
-all-right P (x ∷ xs) ys all = all-right P xs ys (All-tail P x (xs ++ ys) all)
-
-measured-left : (xs ys : List (List ℕ)) (q : Quantity) → IsMeasured (xs ++ ys) q → IsMeasured xs q
-measured-left xs ys q is = record { name = is.name; values = all-left IsSmall (map q.value xs) (map q.value ys) (subst (All IsSmall) (map-append q.value xs ys) is.values) }
-
-measured-right : (xs ys : List (List ℕ)) (q : Quantity) → IsMeasured (xs ++ ys) q → IsMeasured ys q
-measured-right xs ys q is = record { name = is.name; values = all-right IsSmall (map q.value xs) (map q.value ys) (subst (All IsSmall) (map-append q.value xs ys) is.values) }
-
-samples-left : (net : Network) (outcomes others : List Outcome) → AreSamples net (outcomes ++ others) → AreSamples net outcomes
-samples-left net outcomes others are =
-    let xs = met_states outcomes in
-    let ys = met_states others in
-    let measured : (qs : List Quantity) → All (IsMeasured (met_states (outcomes ++ others))) qs → All (IsMeasured xs) qs =
-    λ qs all. All-weaker (IsMeasured (xs ++ ys)) (IsMeasured xs) (λ q is. measured-left xs ys q is) qs (subst (λ (zs : List (List ℕ)). All (IsMeasured zs) qs) (met_states-append outcomes others) all) in
-    record {
-      few = (let count = length-append outcomes others in let few = are.few in omega arith);
-      horizons = all-left (λ h. h < 2 ^ 64) (met_horizons outcomes) (met_horizons others) (subst (All (λ h. h < 2 ^ 64)) (met_horizons-append outcomes others) are.horizons);
-      queues = measured (queue_quantities net) are.queues;
-      rewards = measured (reward_quantities net) are.rewards;
-    }
-
-samples-right : (net : Network) (outcomes others : List Outcome) → AreSamples net (outcomes ++ others) → AreSamples net others
-samples-right net outcomes others are =
-    let xs = met_states outcomes in
-    let ys = met_states others in
-    let measured : (qs : List Quantity) → All (IsMeasured (met_states (outcomes ++ others))) qs → All (IsMeasured ys) qs =
-    λ qs all. All-weaker (IsMeasured (xs ++ ys)) (IsMeasured ys) (λ q is. measured-right xs ys q is) qs (subst (λ (zs : List (List ℕ)). All (IsMeasured zs) qs) (met_states-append outcomes others) all) in
-    record {
-      few = (let count = length-append outcomes others in let few = are.few in omega arith);
-      horizons = all-right (λ h. h < 2 ^ 64) (met_horizons outcomes) (met_horizons others) (subst (All (λ h. h < 2 ^ 64)) (met_horizons-append outcomes others) are.horizons);
-      queues = measured (queue_quantities net) are.queues;
-      rewards = measured (reward_quantities net) are.rewards;
-    }
+few-right : (net : Network) (outcomes others : List Outcome) → AreFewOf net (outcomes ++ others) → AreFewOf net others
+few-right net outcomes others are = record {
+  samples = of-right net outcomes others are.samples;
+  few = (let count = length-append outcomes others in let few = are.few in omega arith);
+}
 
 -- ---- the files
 
 -- the report of samples is what is found in it
-report-found : (net : Network) (outcomes : List Outcome) → AreSamples net outcomes → length (report_text net outcomes) ≤ 1048576 → report_in (report_text net outcomes) ≡ Ok (contents_of net outcomes)
+report-found : (net : Network) (outcomes : List Outcome) → AreFewOf net outcomes → length (report_text net outcomes) ≤ 1048576 → report_in (report_text net outcomes) ≡ Ok (contents_of net outcomes)
 unfolding report_in
 report-found net outcomes are short =
-    rw (le-leb (length (report_text net outcomes)) 1048576 short, report-is-read net outcomes are, report-sound net outcomes) refl
+    rw (le-leb (length (report_text net outcomes)) 1048576 short, report-is-read net outcomes (few-samples net outcomes are.samples are.few), report-sound net outcomes are.samples) refl
 
-report-told : (net : Network) (told : List ℕ → Option (List ℕ)) (word : List ℕ) (outcomes : List Outcome) → AreSamples net outcomes → told word ≡ Some (report_text net outcomes)
+report-told : (net : Network) (told : List ℕ → Option (List ℕ)) (word : List ℕ) (outcomes : List Outcome) → AreFewOf net outcomes → told word ≡ Some (report_text net outcomes)
     → length (report_text net outcomes) ≤ 1048576 → report_at told word ≡ Some (Ok (contents_of net outcomes))
 report-told net told word outcomes are there short = rw (there, report-found net outcomes are short) refl
 
 files-merged : (net : Network) (told : List ℕ → Option (List ℕ)) (words : List (List ℕ)) (lists : List (List Outcome)) (before : List Outcome) → AreReports net told words lists
-    → AreSamples net (before ++ all_of lists) → with_files told (contents_of net before) words ≡ Some (Ok (contents_of net (before ++ all_of lists)))
+    → AreFewOf net (before ++ all_of lists) → with_files told (contents_of net before) words ≡ Some (Ok (contents_of net (before ++ all_of lists)))
 unfolding with_files
 files-merged net told [] [] before are samples = ap (λ os. Some (Ok (contents_of net os))) (sym (append-nil before))
 files-merged net told [] (outcomes ∷ lists) before are samples = absurd are
 files-merged net told (word ∷ words) [] before are samples = absurd are
 files-merged net told (word ∷ words) (outcomes ∷ lists) before are samples =
     let joined : before ++ (outcomes ++ all_of lists) ≡ (before ++ outcomes) ++ all_of lists = sym (append_assoc before outcomes (all_of lists)) in
-    let both : AreSamples net ((before ++ outcomes) ++ all_of lists) = subst (AreSamples net) joined samples in
-    let own = samples-right net before outcomes (samples-left net (before ++ outcomes) (all_of lists) both) in
-    rw (report-told net told word outcomes own are.0 are.1, reports-merged net before outcomes (samples-left net (before ++ outcomes) (all_of lists) both))
+    let both : AreFewOf net ((before ++ outcomes) ++ all_of lists) = subst (AreFewOf net) joined samples in
+    let first = few-left net (before ++ outcomes) (all_of lists) both in
+    let own = few-right net before outcomes first in
+    rw (report-told net told word outcomes own are.0 are.1, reports-merged net before outcomes (few-samples net (before ++ outcomes) first.samples first.few))
     (files-merged net told words lists (before ++ outcomes) are.2 both ∙ ap (λ os. Some (Ok (contents_of net os))) (sym joined))
 
 whole-merged : (net : Network) (told : List ℕ → Option (List ℕ)) (words : List (List ℕ)) (lists : List (List Outcome)) → are_files words ≡ true → AreReports net told words lists
-    → AreSamples net (all_of lists) → whole_of told words ≡ Some (Ok (contents_of net (all_of lists)))
+    → AreFewOf net (all_of lists) → whole_of told words ≡ Some (Ok (contents_of net (all_of lists)))
 unfolding are_files
 whole-merged net told [] lists files are samples = absurd cc
 whole-merged net told (word ∷ words) [] files are samples = absurd are
 whole-merged net told (word ∷ words) (outcomes ∷ lists) files are samples =
-    rw (report-told net told word outcomes (samples-left net outcomes (all_of lists) samples) are.0 are.1) (files-merged net told words lists outcomes are.2 samples)
+    rw (report-told net told word outcomes (few-left net outcomes (all_of lists) samples) are.0 are.1) (files-merged net told words lists outcomes are.2 samples)
 
 reply-merged : (net : Network) (told : List ℕ → Option (List ℕ)) (words : List (List ℕ)) (lists : List (List Outcome)) → are_files words ≡ true → AreReports net told words lists
-    → AreSamples net (all_of lists) → reply_to told words ≡ Some (text_reply (report_text net (all_of lists)))
+    → AreFewOf net (all_of lists) → reply_to told words ≡ Some (text_reply (report_text net (all_of lists)))
 unfolding reply_to
 reply-merged net told words lists files are samples =
     rw (files, whole-merged net told words lists files are samples) (ap (λ text. Some (text_reply text)) (sym (report_text-contents net (all_of lists))))

@@ -1,10 +1,10 @@
 -- What a call of the program is seen to do.
-use Rattle.std.specs.Prelude.{◌≡◌, ℕ, ◌≤◌, List, [], ◌∷◌, length, Option, Some, IfSome, true, false, ◌⊎◌}
+use Rattle.std.specs.Prelude.{◌≡◌, ℕ, ◌<◌, ◌≤◌, ◌^◌, List, [], ◌∷◌, length, Option, Some, IfSome, true, false, ◌⊎◌}
 use Rattle.std.specs.List.{flat_map}
 use Rattle.psi_state.specs.declared.Outcome.{Outcome}
 use Rattle.psi_network.specs.Network.{Network}
 use Rattle.psi_report.specs.Report.{report_text}
-use Rattle.psi_reports.specs.Small.{AreSamples}
+use Rattle.psi_reports.specs.Samples.{AreOf}
 use Rattle.psi_merge.specs.declared.status.Status.{Status}
 use Rattle.psi_merge.specs.declared.status.Status.TheVariants.{Done, Usage, ReadFault, WriteFault, OutOfMemory}
 use Rattle.psi_merge.specs.Status.{IsReplied, IsReported}
@@ -82,6 +82,11 @@ AreReports net told words lists = ⊥
 abbrev pub all_of : List (List Outcome) → List Outcome
 all_of lists = flat_map (λ outcomes. outcomes) lists
 
+-- less than 2^32 samples of a network that a file may describe
+pub record AreFewOf (net : Network) (outcomes : List Outcome) : Type 0 where
+  pub samples : AreOf net outcomes
+  pub few : length outcomes < 2 ^ 32
+
 -- the call is done, and out grew by the report of all lists
 pub record IsMerged (call : Call) (result : Status) (net : Network) (lists : List (List Outcome)) : Type 0 where
   pub done : result ≡ Done
@@ -91,5 +96,5 @@ pub record IsMerged (call : Call) (result : Status) (net : Network) (lists : Lis
 -- out grew by the report of all lists, one behind the other
 abbrev pub MergesReports : Call → Status → Type 0
 MergesReports call result = (net : Network) (lists : List (List Outcome)) → are_files call.words ≡ true → AreReports net call.shelf.told call.words lists
-    → AreSamples net (all_of lists) → ¬ (HasFailed call.out) → ¬ (HasFailed call.err) → ¬ (HasUnread call.shelf call.words) → ¬ (result ≡ OutOfMemory)
+    → AreFewOf net (all_of lists) → ¬ (HasFailed call.out) → ¬ (HasFailed call.err) → ¬ (HasUnread call.shelf call.words) → ¬ (result ≡ OutOfMemory)
     → IsMerged call result net lists

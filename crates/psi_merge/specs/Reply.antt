@@ -39,9 +39,9 @@ refused_line name refusal =
 unfoldable pub other_line : List ℕ → ℕ → List ℕ
 other_line name line = codes "psi_merge: other network line " ++ decimal line ++ codes " " ++ name ++ codes "\n"
 
--- with this report a number would be greater than a report may tell
-unfoldable pub large_line : List ℕ → List ℕ
-large_line name = codes "psi_merge: too large " ++ name ++ codes "\n"
+-- with this report a number would be greater than a report may tell: at which line, and its name
+unfoldable pub large_line : List ℕ → ℕ → List ℕ
+large_line name line = codes "psi_merge: too large line " ++ decimal line ++ codes " " ++ name ++ codes "\n"
 
 -- a file can't be read
 unfoldable pub unread_line : List ℕ → List ℕ
@@ -78,7 +78,7 @@ report_at told name = option_and_then (λ bytes. Some (report_reply name (report
 abbrev pub merge_reply : List ℕ → Result Contents MergeError → Option (Result Contents Reply)
 merge_reply name (Ok c) = Some (Ok c)
 merge_reply name (Err (merge.OtherNetwork line)) = Some (Err (line_reply OtherNetwork (other_line name line)))
-merge_reply name (Err merge.TooLarge) = Some (Err (line_reply TooLarge (large_line name)))
+merge_reply name (Err (merge.TooLarge line)) = Some (Err (line_reply TooLarge (large_line name line)))
 merge_reply name (Err merge.OutOfMemory) = None
 
 -- go on with the report that there is

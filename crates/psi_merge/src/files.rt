@@ -36,7 +36,7 @@ fn unmerged(alloc: Global, name: &str, error: MergeError) -> Ending
             Ok(text) => Ending::OtherNetwork(text),
             Err(_) => Ending::OutOfMemory,
         },
-        MergeError::TooLarge => match large_line(alloc, name) {
+        MergeError::TooLarge { line } => match large_line(alloc, name, line) {
             Ok(text) => Ending::TooLarge(text),
             Err(_) => Ending::OutOfMemory,
         },

@@ -65,11 +65,14 @@ pub(crate) fn other_line(alloc: Global, name: &str, line: u64) -> Result<Vec<u8>
 
 /// The line on a report with which a number would be too large.
 #[tactic(auto, unfolding(crate::specs::Reply::large_line))]
-pub(crate) fn large_line(alloc: Global, name: &str) -> Result<Vec<u8>, AllocError>
-    ensures { IfOk result (λ text. text.items ≡ large_line name.now) }
+pub(crate) fn large_line(alloc: Global, name: &str, line: u64) -> Result<Vec<u8>, AllocError>
+    ensures { IfOk result (λ text. text.items ≡ large_line name.now line) }
 {
+    let mut digits = Buffer::new();
     let mut text = Vec::new(alloc);
-    push(&mut text, b"psi_merge: too large ")?;
+    push(&mut text, b"psi_merge: too large line ")?;
+    push(&mut text, digits.format(line).as_bytes())?;
+    push(&mut text, b" ")?;
     push(&mut text, name.as_bytes())?;
     push(&mut text, b"\n")?;
     Ok(text)

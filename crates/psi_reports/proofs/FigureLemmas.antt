@@ -7,7 +7,8 @@ use Rattle.psi_report.specs.Joined.{paired}
 use Rattle.psi_report.proofs.PairLemmas.{paired_all, length_paired, get_or-paired}
 use Rattle.psi_reports.specs.declared.figure.Item.TheVariants.{Sum}
 use Rattle.psi_reports.specs.declared.figure.Figure.{Figure}
-use Rattle.psi_reports.specs.Merging.{is_alike, difference, joined_value, joined_figure, is_value, figures_fit}
+use Rattle.psi_reports.specs.Sound.{is_alike}
+use Rattle.psi_reports.specs.Merging.{difference, joined_value, joined_figure, is_value, large_figure}
 
 -- the first place of two lists at which sums differ
 pub difference-alike : (fs gs : List Figure) (i : ℕ) (f g : Figure) → i < length fs → i < length gs → f ≡ get_or fs i f → g ≡ get_or gs i g → is_alike f g ≡ true
@@ -31,14 +32,12 @@ difference-shorter fs gs i d one two = rw (drop_all i fs one, drop_more gs i d t
 pub difference-longer : (fs gs : List Figure) (i : ℕ) (d : Figure) → i < length fs → length gs ≤ i → difference i (drop i fs) (drop i gs) ≡ Some i
 difference-longer fs gs i d one two = rw (drop_more fs i d one, drop_all i gs two) refl
 
--- a sum that is too large doesn't fit, wherever it stands
-figures_fit-at : (fs : List Figure) (i : ℕ) (d : Figure) → i < length fs → is_value (get_or fs i d).value ≡ false → figures_fit fs ≡ false
-figures_fit-at [] i d small large = absurd (omega arith)
-figures_fit-at (f ∷ fs) zero d small large = rw large refl
-figures_fit-at (f ∷ fs) (suc i) d small large = elim (cases_Bool (is_value f.value)) [
-  | inl is ↦ rw (is, figures_fit-at fs i d (omega arith) large) refl
-  | inr is ↦ rw is refl
-]
+-- the first figure that is too large, from a place on
+pub large-more : (fs : List Figure) (i : ℕ) (d : Figure) → i < length fs → is_value (get_or fs i d).value ≡ true → large_figure (i + 1) (drop (i + 1) fs) ≡ large_figure i (drop i fs)
+large-more fs i d small is = rw (drop_more fs i d small, is) refl
+
+large-here : (fs : List Figure) (i : ℕ) (d : Figure) → i < length fs → is_value (get_or fs i d).value ≡ false → large_figure i (drop i fs) ≡ Some i
+large-here fs i d small is = rw (drop_more fs i d small, is) refl
 
 get_or-joined : (fs gs : List Figure) (i : ℕ) (d : Figure) → i < length fs → i < length gs
     → get_or (paired joined_figure fs gs) i d ≡ joined_figure (get_or fs i d) (get_or gs i d)
@@ -47,14 +46,21 @@ get_or-joined (f ∷ fs) [] i d one two = absurd (omega arith)
 get_or-joined (f ∷ fs) (g ∷ gs) zero d one two = refl
 get_or-joined (f ∷ fs) (g ∷ gs) (suc i) d one two = get_or-joined fs gs i d (omega arith) (omega arith)
 
-pub paired-large : (fs hs gs : List Figure) (i : ℕ) (f g : Figure) → i < length fs → i < length gs → hs ≡ paired joined_figure fs (take i gs)
-    → f ≡ get_or hs i f → g ≡ get_or gs i g → is_value (joined_value f.item f.value g.value) ≡ false → figures_fit (paired joined_figure fs gs) ≡ false
-paired-large fs hs gs i f g one two is first second large =
-    let read : f ≡ get_or fs i f = first ∙ ap (λ xs. get_or xs i f) is ∙ get_or-paired joined_figure fs gs i f in
-    let other : g ≡ get_or gs i f = second ∙ get_or_default gs i g f two in
-    let both : get_or (paired joined_figure fs gs) i f ≡ joined_figure f g =
-    get_or-joined fs gs i f one two ∙ ap (λ x. joined_figure x (get_or gs i f)) (sym read) ∙ ap (joined_figure f) (sym other) in
-    figures_fit-at (paired joined_figure fs gs) i f (rw (length_paired joined_figure fs gs) one) (rw both large)
+module _ (fs hs gs : List Figure) (i : ℕ) (f g : Figure) (one : i < length fs) (two : i < length gs) (is : hs ≡ paired joined_figure fs (take i gs)) (first : f ≡ get_or hs i f)
+    (second : g ≡ get_or gs i g) where
+  joined-at : get_or (paired joined_figure fs gs) i f ≡ joined_figure f g
+  joined-at =
+      let read : f ≡ get_or fs i f = first ∙ ap (λ xs. get_or xs i f) is ∙ get_or-paired joined_figure fs gs i f in
+      let other : g ≡ get_or gs i f = second ∙ get_or_default gs i g f two in
+      get_or-joined fs gs i f one two ∙ ap (λ x. joined_figure x (get_or gs i f)) (sym read) ∙ ap (joined_figure f) (sym other)
+
+  -- what two figures come to fits, or is the first that doesn't
+  pub paired-fits : is_value (joined_value f.item f.value g.value) ≡ true
+      → large_figure (i + 1) (drop (i + 1) (paired joined_figure fs gs)) ≡ large_figure i (drop i (paired joined_figure fs gs))
+  paired-fits fits = large-more (paired joined_figure fs gs) i f (rw (length_paired joined_figure fs gs) one) (rw joined-at fits)
+
+  pub paired-large : is_value (joined_value f.item f.value g.value) ≡ false → large_figure i (drop i (paired joined_figure fs gs)) ≡ Some i
+  paired-large large = large-here (paired joined_figure fs gs) i f (rw (length_paired joined_figure fs gs) one) (rw joined-at large)
 
 -- all places are joined where one of the lists ends
 pub paired-end : (fs hs gs : List Figure) (i : ℕ) → (length fs ≤ i) ⊎ (length gs ≤ i) → hs ≡ paired joined_figure fs (take i gs) → hs ≡ paired joined_figure fs gs

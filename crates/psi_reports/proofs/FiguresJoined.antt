@@ -14,8 +14,8 @@ use Rattle.psi_reports.specs.declared.figure.Item.{Item}
 use Rattle.psi_reports.specs.declared.figure.Item.TheVariants.{Sum, RewardSum}
 use Rattle.psi_reports.specs.declared.figure.Figure.{Figure}
 use Rattle.psi_reports.specs.Outcomes.{Trio, queue_trio, reward_trio, figure, figures_of, quantity_figures}
-use Rattle.psi_reports.specs.Sound.{is_sum}
-use Rattle.psi_reports.specs.Merging.{sums_of, same_sum, difference, joined_figure, joined_figures}
+use Rattle.psi_reports.specs.Sound.{is_sum, same_sum}
+use Rattle.psi_reports.specs.Merging.{sums_of, difference, joined_figure, joined_figures}
 
 -- all figures over states
 abbrev pub all_figures : Network → List (List ℕ) → List Figure

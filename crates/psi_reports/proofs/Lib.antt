@@ -17,4 +17,8 @@ mod HorizonCounts
 mod FiguresJoined
 pub mod MergeLaws
 mod JudgeLemmas
+mod AllowLemmas
+mod WorthLemmas
+pub mod SampleLemmas
+mod FigureLaws
 pub mod SoundLaws

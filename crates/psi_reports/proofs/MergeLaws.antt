@@ -38,5 +38,5 @@ pub reports-merged : ReportsAreMerged
 unfolding contents_of
 reports-merged net outcomes others are =
     merged-fitting (contents_of net outcomes) (contents_of net others) (difference-none net (met_states outcomes) (met_states others))
-    ∙ ap fitting (contents-joined net outcomes others)
-    ∙ accepted (contents_of net (outcomes ++ others)) (report-fits (contents_of net (outcomes ++ others)) (contents-fit net (outcomes ++ others) are))
+    ∙ ap (fitting (contents_of net others)) (contents-joined net outcomes others)
+    ∙ accepted (contents_of net others) (contents_of net (outcomes ++ others)) (report-fits (contents_of net others) (contents_of net (outcomes ++ others)) (contents-fit net (outcomes ++ others) are))

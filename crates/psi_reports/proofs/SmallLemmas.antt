@@ -47,7 +47,7 @@ insert-all P n (m ∷ ms) here all =
     (λ e. cond_both (nat_lt n m) (n ∷ m ∷ ms) (m ∷ insert_number n ms) (All P) (λ less. All-cons P n (m ∷ ms) here all)
     (λ more. All-cons P m (insert_number n ms) (All-head P m ms all) (insert-all P n ms here (All-tail P m ms all))))
 
-distinct-all : (P : ℕ → Type 0) (ns : List ℕ) → All P ns → All P (distinct ns)
+pub distinct-all : (P : ℕ → Type 0) (ns : List ℕ) → All P ns → All P (distinct ns)
 unfolding distinct
 distinct-all P [] all = All-nil P
 distinct-all P (n ∷ ns) all = insert-all P n (distinct ns) (All-head P n ns all) (distinct-all P ns (All-tail P n ns all))

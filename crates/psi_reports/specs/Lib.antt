@@ -5,6 +5,7 @@ pub mod Outcomes
 pub mod Numbers
 pub mod Reading
 pub mod Small
+pub mod Samples
 pub mod Counts
 pub mod Sound
 pub mod Merging

@@ -3,7 +3,6 @@ use Rattle.std.specs.Prelude.{◌≡◌, ℕ, ◌+◌, ◌*◌, ◌^◌, ℤ, �
 use Rattle.std.specs.Int.{int_min, int_max}
 use Rattle.std.specs.Int.RustNames.{unsigned_abs}
 use Rattle.std.specs.List.{list_all}
-use Rattle.std.specs.Str.{bytes_eq}
 use Rattle.psi_state.specs.declared.Outcome.{Outcome}
 use Rattle.psi_network.specs.Network.{Network}
 use Rattle.psi_report.specs.Joined.{paired}
@@ -15,23 +14,13 @@ use Rattle.psi_reports.specs.declared.error.MergeError.{MergeError}
 use Rattle.psi_reports.specs.declared.error.MergeError.TheVariants.{OtherNetwork, TooLarge, OutOfMemory}
 use Rattle.psi_reports.specs.Contents.{Contents}
 use Rattle.psi_reports.specs.Counts.{joined_counts}
-use Rattle.psi_reports.specs.Sound.{is_sum, line_at}
+use Rattle.psi_reports.specs.Sound.{is_sum, is_alike, line_at, figures_line}
 use Rattle.psi_reports.specs.Outcomes.{contents_of}
 use Rattle.psi_reports.specs.Small.{AreSamples}
 
 -- the sums of a report, one for each queue and each reward
 abbrev pub sums_of : List Figure → List Figure
 sums_of figures = filter (λ f. is_sum f.item) figures
-
--- both are sums of a queue, or both of a reward
-abbrev pub same_sum : Item → Item → Bool
-same_sum Sum Sum = true
-same_sum RewardSum RewardSum = true
-same_sum _ _ = false
-
--- two sums are of the same queue or reward
-abbrev pub is_alike : Figure → Figure → Bool
-is_alike f g = same_sum f.item g.item && bytes_eq f.name g.name
 
 -- the first place at which two lists of sums aren't of the same queue or reward, counted from k; none where they are of the same ones
 abbrev pub difference : ℕ → List Figure → List Figure → Option ℕ
@@ -82,22 +71,32 @@ is_value z = nat_lt (unsigned_abs z) (10 ^ 37)
 abbrev pub counts_fit : List HorizonCount → Bool
 counts_fit counts = list_all (λ c. is_count c.count) counts
 
--- the figures have such magnitudes
-abbrev pub figures_fit : List Figure → Bool
-figures_fit figures = list_all (λ f. is_value f.value) figures
+-- the first place, from k on, of a figure that hasn't such a magnitude
+abbrev pub large_figure : ℕ → List Figure → Option ℕ
+large_figure k [] = None
+large_figure k (f ∷ fs) = if is_value f.value then large_figure (k + 1) fs else Some k
 
--- the numbers are such as a report can tell
-unfoldable pub fits : Contents → Bool
-fits c = (is_count c.samples && is_count c.met) && (counts_fit c.horizons && figures_fit c.figures)
+-- the line of the second report with which the first number of both is too large: that of the samples; that of those that are met, where they or those of a
+-- horizon are too many; else that of a figure
+unfoldable pub too_large : Contents → Contents → Option ℕ
+too_large b c =
+    if is_count c.samples then
+      if is_count c.met && counts_fit c.horizons then figures_line (5 + length b.horizons) (large_figure 0 c.figures) else Some 3
+    else Some 2
+
+-- the report of both, unless a number is too large
+abbrev pub fitting_unless : Option ℕ → Contents → Result Contents MergeError
+fitting_unless (Some line) c = Err (TooLarge line)
+fitting_unless None c = Ok c
 
 -- the report of both, where its numbers fit
-abbrev pub fitting : Contents → Result Contents MergeError
-fitting c = if fits c then Ok c else Err TooLarge
+abbrev pub fitting : Contents → Contents → Result Contents MergeError
+fitting b c = fitting_unless (too_large b c) c
 
 -- the report of both, unless a sum of the second isn't of the queue or the reward of the first
 abbrev pub merged_unless : Option ℕ → Contents → Contents → Result Contents MergeError
 merged_unless (Some k) a b = Err (OtherNetwork (line_of_sum b k))
-merged_unless None a b = fitting (joined a b)
+merged_unless None a b = fitting b (joined a b)
 
 -- two reports, merged; or why they aren't
 unfoldable pub merged : Contents → Contents → Result Contents MergeError

@@ -1,5 +1,8 @@
--- What the rows of a report keep: counts that add up, horizons that ascend, and the figures of queues and rewards one after another.
-use Rattle.std.specs.Prelude.{◌≡◌, ℕ, ◌+◌, ◌-◌, ◌^◌, List, [], ◌∷◌, length, min, Bool, true, false, ◌&&◌, ◌==◌, nat_le, nat_lt, Option, Some, None, if◌then◌else◌}
+-- What the rows of a report keep: counts that add up, horizons that ascend, and the figures of queues and rewards one after another, each sum within
+-- what its extremes allow.
+use Rattle.std.specs.Prelude.{◌≡◌, ℕ, ◌+◌, ◌-◌, ◌^◌, ℤ, pos, ◌+ℤ◌, ◌*ℤ◌, List, [], ◌∷◌, ◌++◌, length, count_by, min, not, Bool, true, false, ◌&&◌, ◌==◌, nat_le, nat_lt, int_le, unsigned_abs, Option, Some, None, if◌then◌else◌}
+use Rattle.std.specs.Int.{is_power_of_two}
+use Rattle.std.specs.List.{list_all}
 use Rattle.std.specs.Str.{bytes_eq}
 use Rattle.psi_state.specs.declared.Outcome.{Outcome}
 use Rattle.psi_network.specs.Network.{Network}
@@ -9,20 +12,29 @@ use Rattle.psi_reports.specs.declared.figure.HorizonCount.{HorizonCount}
 use Rattle.psi_reports.specs.declared.figure.Figure.{Figure}
 use Rattle.psi_reports.specs.Contents.{Contents}
 use Rattle.psi_reports.specs.Outcomes.{contents_of}
+use Rattle.psi_reports.specs.Samples.{AreOf}
+
+-- ---- horizons
+
+-- a horizon of a sample: a power of two, at most 2^22
+abbrev pub is_horizon : ℕ → Bool
+is_horizon t = is_power_of_two t && nat_le t 4194304
 
 -- a number is above the one before it, where there is one
 abbrev pub is_above : Option ℕ → ℕ → Bool
 is_above None t = true
 is_above (Some s) t = nat_lt s t
 
--- a count may come: its horizon is above the one before, and some of those that are left have it
+-- a count may come: its horizon is one and is above the one before, and some of those that are left have it
 abbrev pub is_next : Option ℕ → ℕ → HorizonCount → Bool
-is_next last left c = (is_above last c.horizon && nat_lt 0 c.count) && nat_le c.count left
+is_next last left c = (is_horizon c.horizon && is_above last c.horizon) && (nat_lt 0 c.count && nat_le c.count left)
 
 -- the first place, from k on, of a count that may not come; the place behind all where some samples are left
 abbrev pub horizons_flaw : ℕ → Option ℕ → ℕ → List HorizonCount → Option ℕ
 horizons_flaw k last left [] = if left == 0 then None else Some k
 horizons_flaw k last left (c ∷ cs) = if is_next last left c then horizons_flaw (k + 1) (Some c.horizon) (left - c.count) cs else Some k
+
+-- ---- the order of figures
 
 -- an item may follow another: a sum the greatest value before it, or where no sample is met the sum before it, and no queue a reward;
 -- where samples are met, the least value a sum, and the greatest the least
@@ -45,6 +57,11 @@ is_sum Sum = true
 is_sum RewardSum = true
 is_sum _ = false
 
+-- the first figure is the sum of a queue
+abbrev pub may_begin : Item → Bool
+may_begin Sum = true
+may_begin _ = false
+
 -- the figures may end with an item: with the greatest value, or where no sample is met with a sum
 abbrev pub may_end : Bool → Item → Bool
 may_end true Greatest = true
@@ -53,19 +70,97 @@ may_end false Sum = true
 may_end false RewardSum = true
 may_end _ _ = false
 
--- a figure may follow another: an extreme is of the queue or reward of the figure before it
-abbrev pub figure_follows : Bool → Figure → Figure → Bool
-figure_follows some e f = item_follows some e.item f.item && (if is_sum f.item then true else bytes_eq e.name f.name)
+-- ---- names
 
--- the first place, from k on, of a figure that may not follow the one before it; the place behind all where they may not end so
-abbrev pub flaw_behind : Bool → ℕ → Figure → List Figure → Option ℕ
-flaw_behind some k e [] = if may_end some e.item then None else Some k
-flaw_behind some k e (f ∷ fs) = if figure_follows some e f then flaw_behind some (k + 1) f fs else Some k
+-- both are sums of a queue, or both of a reward
+abbrev pub same_sum : Item → Item → Bool
+same_sum Sum Sum = true
+same_sum RewardSum RewardSum = true
+same_sum _ _ = false
 
--- the first place of a figure that may not stand there, where samples are met or not
-abbrev pub figures_flaw : Bool → List Figure → Option ℕ
-figures_flaw some [] = None
-figures_flaw some (f ∷ fs) = if is_sum f.item then flaw_behind some 1 f fs else Some 0
+-- two sums are of the same queue or reward
+abbrev pub is_alike : Figure → Figure → Bool
+is_alike f g = same_sum f.item g.item && bytes_eq f.name g.name
+
+-- the most rewards that a network has, or the most queues
+abbrev pub most_of : Item → ℕ
+most_of RewardSum = 64
+most_of _ = 32
+
+-- a sum may come behind figures: none of them is of the same queue or reward, and those of its kind are fewer than there may be
+abbrev pub is_new : List Figure → Figure → Bool
+is_new before f = list_all (λ e. not (is_alike e f)) before && nat_lt (count_by (λ e. same_sum e.item f.item) before) (most_of f.item)
+
+-- ---- values
+
+-- a number of customers: 0 to 65,535
+abbrev pub is_customers : ℤ → Bool
+is_customers z = int_le (pos 0) z && int_le z (pos 65535)
+
+-- what a reward may make of a state: a magnitude of at most 32 queues times 65,535 customers times a weight of 10^9
+abbrev pub is_worth : ℤ → Bool
+is_worth z = nat_le (unsigned_abs z) 2097120000000000
+
+-- a value that the least or the greatest may have; a sum is neither
+abbrev pub is_extreme : Item → ℤ → Bool
+is_extreme Least z = is_customers z
+is_extreme Greatest z = is_customers z
+is_extreme RewardLeast z = is_worth z
+is_extreme RewardGreatest z = is_worth z
+is_extreme _ z = false
+
+-- the greatest value isn't below the least, which stands before it
+abbrev pub is_ordered : Item → ℤ → ℤ → Bool
+is_ordered Greatest y z = int_le y z
+is_ordered RewardGreatest y z = int_le y z
+is_ordered _ y z = true
+
+-- an extreme may follow a figure: it is of the same queue or reward, in its range, and above the least where it is the greatest
+abbrev pub extreme_follows : Figure → Figure → Bool
+extreme_follows e f = bytes_eq e.name f.name && (is_extreme f.item f.value && is_ordered f.item e.value f.value)
+
+-- what n values come to, all of which are a but for one, which is b
+abbrev pub all_but_one : ℕ → ℤ → ℤ → ℤ
+all_but_one n a b = pos (n - 1) *ℤ a +ℤ b
+
+-- n values of which low is the least and high the greatest may have a sum: it isn't below that of one high value and low ones, nor above that of one low value and high ones
+abbrev pub allows : ℕ → ℤ → ℤ → ℤ → Bool
+allows n low high sum = int_le (all_but_one n low high) sum && int_le sum (all_but_one n high low)
+
+-- a sum agrees with its extremes, where these may stand behind it
+abbrev pub agrees_with : ℕ → Figure → Figure → Figure → Bool
+agrees_with n f l g = if extreme_follows f l && extreme_follows l g then allows n l.value g.value f.value else true
+
+-- and with the figures that stand behind it, of which the first two may be its extremes
+abbrev pub agrees_behind : ℕ → Figure → List Figure → Bool
+agrees_behind n f (l ∷ g ∷ fs) = agrees_with n f l g
+agrees_behind n f _ = true
+
+-- the sum of no values is 0; that of n values agrees with their extremes
+abbrev pub agrees : ℕ → Figure → List Figure → Bool
+agrees n f fs = if n == 0 then unsigned_abs f.value == 0 else agrees_behind n f fs
+
+-- ---- figures
+
+-- a sum may stand behind figures and before others
+abbrev pub sum_stands : ℕ → List Figure → Figure → List Figure → Bool
+sum_stands n before f fs = is_new before f && agrees n f fs
+
+-- of n samples that are met, a figure may stand behind others, of which e is the last, and before others
+abbrev pub may_stand : ℕ → List Figure → Figure → Figure → List Figure → Bool
+may_stand n before e f fs = item_follows (nat_lt 0 n) e.item f.item && (if is_sum f.item then sum_stands n before f fs else extreme_follows e f)
+
+-- the first place of a figure that may not stand behind those before it, of which e is the last; the place behind all where they may not end so
+abbrev pub flaw_behind : ℕ → List Figure → Figure → List Figure → Option ℕ
+flaw_behind n before e [] = if may_end (nat_lt 0 n) e.item then None else Some (length before)
+flaw_behind n before e (f ∷ fs) = if may_stand n before e f fs then flaw_behind n (before ++ f ∷ []) f fs else Some (length before)
+
+-- the first place of a figure that may not stand there, where n samples are met; there is one queue at least
+abbrev pub figures_flaw : ℕ → List Figure → Option ℕ
+figures_flaw n [] = Some 0
+figures_flaw n (f ∷ fs) = if may_begin f.item && sum_stands n [] f fs then flaw_behind n (f ∷ []) f fs else Some 0
+
+-- ---- lines
 
 -- a line, which stands still at the greatest number of 64 bits
 abbrev pub line_at : ℕ → ℕ
@@ -79,12 +174,12 @@ figures_line first (Some k) = Some (line_at (first + k))
 -- the line of a horizon; else that of a figure
 abbrev pub rows_line : Contents → Option ℕ → Option ℕ
 rows_line c (Some k) = Some (line_at (5 + k))
-rows_line c None = figures_line (5 + length c.horizons) (figures_flaw (nat_lt 0 c.met) c.figures)
+rows_line c None = figures_line (5 + length c.horizons) (figures_flaw c.met c.figures)
 
 -- the first line of a report that no report of samples has there; none where there is no such line
 unfoldable pub flaw_of : Contents → Option ℕ
 flaw_of c = if nat_lt c.samples c.met then Some 3 else rows_line c (horizons_flaw 0 None c.met c.horizons)
 
--- the report of samples has none
+-- the report of samples of a network has none
 abbrev pub ReportIsSound : Type 0
-ReportIsSound = (net : Network) (outcomes : List Outcome) → flaw_of (contents_of net outcomes) ≡ None
+ReportIsSound = (net : Network) (outcomes : List Outcome) → AreOf net outcomes → flaw_of (contents_of net outcomes) ≡ None

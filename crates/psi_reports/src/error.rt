@@ -53,7 +53,11 @@ pub enum MergeError {
         line: u64,
     },
     /// A number of the report of both would be greater than a report may tell.
-    TooLarge,
+    TooLarge {
+        /// The line of the second report, counted from 1, of the first number with which that is so: 2 of the samples; 3
+        /// of those that are met, also where those of one horizon would be too many; else that of a figure.
+        line: u64,
+    },
     /// Memory ran out.
     OutOfMemory,
 }

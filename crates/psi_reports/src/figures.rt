@@ -1,9 +1,9 @@
 //! The figures of two lists of samples together.
 
-ghost use Rattle.std.specs.Prelude.{◌≡◌, true, false, IfOk, MatchBool, MatchOption};
+ghost use Rattle.std.specs.Prelude.{◌≡◌, true, false, IfOk, Some, None, MatchOption};
 ghost use Rattle.psi_report.specs.Joined.{paired};
-ghost use Rattle.psi_reports.specs.Sound.{is_sum};
-ghost use Rattle.psi_reports.specs.Merging.{sums_of, same_sum, is_alike, difference, joined_value, joined_figure, is_value, figures_fit};
+ghost use Rattle.psi_reports.specs.Sound.{is_sum, same_sum, is_alike};
+ghost use Rattle.psi_reports.specs.Merging.{sums_of, difference, joined_value, joined_figure, is_value, large_figure};
 
 use crate::figure::{Figure, Item};
 use std::alloc::{AllocError, Global};
@@ -35,8 +35,8 @@ pub(crate) fn sums_of(alloc: Global, figures: &[Figure]) -> Result<Vec<Figure>, 
     Ok(sums)
 }
 
-// Whether both are sums of a queue, or both of a reward.
-fn same_sum(item: Item, other: Item) -> bool
+/// Whether both are sums of a queue, or both of a reward.
+pub(crate) fn same_sum(item: Item, other: Item) -> bool
     ensures { result ≡ same_sum item other }
 {
     match (item, other) {
@@ -46,8 +46,8 @@ fn same_sum(item: Item, other: Item) -> bool
     }
 }
 
-// Whether two sums are of the same queue or reward.
-fn is_alike(sum: &Figure, other: &Figure) -> bool
+/// Whether two sums are of the same queue or reward.
+pub(crate) fn is_alike(sum: &Figure, other: &Figure) -> bool
     ensures { result ≡ is_alike sum.now other.now }
 {
     same_sum(sum.item, other.item) && sum.name.bytes() == other.name.bytes()
@@ -83,42 +83,51 @@ fn joined_value(item: Item, value: i128, other: i128) -> Option<i128>
     }
 }
 
-// What two figures of an item come to together; none where their sum hasn't 128 bits.
+// Whether a figure may have the value: its magnitude is less than 10^37.
+fn is_value(value: i128) -> bool
+    ensures { result ≡ is_value value }
+{
+    value.unsigned_abs() < LIMIT
+}
+
+// What two figures of an item come to together; none where their value is too large.
 fn joined_figure(figure: &Figure, other: &Figure) -> Option<Figure>
-    ensures { MatchOption result (is_value (joined_value figure.now.item figure.now.value other.now.value) ≡ false) (λ both. both ≡ joined_figure figure.now other.now) }
+    ensures { MatchOption result (is_value (joined_value figure.now.item figure.now.value other.now.value) ≡ false)
+        (λ both. (both ≡ joined_figure figure.now other.now) × (is_value both.value ≡ true)) }
 {
     match joined_value(figure.item, figure.value, other.value) {
-        Some(value) => Some(Figure {
+        Some(value) if is_value(value) => Some(Figure {
             item: figure.item,
             name: figure.name,
             value,
         }),
-        None => None,
+        _ => None,
     }
 }
 
-/// Joins figures to others, each to the one at its place, and answers whether each sum has 128 bits.
-pub(crate) fn join_figures(figures: &mut Vec<Figure>, others: &[Figure]) -> bool
-    ensures { MatchBool result (figures.new.items ≡ paired joined_figure figures.old.items others.now)
-        (figures_fit (paired joined_figure figures.old.items others.now) ≡ false) }
+/// Joins figures to others, each to the one at its place, up to the first whose value is too large, whose place it
+/// answers.
+pub(crate) fn join_figures(figures: &mut Vec<Figure>, others: &[Figure]) -> Option<usize>
+    ensures { MatchOption result (figures.new.items ≡ paired joined_figure figures.old.items others.now)
+        (λ place. large_figure 0 (paired joined_figure figures.old.items others.now) ≡ Some place) }
 {
     for place in 0..figures.len().min(others.len()) {
         match joined_figure(&figures[place], &others[place]) {
             Some(both) => figures[place] = both,
-            None => return false,
+            None => return Some(place),
         }
     }
-    true
+    None
 }
 
-/// Whether each figure has a magnitude that a report may tell.
-pub(crate) fn figures_fit(figures: &[Figure]) -> bool
-    ensures { result ≡ figures_fit figures.now }
+/// The first place of a figure whose value is too large.
+pub(crate) fn large_figure(figures: &[Figure]) -> Option<usize>
+    ensures { result ≡ large_figure 0 figures.now }
 {
-    for figure in figures {
-        if figure.value.unsigned_abs() >= LIMIT {
-            return false;
+    for (place, figure) in figures.iter().enumerate() {
+        if !is_value(figure.value) {
+            return Some(place);
         }
     }
-    true
+    None
 }

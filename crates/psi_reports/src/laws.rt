@@ -29,8 +29,8 @@ pub fn reports_are_merged()
     ensures { ReportsAreMerged }
 {}
 
-/// The report of samples has no line that no report of samples has there: [`Report::flaw`](crate::Report::flaw) answers
-/// none of it.
+/// The report of samples of a network that a file may describe has no line that no report of samples has there:
+/// [`Report::flaw`](crate::Report::flaw) answers none of it.
 pub fn report_is_sound()
     ensures { ReportIsSound }
 {}

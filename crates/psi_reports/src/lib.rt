@@ -18,10 +18,12 @@ mod numbers;
 mod reading;
 mod report;
 mod rows;
+mod standing;
 mod table;
 #[cfg(test)]
 mod tests;
 mod text;
+mod values;
 
 pub use error::{MergeError, ReadError};
 pub use figure::{Figure, HorizonCount, Item};

@@ -1,13 +1,14 @@
 //! The report of two lists of samples of one network, from the report of each.
 
-ghost use Rattle.std.specs.Prelude.{◌≡◌, true, false, IfOk, MatchBool, MatchOption};
+ghost use Rattle.std.specs.Prelude.{◌≡◌, Some, None, IfOk, MatchResult};
 ghost use Rattle.psi_report.specs.Joined.{paired};
-ghost use Rattle.psi_reports.specs.Merging.{sums_of, difference, line_of_sum, joined_figure, joined_figures, joined, figures_fit, fitting, merged, Merges};
+ghost use Rattle.psi_reports.specs.Merging.{sums_of, difference, line_of_sum, joined_figure, joined_figures, joined, large_figure, fitting, merged, Merges};
 
 use crate::counts::{have_64_bits, join_counts};
 use crate::error::MergeError;
 use crate::figure::Figure;
-use crate::figures::{difference, figures_fit, join_figures, sums_of};
+use crate::figures::{difference, join_figures, large_figure, sums_of};
+use crate::judging::line_at;
 use crate::report::Report;
 use std::alloc::{AllocError, Global};
 
@@ -35,27 +36,28 @@ fn line_of_sum(report: &Report, place: usize) -> u64
     first.saturating_add((place as u64).saturating_mul(3))
 }
 
-// The figures of two reports in which samples are met, where each sum has 128 bits.
-fn paired(figures: Vec<Figure>, other: &[Figure]) -> Option<Vec<Figure>>
-    ensures { MatchOption result (figures_fit (paired joined_figure figures.items other.now) ≡ false) (λ both. both.items ≡ paired joined_figure figures.items other.now) }
+// The figures of two reports in which samples are met, or the first place of one whose value is too large.
+fn paired(figures: Vec<Figure>, other: &[Figure]) -> Result<Vec<Figure>, usize>
+    ensures { MatchResult result (λ both. both.items ≡ paired joined_figure figures.items other.now)
+        (λ place. large_figure 0 (paired joined_figure figures.items other.now) ≡ Some place) }
 {
     let mut both = figures;
-    if join_figures(&mut both, other) {
-        Some(both)
-    } else {
-        None
+    match join_figures(&mut both, other) {
+        Some(place) => Err(place),
+        None => Ok(both),
     }
 }
 
-// The figures of both reports, and whether each fits; of one alone where no sample of the other is met.
+// The figures of both reports, those of one alone where no sample of the other is met; or the first place of one whose
+// value is too large.
 fn joined_figures(
     met: u64,
     others: u64,
     figures: Vec<Figure>,
     other: Vec<Figure>,
-) -> Option<Vec<Figure>>
-    ensures { MatchOption result (figures_fit (joined_figures met others figures.items other.items) ≡ false)
-        (λ both. (both.items ≡ joined_figures met others figures.items other.items) × (figures_fit both.items ≡ true)) }
+) -> Result<Vec<Figure>, usize>
+    ensures { MatchResult result (λ both. (both.items ≡ joined_figures met others figures.items other.items) × (large_figure 0 both.items ≡ None))
+        (λ place. large_figure 0 (joined_figures met others figures.items other.items) ≡ Some place) }
 {
     let both = if met == 0 {
         other
@@ -64,16 +66,15 @@ fn joined_figures(
     } else {
         paired(figures, other.as_slice())?
     };
-    if figures_fit(both.as_slice()) {
-        Some(both)
-    } else {
-        None
+    match large_figure(both.as_slice()) {
+        Some(place) => Err(place),
+        None => Ok(both),
     }
 }
 
 // The report of both, where its numbers fit.
 fn joined(report: Report, other: Report) -> Result<Report, MergeError>
-    ensures { Merges result (fitting (joined report other)) }
+    ensures { Merges result (fitting other (joined report other)) }
 {
     let Report {
         samples,
@@ -82,25 +83,28 @@ fn joined(report: Report, other: Report) -> Result<Report, MergeError>
         figures,
     } = report;
     let Some(all) = samples.checked_add(other.samples) else {
-        return Err(MergeError::TooLarge);
+        return Err(MergeError::TooLarge { line: 2 });
     };
     let Some(both_met) = met.checked_add(other.met) else {
-        return Err(MergeError::TooLarge);
+        return Err(MergeError::TooLarge { line: 3 });
     };
-    let Some(both_figures) = joined_figures(met, other.met, figures, other.figures) else {
-        return Err(MergeError::TooLarge);
-    };
+    let first = line_at(5, other.horizons.len());
     let mut counts = other.horizons;
     if !join_counts(horizons.as_slice(), &mut counts)? {
-        return Err(MergeError::TooLarge);
+        return Err(MergeError::TooLarge { line: 3 });
     }
     have_64_bits(counts.as_slice());
-    Ok(Report {
-        samples: all,
-        met: both_met,
-        horizons: counts,
-        figures: both_figures,
-    })
+    match joined_figures(met, other.met, figures, other.figures) {
+        Ok(both_figures) => Ok(Report {
+            samples: all,
+            met: both_met,
+            horizons: counts,
+            figures: both_figures,
+        }),
+        Err(place) => Err(MergeError::TooLarge {
+            line: line_at(first, place),
+        }),
+    }
 }
 
 impl Report {
@@ -110,7 +114,7 @@ impl Report {
     ///
     /// [`MergeError::OtherNetwork`] where the queues and rewards of the other report aren't those of this one: the
     /// sums with which their figures begin differ in a name, in their number, or in whether they are of a queue or of a
-    /// reward. [`MergeError::TooLarge`] where the report of both would tell a count of 64 bits or more, or a sum whose
+    /// reward. [`MergeError::TooLarge`] where the report of both would tell a count of 2^64 or more, or a sum whose
     /// magnitude is 10^37 or more. [`MergeError::OutOfMemory`] where there is no memory.
     pub fn merged(self, alloc: Global, other: Report) -> Result<Report, MergeError>
         ensures { Merges result (merged self other) }

@@ -1,0 +1,144 @@
+//! Which figures may stand one behind another.
+
+ghost use Rattle.std.specs.Prelude.{◌≡◌, not, count_by};
+ghost use Rattle.std.specs.List.{list_all};
+ghost use Rattle.psi_reports.specs.Sound.{item_follows, may_begin, may_end, same_sum, is_alike, most_of, is_new, sum_stands, may_stand, figures_flaw};
+
+use crate::figure::{Figure, Item};
+use crate::figures::{is_alike, is_sum, same_sum};
+use crate::values::{agrees, extreme_follows};
+
+// Whether an item may follow another, where samples are met or not.
+fn item_follows(some: bool, last: Item, item: Item) -> bool
+    ensures { result ≡ item_follows some last item }
+{
+    match (some, last, item) {
+        (true, Item::Sum, Item::Least) => true,
+        (true, Item::Least, Item::Greatest) => true,
+        (true, Item::Greatest, Item::Sum) => true,
+        (true, Item::Greatest, Item::RewardSum) => true,
+        (true, Item::RewardSum, Item::RewardLeast) => true,
+        (true, Item::RewardLeast, Item::RewardGreatest) => true,
+        (true, Item::RewardGreatest, Item::RewardSum) => true,
+        (false, Item::Sum, Item::Sum) => true,
+        (false, Item::Sum, Item::RewardSum) => true,
+        (false, Item::RewardSum, Item::RewardSum) => true,
+        _ => false,
+    }
+}
+
+// Whether figures may begin with an item: the sum of a queue.
+fn may_begin(item: Item) -> bool
+    ensures { result ≡ may_begin item }
+{
+    match item {
+        Item::Sum => true,
+        _ => false,
+    }
+}
+
+// Whether figures may end with an item, where samples are met or not.
+fn may_end(some: bool, item: Item) -> bool
+    ensures { result ≡ may_end some item }
+{
+    match (some, item) {
+        (true, Item::Greatest) => true,
+        (true, Item::RewardGreatest) => true,
+        (false, Item::Sum) => true,
+        (false, Item::RewardSum) => true,
+        _ => false,
+    }
+}
+
+// The most rewards that a network has, or the most queues.
+fn most_of(item: Item) -> usize
+    ensures { result ≡ most_of item }
+{
+    match item {
+        Item::RewardSum => 64,
+        _ => 32,
+    }
+}
+
+// Whether none of the figures is the sum of the queue or reward that a sum is of.
+fn is_unlike(before: &[Figure], sum: &Figure) -> bool
+    ensures { result ≡ list_all (λ e. not (is_alike e sum.now)) before.now }
+{
+    for figure in before {
+        if is_alike(figure, sum) {
+            return false;
+        }
+    }
+    true
+}
+
+// How many of the figures are sums of queues, or of rewards, as a sum is.
+fn number_of(before: &[Figure], sum: &Figure) -> usize
+    ensures { result ≡ count_by (λ e. same_sum e.item sum.now.item) before.now }
+{
+    let mut number = 0;
+    for figure in before {
+        if same_sum(figure.item, sum.item) {
+            number += 1;
+        }
+    }
+    number
+}
+
+// Whether a sum may come behind figures: its queue or reward is another one, and there may be one more.
+fn is_new(before: &[Figure], sum: &Figure) -> bool
+    ensures { result ≡ is_new before.now sum.now }
+{
+    is_unlike(before, sum) && number_of(before, sum) < most_of(sum.item)
+}
+
+// Whether a sum may stand behind figures and before others.
+fn sum_stands(met: u64, before: &[Figure], sum: &Figure, behind: &[Figure]) -> bool
+    ensures { result ≡ sum_stands met before.now sum.now behind.now }
+{
+    is_new(before, sum) && agrees(met, sum, behind)
+}
+
+// Whether a figure may stand behind others, of which this is the last, and before others.
+fn may_stand(
+    met: u64,
+    before: &[Figure],
+    last: &Figure,
+    figure: &Figure,
+    behind: &[Figure],
+) -> bool
+    ensures { result ≡ may_stand met before.now last.now figure.now behind.now }
+{
+    if !item_follows(0 < met, last.item, figure.item) {
+        return false;
+    }
+    if is_sum(figure.item) {
+        sum_stands(met, before, figure, behind)
+    } else {
+        extreme_follows(last, figure)
+    }
+}
+
+/// The first place of a figure that may not stand there, where so many samples are met; the place behind all where
+/// figures may not end so.
+pub(crate) fn figures_flaw(figures: &[Figure], met: u64) -> Option<usize>
+    ensures { result ≡ figures_flaw met figures.now }
+{
+    let [first, behind @ ..] = figures else {
+        return Some(0);
+    };
+    if !may_begin(first.item) || !sum_stands(met, &figures[..0], first, behind) {
+        return Some(0);
+    }
+    for place in 1..figures.len() {
+        let (last, figure) = (&figures[place - 1], &figures[place]);
+        if !may_stand(met, &figures[..place], last, figure, &figures[place + 1..]) {
+            return Some(place);
+        }
+    }
+    if may_end(0 < met, figures[figures.len() - 1].item) {
+        None
+    } else {
+        Some(figures.len())
+    }
+}

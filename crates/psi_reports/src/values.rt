@@ -1,0 +1,104 @@
+//! Which values the figures of a queue or a reward may have.
+
+ghost use Rattle.std.specs.Prelude.{◌≡◌, ◌≤◌, true, unsigned_abs};
+ghost use Rattle.psi_reports.specs.Sound.{is_customers, is_worth, is_extreme, is_ordered, extreme_follows, all_but_one, allows, agrees_with, agrees};
+
+use crate::figure::{Figure, Item};
+
+// The most customers that a queue holds.
+const MOST_CUSTOMERS: i128 = 65_535;
+
+// The greatest magnitude of a reward's value: 32 queues times 65,535 customers times a weight of 10^9.
+const MOST_WORTH: u128 = 2_097_120_000_000_000;
+
+// Whether it is a number of customers.
+fn is_customers(value: i128) -> bool
+    ensures { result ≡ is_customers value }
+{
+    0 <= value && value <= MOST_CUSTOMERS
+}
+
+// Whether it is what a reward may make of a state.
+fn is_worth(value: i128) -> bool
+    ensures { result ≡ is_worth value }
+{
+    value.unsigned_abs() <= MOST_WORTH
+}
+
+// Whether it is a value that the least or the greatest may have; a sum is neither.
+fn is_extreme(item: Item, value: i128) -> bool
+    ensures value { result ≡ is_extreme item value }
+    ensures few { result ≡ true → unsigned_abs value ≤ 2097120000000000 }
+{
+    match item {
+        Item::Least => is_customers(value),
+        Item::Greatest => is_customers(value),
+        Item::RewardLeast => is_worth(value),
+        Item::RewardGreatest => is_worth(value),
+        _ => false,
+    }
+}
+
+// Whether the greatest value isn't below the least, which stands before it.
+fn is_ordered(item: Item, last: i128, value: i128) -> bool
+    ensures { result ≡ is_ordered item last value }
+{
+    match item {
+        Item::Greatest => last <= value,
+        Item::RewardGreatest => last <= value,
+        _ => true,
+    }
+}
+
+/// Whether an extreme may follow a figure: it is of the same queue or reward, in its range, and not below the least
+/// where it is the greatest.
+pub(crate) fn extreme_follows(last: &Figure, figure: &Figure) -> bool
+    ensures value { result ≡ extreme_follows last.now figure.now }
+    ensures few { result ≡ true → unsigned_abs figure.now.value ≤ 2097120000000000 }
+{
+    last.name.bytes() == figure.name.bytes()
+        && is_extreme(figure.item, figure.value)
+        && is_ordered(figure.item, last.value, figure.value)
+}
+
+// What so many values come to, all of which are one but the last.
+fn all_but_one(met: u64, value: i128, last: i128) -> i128
+    requires value { unsigned_abs value ≤ 2097120000000000 }
+    requires last { unsigned_abs last ≤ 2097120000000000 }
+    ensures { result ≡ all_but_one met value last }
+{
+    met.saturating_sub(1) as i128 * value + last
+}
+
+// Whether so many values with this least and greatest may have the sum.
+fn allows(met: u64, low: i128, high: i128, sum: i128) -> bool
+    requires low { unsigned_abs low ≤ 2097120000000000 }
+    requires high { unsigned_abs high ≤ 2097120000000000 }
+    ensures { result ≡ allows met low high sum }
+{
+    all_but_one(met, low, high) <= sum && sum <= all_but_one(met, high, low)
+}
+
+// Whether a sum agrees with its extremes, where these may stand behind it.
+fn agrees_with(met: u64, sum: &Figure, least: &Figure, greatest: &Figure) -> bool
+    ensures { result ≡ agrees_with met sum.now least.now greatest.now }
+{
+    if extreme_follows(sum, least) && extreme_follows(least, greatest) {
+        return allows(met, least.value, greatest.value, sum.value);
+    }
+    true
+}
+
+/// Whether a sum agrees with the figures behind it: it is 0 where no sample is met, and else such as its extremes allow,
+/// where these may stand there.
+pub(crate) fn agrees(met: u64, sum: &Figure, behind: &[Figure]) -> bool
+    ensures { result ≡ agrees met sum.now behind.now }
+{
+    if met == 0 {
+        return sum.value == 0;
+    }
+    match behind {
+        [least, greatest, ..] => agrees_with(met, sum, least, greatest),
+        _ => true,
+    }
+}
