@@ -14,7 +14,8 @@ pub enum Status {
     Refused,
     /// A report is of another network than the first; the line that differs and its name are told.
     OtherNetwork,
-    /// With a report a count or a sum would be greater than a report may tell; its name is told.
+    /// With a report a count or a sum would be greater than a report may tell; the line of that number and its name are
+    /// told.
     TooLarge,
     /// A file couldn't be read; its name is told. It comes only where the shelf's count of that name rose.
     ReadFault,

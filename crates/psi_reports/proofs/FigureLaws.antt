@@ -129,7 +129,7 @@ module _ (trio : Trio) (p : ℤ → Bool) (is : IsTrio trio p) (name : List ℕ)
       rw (own-name name, is.high (greatest (z ∷ zs)), greatest-has (λ y. p y ≡ true) z zs passing, is.order (least (z ∷ zs)) (greatest (z ∷ zs)), ordered (least (z ∷ zs)) (greatest (z ∷ zs)) (allowed z zs).order) refl
 
   sum-agrees : (rest : List Figure) → agrees (suc (length zs)) sum_figure (least_figure ∷ greatest_figure ∷ rest) ≡ true
-  sum-agrees rest = rw (not-none (length zs), least-follows, greatest-follows) (allows-allowed (length zs) (least (z ∷ zs)) (greatest (z ∷ zs)) (sum_of (z ∷ zs)) (allowed z zs))
+  sum-agrees rest = rw (not-none (length zs), is.first, is.second, least-follows, greatest-follows) (allows-allowed (length zs) (least (z ∷ zs)) (greatest (z ∷ zs)) (sum_of (z ∷ zs)) (allowed z zs))
 
   sum-may : (before : List Figure) (e : Figure) (rest : List Figure) → item_follows true e.item trio.sum ≡ true → is_new before sum_figure ≡ true
       → may_stand (suc (length zs)) before e sum_figure (least_figure ∷ greatest_figure ∷ rest) ≡ true

@@ -127,9 +127,13 @@ all_but_one n a b = pos (n - 1) *ℤ a +ℤ b
 abbrev pub allows : ℕ → ℤ → ℤ → ℤ → Bool
 allows n low high sum = int_le (all_but_one n low high) sum && int_le sum (all_but_one n high low)
 
--- a sum agrees with its extremes, where these may stand behind it
+-- two figures are the extremes of a sum, and may stand behind it
+abbrev pub are_extremes : Figure → Figure → Figure → Bool
+are_extremes f l g = (item_follows true f.item l.item && item_follows true l.item g.item) && (extreme_follows f l && extreme_follows l g)
+
+-- a sum agrees with its extremes, where two figures are these
 abbrev pub agrees_with : ℕ → Figure → Figure → Figure → Bool
-agrees_with n f l g = if extreme_follows f l && extreme_follows l g then allows n l.value g.value f.value else true
+agrees_with n f l g = if are_extremes f l g then allows n l.value g.value f.value else true
 
 -- and with the figures that stand behind it, of which the first two may be its extremes
 abbrev pub agrees_behind : ℕ → Figure → List Figure → Bool

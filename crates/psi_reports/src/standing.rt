@@ -1,12 +1,12 @@
 //! Which figures may stand one behind another.
 
-ghost use Rattle.std.specs.Prelude.{◌≡◌, not, count_by};
+ghost use Rattle.std.specs.Prelude.{◌≡◌, ◌≤◌, true, not, count_by, unsigned_abs};
 ghost use Rattle.std.specs.List.{list_all};
-ghost use Rattle.psi_reports.specs.Sound.{item_follows, may_begin, may_end, same_sum, is_alike, most_of, is_new, sum_stands, may_stand, figures_flaw};
+ghost use Rattle.psi_reports.specs.Sound.{item_follows, may_begin, may_end, same_sum, is_alike, most_of, is_new, are_extremes, agrees_with, agrees, sum_stands, may_stand, figures_flaw};
 
 use crate::figure::{Figure, Item};
 use crate::figures::{is_alike, is_sum, same_sum};
-use crate::values::{agrees, extreme_follows};
+use crate::values::{allows, extreme_follows};
 
 // Whether an item may follow another, where samples are met or not.
 fn item_follows(some: bool, last: Item, item: Item) -> bool
@@ -90,6 +90,41 @@ fn is_new(before: &[Figure], sum: &Figure) -> bool
     ensures { result ≡ is_new before.now sum.now }
 {
     is_unlike(before, sum) && number_of(before, sum) < most_of(sum.item)
+}
+
+// Whether two figures are the extremes of a sum, and may stand behind it.
+fn are_extremes(sum: &Figure, least: &Figure, greatest: &Figure) -> bool
+    ensures value { result ≡ are_extremes sum.now least.now greatest.now }
+    ensures few { result ≡ true → (unsigned_abs least.now.value ≤ 2097120000000000) × (unsigned_abs greatest.now.value ≤ 2097120000000000) }
+{
+    item_follows(true, sum.item, least.item)
+        && item_follows(true, least.item, greatest.item)
+        && extreme_follows(sum, least)
+        && extreme_follows(least, greatest)
+}
+
+// Whether a sum agrees with its extremes, where two figures are these.
+fn agrees_with(met: u64, sum: &Figure, least: &Figure, greatest: &Figure) -> bool
+    ensures { result ≡ agrees_with met sum.now least.now greatest.now }
+{
+    if are_extremes(sum, least, greatest) {
+        return allows(met, least.value, greatest.value, sum.value);
+    }
+    true
+}
+
+// Whether a sum agrees with the figures behind it: it is 0 where no sample is met, and else such as its extremes allow,
+// where these may stand there.
+fn agrees(met: u64, sum: &Figure, behind: &[Figure]) -> bool
+    ensures { result ≡ agrees met sum.now behind.now }
+{
+    if met == 0 {
+        return sum.value == 0;
+    }
+    match behind {
+        [least, greatest, ..] => agrees_with(met, sum, least, greatest),
+        _ => true,
+    }
 }
 
 // Whether a sum may stand behind figures and before others.

@@ -1,7 +1,7 @@
 //! Which values the figures of a queue or a reward may have.
 
 ghost use Rattle.std.specs.Prelude.{◌≡◌, ◌≤◌, true, unsigned_abs};
-ghost use Rattle.psi_reports.specs.Sound.{is_customers, is_worth, is_extreme, is_ordered, extreme_follows, all_but_one, allows, agrees_with, agrees};
+ghost use Rattle.psi_reports.specs.Sound.{is_customers, is_worth, is_extreme, is_ordered, extreme_follows, all_but_one, allows};
 
 use crate::figure::{Figure, Item};
 
@@ -70,35 +70,11 @@ fn all_but_one(met: u64, value: i128, last: i128) -> i128
     met.saturating_sub(1) as i128 * value + last
 }
 
-// Whether so many values with this least and greatest may have the sum.
-fn allows(met: u64, low: i128, high: i128, sum: i128) -> bool
+/// Whether so many values with this least and greatest may have the sum.
+pub(crate) fn allows(met: u64, low: i128, high: i128, sum: i128) -> bool
     requires low { unsigned_abs low ≤ 2097120000000000 }
     requires high { unsigned_abs high ≤ 2097120000000000 }
     ensures { result ≡ allows met low high sum }
 {
     all_but_one(met, low, high) <= sum && sum <= all_but_one(met, high, low)
-}
-
-// Whether a sum agrees with its extremes, where these may stand behind it.
-fn agrees_with(met: u64, sum: &Figure, least: &Figure, greatest: &Figure) -> bool
-    ensures { result ≡ agrees_with met sum.now least.now greatest.now }
-{
-    if extreme_follows(sum, least) && extreme_follows(least, greatest) {
-        return allows(met, least.value, greatest.value, sum.value);
-    }
-    true
-}
-
-/// Whether a sum agrees with the figures behind it: it is 0 where no sample is met, and else such as its extremes allow,
-/// where these may stand there.
-pub(crate) fn agrees(met: u64, sum: &Figure, behind: &[Figure]) -> bool
-    ensures { result ≡ agrees met sum.now behind.now }
-{
-    if met == 0 {
-        return sum.value == 0;
-    }
-    match behind {
-        [least, greatest, ..] => agrees_with(met, sum, least, greatest),
-        _ => true,
-    }
 }
