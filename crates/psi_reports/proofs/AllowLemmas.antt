@@ -1,5 +1,5 @@
 -- The sum of values is such as their least and their greatest allow.
-use Rattle.std.specs.Prelude.{◌≡◌, ℕ, zero, suc, ◌+◌, ◌-◌, ℤ, pos, ◌+ℤ◌, ◌*ℤ◌, ◌≤ℤ◌, List, [], ◌∷◌, length, int_le, true, refl}
+use Rattle.std.specs.Prelude.{◌≡◌, ℕ, zero, suc, ◌-◌, ℤ, pos, ◌+ℤ◌, ◌*ℤ◌, ◌≤ℤ◌, List, [], ◌∷◌, length, int_le, true, refl}
 use Rattle.std.specs.Int.{int_min, int_max}
 use Rattle.std.proofs.Common.{arith}
 use Rattle.std.proofs.lemmas.Int.{ints, clamps, by_lt_z}
@@ -8,13 +8,13 @@ use Rattle.psi_reward.specs.Ranges.{least, greatest}
 use Rattle.psi_report.specs.Quantities.{sum_of}
 use Rattle.psi_reports.specs.Sound.{allows}
 
-times-more : (k : ℕ) (a : ℤ) → pos (suc k) *ℤ a ≡ a +ℤ (pos k *ℤ a)
+pub times-more : (k : ℕ) (a : ℤ) → pos (suc k) *ℤ a ≡ a +ℤ (pos k *ℤ a)
 times-more k a = (let e = suc_ℤ-*ℤ (pos k) a in omega (arith, ints))
 
-times-none : (a : ℤ) → pos 0 *ℤ a ≡ pos 0
+pub times-none : (a : ℤ) → pos 0 *ℤ a ≡ pos 0
 times-none a = omega (arith, ints)
 
-times-rises : (k : ℕ) (a b : ℤ) → a ≤ℤ b → (pos k *ℤ a) ≤ℤ (pos k *ℤ b)
+pub times-rises : (k : ℕ) (a b : ℤ) → a ≤ℤ b → (pos k *ℤ a) ≤ℤ (pos k *ℤ b)
 times-rises zero a b rise = rw (times-none a, times-none b) (omega (arith, ints))
 times-rises (suc k) a b rise = rw (times-more k a, times-more k b) (let rest = times-rises k a b rise in omega (arith, ints))
 

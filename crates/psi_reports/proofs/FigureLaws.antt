@@ -1,8 +1,8 @@
 -- The figures of samples may stand one behind another.
-use Rattle.std.specs.Prelude.{◌≡◌, ℕ, zero, suc, ◌+◌, ◌≤◌, ◌<◌, ℤ, pos, List, [], ◌∷◌, ◌++◌, map, length, not, Bool, true, false, ◌&&◌, ◌==◌, cond, nat_lt, int_le, count_by, Option, None, All, refl}
+use Rattle.std.specs.Prelude.{◌≡◌, ℕ, suc, ◌+◌, ◌≤◌, ℤ, pos, List, [], ◌∷◌, ◌++◌, map, length, not, Bool, true, false, ◌&&◌, ◌==◌, cond, nat_lt, int_le, count_by, None, All, refl}
 use Rattle.std.specs.List.{list_all, flat_map}
 use Rattle.std.specs.Str.{bytes_eq}
-use Rattle.std.proofs.Common.{sym, ap, ◌∙◌, subst, arith}
+use Rattle.std.proofs.Common.{sym, ◌∙◌, subst, arith}
 use Rattle.std.proofs.lemmas.Bool.{lt-ltb, ne_eqb}
 use Rattle.std.proofs.lemmas.List.{length-map}
 use Rattle.std.proofs.lemmas.List.Elements.{All-head, All-tail}
@@ -12,10 +12,10 @@ use Rattle.std.proofs.lemmas.Slice.Eq.{bytes_eq-Decides}
 use Rattle.psi_reward.specs.Ranges.{least, greatest}
 use Rattle.psi_report.specs.Quantities.{Quantity, sum_of}
 use Rattle.psi_reports.specs.declared.figure.Item.{Item}
-use Rattle.psi_reports.specs.declared.figure.Item.TheVariants.{Sum, Least, Greatest, RewardSum, RewardLeast, RewardGreatest}
+use Rattle.psi_reports.specs.declared.figure.Item.TheVariants.{Sum, Greatest, RewardSum}
 use Rattle.psi_reports.specs.declared.figure.Figure.{Figure}
 use Rattle.psi_reports.specs.Outcomes.{Trio, queue_trio, reward_trio, figure, quantity_figures}
-use Rattle.psi_reports.specs.Sound.{item_follows, is_sum, may_end, same_sum, is_alike, most_of, is_new, is_customers, is_worth, is_extreme, is_ordered, extreme_follows, allows, agrees, sum_stands, may_stand, flaw_behind, figures_flaw}
+use Rattle.psi_reports.specs.Sound.{item_follows, is_sum, may_end, same_sum, is_alike, most_of, is_new, is_customers, is_worth, is_extreme, is_ordered, extreme_follows, agrees, may_stand, flaw_behind, figures_flaw}
 use Rattle.psi_reports.proofs.AllowLemmas.{allowed, ordered, allows-allowed}
 use Rattle.psi_reports.proofs.WorthLemmas.{least-has, greatest-has}
 use Rattle.psi_reports.proofs.SampleLemmas.{ArePassing, AreApart, AreShown}
@@ -60,9 +60,10 @@ unnamed-own : (item : Item) (before : List Figure) (name : List ℕ) (z : ℤ) (
     → AreUnnamed item before qs → AreUnnamed item (before ++ figure item name z ∷ []) qs
 unnamed-own item before name z [] apart names = tt
 unnamed-own item before name z (q ∷ qs) apart names =
-    let differ : bytes_eq name q.name ≡ false = All-head (λ (r : Quantity). bytes_eq name r.name ≡ false) q qs apart in
-    (all-push (λ e. not (is_alike e (figure item q.name (pos 0)))) before (figure item name z) names.0 (unlike (same_sum item item) (bytes_eq name q.name) differ),
-    unnamed-own item before name z qs (All-tail (λ (r : Quantity). bytes_eq name r.name ≡ false) q qs apart) names.1)
+    let differ : bytes_eq name q.name ≡ false = All-head (λ (r : Quantity). bytes_eq name r.name ≡ false) q qs apart in (
+      all-push (λ e. not (is_alike e (figure item q.name (pos 0)))) before (figure item name z) names.0 (unlike (same_sum item item) (bytes_eq name q.name) differ),
+      unnamed-own item before name z qs (All-tail (λ (r : Quantity). bytes_eq name r.name ≡ false) q qs apart) names.1,
+    )
   where
     unlike : (s t : Bool) → t ≡ false → not (s && t) ≡ true
     unlike true t is = rw is refl
@@ -179,7 +180,7 @@ module _ (x : List ℕ) (xs : List (List ℕ)) where
   quantity-behind trio p is q passing before e rest next new =
       let long : length (map q.value xs) ≡ length xs = length-map xs q.value in
       subst (λ (n : ℕ). flaw_behind (suc n) before e (quantity_figures trio (x ∷ xs) q ++ rest)
-          ≡ flaw_behind (suc n) (with_trio trio before q x xs) (figure trio.greatest q.name (greatest (map q.value (x ∷ xs)))) rest) long
+      ≡ flaw_behind (suc n) (with_trio trio before q x xs) (figure trio.greatest q.name (greatest (map q.value (x ∷ xs)))) rest) long
       (trio-behind trio p is q.name (q.value x) (map q.value xs) passing before e rest next new)
 
   rewards-behind : (before : List Figure) (e : Figure) (qs : List Quantity) → item_follows true e.item RewardSum ≡ true → may_end true e.item ≡ true

@@ -1,7 +1,7 @@
 -- Figures, one after another as a loop takes them.
 use Rattle.std.specs.Prelude.{◌≡◌, ℕ, zero, suc, ◌+◌, ◌<◌, ◌≤◌, ◌⊎◌, List, [], ◌∷◌, length, take, drop, min, pos, true, false, Some, None, refl}
 use Rattle.std.proofs.Common.{get_or, ap, sym, ◌∙◌, inl, inr, arith}
-use Rattle.std.proofs.lemmas.Bool.{cases_Bool, cases_order}
+use Rattle.std.proofs.lemmas.Bool.{cases_order}
 use Rattle.std.proofs.lemmas.List.{drop_more, drop_all, get_or_default}
 use Rattle.psi_report.specs.Joined.{paired}
 use Rattle.psi_report.proofs.PairLemmas.{paired_all, length_paired, get_or-paired}

@@ -21,4 +21,5 @@ mod AllowLemmas
 mod WorthLemmas
 pub mod SampleLemmas
 mod FigureLaws
+mod ReachLemmas
 pub mod SoundLaws

@@ -1,5 +1,5 @@
 -- What holds of the horizons, the names and the values of samples of a network.
-use Rattle.std.specs.Prelude.{◌≡◌, ℕ, suc, ◌+◌, ◌*◌, ◌^◌, ◌<◌, ◌≤◌, ◌⊎◌, ◌≤ℤ◌, ℤ, pos, List, [], ◌∷◌, ◌++◌, map, length, All, int_le, unsigned_abs, count_ones, slice_index, Bool, true, false, refl}
+use Rattle.std.specs.Prelude.{◌≡◌, ℕ, suc, ◌+◌, ◌*◌, ◌^◌, ◌<◌, ◌≤◌, ◌≤ℤ◌, ℤ, pos, List, [], ◌∷◌, ◌++◌, map, length, All, int_le, unsigned_abs, count_ones, slice_index, Bool, true, false, refl}
 use Rattle.std.specs.Int.Count.{ones}
 use Rattle.std.specs.Str.{bytes_eq}
 use Rattle.std.proofs.Common.{ap, sym, ◌∙◌, subst, inl, inr, arith}
@@ -91,19 +91,21 @@ customers-are n few = rw (ordered (pos 0) (pos n) (omega (arith, ints)), ordered
 queues-pass : (caps : List ℕ) (states : List (List ℕ)) → AreCapacities caps → All (λ x. IsBelow x caps) states → (i : ℕ) (queues : List Queue) → ArePassing is_customers states (queues_from i queues)
 unfolding queues_from
 queues-pass caps states are below i [] = tt
-queues-pass caps states are below i (queue ∷ queues) =
-    (All-map (λ z. is_customers z ≡ true) (λ x. pos (slice_index x i)) states
-    (All-weaker (λ x. IsBelow x caps) (λ x. is_customers (pos (slice_index x i)) ≡ true) (λ x one. customers-are (slice_index x i) (held-few caps x i are one)) states below),
-    queues-pass caps states are below (i + 1) queues)
+queues-pass caps states are below i (queue ∷ queues) = (
+  All-map (λ z. is_customers z ≡ true) (λ x. pos (slice_index x i)) states
+      (All-weaker (λ x. IsBelow x caps) (λ x. is_customers (pos (slice_index x i)) ≡ true) (λ x one. customers-are (slice_index x i) (held-few caps x i are one)) states below),
+  queues-pass caps states are below (i + 1) queues,
+)
 
 rewards-pass : (caps : List ℕ) (states : List (List ℕ)) → AreCapacities caps → All (λ x. IsBelow x caps) states → (rewards : List NamedReward) → All (λ r. IsReward caps r.kind) rewards
     → ArePassing is_worth states (map (λ r. record { name = r.name; value = worth_of r.kind }) rewards)
 rewards-pass caps states are below [] all = tt
 rewards-pass caps states are below (r ∷ rewards) all =
-    let own : IsReward caps r.kind = All-head (λ (r : NamedReward). IsReward caps r.kind) r rewards all in
-    (All-map (λ z. is_worth z ≡ true) (worth_of r.kind) states
-    (All-weaker (λ x. IsBelow x caps) (λ x. is_worth (worth_of r.kind x) ≡ true) (λ x one. worth-few caps r.kind x are own one) states below),
-    rewards-pass caps states are below rewards (All-tail (λ (r : NamedReward). IsReward caps r.kind) r rewards all))
+    let own : IsReward caps r.kind = All-head (λ (r : NamedReward). IsReward caps r.kind) r rewards all in (
+      All-map (λ z. is_worth z ≡ true) (worth_of r.kind) states
+          (All-weaker (λ x. IsBelow x caps) (λ x. is_worth (worth_of r.kind x) ≡ true) (λ x one. worth-few caps r.kind x are own one) states below),
+      rewards-pass caps states are below rewards (All-tail (λ (r : NamedReward). IsReward caps r.kind) r rewards all),
+    )
 
 -- ---- names
 
@@ -169,7 +171,7 @@ module _ (net : Network) (outcomes : List Outcome) (are : AreOf net outcomes) wh
 
 -- ---- as samples of which a report is read
 
-ordered-back : (low high : ℤ) → int_le low high ≡ true → low ≤ℤ high
+pub ordered-back : (low high : ℤ) → int_le low high ≡ true → low ≤ℤ high
 ordered-back low high is = grind (arith, ints)
 
 customers-small : (z : ℤ) → is_customers z ≡ true → IsSmall z

@@ -1,5 +1,5 @@
 -- How much a reward makes of a state at most.
-use Rattle.std.specs.Prelude.{◌≡◌, ℕ, zero, suc, ◌+◌, ◌*◌, ◌<◌, ◌≤◌, ℤ, pos, ◌+ℤ◌, List, [], ◌∷◌, ◌++◌, length, map, count_by, nat_lt, slice_index, slice_index_or, All, unsigned_abs, int_lt, Bool, true, false, None, refl}
+use Rattle.std.specs.Prelude.{◌≡◌, ℕ, suc, ◌+◌, ◌*◌, ◌≤◌, ℤ, pos, ◌+ℤ◌, List, [], ◌∷◌, ◌++◌, length, map, nat_lt, slice_index, slice_index_or, All, unsigned_abs, int_lt, Bool, true, false, None, refl}
 use Rattle.std.specs.List.{flat_map}
 use Rattle.std.proofs.Common.{inl, inr, arith}
 use Rattle.std.proofs.lemmas.Bool.{cases_order, cond_both, le-leb}
@@ -17,7 +17,7 @@ use Rattle.psi_reward.specs.declared.kinds.RewardKind.TheVariants.{Linear, Table
 use Rattle.psi_reward.specs.Held.{held}
 use Rattle.psi_reward.specs.Sums.{weighted, entry, added}
 use Rattle.psi_reward.specs.Ranges.{least, greatest}
-use Rattle.psi_reward.specs.Refusing.{queues_of, numbers_of, IsSmall, refusal_of, first_refusal, is_none_listed, has_lengths}
+use Rattle.psi_reward.specs.Refusing.{queues_of, IsSmall, first_refusal, is_none_listed, has_lengths}
 use Rattle.psi_reward.specs.Worth.{worth_of}
 use Rattle.psi_network.specs.Valid.{IsReward}
 use Rattle.psi_reports.specs.Sound.{is_worth}

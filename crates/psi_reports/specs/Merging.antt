@@ -1,5 +1,5 @@
 -- The report of two lists of samples of one network, from the report of each.
-use Rattle.std.specs.Prelude.{◌≡◌, ℕ, ◌+◌, ◌*◌, ◌^◌, ℤ, ◌+ℤ◌, List, [], ◌∷◌, ◌++◌, length, filter, Bool, true, false, ◌&&◌, ◌==◌, nat_lt, Option, Some, None, Result, Ok, Err, if◌then◌else◌}
+use Rattle.std.specs.Prelude.{◌≡◌, ℕ, ◌+◌, ◌*◌, ◌^◌, ℤ, ◌+ℤ◌, List, [], ◌∷◌, ◌++◌, length, filter, Bool, ◌&&◌, ◌==◌, nat_lt, Option, Some, None, Result, Ok, Err, if◌then◌else◌}
 use Rattle.std.specs.Int.{int_min, int_max}
 use Rattle.std.specs.Int.RustNames.{unsigned_abs}
 use Rattle.std.specs.List.{list_all}
@@ -81,7 +81,7 @@ large_figure k (f ∷ fs) = if is_value f.value then large_figure (k + 1) fs els
 unfoldable pub too_large : Contents → Contents → Option ℕ
 too_large b c =
     if is_count c.samples then
-      if is_count c.met && counts_fit c.horizons then figures_line (5 + length b.horizons) (large_figure 0 c.figures) else Some 3
+    if is_count c.met && counts_fit c.horizons then figures_line (5 + length b.horizons) (large_figure 0 c.figures) else Some 3
     else Some 2
 
 -- the report of both, unless a number is too large

@@ -1,11 +1,13 @@
 -- What the rows of a report keep: counts that add up, horizons that ascend, and the figures of queues and rewards one after another, each sum within
 -- what its extremes allow.
-use Rattle.std.specs.Prelude.{◌≡◌, ℕ, ◌+◌, ◌-◌, ◌^◌, ℤ, pos, ◌+ℤ◌, ◌*ℤ◌, List, [], ◌∷◌, ◌++◌, length, count_by, min, not, Bool, true, false, ◌&&◌, ◌==◌, nat_le, nat_lt, int_le, unsigned_abs, Option, Some, None, if◌then◌else◌}
+use Rattle.std.specs.Prelude.{◌≡◌, ℕ, ◌+◌, ◌-◌, ◌^◌, ℤ, pos, ◌+ℤ◌, ◌*ℤ◌, ◌≤ℤ◌, ◌<◌, List, [], ◌∷◌, ◌++◌, length, count_by, min, not, Bool, true, false, ◌&&◌, ◌==◌, nat_le, nat_lt, int_le, unsigned_abs, Option, Some, None, if◌then◌else◌}
 use Rattle.std.specs.Int.{is_power_of_two}
 use Rattle.std.specs.List.{list_all}
 use Rattle.std.specs.Str.{bytes_eq}
+use Rattle.psi_reward.specs.Ranges.{least, greatest}
 use Rattle.psi_state.specs.declared.Outcome.{Outcome}
 use Rattle.psi_network.specs.Network.{Network}
+use Rattle.psi_report.specs.Quantities.{sum_of}
 use Rattle.psi_reports.specs.declared.figure.Item.{Item}
 use Rattle.psi_reports.specs.declared.figure.Item.TheVariants.{Sum, Least, Greatest, RewardSum, RewardLeast, RewardGreatest}
 use Rattle.psi_reports.specs.declared.figure.HorizonCount.{HorizonCount}
@@ -126,6 +128,17 @@ all_but_one n a b = pos (n - 1) *ℤ a +ℤ b
 -- n values of which low is the least and high the greatest may have a sum: it isn't below that of one high value and low ones, nor above that of one low value and high ones
 abbrev pub allows : ℕ → ℤ → ℤ → ℤ → Bool
 allows n low high sum = int_le (all_but_one n low high) sum && int_le sum (all_but_one n high low)
+
+-- n values with this least, this greatest and this sum
+pub record AreSummed (n : ℕ) (low high sum : ℤ) (values : List ℤ) : Type 0 where
+  pub count : length values ≡ n
+  pub low_is : least values ≡ low
+  pub high_is : greatest values ≡ high
+  pub sum_is : sum_of values ≡ sum
+
+-- there are such values wherever they are allowed
+abbrev pub SumsAreReached : Type 0
+SumsAreReached = (n : ℕ) (low high sum : ℤ) → 0 < n → low ≤ℤ high → allows n low high sum ≡ true → (values : List ℤ) × AreSummed n low high sum values
 
 -- two figures are the extremes of a sum, and may stand behind it
 abbrev pub are_extremes : Figure → Figure → Figure → Bool

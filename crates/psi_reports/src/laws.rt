@@ -4,7 +4,7 @@ ghost use Rattle.psi_reports.specs.Outcomes.{ReportIsText};
 ghost use Rattle.psi_reports.specs.Reading.{ReadIsText, TextIsRead};
 ghost use Rattle.psi_reports.specs.Small.{ReportIsRead};
 ghost use Rattle.psi_reports.specs.Merging.{ReportsAreMerged};
-ghost use Rattle.psi_reports.specs.Sound.{ReportIsSound};
+ghost use Rattle.psi_reports.specs.Sound.{ReportIsSound, SumsAreReached};
 
 /// The report of samples of a network is the text of what it tells.
 pub fn report_is_text()
@@ -33,4 +33,10 @@ pub fn reports_are_merged()
 /// [`Report::flaw`](crate::Report::flaw) answers none of it.
 pub fn report_is_sound()
     ensures { ReportIsSound }
+{}
+
+/// The judgement of a sum is exact: where so many values with this least and this greatest may have it, there are values
+/// that do.
+pub fn sums_are_reached()
+    ensures { SumsAreReached }
 {}

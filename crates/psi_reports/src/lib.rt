@@ -27,7 +27,10 @@ mod values;
 
 pub use error::{MergeError, ReadError};
 pub use figure::{Figure, HorizonCount, Item};
-pub use laws::{report_is_read, report_is_sound, report_is_text, reports_are_merged, text_is_read};
+pub use laws::{
+    report_is_read, report_is_sound, report_is_text, reports_are_merged, sums_are_reached,
+    text_is_read,
+};
 pub use psi_network::OutOfMemory;
 pub use reading::read;
 pub use report::Report;

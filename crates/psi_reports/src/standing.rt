@@ -135,13 +135,7 @@ fn sum_stands(met: u64, before: &[Figure], sum: &Figure, behind: &[Figure]) -> b
 }
 
 // Whether a figure may stand behind others, of which this is the last, and before others.
-fn may_stand(
-    met: u64,
-    before: &[Figure],
-    last: &Figure,
-    figure: &Figure,
-    behind: &[Figure],
-) -> bool
+fn may_stand(met: u64, before: &[Figure], last: &Figure, figure: &Figure, behind: &[Figure]) -> bool
     ensures { result ≡ may_stand met before.now last.now figure.now behind.now }
 {
     if !item_follows(0 < met, last.item, figure.item) {
