@@ -7,10 +7,9 @@ use Rattle.psi_state.specs.declared.Outcome.{Outcome}
 use Rattle.psi_network.specs.Network.{Network}
 use Rattle.psi_report.specs.Report.{report_text}
 use Rattle.psi_reports.specs.Outcomes.{contents_of}
-use Rattle.psi_reports.proofs.SmallLemmas.{report-is-read}
 use Rattle.psi_reports.proofs.OutcomesLemmas.{report_text-contents}
-use Rattle.psi_reports.proofs.MergeLaws.{reports-merged}
-use Rattle.psi_reports.proofs.SampleLemmas.{few-samples, of-left, of-right}
+use Rattle.psi_reports.proofs.SampleLemmas.{of-left, of-right}
+use Rattle.psi_reports.proofs.SampleLaws.{samples-read, samples-merged}
 use Rattle.psi_reports.proofs.SoundLaws.{report-sound}
 use Rattle.psi_merge.specs.declared.status.Status.{Status}
 use Rattle.psi_merge.specs.declared.status.Status.TheVariants.{OutOfMemory}
@@ -40,7 +39,7 @@ few-right net outcomes others are = record {
 report-found : (net : Network) (outcomes : List Outcome) → AreFewOf net outcomes → length (report_text net outcomes) ≤ 1048576 → report_in (report_text net outcomes) ≡ Ok (contents_of net outcomes)
 unfolding report_in
 report-found net outcomes are short =
-    rw (le-leb (length (report_text net outcomes)) 1048576 short, report-is-read net outcomes (few-samples net outcomes are.samples are.few), report-sound net outcomes are.samples) refl
+    rw (le-leb (length (report_text net outcomes)) 1048576 short, samples-read net outcomes are.samples are.few, report-sound net outcomes are.samples) refl
 
 report-told : (net : Network) (told : List ℕ → Option (List ℕ)) (word : List ℕ) (outcomes : List Outcome) → AreFewOf net outcomes → told word ≡ Some (report_text net outcomes)
     → length (report_text net outcomes) ≤ 1048576 → report_at told word ≡ Some (Ok (contents_of net outcomes))
@@ -57,7 +56,7 @@ files-merged net told (word ∷ words) (outcomes ∷ lists) before are samples =
     let both : AreFewOf net ((before ++ outcomes) ++ all_of lists) = subst (AreFewOf net) joined samples in
     let first = few-left net (before ++ outcomes) (all_of lists) both in
     let own = few-right net before outcomes first in
-    rw (report-told net told word outcomes own are.0 are.1, reports-merged net before outcomes (few-samples net (before ++ outcomes) first.samples first.few))
+    rw (report-told net told word outcomes own are.0 are.1, samples-merged net before outcomes first.samples first.few)
     (files-merged net told words lists (before ++ outcomes) are.2 both ∙ ap (λ os. Some (Ok (contents_of net os))) (sym joined))
 
 whole-merged : (net : Network) (told : List ℕ → Option (List ℕ)) (words : List (List ℕ)) (lists : List (List Outcome)) → are_files words ≡ true → AreReports net told words lists

@@ -82,10 +82,10 @@ AreReports net told words lists = ⊥
 abbrev pub all_of : List (List Outcome) → List Outcome
 all_of lists = flat_map (λ outcomes. outcomes) lists
 
--- less than 2^32 samples of a network that a file may describe
+-- less than 2^64 samples of a network that a file may describe
 pub record AreFewOf (net : Network) (outcomes : List Outcome) : Type 0 where
   pub samples : AreOf net outcomes
-  pub few : length outcomes < 2 ^ 32
+  pub few : length outcomes < 2 ^ 64
 
 -- the call is done, and out grew by the report of all lists
 pub record IsMerged (call : Call) (result : Status) (net : Network) (lists : List (List Outcome)) : Type 0 where

@@ -33,10 +33,11 @@ use std::alloc::Global;
 /// queue or the reward of the first file's sum at its place; where a number would be too large, the line of that number.
 /// CAUSE and NAME are `0 TooLong`, `1 Row` where a line is no row of a report, `2 Text` where each line is a row but the
 /// text isn't that of the report that they tell, and `3 Samples` where the rows aren't those of samples of a network:
-/// horizons are powers of two of at most 2^22 that ascend, their counts are those of the samples that are met, there are
-/// 1 to 32 queues and at most 64 rewards, each kind with names of its own, queues hold 0 to 65,535 customers, rewards come
-/// to a magnitude of at most 2,097,120,000,000,000, and each sum is one that so many values with this least and this
-/// greatest may have. A count of 2^64 or more, or a sum whose magnitude is 10^37 or more, is too large.
+/// horizons are powers of two of at most 2^22 that ascend, their counts are those of the samples that are met, there
+/// are 1 to 32 queues and at most 64 rewards, of which no two of a kind have one name, queues hold 0 to 65,535
+/// customers, rewards come to a magnitude of at most 2,097,120,000,000,000, and each sum is one that so many values with
+/// this least and this greatest may have. A count of 2^64 or more, or a sum whose magnitude is 10^37 or more, is too
+/// large.
 pub(crate) fn run<F: Shelf, O: Sink, E: Sink>(
     alloc: Global,
     words: &[String],
@@ -52,8 +53,8 @@ pub(crate) fn run<F: Shelf, O: Sink, E: Sink>(
       err = record { before = E.held err.old; after = E.held err.new; faults_before = E.faults err.old; faults_after = E.faults err.new };
     }) result }
 
-    // The headline: the reports of lists of samples of one network that a file may describe are merged into the report of all
-    // lists, one behind the other.
+    // The headline: the reports of lists of samples of one network that a file may describe are merged into the report
+    // of all lists, one behind the other.
     ensures headline { MergesReports (record {
       words = map string_bytes words.now;
       shelf = record { told = F.told shelf.old; faults_before = F.faults shelf.old; faults_after = F.faults shelf.new };

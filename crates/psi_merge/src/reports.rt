@@ -19,8 +19,9 @@ pub enum Cause {
     Row,
     /// Each line is a row, but the text isn't that of the report that the rows tell.
     Text,
-    /// The rows aren't those of samples of a network: counts don't add up, horizons don't ascend or aren't powers of two,
-    /// a figure is missing, out of its range or of a name that stood before, or a sum isn't one that its extremes allow.
+    /// The rows aren't those of samples of a network: counts don't add up, horizons don't ascend or aren't powers of
+    /// two, a figure is missing, out of its range or of a name that stood before, or a sum isn't one that its extremes
+    /// allow.
     Samples,
 }
 

@@ -22,4 +22,5 @@ mod WorthLemmas
 pub mod SampleLemmas
 mod FigureLaws
 mod ReachLemmas
+pub mod SampleLaws
 pub mod SoundLaws

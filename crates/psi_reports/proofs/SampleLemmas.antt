@@ -22,10 +22,12 @@ use Rattle.psi_network.proofs.QueueLemmas.{capacities_kept}
 use Rattle.psi_reward.specs.Worth.{worth_of}
 use Rattle.psi_report.specs.Samples.{IsHorizon, IsSampleOf, met_states, met_horizons}
 use Rattle.psi_report.specs.Quantities.{Quantity, queues_from, queue_quantities, reward_quantities}
-use Rattle.psi_reports.specs.Small.{IsSmall, IsMeasured, AreSamples}
+use Rattle.psi_reports.specs.Outcomes.{contents_of}
+use Rattle.psi_reports.specs.Reading.{IsReport}
 use Rattle.psi_reports.specs.Samples.{AreOf}
 use Rattle.psi_reports.specs.Sound.{is_horizon, is_customers, is_worth}
 use Rattle.psi_reports.proofs.AllowLemmas.{ordered}
+use Rattle.psi_reports.proofs.SmallLemmas.{IsMost, IsMostAt, told-fit}
 use Rattle.psi_reports.proofs.WorthLemmas.{held-few, worth-few}
 
 -- ---- horizons
@@ -169,44 +171,39 @@ module _ (net : Network) (outcomes : List Outcome) (are : AreOf net outcomes) wh
     passing = rewards-pass (caps_of net) (met_states outcomes) (capacities_kept net.queues are.network.queues) (met-below net outcomes are.samples) net.rewards are.network.rewards;
   }
 
--- ---- as samples of which a report is read
+-- ---- what is told of them can be read
 
 pub ordered-back : (low high : ℤ) → int_le low high ≡ true → low ≤ℤ high
 ordered-back low high is = grind (arith, ints)
 
-customers-small : (z : ℤ) → is_customers z ≡ true → IsSmall z
-customers-small z is =
+customers-most : (z : ℤ) → is_customers z ≡ true → IsMost 2097120000000000 z
+customers-most z is =
     let parts = and_parts (int_le (pos 0) z) (int_le z (pos 65535)) is in
     let low : pos 0 ≤ℤ z = ordered-back (pos 0) z parts.0 in
     let high : z ≤ℤ pos 65535 = ordered-back z (pos 65535) parts.1 in
     omega (arith, ints)
 
-worth-small : (z : ℤ) → is_worth z ≡ true → IsSmall z
-worth-small z is = (let most = leb-true (unsigned_abs z) 2097120000000000 is in omega arith)
+worth-most : (z : ℤ) → is_worth z ≡ true → IsMost 2097120000000000 z
+worth-most z is = leb-true (unsigned_abs z) 2097120000000000 is
 
-measured : (p : ℤ → Bool) → ((z : ℤ) → p z ≡ true → IsSmall z) → (states : List (List ℕ)) (qs : List Quantity) → ArePassing p states qs
-    → All (λ name. is_name name ≡ true) (map (λ q. q.name) qs) → All (IsMeasured states) qs
-measured p small states [] passing names = All-nil (IsMeasured states)
-measured p small states (q ∷ qs) passing names =
-    All-cons (IsMeasured states) q qs
-    (record {
-      name = All-head (λ name. is_name name ≡ true) q.name (map (λ q. q.name) qs) names;
-      values = All-weaker (λ z. p z ≡ true) IsSmall small (map q.value states) passing.0;
-    })
-    (measured p small states qs passing.1 (All-tail (λ name. is_name name ≡ true) q.name (map (λ q. q.name) qs) names))
+most-at : (p : ℤ → Bool) → ((z : ℤ) → p z ≡ true → IsMost 2097120000000000 z) → (states : List (List ℕ)) (qs : List Quantity) → ArePassing p states qs
+    → All (λ name. is_name name ≡ true) (map (λ q. q.name) qs) → All (IsMostAt 2097120000000000 states) qs
+most-at p most states [] passing names = All-nil (IsMostAt 2097120000000000 states)
+most-at p most states (q ∷ qs) passing names =
+    All-cons (IsMostAt 2097120000000000 states) q qs
+    (All-head (λ name. is_name name ≡ true) q.name (map (λ q. q.name) qs) names, All-weaker (λ z. p z ≡ true) (IsMost 2097120000000000) most (map q.value states) passing.0)
+    (most-at p most states qs passing.1 (All-tail (λ name. is_name name ≡ true) q.name (map (λ q. q.name) qs) names))
 
-pub few-samples : (net : Network) (outcomes : List Outcome) → AreOf net outcomes → length outcomes < 2 ^ 32 → AreSamples net outcomes
-few-samples net outcomes are few =
+pub samples-fit : (net : Network) (outcomes : List Outcome) → AreOf net outcomes → length outcomes < 2 ^ 64 → IsReport (contents_of net outcomes)
+samples-fit net outcomes are few =
     let queues = queues-shown net outcomes are in
     let rewards = rewards-shown net outcomes are in
-    record {
-      few = few;
-      horizons = All-weaker IsHorizon (λ t. t < 2 ^ 64) (λ t is. (let most = horizon-few t is in omega arith)) (met_horizons outcomes) (met-horizons net outcomes are.samples);
-      queues = measured is_customers customers-small (met_states outcomes) (queue_quantities net) queues.passing
-          (subst (All (λ name. is_name name ≡ true)) (sym (queue-names 0 net.queues)) are.network.queue_names.each);
-      rewards = measured is_worth worth-small (met_states outcomes) (reward_quantities net) rewards.passing
-          (subst (All (λ name. is_name name ≡ true)) (sym (reward-names net.rewards)) are.network.reward_names.each);
-    }
+    told-fit 2097120000000000 (2 ^ 64) (omega arith) (omega arith) net outcomes few (omega arith)
+    (All-weaker IsHorizon (λ t. t < 2 ^ 64) (λ t is. (let most = horizon-few t is in omega arith)) (met_horizons outcomes) (met-horizons net outcomes are.samples))
+    (most-at is_customers customers-most (met_states outcomes) (queue_quantities net) queues.passing
+    (subst (All (λ name. is_name name ≡ true)) (sym (queue-names 0 net.queues)) are.network.queue_names.each))
+    (most-at is_worth worth-most (met_states outcomes) (reward_quantities net) rewards.passing
+    (subst (All (λ name. is_name name ≡ true)) (sym (reward-names net.rewards)) are.network.reward_names.each))
 
 -- ---- samples in two parts
 

@@ -1,9 +1,10 @@
 -- What the report of samples tells can be read back.
-use Rattle.std.specs.Prelude.{◌≡◌, ℕ, ◌+◌, ◌*◌, ◌^◌, ◌<◌, ◌≤◌, ℤ, ◌+ℤ◌, List, [], ◌∷◌, map, length, All, ◌==◌, nat_lt, true}
+use Rattle.std.specs.Prelude.{◌≡◌, ℕ, suc, ◌+◌, ◌*◌, ◌^◌, ◌<◌, ◌≤◌, ℤ, ◌+ℤ◌, List, [], ◌∷◌, map, length, All, ◌==◌, nat_lt, true}
 use Rattle.std.specs.Int.{int_min, int_max}
 use Rattle.std.specs.Int.RustNames.{unsigned_abs}
 use Rattle.std.specs.List.{flat_map}
 use Rattle.std.proofs.Common.{ap, ◌∙◌, arith}
+use Rattle.std.proofs.Math.Nat.{suc-mul, mul-le-mul_right}
 use Rattle.std.proofs.lemmas.Bool.{cond_both}
 use Rattle.std.proofs.lemmas.Int.{ints, clamps}
 use Rattle.std.proofs.lemmas.List.{length-map}
@@ -24,6 +25,7 @@ use Rattle.psi_reports.specs.Outcomes.{Trio, queue_trio, reward_trio, figure, fi
 use Rattle.psi_reports.specs.Reading.{read, IsReport}
 use Rattle.psi_reports.specs.Small.{IsSmall, IsMeasured, AreSamples, ReportIsRead}
 use Rattle.psi_reports.proofs.OutcomesLemmas.{report_text-contents}
+use Rattle.psi_reports.proofs.WorthLemmas.{least-has, greatest-has}
 use Rattle.psi_reports.proofs.ReadLaws.{text-is-read}
 
 -- no more samples are met than there are
@@ -52,81 +54,84 @@ unfolding distinct
 distinct-all P [] all = All-nil P
 distinct-all P (n ∷ ns) all = insert-all P n (distinct ns) (All-head P n ns all) (distinct-all P ns (All-tail P n ns all))
 
--- sums and extremes of values of 64 bits
-sum-small : (zs : List ℤ) → All IsSmall zs → unsigned_abs (sum_of zs) ≤ length zs * 2 ^ 63
-unfolding sum_of
-sum-small [] all = omega (arith, ints)
-sum-small (z ∷ zs) all =
-    let one : unsigned_abs z ≤ 2 ^ 63 = All-head IsSmall z zs all in
-    let rest = sum-small zs (All-tail IsSmall z zs all) in
-    let both : unsigned_abs (z +ℤ sum_of zs) ≤ unsigned_abs z + unsigned_abs (sum_of zs) = omega (arith, ints) in
-    omega arith
-
-min-small : (a b : ℤ) → IsSmall a → IsSmall b → IsSmall (int_min a b)
-min-small a b one two = omega (arith, ints, clamps)
-
-max-small : (a b : ℤ) → IsSmall a → IsSmall b → IsSmall (int_max a b)
-max-small a b one two = omega (arith, ints, clamps)
-
-least-small : (zs : List ℤ) → All IsSmall zs → IsSmall (least zs)
-least-small [] all = omega (arith, ints)
-least-small (z ∷ []) all = All-head IsSmall z [] all
-least-small (z ∷ y ∷ ys) all =
-    min-small z (least (y ∷ ys)) (All-head IsSmall z (y ∷ ys) all) (least-small (y ∷ ys) (All-tail IsSmall z (y ∷ ys) all))
-
-greatest-small : (zs : List ℤ) → All IsSmall zs → IsSmall (greatest zs)
-greatest-small [] all = omega (arith, ints)
-greatest-small (z ∷ []) all = All-head IsSmall z [] all
-greatest-small (z ∷ y ∷ ys) all =
-    max-small z (greatest (y ∷ ys)) (All-head IsSmall z (y ∷ ys) all) (greatest-small (y ∷ ys) (All-tail IsSmall z (y ∷ ys) all))
-
 -- figures can be read back
 abbrev FitsFigure : Figure → Type 0
 FitsFigure f = (is_name f.name ≡ true) × (unsigned_abs f.value < 10 ^ 37)
 
-values-fit : (trio : Trio) (name : List ℕ) (zs : List ℤ) → is_name name ≡ true → length zs < 2 ^ 32 → All IsSmall zs → All FitsFigure (figures_of trio name zs)
-values-fit trio name [] is few all =
-    let sum = sum-small [] all in
-    All-cons FitsFigure (figure trio.sum name (sum_of [])) [] (is, omega arith) (All-nil FitsFigure)
-values-fit trio name (z ∷ zs) is few all =
-    let sum = sum-small (z ∷ zs) all in
-    let low : unsigned_abs (least (z ∷ zs)) ≤ 2 ^ 63 = least-small (z ∷ zs) all in
-    let high : unsigned_abs (greatest (z ∷ zs)) ≤ 2 ^ 63 = greatest-small (z ∷ zs) all in
-    let second = figure trio.least name (least (z ∷ zs)) in
-    let third = figure trio.greatest name (greatest (z ∷ zs)) in
-    All-cons FitsFigure (figure trio.sum name (sum_of (z ∷ zs))) (second ∷ third ∷ []) (is, omega arith)
-    (All-cons FitsFigure second (third ∷ []) (is, omega arith) (All-cons FitsFigure third [] (is, omega arith) (All-nil FitsFigure)))
+-- values of a magnitude of at most b
+module _ (b : ℕ) where
+  abbrev pub IsMost : ℤ → Type 0
+  IsMost z = unsigned_abs z ≤ b
 
-figures-fit : (trio : Trio) (states : List (List ℕ)) (qs : List Quantity) → length states < 2 ^ 32 → All (IsMeasured states) qs
-    → All FitsFigure (flat_map (quantity_figures trio states) qs)
-figures-fit trio states [] few all = All-nil FitsFigure
-figures-fit trio states (q ∷ qs) few all =
-    let here : IsMeasured states q = All-head (IsMeasured states) q qs all in
-    let long : length (map q.value states) ≡ length states = length-map states q.value in
-    All-append FitsFigure (quantity_figures trio states q) (flat_map (quantity_figures trio states) qs)
-    (values-fit trio q.name (map q.value states) here.name (omega arith) here.values)
-    (figures-fit trio states qs few (All-tail (IsMeasured states) q qs all))
+  -- a quantity has a name, and such values at these states
+  abbrev pub IsMostAt : List (List ℕ) → Quantity → Type 0
+  IsMostAt states q = (is_name q.name ≡ true) × All IsMost (map q.value states)
+
+  sum-most : (zs : List ℤ) → All IsMost zs → unsigned_abs (sum_of zs) ≤ length zs * b
+  unfolding sum_of
+  sum-most [] all = omega (arith, ints)
+  sum-most (z ∷ zs) all =
+      let one : unsigned_abs z ≤ b = All-head IsMost z zs all in
+      let rest : unsigned_abs (sum_of zs) ≤ length zs * b = sum-most zs (All-tail IsMost z zs all) in
+      let both : unsigned_abs (z +ℤ sum_of zs) ≤ unsigned_abs z + unsigned_abs (sum_of zs) = omega (arith, ints) in
+      let more : suc (length zs) * b ≡ length zs * b + b = suc-mul (length zs) b in
+      rw more (omega arith)
+
+  -- of which there are at most n
+  module _ (n : ℕ) (fits : n * b < 10 ^ 37) (one_fits : b < 10 ^ 37) where
+    values-fit : (trio : Trio) (name : List ℕ) (zs : List ℤ) → is_name name ≡ true → length zs ≤ n → All IsMost zs → All FitsFigure (figures_of trio name zs)
+    values-fit trio name [] is few all =
+        let sum = sum-most [] all in
+        All-cons FitsFigure (figure trio.sum name (sum_of [])) [] (is, omega arith) (All-nil FitsFigure)
+    values-fit trio name (z ∷ zs) is few all =
+        let sum = sum-most (z ∷ zs) all in
+        let most : length (z ∷ zs) * b ≤ n * b = mul-le-mul_right b few in
+        let low : unsigned_abs (least (z ∷ zs)) ≤ b = least-has IsMost z zs all in
+        let high : unsigned_abs (greatest (z ∷ zs)) ≤ b = greatest-has IsMost z zs all in
+        let second = figure trio.least name (least (z ∷ zs)) in
+        let third = figure trio.greatest name (greatest (z ∷ zs)) in
+        All-cons FitsFigure (figure trio.sum name (sum_of (z ∷ zs))) (second ∷ third ∷ []) (is, omega arith)
+        (All-cons FitsFigure second (third ∷ []) (is, omega arith) (All-cons FitsFigure third [] (is, omega arith) (All-nil FitsFigure)))
+
+    figures-fit : (trio : Trio) (states : List (List ℕ)) (qs : List Quantity) → length states ≤ n → All (IsMostAt states) qs → All FitsFigure (flat_map (quantity_figures trio states) qs)
+    figures-fit trio states [] few all = All-nil FitsFigure
+    figures-fit trio states (q ∷ qs) few all =
+        let here : IsMostAt states q = All-head (IsMostAt states) q qs all in
+        let long : length (map q.value states) ≡ length states = length-map states q.value in
+        All-append FitsFigure (quantity_figures trio states q) (flat_map (quantity_figures trio states) qs)
+        (values-fit trio q.name (map q.value states) here.0 (omega arith) here.1)
+        (figures-fit trio states qs few (All-tail (IsMostAt states) q qs all))
+
+    pub told-fit : (net : Network) (outcomes : List Outcome) → length outcomes < 2 ^ 64 → length outcomes ≤ n → All (λ t. t < 2 ^ 64) (met_horizons outcomes)
+        → All (IsMostAt (met_states outcomes)) (queue_quantities net) → All (IsMostAt (met_states outcomes)) (reward_quantities net) → IsReport (contents_of net outcomes)
+    unfolding contents_of
+    told-fit net outcomes small few steps queues rewards =
+        let met = states-few outcomes in
+        let horizons = horizons-few outcomes in
+        let hs = met_horizons outcomes in
+        let Fits : HorizonCount → Type 0 = λ h. (h.horizon < 2 ^ 64) × (h.count < 2 ^ 64) in
+        let count : (t : ℕ) → times t hs ≤ length hs = λ t. count_by-le-length (λ m. m == t) hs in
+        let short : (t : ℕ) → times t hs < 2 ^ 64 = λ t. (let one = count t in omega arith) in
+        record {
+          samples = omega arith;
+          met = omega arith;
+          horizons = All-map Fits (horizon_count hs) (distinct hs)
+              (All-weaker (λ t. t < 2 ^ 64) (λ t. Fits (horizon_count hs t)) (λ t small. (small, short t)) (distinct hs) (distinct-all (λ t. t < 2 ^ 64) hs steps));
+          figures = All-append FitsFigure (flat_map (quantity_figures queue_trio (met_states outcomes)) (queue_quantities net))
+              (flat_map (quantity_figures reward_trio (met_states outcomes)) (reward_quantities net))
+              (figures-fit queue_trio (met_states outcomes) (queue_quantities net) (omega arith) queues)
+              (figures-fit reward_trio (met_states outcomes) (reward_quantities net) (omega arith) rewards);
+        }
+
+-- values of 64 bits of less than 2^32 samples
+measured-most : (states : List (List ℕ)) (qs : List Quantity) → All (IsMeasured states) qs → All (IsMostAt (2 ^ 63) states) qs
+measured-most states qs all = All-weaker (IsMeasured states) (IsMostAt (2 ^ 63) states) (λ q is. (is.name, is.values)) qs all
 
 pub contents-fit : (net : Network) (outcomes : List Outcome) → AreSamples net outcomes → IsReport (contents_of net outcomes)
-unfolding contents_of
 contents-fit net outcomes are =
     let few = are.few in
-    let met = states-few outcomes in
-    let horizons = horizons-few outcomes in
-    let hs = met_horizons outcomes in
-    let Fits : HorizonCount → Type 0 = λ h. (h.horizon < 2 ^ 64) × (h.count < 2 ^ 64) in
-    let count : (t : ℕ) → times t hs ≤ length hs = λ t. count_by-le-length (λ m. m == t) hs in
-    let short : (t : ℕ) → times t hs < 2 ^ 64 = λ t. (let one = count t in omega arith) in
-    record {
-      samples = omega arith;
-      met = omega arith;
-      horizons = All-map Fits (horizon_count hs) (distinct hs)
-          (All-weaker (λ t. t < 2 ^ 64) (λ t. Fits (horizon_count hs t)) (λ t small. (small, short t)) (distinct hs) (distinct-all (λ t. t < 2 ^ 64) hs are.horizons));
-      figures = All-append FitsFigure (flat_map (quantity_figures queue_trio (met_states outcomes)) (queue_quantities net))
-          (flat_map (quantity_figures reward_trio (met_states outcomes)) (reward_quantities net))
-          (figures-fit queue_trio (met_states outcomes) (queue_quantities net) (omega arith) are.queues)
-          (figures-fit reward_trio (met_states outcomes) (reward_quantities net) (omega arith) are.rewards);
-    }
+    told-fit (2 ^ 63) (2 ^ 32) (omega arith) (omega arith) net outcomes (omega arith) (omega arith) are.horizons (measured-most (met_states outcomes) (queue_quantities net) are.queues)
+    (measured-most (met_states outcomes) (reward_quantities net) are.rewards)
 
 pub report-is-read : ReportIsRead
 report-is-read net outcomes are = ap read (report_text-contents net outcomes) ∙ text-is-read (contents_of net outcomes) (contents-fit net outcomes are)

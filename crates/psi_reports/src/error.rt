@@ -54,8 +54,8 @@ pub enum MergeError {
     },
     /// A number of the report of both would be greater than a report may tell.
     TooLarge {
-        /// The line of the second report, counted from 1, of the first number with which that is so: 2 of the samples; 3
-        /// of those that are met, also where those of one horizon would be too many; else that of a figure.
+        /// The line of the second report, counted from 1, of the first number with which that is so: 2 of the samples;
+        /// 3 of those that are met, also where those of one horizon would be too many; else that of a figure.
         line: u64,
     },
     /// Memory ran out.

@@ -70,11 +70,11 @@ impl Report {
     /// of those that are met, or the line behind the horizons where some are left; else that of the first figure that
     /// may not stand there, or the line behind the last where figures are missing. The figures are, of 1 to 32 queues
     /// and then of at most 64 rewards, the sum, and where samples are met the least and the greatest value of the same
-    /// name. A sum may not stand there where a queue, or a reward, before it has its name; where no sample is met and it
-    /// isn't 0; or where a least and a greatest value that may stand there follow, and the sum of so many values with
-    /// these can't be this one: it is at least that of one greatest value with least ones, and at most that of one least
-    /// value with greatest ones. Of a queue least and greatest are 0 to 65,535, of a reward they have a magnitude of at
-    /// most 2,097,120,000,000,000, and the greatest isn't below the least.
+    /// name. A sum may not stand there where a queue, or a reward, before it has its name; where no sample is met and
+    /// it isn't 0; or where a least and a greatest value that may stand there follow, and it isn't the sum of so many
+    /// values with these: it is at least that of one greatest value and else least ones, and at most that of one least
+    /// value and else greatest ones. The least and the greatest of a queue are 0 to 65,535, those of a reward have a
+    /// magnitude of at most 2,097,120,000,000,000, and the greatest isn't below the least.
     pub fn flaw(&self) -> Option<u64>
         ensures { result ≡ flaw_of self.now }
     {

@@ -35,8 +35,8 @@ pub fn report_is_sound()
     ensures { ReportIsSound }
 {}
 
-/// The judgement of a sum is exact: where so many values with this least and this greatest may have it, there are values
-/// that do.
+/// The judgement of a sum is exact: where so many values with this least and this greatest may have it, there are
+/// values that do.
 pub fn sums_are_reached()
     ensures { SumsAreReached }
 {}
