@@ -1,12 +1,11 @@
 -- What the report of samples tells can be read back.
 use Rattle.std.specs.Prelude.{◌≡◌, ℕ, suc, ◌+◌, ◌*◌, ◌^◌, ◌<◌, ◌≤◌, ℤ, ◌+ℤ◌, List, [], ◌∷◌, map, length, All, ◌==◌, nat_lt, true}
-use Rattle.std.specs.Int.{int_min, int_max}
 use Rattle.std.specs.Int.RustNames.{unsigned_abs}
 use Rattle.std.specs.List.{flat_map}
 use Rattle.std.proofs.Common.{ap, ◌∙◌, arith}
 use Rattle.std.proofs.Math.Nat.{suc-mul, mul-le-mul_right}
 use Rattle.std.proofs.lemmas.Bool.{cond_both}
-use Rattle.std.proofs.lemmas.Int.{ints, clamps}
+use Rattle.std.proofs.lemmas.Int.{ints}
 use Rattle.std.proofs.lemmas.List.{length-map}
 use Rattle.std.proofs.lemmas.List.Elements.{All-nil, All-cons, All-head, All-tail, All-append, All-map, All-weaker}
 use Rattle.std.proofs.lemmas.List.Sums.{count_by-le-length}
@@ -23,7 +22,7 @@ use Rattle.psi_reports.specs.declared.figure.HorizonCount.{HorizonCount}
 use Rattle.psi_reports.specs.declared.figure.Figure.{Figure}
 use Rattle.psi_reports.specs.Outcomes.{Trio, queue_trio, reward_trio, figure, figures_of, quantity_figures, horizon_count, contents_of}
 use Rattle.psi_reports.specs.Reading.{read, IsReport}
-use Rattle.psi_reports.specs.Small.{IsSmall, IsMeasured, AreSamples, ReportIsRead}
+use Rattle.psi_reports.specs.Small.{IsMeasured, AreSamples, ReportIsRead}
 use Rattle.psi_reports.proofs.OutcomesLemmas.{report_text-contents}
 use Rattle.psi_reports.proofs.WorthLemmas.{least-has, greatest-has}
 use Rattle.psi_reports.proofs.ReadLaws.{text-is-read}
