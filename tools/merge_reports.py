@@ -38,7 +38,7 @@ def refusal(cause, line):
 
 
 class Figure:
-    """A sum or an extreme of a queue or a reward: of what sort, which of them, its name, its value."""
+    """A sum or an extreme of a queue or a reward: its sort, which of them it is, name and value."""
 
     def __init__(self, sort, word, name, value):
         self.sort, self.word, self.name, self.value = sort, word, name, value
