@@ -117,7 +117,7 @@ is_ordered Greatest y z = int_le y z
 is_ordered RewardGreatest y z = int_le y z
 is_ordered _ y z = true
 
--- an extreme may follow a figure: it is of the same queue or reward, in its range, and above the least where it is the greatest
+-- an extreme may follow a figure: it is of the same queue or reward, in its range, and not below the least where it is the greatest
 abbrev pub extreme_follows : Figure → Figure → Bool
 extreme_follows e f = bytes_eq e.name f.name && (is_extreme f.item f.value && is_ordered f.item e.value f.value)
 
