@@ -1,5 +1,5 @@
 -- The report of two lists of samples of one network, from the report of each.
-use Rattle.std.specs.Prelude.{◌≡◌, ℕ, ◌+◌, ◌*◌, ◌^◌, ℤ, ◌+ℤ◌, List, [], ◌∷◌, ◌++◌, length, filter, Bool, ◌&&◌, ◌==◌, nat_lt, Option, Some, None, Result, Ok, Err, if◌then◌else◌}
+use Rattle.std.specs.Prelude.{◌≡◌, ℕ, ◌+◌, ◌*◌, ◌^◌, ◌<◌, ℤ, ◌+ℤ◌, List, [], ◌∷◌, ◌++◌, length, filter, Bool, ◌&&◌, ◌==◌, nat_lt, Option, Some, None, Result, Ok, Err, if◌then◌else◌}
 use Rattle.std.specs.Int.{int_min, int_max}
 use Rattle.std.specs.Int.RustNames.{unsigned_abs}
 use Rattle.std.specs.List.{list_all}
@@ -17,6 +17,7 @@ use Rattle.psi_reports.specs.Counts.{joined_counts}
 use Rattle.psi_reports.specs.Sound.{is_sum, is_alike, line_at, figures_line}
 use Rattle.psi_reports.specs.Outcomes.{contents_of}
 use Rattle.psi_reports.specs.Small.{AreSamples}
+use Rattle.psi_reports.specs.Samples.{AreOf}
 
 -- the sums of a report, one for each queue and each reward
 abbrev pub sums_of : List Figure → List Figure
@@ -111,4 +112,9 @@ Merges (Err error) merging = merging ≡ Err error
 -- the reports of two lists of samples of one network are merged into the report of both lists, one behind the other
 abbrev pub ReportsAreMerged : Type 0
 ReportsAreMerged = (net : Network) (outcomes others : List Outcome) → AreSamples net (outcomes ++ others)
+    → merged (contents_of net outcomes) (contents_of net others) ≡ Ok (contents_of net (outcomes ++ others))
+
+-- and so are those of less than 2^64 samples together of a network that a file may describe
+abbrev pub SamplesAreMerged : Type 0
+SamplesAreMerged = (net : Network) (outcomes others : List Outcome) → AreOf net (outcomes ++ others) → length (outcomes ++ others) < 2 ^ 64
     → merged (contents_of net outcomes) (contents_of net others) ≡ Ok (contents_of net (outcomes ++ others))

@@ -1,11 +1,14 @@
 -- Samples of a network that a file may describe.
-use Rattle.std.specs.Prelude.{◌≡◌, ◌≤◌, ℕ, List, map, length, All, true}
+use Rattle.std.specs.Prelude.{◌≡◌, ℕ, ◌^◌, ◌<◌, ◌≤◌, List, map, length, All, true, Ok}
 use Rattle.psi_state.specs.Ascending.{IsDistinct}
 use Rattle.psi_state.specs.declared.Outcome.{Outcome}
 use Rattle.psi_network.specs.Name.{is_name}
 use Rattle.psi_network.specs.Network.{Network, caps_of}
 use Rattle.psi_network.specs.Valid.{AreListed, IsReward}
 use Rattle.psi_report.specs.Samples.{IsSampleOf}
+use Rattle.psi_report.specs.Report.{report_text}
+use Rattle.psi_reports.specs.Outcomes.{contents_of}
+use Rattle.psi_reports.specs.Reading.{read}
 
 -- names, of which no two are the same
 pub record AreNames (names : List (List ℕ)) : Type 0 where
@@ -25,3 +28,7 @@ pub record IsDescribed (net : Network) : Type 0 where
 pub record AreOf (net : Network) (outcomes : List Outcome) : Type 0 where
   pub network : IsDescribed net
   pub samples : All (IsSampleOf net) outcomes
+
+-- the report of less than 2^64 of them is read as what it tells
+abbrev pub SamplesAreRead : Type 0
+SamplesAreRead = (net : Network) (outcomes : List Outcome) → AreOf net outcomes → length outcomes < 2 ^ 64 → read (report_text net outcomes) ≡ Ok (contents_of net outcomes)

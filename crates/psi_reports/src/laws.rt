@@ -3,7 +3,8 @@
 ghost use Rattle.psi_reports.specs.Outcomes.{ReportIsText};
 ghost use Rattle.psi_reports.specs.Reading.{ReadIsText, TextIsRead};
 ghost use Rattle.psi_reports.specs.Small.{ReportIsRead};
-ghost use Rattle.psi_reports.specs.Merging.{ReportsAreMerged};
+ghost use Rattle.psi_reports.specs.Samples.{SamplesAreRead};
+ghost use Rattle.psi_reports.specs.Merging.{ReportsAreMerged, SamplesAreMerged};
 ghost use Rattle.psi_reports.specs.Sound.{ReportIsSound, SumsAreReached};
 
 /// The report of samples of a network is the text of what it tells.
@@ -18,15 +19,19 @@ pub fn text_is_read()
     ensures again { TextIsRead }
 {}
 
-/// The report of less than 2^32 samples of a network, whose values have 64 bits, is read as what it tells.
+/// The report of less than 2^32 samples of a network, whose values have 64 bits, is read as what it tells; and so is
+/// that of less than 2^64 samples of a network that a file may describe.
 pub fn report_is_read()
-    ensures { ReportIsRead }
+    ensures measured { ReportIsRead }
+    ensures sampled { SamplesAreRead }
 {}
 
 /// The reports of two lists of samples of one network, less than 2^32 together, whose values have 64 bits, are merged
-/// into the report of both lists, one behind the other.
+/// into the report of both lists, one behind the other; and so are those of less than 2^64 samples together of a
+/// network that a file may describe.
 pub fn reports_are_merged()
-    ensures { ReportsAreMerged }
+    ensures measured { ReportsAreMerged }
+    ensures sampled { SamplesAreMerged }
 {}
 
 /// The report of samples of a network that a file may describe has no line that no report of samples has there:

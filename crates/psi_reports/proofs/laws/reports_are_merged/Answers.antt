@@ -1,6 +1,7 @@
--- The law in the proof of `laws::reports_are_merged`.
+-- The laws in the proof of `laws::reports_are_merged`.
 use Rattle.psi_reports.proofs.MergeLaws.{reports-merged}
+use Rattle.psi_reports.proofs.SampleLaws.{samples-merged}
 use Rattle.psi_reports.proofs.laws.reports_are_merged.Goals as goal
 
 pub returns : goal.returns
-returns c = reports-merged
+returns c = record { measured = reports-merged; sampled = samples-merged }
