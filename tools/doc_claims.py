@@ -346,6 +346,10 @@ def claim_tour(document, clone):
         claim_exact, claim_never, claim_closed,
     ):
         claim(document, clone)
+    help_call = "tools/psi-plot -h"
+    status, words, _ = clone.run(help_call)
+    document.hold(status == 0 and "psi-plot coupling" in words, f"{help_call} tells no words")
+    document.claim(f"`{help_call}` tells its words")
 
 
 def claim_forward(document, clone):
