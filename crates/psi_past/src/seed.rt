@@ -65,6 +65,7 @@ impl Past for SeedPast {
 
     ghost words = { λ p place. seed_word p.seed p.stream place };
 
+    #[inline]
     fn word(&mut self, place: u32) -> u32 {
         let place = u64::from(place);
         if self.next != place {
