@@ -6,4 +6,6 @@ pub mod Hulls
 pub mod Steps
 pub mod Accepted
 pub mod Intervals
+pub mod PiecesLemmas
+pub mod Telling
 mod Worked

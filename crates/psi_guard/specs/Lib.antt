@@ -8,3 +8,4 @@ pub mod PlacesLaws
 pub mod Rule
 pub mod RuleLaws
 pub mod Envelope
+pub mod Pieces

@@ -12,6 +12,7 @@ mod event;
 mod guarded;
 mod monotonicity;
 mod parts;
+mod pieces;
 #[cfg(test)]
 mod tests;
 

@@ -172,7 +172,7 @@ impl Guarded {
     }
 
     // The part of a queue: a queue that no part names may hold any number and keeps it.
-    fn part_of(&self, queue: u8) -> Part
+    pub(crate) fn part_of(&self, queue: u8) -> Part
         requires { queue < length self.now.caps }
         ensures value { result ≡ part_of self.now.caps self.now.parts queue }
         ensures fits { FitsGuard (slice_index self.now.caps queue) result }

@@ -5,6 +5,7 @@ ghost use Rattle.psi_state.specs.State.{AreCapacities};
 
 use crate::{GuardRefusal, Guarded, Part};
 use psi_event::EventLaw;
+use psi_piecewise::{AT_LEAST, BELOW, PiecewiseLaw};
 use psi_state::{Bounds, State};
 use std::process::Abort;
 
@@ -107,4 +108,51 @@ fn an_envelope_over_twenty_queues_lists_no_state(rt: HostRuntime) {
         let most = if queue == 0 { 9 } else { 10 };
         assert_eq!(rt; (lo.get(queue), hi.get(queue)), (0, most), "queue {queue}");
     }
+}
+
+// Whether the event of one queue with room for three customers, with this part, tells its pieces, and which: the bound,
+// the sides of the two pieces, and what comes and leaves in the second.
+fn pieces(rt: &impl Abort, part: Part) -> Option<[State; 5]> {
+    let event = Guarded::new(one(3), &[part]).expect(rt, "an event of one queue");
+    let told = event.piecewise()?;
+    let first = told.first;
+    let second = told.second;
+    Some([
+        told.bounds,
+        first.sides,
+        second.sides,
+        second.ups,
+        second.downs,
+    ])
+}
+
+#[test]
+fn a_part_is_told_by_its_open_side_or_by_one_customer(rt: HostRuntime) {
+    let none = State::zero(1);
+    let at_least = one(AT_LEAST);
+    let below = one(BELOW);
+    // Where the shift is the whole change, the second piece changes nothing.
+    let serves = pieces(&rt, part(0, (2, 3), -2, (0, 3)));
+    assert_eq!(rt; serves, Some([one(2), at_least, at_least, none, none]));
+    let fits = pieces(&rt, part(0, (0, 1), 2, (0, 3)));
+    assert_eq!(rt; fits, Some([one(2), below, below, none, none]));
+    // One customer leaves where there is one, or comes where there is room.
+    let leaves = pieces(&rt, part(0, (0, 3), -1, (0, 2)));
+    assert_eq!(rt; leaves, Some([one(1), none, at_least, none, one(1)]));
+    let comes = pieces(&rt, part(0, (0, 3), 1, (1, 3)));
+    assert_eq!(rt; comes, Some([one(3), none, below, one(1), none]));
+}
+
+#[test]
+fn other_parts_tell_no_pieces(rt: HostRuntime) {
+    let closed = part(0, (1, 2), 1, (0, 3));
+    let two_leave = part(0, (0, 3), -2, (0, 3));
+    let reset = part(0, (0, 3), 0, (0, 0));
+    let raised = part(0, (0, 3), 1, (2, 3));
+    for part in [closed, two_leave, reset, raised] {
+        assert_eq!(rt; pieces(&rt, part), None, "{part:?}");
+    }
+    let one_leaves = [part(0, (0, 10), -1, (0, 10)), part(1, (0, 10), -1, (0, 10))];
+    let event = Guarded::new(even(2, 10), &one_leaves).expect(&rt, "two negative customers");
+    assert!(rt; event.piecewise().is_none());
 }
