@@ -18,3 +18,4 @@ mod Upset
 mod Monotone
 mod Plain
 pub mod PiecesLemmas
+pub mod TwoTargets

@@ -20,15 +20,15 @@ and-true : (b : Bool) → (b && true) ≡ b
 and-true true = refl
 and-true false = refl
 
-and-no : (b : Bool) → (b && false) ≡ false
+pub and-no : (b : Bool) → (b && false) ≡ false
 and-no true = refl
 and-no false = refl
 
-at-zero : (caps : List ℕ) (q : ℕ) → q < length caps → slice_index (zeros caps) q ≡ 0
+pub at-zero : (caps : List ℕ) (q : ℕ) → q < length caps → slice_index (zeros caps) q ≡ 0
 at-zero caps q small = get_or-replicate {A = ℕ} (length caps) q 0 0 small
 
 -- a number that a queue has room for keeps a list within the capacities
-set-below : (caps xs : List ℕ) (p v : ℕ) → IsBelow xs caps → (p < length caps → v ≤ slice_index caps p) → IsBelow (slice_set xs p v) caps
+pub set-below : (caps xs : List ℕ) (p v : ℕ) → IsBelow xs caps → (p < length caps → v ≤ slice_index caps p) → IsBelow (slice_set xs p v) caps
 set-below caps xs p v below fits = record {
   same_length = length-set {A = ℕ} xs p v ∙ below.same_length;
   each = λ i small. (let long = length-set {A = ℕ} xs p v in
@@ -44,25 +44,25 @@ set-below caps xs p v below fits = record {
       ]);
 }
 
-long-zero : (caps : List ℕ) → length (zeros caps) ≡ length caps
+pub long-zero : (caps : List ℕ) → length (zeros caps) ≡ length caps
 long-zero caps = length-replicate {A = ℕ} (length caps) 0
 
 module _ (s : Shape) (is : IsRouteShape s) where
-  abbrev r_source : ℕ
+  abbrev pub r_source : ℕ
   r_source = (routing s).source
 
-  long_source : (v : ℕ) → length (for_source s v) ≡ length s.caps
+  pub long_source : (v : ℕ) → length (for_source s v) ≡ length s.caps
   long_source v = length-set {A = ℕ} (zeros s.caps) r_source v ∙ long-zero s.caps
 
   -- its entries
-  source-same : (v : ℕ) → r_source < length s.caps → slice_index (for_source s v) r_source ≡ v
+  pub source-same : (v : ℕ) → r_source < length s.caps → slice_index (for_source s v) r_source ≡ v
   source-same v small = get_or-set_same {A = ℕ} (zeros s.caps) r_source v 0 (let long = long-zero s.caps in omega arith)
 
-  source-other : (v q : ℕ) → q < length s.caps → q ≢ r_source → slice_index (for_source s v) q ≡ 0
+  pub source-other : (v q : ℕ) → q < length s.caps → q ≢ r_source → slice_index (for_source s v) q ≡ 0
   source-other v q small other = get_or-set_other {A = ℕ} (zeros s.caps) r_source q v 0 other ∙ at-zero s.caps q small
 
   -- the source serves exactly where its test holds
-  serve-test : (bounds x : List ℕ) → length bounds ≡ length s.caps → length x ≡ length s.caps
+  pub serve-test : (bounds x : List ℕ) → length bounds ≡ length s.caps → length x ≡ length s.caps
       → (r_source < length s.caps → slice_index bounds r_source ≡ (routing s).least)
       → all_on (for_source s 1) bounds x ≡ nat_le ((routing s).least) (slice_index x r_source)
   serve-test bounds x long_bounds long_x at_source = elim (cases_lt r_source (length s.caps)) [
@@ -266,13 +266,13 @@ module _ (s : Shape) (is : IsRouteShape s) where
 
   -- ---- the pieces are of the network
 
-  source-below : (v : ℕ) → (r_source < length s.caps → v ≤ slice_index s.caps r_source) → IsBelow (for_source s v) s.caps
+  pub source-below : (v : ℕ) → (r_source < length s.caps → v ≤ slice_index s.caps r_source) → IsBelow (for_source s v) s.caps
   source-below v fits = set-below s.caps (zeros s.caps) r_source v (zeros-caps s.caps) fits
 
-  one-below : IsBelow (for_source s 1) s.caps
+  pub one-below : IsBelow (for_source s 1) s.caps
   one-below = source-below 1 (λ small. is.caps.least r_source small)
 
-  least-below : IsBelow (for_source s ((routing s).least)) s.caps
+  pub least-below : IsBelow (for_source s ((routing s).least)) s.caps
   least-below = source-below ((routing s).least) (λ small. source-most s is)
 
   lost-below : (b : Bool) → IsBelow (if b then for_source s 1 else zeros s.caps) s.caps

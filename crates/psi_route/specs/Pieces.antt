@@ -1,5 +1,5 @@
--- The pieces of a route without tables to at most one target.
-use Rattle.std.specs.Prelude.{ℕ, ◌-◌, List, length, slice_index, slice_set, if◌then◌else◌}
+-- The pieces of a route without tables to at most two targets.
+use Rattle.std.specs.Prelude.{◌≡◌, ◌⊎◌, ℕ, ◌-◌, ◌≤◌, List, length, slice_index, slice_set, false, if◌then◌else◌}
 use Rattle.psi_state.specs.State.{zeros}
 use Rattle.psi_piecewise.specs.declared.piecewise.Piecewise.{Piecewise}
 use Rattle.psi_piecewise.specs.Piecewise.{empty_piece}
@@ -34,4 +34,17 @@ module _ (s : Shape) where
     bounds = for_target 0 (for_source ((routing s).least)) (bound_of 0);
     first = record { sides = for_target 0 (for_source 1) 2; ups = for_target 0 (zeros s.caps) s.size; downs = for_source 1 };
     second = record { sides = for_target 0 (for_source 1) 1; ups = zeros s.caps; downs = if (routing s).lost then for_source 1 else zeros s.caps };
+  }
+
+  -- where no target has room nothing changes: a served customer stays, or there is no source
+  abbrev pub Stays : Type 0
+  Stays = ((routing s).lost ≡ false) ⊎ (length s.caps ≤ (routing s).source)
+
+  -- where there are two targets, one leaves the source, where it serves, and the customers join the first target, where it has room, and
+  -- else the second, where that has
+  abbrev pub choosing : Piecewise
+  choosing = record {
+    bounds = for_target 1 (for_target 0 (for_source ((routing s).least)) (bound_of 0)) (bound_of 1);
+    first = record { sides = for_target 0 (for_source 1) 2; ups = for_target 0 (zeros s.caps) s.size; downs = for_source 1 };
+    second = record { sides = for_target 1 (for_target 0 (for_source 1) 1) 2; ups = for_target 1 (zeros s.caps) s.size; downs = for_source 1 };
   }

@@ -1,6 +1,6 @@
 //! The pieces of a route.
 
-ghost use Rattle.std.specs.Prelude.{◌≡◌, ◌<◌, IfSome, length};
+ghost use Rattle.std.specs.Prelude.{◌≡◌, ◌<◌, IfSome, MatchBool, length};
 ghost use Rattle.psi_piecewise.specs.Piecewise.{Does};
 
 use crate::parts::Full;
@@ -16,13 +16,14 @@ impl PiecewiseLaw for Route {
         match self.places() {
             0 => Some(self.leaving()),
             1 => Some(self.joining()),
+            2 if self.stays() => Some(self.choosing()),
             _ => None,
         }
     }
 }
 
 impl Route {
-    ghost use Rattle.psi_route.specs.Pieces.{for_source, for_target, bound_of, leaving, joining};
+    ghost use Rattle.psi_route.specs.Pieces.{for_source, for_target, bound_of, leaving, joining, choosing, Stays};
     ghost use Rattle.psi_route.specs.Routing.{routing};
     ghost use Rattle.psi_route.specs.Route.{shape_of};
 
@@ -62,6 +63,37 @@ impl Route {
                 sides: self.for_target(0, serving, AT_LEAST),
                 ups: zero,
                 downs: if self.full == Full::Lost { one } else { zero },
+            },
+        }
+    }
+
+    // Whether nothing changes where no target has room.
+    fn stays(&self) -> bool
+        ensures { MatchBool result (Stays (shape_of self.now)) (Stays (shape_of self.now) → ⊥) }
+    {
+        self.source.is_none() || self.full == Full::Stay
+    }
+
+    // The pieces where there are two targets, and nothing changes where neither has room.
+    fn choosing(&self) -> Piecewise
+        requires { length self.now.targets ≡ 2 }
+        ensures { result ≡ choosing (shape_of self.now) }
+    {
+        let one = self.for_source(1);
+        let zero = State::zero(one.len());
+        let least = self.for_target(0, self.for_source(self.least()), self.bound(0));
+        let full = self.for_target(0, one, AT_LEAST);
+        Piecewise {
+            bounds: self.for_target(1, least, self.bound(1)),
+            first: Piece {
+                sides: self.for_target(0, one, BELOW),
+                ups: self.for_target(0, zero, self.size),
+                downs: one,
+            },
+            second: Piece {
+                sides: self.for_target(1, full, BELOW),
+                ups: self.for_target(1, zero, self.size),
+                downs: one,
             },
         }
     }
