@@ -84,7 +84,7 @@ impl PiecewiseLaw for Event {
     fn piecewise(&self) -> Option<Piecewise> {
         match self {
             Event::Route(route) => route.piecewise(),
-            Event::Guarded(_guarded) => None,
+            Event::Guarded(guarded) => guarded.piecewise(),
             Event::Idle(idle) => idle.piecewise(),
         }
     }

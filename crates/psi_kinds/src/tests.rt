@@ -2,11 +2,12 @@
 
 ghost use Rattle.std.specs.Prelude.{◌≡◌, ◌∷◌, [], IfOk};
 ghost use Rattle.psi_state.specs.State.{AreCapacities};
-ghost use Rattle.psi_kinds.specs.Kinds.{IsKindOf};
+ghost use Rattle.psi_kinds.specs.Kinds.{AreQueues, IsKindOf};
 
 use crate::{Event, Kind, KindRefusal, OutOfMemory, Tables, lower, lower_accepted, refusal_of};
 use psi_event::EventLaw;
-use psi_route::Full;
+use psi_piecewise::PiecewiseLaw;
+use psi_route::{Full, Source};
 use psi_state::{Queues, State};
 use std::alloc::Global;
 use std::process::Abort;
@@ -94,5 +95,51 @@ fn tables_are_kept_in_order(rt: HostRuntime) -> Result<(), Fail> {
     assert_eq!(rt; tables.row(0), [4, 3].as_slice());
     assert_eq!(rt; tables.row(1).len(), 0);
     assert_eq!(rt; tables.row(2), [2].as_slice());
+    Ok(())
+}
+
+// Both queues, or the second alone.
+fn targets(both: bool) -> Queues
+    ensures { AreQueues (2 ∷ 2 ∷ []) result }
+{
+    let mut to = Queues::empty();
+    if both {
+        to.push(0);
+    }
+    to.push(1);
+    to
+}
+
+// Whether the event of a kind tells its pieces.
+fn is_told(alloc: Global, kind: &Kind) -> Result<bool, KindRefusal>
+    requires { IsKindOf (2 ∷ 2 ∷ []) kind.now }
+{
+    Ok(lower(alloc, capacities(), kind)?.piecewise().is_some())
+}
+
+#[test]
+fn events_of_single_customers_tell_their_pieces(rt: HostRuntime) -> Result<(), Fail> {
+    let alloc = rt.alloc();
+    let from = Some(Source { queue: 0, k: 2 });
+    let arrival = Kind::Arrival { to: targets(true) };
+    assert!(rt; is_told(alloc, &arrival)?);
+    let fork = Kind::Fork {
+        from,
+        to: targets(false),
+    };
+    assert!(rt; is_told(alloc, &fork)?);
+    let join = Kind::Join {
+        from: targets(true),
+        to: None,
+    };
+    assert!(rt; is_told(alloc, &join)?);
+    for amount in 1..3 {
+        let negative = Kind::Negative {
+            from,
+            on: 1,
+            amount,
+        };
+        assert_eq!(rt; is_told(alloc, &negative)?, amount == 1);
+    }
     Ok(())
 }
