@@ -104,9 +104,10 @@ def is_extreme(figure, word, of):
     return is_of and low <= figure.value <= high
 
 
-def wrong_in(figures, met):
+def wrong_in(figures, met, steady):
     """The first of the figures of a queue or a reward that is wrong, of which the sum is the first,
-    or none: the extremes are those of the sum where samples are met, and allow it.
+    or none: the extremes are those of the sum where samples are met, and allow it; and a reward's
+    are equal where those of each queue are, which are steady.
     """
     total = figures[0]
     if not met:
@@ -118,14 +119,16 @@ def wrong_in(figures, met):
     if low > high:
         return 2
     others = met - 1
-    return None if others * low + high <= total.value <= low + others * high else 0
+    if not others * low + high <= total.value <= low + others * high:
+        return 0
+    return 2 if steady and total.sort and low < high else None
 
 
 def flaw_in_figures(figures, met):
     """The place of the first figure that may not stand there, that behind all where figures are
     missing, or none.
     """
-    names, place = {b"": set(), b"reward-": set()}, 0
+    names, place, steady = {b"": set(), b"reward-": set()}, 0, True
     while place < len(figures):
         figure = figures[place]
         known = names[figure.sort]
@@ -136,9 +139,11 @@ def flaw_in_figures(figures, met):
             return place
         known.add(figure.name)
         width = 3 if met else 1
-        wrong = wrong_in(figures[place : place + width], met)
+        own = figures[place : place + width]
+        wrong = wrong_in(own, met, steady)
         if wrong is not None:
             return place + wrong
+        steady = steady and len({extreme.value for extreme in own[1:]}) < 2
         place += width
     return None if names[b""] else 0
 

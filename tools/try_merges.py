@@ -45,6 +45,13 @@ def changed(lines):
     return "".join(rows)
 
 
+# Each queue has one number of customers, so what is met is one state, of one value of each reward.
+ONE_STATE = {7: "sum,a,4", 8: "least,a,1", 9: "greatest,a,1"}
+ONE_VALUE = {13: "reward-sum,a,-20", 14: "reward-least,a,-5", 15: "reward-greatest,a,-5"}
+ONE_QUEUE = "sum,c,10\nleast,c,1\ngreatest,c,4\n"
+TWO_VALUES = "reward-sum,c,1\nreward-least,c,0\nreward-greatest,c,1\n"
+
+
 def queues(count):
     return "".join(f"sum,q{place},0\n" for place in range(count))
 
@@ -94,6 +101,23 @@ FILES = {
         changed({14: "reward-least,a,-2097120000000001"}),
         f"{SAMPLES} 14",
     ),
+    # rewards of one state
+    "one state": (changed(ONE_STATE | ONE_VALUE), None),
+    "one state with two values of a reward": (changed(ONE_STATE), f"{SAMPLES} 15"),
+    "one state with a reward's sum that is too low": (
+        changed(ONE_STATE | {13: "reward-sum,a,-9"}),
+        f"{SAMPLES} 13",
+    ),
+    "one state with two values of a second reward": (
+        changed(ONE_STATE | ONE_VALUE) + TWO_VALUES,
+        f"{SAMPLES} 18",
+    ),
+    "one state with two values and a queue": (changed(ONE_STATE) + ONE_QUEUE, f"{SAMPLES} 15"),
+    "two states that differ in the last queue": (
+        changed(ONE_STATE | {10: "sum,b-2,1", 12: "greatest,b-2,1"}),
+        None,
+    ),
+    "a reward of two values behind one of one": (changed(ONE_VALUE) + TWO_VALUES, None),
     # horizons
     "a horizon of 3": (changed({5: "horizon,3,1"}), f"{SAMPLES} 5"),
     "a horizon of 0": (changed({5: "horizon,0,1"}), f"{SAMPLES} 5"),
@@ -152,8 +176,10 @@ FILES = {
     "a file that is too long": (BASE + "\n" * 1_048_576, "refused 0 TooLong line 0"),
 }
 
-# Of two networks, and with samples of which none is met, or as many as there may be.
+# Of two networks, with samples in one state, with none that is met, or as many as there may be.
 REPORTS = [BASE] * 6 + [
+    changed(ONE_STATE | ONE_VALUE),
+    changed(ONE_STATE),
     changed({10: "sum,b,0", 11: "least,b,0", 12: "greatest,b,0"}),
     changed({13: None, 14: None, 15: None}),
     f"{NONE}sum,a,0\nsum,b-2,0\nreward-sum,a,0\n",

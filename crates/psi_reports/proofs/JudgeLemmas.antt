@@ -6,7 +6,7 @@ use Rattle.std.proofs.lemmas.Bool.{lt-ltb, le-ltb}
 use Rattle.psi_reports.specs.declared.figure.Item.TheVariants.{Sum}
 use Rattle.psi_reports.specs.declared.figure.Figure.{Figure}
 use Rattle.psi_reports.specs.Contents.{Contents}
-use Rattle.psi_reports.specs.Sound.{horizons_flaw, may_stand, flaw_behind, figures_flaw, line_at, flaw_of}
+use Rattle.psi_reports.specs.Sound.{horizons_flaw, may_stand, flaw_behind, first_flaw, line_at, flaw_of}
 
 -- a figure that is never read
 abbrev pub none : Figure
@@ -21,14 +21,14 @@ module _ (c : Contents) where
   unfolding flaw_of
   flaw-horizon k line few is at = rw (le-ltb c.samples c.met few, ← is) (ap Some at)
 
-  pub flaw-figure : (k first line : ℕ) → c.met ≤ c.samples → None ≡ horizons_flaw 0 None c.met c.horizons → Some k ≡ figures_flaw c.met c.figures
+  pub flaw-figure : (k first line : ℕ) → c.met ≤ c.samples → None ≡ horizons_flaw 0 None c.met c.horizons → Some k ≡ first_flaw c.met c.figures
       → first ≡ line_at (5 + length c.horizons) → line ≡ line_at (first + k) → Some line ≡ flaw_of c
   unfolding flaw_of
   flaw-figure k first line few before is begin at =
       let whole : line ≡ line_at ((5 + length c.horizons) + k) = omega arith in
       rw (le-ltb c.samples c.met few, ← before, ← is) (ap Some whole)
 
-  pub flaw-none : c.met ≤ c.samples → None ≡ horizons_flaw 0 None c.met c.horizons → None ≡ figures_flaw c.met c.figures → None ≡ flaw_of c
+  pub flaw-none : c.met ≤ c.samples → None ≡ horizons_flaw 0 None c.met c.horizons → None ≡ first_flaw c.met c.figures → None ≡ flaw_of c
   unfolding flaw_of
   flaw-none few before is = rw (le-ltb c.samples c.met few, ← before, ← is) refl
 

@@ -21,6 +21,7 @@ mod AllowLemmas
 mod WorthLemmas
 pub mod SampleLemmas
 mod FigureLaws
+mod VaryingLemmas
 mod ReachLemmas
 pub mod SampleLaws
 pub mod SoundLaws

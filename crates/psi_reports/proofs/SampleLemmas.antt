@@ -75,7 +75,7 @@ are-horizons net outcomes all = All-weaker IsHorizon (λ t. is_horizon t ≡ tru
 
 -- ---- values
 
-met-below : (net : Network) (outcomes : List Outcome) → All (IsSampleOf net) outcomes → All (λ x. IsBelow x (caps_of net)) (met_states outcomes)
+pub met-below : (net : Network) (outcomes : List Outcome) → All (IsSampleOf net) outcomes → All (λ x. IsBelow x (caps_of net)) (met_states outcomes)
 unfolding met_states
 met-below net [] all = All-nil (λ x. IsBelow x (caps_of net))
 met-below net (Met horizon state ∷ outcomes) all =

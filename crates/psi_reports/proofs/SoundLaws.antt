@@ -20,6 +20,7 @@ use Rattle.psi_reports.proofs.JudgeLemmas.{flaw-none}
 use Rattle.psi_reports.proofs.SmallLemmas.{distinct-all}
 use Rattle.psi_reports.proofs.SampleLemmas.{are-horizons, queues-some, queues-shown, rewards-shown}
 use Rattle.psi_reports.proofs.FigureLaws.{shown-sound}
+use Rattle.psi_reports.proofs.VaryingLemmas.{samples-steady}
 
 -- ---- horizons
 
@@ -102,8 +103,9 @@ pub report-sound : ReportIsSound
 unfolding contents_of
 report-sound net outcomes are =
     let hs = met_horizons outcomes in
+    let shown = shown-sound (met_states outcomes) (queue_quantities net) (reward_quantities net) (queues-some net outcomes are) (queues-shown net outcomes are) (rewards-shown net outcomes are) in
     sym (flaw-none (contents_of net outcomes) (length-met_states outcomes)
     (sym (horizons-sound 0 (length (met_states outcomes)) None (horizons_of hs)
     (horizons-counted (λ t. times t hs) (distinct hs) (distinct-all (λ t. is_horizon t ≡ true) hs (are-horizons net outcomes are.samples)))
     (rise-first (λ t. times t hs) (distinct hs) (ascends-distinct hs)) (positive-horizons hs) (total-horizons hs ∙ same-met outcomes)))
-    (sym (shown-sound (met_states outcomes) (queue_quantities net) (reward_quantities net) (queues-some net outcomes are) (queues-shown net outcomes are) (rewards-shown net outcomes are))))
+    (rw shown (sym (samples-steady net outcomes are))))

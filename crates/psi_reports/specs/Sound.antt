@@ -1,8 +1,9 @@
--- What the rows of a report keep: counts that add up, horizons that ascend, and the figures of queues and rewards one after another, each sum within
--- what its extremes allow.
+-- What the rows of a report keep: counts that add up, horizons that ascend, the figures of queues and rewards one after another, each sum within
+-- what its extremes allow, and rewards that vary only where a queue does.
 use Rattle.std.specs.Prelude.{◌≡◌, ℕ, ◌+◌, ◌-◌, ◌^◌, ℤ, pos, ◌+ℤ◌, ◌*ℤ◌, ◌≤ℤ◌, ◌<◌, List, [], ◌∷◌, ◌++◌, length, count_by, min, not, Bool, true, false, ◌&&◌, ◌==◌, nat_le, nat_lt, int_le, unsigned_abs, Option, Some, None, if◌then◌else◌}
 use Rattle.std.specs.Int.{is_power_of_two}
 use Rattle.std.specs.List.{list_all}
+use Rattle.std.specs.Ordering.{int_eq}
 use Rattle.std.specs.Str.{bytes_eq}
 use Rattle.psi_reward.specs.Ranges.{least, greatest}
 use Rattle.psi_state.specs.declared.Outcome.{Outcome}
@@ -177,6 +178,43 @@ abbrev pub figures_flaw : ℕ → List Figure → Option ℕ
 figures_flaw n [] = Some 0
 figures_flaw n (f ∷ fs) = if may_begin f.item && sum_stands n [] f fs then flaw_behind n (f ∷ []) f fs else Some 0
 
+-- ---- rewards where no queue varies
+
+-- the greatest of a queue's or a reward's values
+abbrev pub is_greatest : Item → Bool
+is_greatest Greatest = true
+is_greatest RewardGreatest = true
+is_greatest _ = false
+
+-- values aren't all the same: the greatest of them isn't the least, which stands before it
+abbrev pub varies : Figure → Figure → Bool
+varies e f = is_greatest f.item && not (int_eq e.value f.value)
+
+-- a place where the greatest value is a reward's
+abbrev pub if_reward : Item → ℕ → Option ℕ
+if_reward RewardGreatest k = Some k
+if_reward _ k = None
+
+-- the first place, from k on, of the greatest of values that aren't all the same, behind a figure e, where it is a reward's: none of the queues before it varies
+abbrev pub varying_behind : ℕ → Figure → List Figure → Option ℕ
+varying_behind k e [] = None
+varying_behind k e (f ∷ fs) = if varies e f then if_reward f.item k else varying_behind (k + 1) f fs
+
+-- the first place of a reward's greatest value that isn't its least, though each queue's is: samples that are met in one state have one value of each reward
+abbrev pub varying_reward : List Figure → Option ℕ
+varying_reward [] = None
+varying_reward (f ∷ fs) = varying_behind 1 f fs
+
+-- the first of two places, where there are any
+abbrev pub first_of : Option ℕ → Option ℕ → Option ℕ
+first_of None k = k
+first_of (Some j) None = Some j
+first_of (Some j) (Some k) = Some (min j k)
+
+-- the first place of a figure that no report of n samples that are met has there
+abbrev pub first_flaw : ℕ → List Figure → Option ℕ
+first_flaw n figures = first_of (figures_flaw n figures) (varying_reward figures)
+
 -- ---- lines
 
 -- a line, which stands still at the greatest number of 64 bits
@@ -191,7 +229,7 @@ figures_line first (Some k) = Some (line_at (first + k))
 -- the line of a horizon; else that of a figure
 abbrev pub rows_line : Contents → Option ℕ → Option ℕ
 rows_line c (Some k) = Some (line_at (5 + k))
-rows_line c None = figures_line (5 + length c.horizons) (figures_flaw c.met c.figures)
+rows_line c None = figures_line (5 + length c.horizons) (first_flaw c.met c.figures)
 
 -- the first line of a report that no report of samples has there; none where there is no such line
 unfoldable pub flaw_of : Contents → Option ℕ

@@ -5,7 +5,7 @@ ghost use Rattle.psi_reports.specs.Sound.{is_horizon, is_above, is_next, horizon
 
 use crate::figure::HorizonCount;
 use crate::report::Report;
-use crate::standing::figures_flaw;
+use crate::varying::first_flaw;
 
 // The greatest horizon, in steps: 2^22.
 const MOST_STEPS: u64 = 4_194_304;
@@ -74,7 +74,9 @@ impl Report {
     /// it isn't 0; or where a least and a greatest value that may stand there follow, and it isn't the sum of so many
     /// values with these: it is at least that of one greatest value and else least ones, and at most that of one least
     /// value and else greatest ones. The least and the greatest of a queue are 0 to 65,535, those of a reward have a
-    /// magnitude of at most 2,097,120,000,000,000, and the greatest isn't below the least.
+    /// magnitude of at most 2,097,120,000,000,000, and the greatest isn't below the least. Where each queue's greatest
+    /// is its least, the samples that are met are one state, and the first reward's greatest may not stand there that
+    /// isn't its least.
     pub fn flaw(&self) -> Option<u64>
         ensures { result ≡ flaw_of self.now }
     {
@@ -85,7 +87,7 @@ impl Report {
             return Some(line_at(5, place));
         }
         let first = line_at(5, self.horizons.len());
-        match figures_flaw(self.figures.as_slice(), self.met) {
+        match first_flaw(self.figures.as_slice(), self.met) {
             Some(place) => Some(line_at(first, place)),
             None => None,
         }

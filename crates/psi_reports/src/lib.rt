@@ -24,6 +24,7 @@ mod table;
 mod tests;
 mod text;
 mod values;
+mod varying;
 
 pub use error::{MergeError, ReadError};
 pub use figure::{Figure, HorizonCount, Item};

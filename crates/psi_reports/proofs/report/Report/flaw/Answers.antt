@@ -11,16 +11,16 @@ returns-in-Some c =
     let flaw = rw (c.in-Some.is, c.as_slice.ensures.value) at c.horizons_flaw.ensures in
     rw (← c.self.view_is) (flaw-horizon _ c.in-Some.place c.line_at.result c.if-self.false flaw c.line_at.ensures)
 
-pub returns-in-Some-figures_flaw : goal.returns-in-Some-figures_flaw
-returns-in-Some-figures_flaw c =
+pub returns-in-Some-first_flaw : goal.returns-in-Some-first_flaw
+returns-in-Some-first_flaw c =
     let before = rw (c.in_default.is, c.as_slice.ensures.value) at c.horizons_flaw.ensures in
-    let flaw = rw (c.in-Some-figures_flaw.is, c.as_slice-2.ensures.value) at c.figures_flaw.ensures in
+    let flaw = rw (c.in-Some-first_flaw.is, c.as_slice-2.ensures.value) at c.first_flaw.ensures in
     let own = c.self.inside.horizons.ok.0 in
-    rw (← c.self.view_is) (flaw-figure _ c.in-Some-figures_flaw.place c.line_at-first.result c.line_at-in-Some-figures_flaw.result c.if-self.false before flaw
-    (omega (arith, c.line_at-first.ensures, c.len.ensures)) c.line_at-in-Some-figures_flaw.ensures)
+    rw (← c.self.view_is) (flaw-figure _ c.in-Some-first_flaw.place c.line_at-first.result c.line_at-in-Some-first_flaw.result c.if-self.false before flaw
+    (omega (arith, c.line_at-first.ensures, c.len.ensures)) c.line_at-in-Some-first_flaw.ensures)
 
 pub returns-in-None : goal.returns-in-None
 returns-in-None c =
     let before = rw (c.in_default.is, c.as_slice.ensures.value) at c.horizons_flaw.ensures in
-    let flaw = rw (c.in-None.is, c.as_slice-2.ensures.value) at c.figures_flaw.ensures in
+    let flaw = rw (c.in-None.is, c.as_slice-2.ensures.value) at c.first_flaw.ensures in
     rw (← c.self.view_is) (flaw-none _ c.if-self.false before flaw)
