@@ -20,7 +20,7 @@ use Rattle.psi_reports.proofs.AllowLemmas.{allowed, ordered, allows-allowed}
 use Rattle.psi_reports.proofs.WorthLemmas.{least-has, greatest-has}
 use Rattle.psi_reports.proofs.SampleLemmas.{ArePassing, AreApart, AreShown}
 
-own-name : (name : List ℕ) → bytes_eq name name ≡ true
+pub own-name : (name : List ℕ) → bytes_eq name name ≡ true
 own-name name = (bytes_eq-Decides name name).1 refl
 
 -- ---- names

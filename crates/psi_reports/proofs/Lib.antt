@@ -19,9 +19,15 @@ pub mod MergeLaws
 mod JudgeLemmas
 mod AllowLemmas
 mod WorthLemmas
+mod PowerLemmas
 pub mod SampleLemmas
 mod FigureLaws
 mod VaryingLemmas
 mod ReachLemmas
+mod ColumnLemmas
+mod BetweenLemmas
+mod HorizonReach
+mod FigureReach
 pub mod SampleLaws
 pub mod SoundLaws
+pub mod ReachedLaws

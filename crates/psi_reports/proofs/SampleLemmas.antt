@@ -27,23 +27,16 @@ use Rattle.psi_reports.specs.Reading.{IsReport}
 use Rattle.psi_reports.specs.Samples.{AreOf}
 use Rattle.psi_reports.specs.Sound.{is_horizon, is_customers, is_worth}
 use Rattle.psi_reports.proofs.AllowLemmas.{ordered}
+use Rattle.psi_reports.proofs.PowerLemmas.{one-bit, no-bit}
 use Rattle.psi_reports.proofs.SmallLemmas.{IsMost, IsMostAt, told-fit}
 use Rattle.psi_reports.proofs.WorthLemmas.{held-few, worth-few}
 
 -- ---- horizons
 
-one-one : ones 1 ≡ 1
-unfolding ones
-one-one = refl
-
-no-one : ones 0 ≡ 0
-unfolding ones
-no-one = refl
-
 ones-pow : (k : ℕ) → count_ones (2 ^ k) ≡ 1
 ones-pow k =
     let whole : 1 * 2 ^ k + 0 ≡ 2 ^ k = omega arith in
-    ap ones (sym whole) ∙ ones_cat k 1 0 (pow_pos k) ∙ (let first = one-one in let last = no-one in omega arith)
+    ap ones (sym whole) ∙ ones_cat k 1 0 (pow_pos k) ∙ (let first = one-bit in let last = no-bit in omega arith)
 
 pow-most : (k : ℕ) → k ≤ 22 → 2 ^ k ≤ 4194304
 pow-most k few = elim (cases_order k 22) [

@@ -9,3 +9,4 @@ pub mod Samples
 pub mod Counts
 pub mod Sound
 pub mod Merging
+pub mod Reached

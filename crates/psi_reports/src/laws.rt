@@ -6,6 +6,7 @@ ghost use Rattle.psi_reports.specs.Small.{ReportIsRead};
 ghost use Rattle.psi_reports.specs.Samples.{SamplesAreRead};
 ghost use Rattle.psi_reports.specs.Merging.{ReportsAreMerged, SamplesAreMerged};
 ghost use Rattle.psi_reports.specs.Sound.{ReportIsSound, SumsAreReached};
+ghost use Rattle.psi_reports.specs.Reached.{QueueReportsAreReached};
 
 /// The report of samples of a network is the text of what it tells.
 pub fn report_is_text()
@@ -44,4 +45,10 @@ pub fn report_is_sound()
 /// values that do.
 pub fn sums_are_reached()
     ensures { SumsAreReached }
+{}
+
+/// The judgement of a report of queues alone is exact: where [`Report::flaw`](crate::Report::flaw) answers none, there
+/// are a network that a file may describe and samples of it whose report it is.
+pub fn queue_reports_are_reached()
+    ensures { QueueReportsAreReached }
 {}

@@ -29,8 +29,8 @@ mod varying;
 pub use error::{MergeError, ReadError};
 pub use figure::{Figure, HorizonCount, Item};
 pub use laws::{
-    report_is_read, report_is_sound, report_is_text, reports_are_merged, sums_are_reached,
-    text_is_read,
+    queue_reports_are_reached, report_is_read, report_is_sound, report_is_text, reports_are_merged,
+    sums_are_reached, text_is_read,
 };
 pub use psi_network::OutOfMemory;
 pub use reading::read;

@@ -1,0 +1,39 @@
+-- Reports of queues alone, of which each without a wrong line is that of samples.
+use Rattle.std.specs.Prelude.{◌≡◌, List, All, Bool, true, false, None}
+use Rattle.psi_state.specs.declared.Outcome.{Outcome}
+use Rattle.psi_network.specs.Network.{Network}
+use Rattle.psi_network.specs.Valid.{IsNetwork}
+use Rattle.psi_report.specs.Report.{report_text}
+use Rattle.psi_reports.specs.declared.figure.Item.{Item}
+use Rattle.psi_reports.specs.declared.figure.Item.TheVariants.{Sum, Least, Greatest}
+use Rattle.psi_reports.specs.declared.figure.Figure.{Figure}
+use Rattle.psi_reports.specs.Contents.{Contents}
+use Rattle.psi_reports.specs.Text.{text_of}
+use Rattle.psi_reports.specs.Outcomes.{contents_of}
+use Rattle.psi_reports.specs.Reading.{IsReport}
+use Rattle.psi_reports.specs.Samples.{AreOf}
+use Rattle.psi_reports.specs.Sound.{flaw_of}
+
+-- an item of a queue
+abbrev pub is_of_queue : Item → Bool
+is_of_queue Sum = true
+is_of_queue Least = true
+is_of_queue Greatest = true
+is_of_queue _ = false
+
+-- the figures are of queues alone
+abbrev pub AreOfQueues : List Figure → Type 0
+AreOfQueues figures = All (λ (f : Figure). is_of_queue f.item ≡ true) figures
+
+-- there are a network that a file may describe and samples of it whose report tells this, and has its text
+pub record IsReached (c : Contents) : Type 0 where
+  pub net : Network
+  pub outcomes : List Outcome
+  pub kept : IsNetwork net
+  pub are : AreOf net outcomes
+  pub contents : contents_of net outcomes ≡ c
+  pub text : report_text net outcomes ≡ text_of c
+
+-- so it is with each report of queues alone in which no line is wrong
+abbrev pub QueueReportsAreReached : Type 0
+QueueReportsAreReached = (c : Contents) → IsReport c → AreOfQueues c.figures → flaw_of c ≡ None → IsReached c
