@@ -6,6 +6,7 @@
 //! whether it keeps the componentwise order of states (Propp and Wilson 1996).
 #![tactic(auto)]
 
+mod as_route;
 mod envelope;
 mod event;
 mod flat;
@@ -24,6 +25,7 @@ mod target_ends;
 #[cfg(test)]
 mod tests;
 
+pub use as_route::RouteLaw;
 pub use judging::{is_self_target, is_size_off};
 pub use parts::{Full, RouteRefusal, Source};
 pub use route::Route;

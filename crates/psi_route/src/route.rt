@@ -120,11 +120,35 @@ impl Route {
         }
     }
 
-    // Whether there are no tables, so that the first target with room is chosen.
-    pub(crate) fn is_plain(&self) -> bool
-        ensures { IsTrue result ↔ (length self.now.tables.items ≡ 0) }
+    /// Where a served customer comes from; `None` where customers come from outside.
+    pub fn source(&self) -> Option<Source>
+        ensures { let s = shape_of self.now in result ≡ s.source }
+    {
+        self.source
+    }
+
+    /// How many customers come at once.
+    pub fn size(&self) -> u16
+        ensures { let s = shape_of self.now in result ≡ s.size }
+    {
+        self.size
+    }
+
+    /// Whether there are no tables, so that the first target with room is chosen.
+    pub fn is_plain(&self) -> bool
+        ensures { let s = shape_of self.now in IsTrue result ↔ (length s.tables ≡ 0) }
     {
         self.tables.is_empty()
+    }
+
+    /// The targets, in their order.
+    ///
+    /// Its second clause is how a caller learns what every route keeps.
+    pub fn targets(&self) -> Queues
+        ensures value { let s = shape_of self.now in result ≡ s.targets }
+        ensures valid { IsRouteShape (shape_of self.now) }
+    {
+        self.targets
     }
 
     // The number of targets.
@@ -170,11 +194,11 @@ impl Route {
         x.get(self.target(i))
     }
 
-    // The first part of the key of the target at place `i` with `v` customers: the value of its table there.
-    pub(crate) fn weight(&self, i: u8, v: u16) -> u32
-        requires tables { 0 < length self.now.tables.items }
-        requires place { i < length self.now.targets }
-        requires number { v < slice_index self.now.caps (slice_index self.now.targets i) }
+    /// The first part of the key of the target at place `i` with `v` customers: the value of its table there.
+    pub fn weight(&self, i: u8, v: u16) -> u32
+        requires tables { let s = shape_of self.now in 0 < length s.tables }
+        requires place { let s = shape_of self.now in i < length s.targets }
+        requires number { let s = shape_of self.now in v < slice_index s.caps (slice_index s.targets i) }
         ensures { result ≡ weight (shape_of self.now) i v }
     {
         self.weight_in(&self.tables, i, v)

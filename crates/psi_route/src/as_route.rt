@@ -1,0 +1,28 @@
+//! Events that may be routes.
+
+ghost use Rattle.std.specs.Prelude.{◌≡◌, IfSome};
+
+use crate::route::Route;
+use psi_event::{EventLaw, Idle};
+
+/// An event that may be a route.
+///
+/// No call takes memory.
+pub trait RouteLaw: EventLaw {
+    /// The route that does what the event does, where the event is a route.
+    fn as_route(&self) -> Option<&Route>
+        ensures capacities { IfSome result (λ route. ⟦<Route as EventLaw>⟧.capacities route.now ≡ Self.capacities self.now) }
+        ensures function { IfSome result (λ route. ⟦<Route as EventLaw>⟧.function route.now ≡ Self.function self.now) };
+}
+
+impl RouteLaw for Route {
+    fn as_route(&self) -> Option<&Route> {
+        Some(self)
+    }
+}
+
+impl RouteLaw for Idle {
+    fn as_route(&self) -> Option<&Route> {
+        None
+    }
+}
