@@ -5,6 +5,7 @@
 //! two forms, a route or a guarded event, that does the same to every state.
 #![tactic(auto)]
 
+mod as_route;
 mod event;
 mod judging;
 mod kinds;
