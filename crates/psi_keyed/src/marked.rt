@@ -38,7 +38,7 @@ impl Marked {
     }
 
     /// Puts what the step makes of the state in its place, with its keys.
-    #[inline]
+    #[inline(always)]
     pub fn advance(&mut self, board: &Board, step: Step)
         requires ranked { AreRanked board.now }
         requires step { IsStep board.now step }
