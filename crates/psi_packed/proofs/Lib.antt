@@ -8,3 +8,4 @@ mod Building
 mod Moving
 mod Pairing
 pub mod Following
+mod Stepping

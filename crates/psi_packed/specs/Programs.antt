@@ -6,6 +6,8 @@ use Rattle.psi_piecewise.specs.declared.piecewise.Piecewise.{Piecewise}
 use Rattle.psi_piecewise.specs.Piecewise.{Does}
 use Rattle.psi_packed.specs.Packed.{Packing, IsPacking, packed}
 use Rattle.psi_packed.specs.Moves.{Moving, IsMoveOf, ChangesNothing, no_move}
+use Rattle.psi_packed.specs.Views.{lows, highs, pair_at}
+use Rattle.psi_packed.specs.declared.pairs.Pairs.{Pairs}
 
 -- how the states are packed, and a move for each event
 pub record Prepared : Type 0 where
@@ -42,3 +44,9 @@ abbrev pub Follows : ℕ → Prepared → List ℕ → List ℕ → List ℕ →
 Follows count p numbers before after =
     (caps : List ℕ) (functions : List Function) (s : List ℕ) → Prepares count caps functions p → IsBelow s caps
     → before ≡ packed count p.packing s → after ≡ packed count p.packing (follow_numbers functions numbers s)
+
+-- the packed states of each pair of a list become those that the function of this number makes of them
+pub record AllFollow {K : ℕ} (p : Prepared) (number : ℕ) (before after : List (Pairs K)) : Type 0 where
+  pub count : length after ≡ length before
+  pub low : (i : ℕ) → i < length before → Follows K p (number ∷ []) (lows (pair_at before i)) (lows (pair_at after i))
+  pub high : (i : ℕ) → i < length before → Follows K p (number ∷ []) (highs (pair_at before i)) (highs (pair_at after i))

@@ -1,5 +1,5 @@
 -- What the pairs, masks and moves of the code are seen as.
-use Rattle.std.specs.Prelude.{ℕ, List, map}
+use Rattle.std.specs.Prelude.{ℕ, List, [], map, get_or}
 use Rattle.psi_packed.specs.Moves.{Masks as MaskLists, Moving}
 use Rattle.psi_packed.specs.declared.pairs.Pair.{Pair}
 use Rattle.psi_packed.specs.declared.pairs.Pairs.{Pairs}
@@ -29,3 +29,7 @@ lows p = words_by low_word p
 
 abbrev pub highs : {K : ℕ} → Pairs K → List ℕ
 highs p = words_by high_word p
+
+-- the pair at a place of a list, and no words past the last
+abbrev pub pair_at : {K : ℕ} → List (Pairs K) → ℕ → Pairs K
+pair_at list i = get_or list i (record { pairs = [] })

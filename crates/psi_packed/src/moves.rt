@@ -1,9 +1,10 @@
 //! Events of pieces as masks on packed states.
 
-ghost use Rattle.std.specs.Prelude.{◌≡◌, ◌<◌, ◌+◌, ◌-◌, ◌%◌, ◌^◌, ◌↔◌, ℕ, IsTrue, slice_index, nat_eq, bit_and, if◌then◌else◌};
+ghost use Rattle.std.specs.Prelude.{◌≡◌, ◌<◌, ◌+◌, ◌-◌, ◌%◌, ◌^◌, ◌↔◌, ℕ, IsTrue, length, slice_index, nat_eq, bit_and, if◌then◌else◌};
 ghost use Rattle.psi_packed.specs.Views.{lows, highs, low_word, high_word, masks_by, moving_by};
 ghost use Rattle.psi_piecewise.specs.Piecewise.{IsPiece, IsPiecewise};
 ghost use Rattle.psi_packed.specs.Moves.{AreMasksOf, IsMoveOf, IsMoved, ChangesNothing};
+ghost use Rattle.psi_packed.specs.Views.{pair_at};
 
 use crate::layout::{Layout, Packed};
 use crate::pairs::{Pair, Pairs};
@@ -105,6 +106,32 @@ impl<const K: usize> Moves<K> {
             x.pairs[at] = x.pairs[at]
                 .plus(first.and(self.first.change.pairs[at]))
                 .plus(second.and(self.second.change.pairs[at]));
+        }
+    }
+
+    // Puts what the event makes of each packed state of the list in its place. The masks stay in registers.
+    #[inline(never)]
+    pub(crate) fn advance_all(&self, list: &mut [Pairs<K>])
+        ensures count { length list.new ≡ length list.old }
+        ensures low { (i : ℕ) → i < length list.old → IsMoved K (moving_by low_word self.now) (lows (pair_at list.old i)) (lows (pair_at list.new i)) }
+        ensures high { (i : ℕ) → i < length list.old → IsMoved K (moving_by high_word self.now) (highs (pair_at list.old i)) (highs (pair_at list.new i)) }
+    {
+        for x in list.iter_mut() {
+            self.advance(x);
+        }
+    }
+
+    // The same for an event whose second piece changes no state.
+    #[inline(never)]
+    pub(crate) fn advance_all_by_first(&self, list: &mut [Pairs<K>])
+        requires low { ChangesNothing K (masks_by low_word self.now.second) }
+        requires high { ChangesNothing K (masks_by high_word self.now.second) }
+        ensures count { length list.new ≡ length list.old }
+        ensures low { (i : ℕ) → i < length list.old → IsMoved K (moving_by low_word self.now) (lows (pair_at list.old i)) (lows (pair_at list.new i)) }
+        ensures high { (i : ℕ) → i < length list.old → IsMoved K (moving_by high_word self.now) (highs (pair_at list.old i)) (highs (pair_at list.new i)) }
+    {
+        for x in list.iter_mut() {
+            self.advance_by_first(x);
         }
     }
 

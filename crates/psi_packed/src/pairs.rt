@@ -1,9 +1,12 @@
 //! Two packed states side by side, so that one operation does both.
 
-ghost use Rattle.std.specs.Prelude.{◌≡◌, ◌+◌, ◌%◌, ◌^◌, ◌-◌, nat_eq, bit_and, if◌then◌else◌};
+ghost use Rattle.std.specs.Prelude.{◌≡◌, ◌↔◌, ◌+◌, ◌%◌, ◌^◌, ◌-◌, IsTrue, nat_eq, bit_and, replicate, if◌then◌else◌};
 ghost use Rattle.psi_packed.specs.Views.{lows, highs};
 
 use crate::layout::Packed;
+
+// The odd number nearest to 2^64 over the golden ratio: products with it differ in their high bits.
+const MULTIPLIER: u64 = 11_400_714_819_323_198_485;
 
 /// A word of each of two packed states.
 #[derive(Clone, Copy)]
@@ -70,6 +73,7 @@ impl Pair {
 
 impl<const K: usize> Pairs<K> {
     /// Two packed states, side by side.
+    #[inline]
     pub fn of(low: &Packed<K>, high: &Packed<K>) -> Pairs<K>
         ensures low { lows result ≡ low.now.words }
         ensures high { highs result ≡ high.now.words }
@@ -85,6 +89,7 @@ impl<const K: usize> Pairs<K> {
     }
 
     /// The low one.
+    #[inline]
     pub fn low(&self) -> Packed<K>
         ensures { result.words ≡ lows self.now }
     {
@@ -96,6 +101,7 @@ impl<const K: usize> Pairs<K> {
     }
 
     /// The high one.
+    #[inline]
     pub fn high(&self) -> Packed<K>
         ensures { result.words ≡ highs self.now }
     {
@@ -108,6 +114,39 @@ impl<const K: usize> Pairs<K> {
 }
 
 impl<const K: usize> Packed<K> {
+    /// Words of which no bit is one.
+    pub fn zero() -> Packed<K>
+        ensures { result.words ≡ replicate K 0 }
+    {
+        Packed { words: [0; K] }
+    }
+
+    /// Whether the words are the same.
+    #[inline]
+    pub fn is(&self, other: &Packed<K>) -> bool
+        ensures { IsTrue result ↔ (self.now.words ≡ other.now.words) }
+    {
+        for at in 0..K {
+            if self.words[at] != other.words[at] {
+                return false;
+            }
+        }
+        true
+    }
+
+    /// A hash whose high bits depend on all bits of the words: equal words have equal hashes. It is made by multiplication
+    /// (Knuth, The Art of Computer Programming, volume 3, section 6.4). No clause says which it is.
+    #[inline]
+    pub fn hash(&self) -> u64 {
+        let mut product: u64 = 0;
+        for at in 0..K {
+            product = product
+                .wrapping_add(self.words[at])
+                .wrapping_mul(MULTIPLIER);
+        }
+        product
+    }
+
     // The same words twice.
     pub(crate) fn twice(&self) -> Pairs<K>
         ensures low { lows result ≡ self.now.words }

@@ -4,10 +4,10 @@ ghost use Rattle.std.specs.Prelude.{◌≡◌, ◌<◌, ℕ, List, length, map, 
 ghost use Rattle.psi_state.specs.State.{IsBelow};
 ghost use Rattle.psi_packed.specs.Packed.{packed};
 ghost use Rattle.psi_packed.specs.Moves.{ChangesNothing, no_move};
-ghost use Rattle.psi_packed.specs.Programs.{Prepares, Follows};
+ghost use Rattle.psi_packed.specs.Programs.{Prepares, Follows, AllFollow};
 ghost use Rattle.psi_packed.specs.Views.{lows, highs};
 
-use crate::layout::Layout;
+use crate::layout::{Layout, Packed};
 use crate::moves::Moves;
 use crate::pairs::Pairs;
 use psi_piecewise::PiecewiseLaw;
@@ -83,6 +83,35 @@ impl<const K: usize> Program<K> {
         ensures high { (s : List ℕ) → IsBelow s self.now.packing.caps → highs x.now ≡ packed K self.now.packing s → result.1 ≡ s }
     {
         (self.layout.unpack(&x.low()), self.layout.unpack(&x.high()))
+    }
+
+    /// A state, packed. It is within the capacities.
+    pub fn pack_one(&self, x: &State) -> Packed<K>
+        requires { IsBelow x.now self.now.packing.caps }
+        ensures { result.words ≡ packed K self.now.packing x.now }
+    {
+        self.layout.pack(x)
+    }
+
+    /// The state that is packed.
+    pub fn unpack_one(&self, x: &Packed<K>) -> State
+        ensures { (s : List ℕ) → IsBelow s self.now.packing.caps → x.now.words ≡ packed K self.now.packing s → result ≡ s }
+    {
+        self.layout.unpack(x)
+    }
+
+    /// Puts what the event of this number makes of each packed state of the list in its place.
+    pub fn step(&self, number: u16, list: &mut [Pairs<K>])
+        requires number { number < length self.now.moves }
+        ensures { AllFollow self.now number list.old list.new }
+    {
+        let moves = self.moves.as_slice();
+        let own = &moves[number as usize];
+        if own.is_of_one_piece() {
+            own.advance_all_by_first(list);
+        } else {
+            own.advance_all(list);
+        }
     }
 
     /// Puts what the events of these numbers make of each of the two packed states in its place: the last number's event

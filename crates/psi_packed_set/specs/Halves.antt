@@ -1,0 +1,28 @@
+-- The packed states of a list, side by side or one after another, and whether they are one.
+use Rattle.std.specs.Prelude.{◌≡◌, ℕ, List, [], ◌∷◌, map, take}
+use Rattle.psi_state.specs.Members.{In}
+use Rattle.psi_packed.specs.Views.{lows, highs}
+use Rattle.psi_packed.specs.declared.layout.Packed.{Packed}
+use Rattle.psi_packed.specs.declared.pairs.Pairs.{Pairs}
+
+-- the words of the states of each pair, one state after another
+abbrev pub halves : {K : ℕ} → List (Pairs K) → List (List ℕ)
+halves [] = []
+halves (p ∷ list) = lows p ∷ highs p ∷ halves list
+
+-- the words of the first states
+abbrev pub words_of_first : {K : ℕ} → ℕ → List (Packed K) → List (List ℕ)
+words_of_first {K} count list = map (λ (x : Packed K). x.words) (take count list)
+
+-- the list has members, and all are x
+pub record AreAll (x : List ℕ) (xs : List (List ℕ)) : Type 0 where
+  pub some : In x xs
+  pub each : (y : List ℕ) → In y xs → y ≡ x
+
+-- two members differ
+pub record AreTwo (xs : List (List ℕ)) : Type 0 where
+  pub one : List ℕ
+  pub other : List ℕ
+  pub one_there : In one xs
+  pub other_there : In other xs
+  pub apart : one ≡ other → ⊥

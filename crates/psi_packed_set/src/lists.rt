@@ -1,0 +1,223 @@
+//! The lists of a set of packed states.
+//!
+//! A list of states with repeats stands for its set as well, so an event moves each state. Repeats are taken out now and then.
+
+ghost use Rattle.std.specs.Prelude.{◌≡◌, ◌*◌, ◌<◌, ◌≤◌, ◌⊎◌, IfOk, MatchOption, length, map, take, drop, slice_index, EachIndex};
+ghost use Rattle.psi_state.specs.State.{IsBelow, box};
+ghost use Rattle.psi_state.specs.Ascending.{HaveSame};
+ghost use Rattle.psi_packed.specs.Packed.{packed};
+ghost use Rattle.psi_packed.specs.Programs.{AllFollow};
+ghost use Rattle.psi_packed_set.specs.Halves.{words_of_first, AreAll, AreTwo};
+ghost use Rattle.psi_packed_set.specs.Room.{held, AreLists};
+ghost use Rattle.psi_packed_set.specs.Holding.{Holds, SetFollows};
+
+use crate::gathering::{gather, only, pair_up};
+use crate::pace::Pace;
+use psi_packed::{Packed, Pairs, Program};
+use psi_state::Bounds;
+use std::alloc::{AllocError, Global};
+
+/// Packed states side by side, and room for them one after another.
+#[derive(Drop)]
+pub(crate) struct Lists<const K: usize> {
+    // The pairs in use are the first `used`.
+    pub(crate) pairs: Vec<Pairs<K>>,
+    pub(crate) used: usize,
+    pub(crate) states: Vec<Packed<K>>,
+    // For the high bits of a hash, from the bit `shift` on, where a state that has it may stand.
+    pub(crate) seen: Vec<u16>,
+    pub(crate) shift: u8,
+}
+
+impl<const K: usize> Lists<K> {
+    /// Room for `most` states, 1 to 4,096.
+    pub(crate) fn reserve(alloc: Global, most: u16) -> Result<Lists<K>, AllocError>
+        requires least { 1 ≤ most }
+        requires most { most ≤ 4096 }
+        ensures lists { IfOk result (λ lists. AreLists lists) }
+        ensures room { IfOk result (λ lists. most ≤ length lists.states.items) }
+    {
+        let bits = bits_for(most);
+        let pairs = (most + 1) / 2;
+        Ok(Lists {
+            pairs: free_pairs(alloc, pairs)?,
+            used: 0,
+            states: free_states(alloc, 2 * pairs)?,
+            seen: free_slots(alloc, 1 << bits)?,
+            shift: 64 - bits,
+        })
+    }
+
+    /// Puts the states of the box into the list.
+    pub(crate) fn fill(&mut self, program: &Program<K>, bounds: &Bounds)
+        requires lists { AreLists self.old }
+        requires room { length (box bounds.now.lo bounds.now.hi) ≤ length self.old.states.items }
+        requires within { IsBelow bounds.now.hi program.now.packing.caps }
+        ensures lists { AreLists self.new }
+        ensures holds { Holds K program.now.packing (held self.new) (box bounds.now.lo bounds.now.hi) }
+        ensures room { length self.new.states.items ≡ length self.old.states.items }
+        ensures some { 1 ≤ self.new.used }
+    {
+        let count = pack_all(program, bounds, self.states.as_mut_slice());
+        self.used = pair_up(&self.states[..count], self.pairs.as_mut_slice());
+    }
+
+    /// Puts what the events of these numbers make of each state in its place: the last number's event comes first.
+    pub(crate) fn follow(&mut self, program: &Program<K>, numbers: &[u16])
+        requires lists { AreLists self.old }
+        requires numbers { EachIndex numbers.now (λ i. slice_index numbers.now i < length program.now.moves) }
+        requires some { 1 ≤ self.old.used }
+        ensures lists { AreLists self.new }
+        ensures follows { SetFollows K program.now numbers.now (held self.old) (held self.new) }
+        ensures room { length self.new.states.items ≡ length self.old.states.items }
+        ensures some { 1 ≤ self.new.used }
+    {
+        let left = self.follow_apart(program, numbers);
+        if left > 0 {
+            program.follow(&numbers[..left], &mut self.pairs[0]);
+        }
+    }
+
+    // The same until one pair is left. Answers how many numbers are left then: the first ones.
+    fn follow_apart(&mut self, program: &Program<K>, numbers: &[u16]) -> usize
+        requires lists { AreLists self.old }
+        requires numbers { EachIndex numbers.now (λ i. slice_index numbers.now i < length program.now.moves) }
+        requires some { 1 ≤ self.old.used }
+        ensures lists { AreLists self.new }
+        ensures follows { SetFollows K program.now (drop result numbers.now) (held self.old) (held self.new) }
+        ensures room { length self.new.states.items ≡ length self.old.states.items }
+        ensures some { 1 ≤ self.new.used }
+        ensures left { result ≤ length numbers.now }
+        ensures done { (result ≡ 0) ⊎ (self.new.used ≡ 1) }
+    {
+        let mut pace = Pace::start();
+        let mut left = numbers.len();
+        while left > 0 && self.used > 1 {
+            left -= 1;
+            self.step(program, numbers[left]);
+            if pace.is_due() {
+                self.thin_at(&mut pace);
+            }
+        }
+        left
+    }
+
+    // Puts what the event of this number makes of each state in its place.
+    fn step(&mut self, program: &Program<K>, number: u16)
+        requires lists { AreLists self.old }
+        requires number { number < length program.now.moves }
+        ensures lists { AreLists self.new }
+        ensures each { AllFollow program.now number (take self.old.used self.old.pairs.items) (take self.new.used self.new.pairs.items) }
+        ensures room { length self.new.states.items ≡ length self.old.states.items }
+        ensures same { self.new.used ≡ self.old.used }
+    {
+        program.step(number, &mut self.pairs[..self.used]);
+    }
+
+    // Takes repeats out, and lets the pace know how many pairs there were and are.
+    fn thin_at(&mut self, pace: &mut Pace)
+        requires lists { AreLists self.old }
+        requires some { 1 ≤ self.old.used }
+        ensures lists { AreLists self.new }
+        ensures members { HaveSame (held self.new) (held self.old) }
+        ensures room { length self.new.states.items ≡ length self.old.states.items }
+        ensures some { 1 ≤ self.new.used }
+    {
+        let before = self.used;
+        self.thin();
+        pace.adapt(before, self.used);
+    }
+
+    // Takes states out that are seen to stand twice.
+    fn thin(&mut self)
+        requires lists { AreLists self.old }
+        requires some { 1 ≤ self.old.used }
+        ensures lists { AreLists self.new }
+        ensures members { HaveSame (held self.new) (held self.old) }
+        ensures room { length self.new.states.items ≡ length self.old.states.items }
+        ensures some { 1 ≤ self.new.used }
+        ensures fewer { self.new.used ≤ self.old.used }
+    {
+        let count = gather(
+            &self.pairs[..self.used],
+            self.seen.as_mut_slice(),
+            self.shift,
+            self.states.as_mut_slice(),
+        );
+        self.used = pair_up(&self.states[..count], self.pairs.as_mut_slice());
+    }
+
+    /// The packed state that all are, where all are one.
+    pub(crate) fn only(&self) -> Option<Packed<K>>
+        requires lists { AreLists self.now }
+        requires some { 1 ≤ self.now.used }
+        ensures { MatchOption result (AreTwo (held self.now)) (λ x. AreAll x.words (held self.now)) }
+    {
+        only(&self.pairs[..self.used])
+    }
+}
+
+// The bits of a place among at least two slots for each of so many states.
+fn bits_for(most: u16) -> u8
+    requires least { 1 ≤ most }
+    requires most { most ≤ 4096 }
+    ensures some { 1 ≤ result }
+    ensures few { result ≤ 13 }
+{
+    16 - (2 * most - 1).leading_zeros() as u8
+}
+
+// So many pairs of no customer.
+fn free_pairs<const K: usize>(alloc: Global, count: u16) -> Result<Vec<Pairs<K>>, AllocError>
+    ensures { IfOk result (λ pairs. length pairs.items ≡ count) }
+{
+    let zero = Packed::zero();
+    let mut pairs = Vec::with_capacity(alloc, count as usize)?;
+    for _place in 0..count {
+        pairs.push_reserved(Pairs::of(&zero, &zero));
+    }
+    Ok(pairs)
+}
+
+// So many packed states of no customer.
+fn free_states<const K: usize>(alloc: Global, count: u16) -> Result<Vec<Packed<K>>, AllocError>
+    ensures { IfOk result (λ states. length states.items ≡ count) }
+{
+    let mut states = Vec::with_capacity(alloc, count as usize)?;
+    for _place in 0..count {
+        states.push_reserved(Packed::zero());
+    }
+    Ok(states)
+}
+
+// So many slots that name the first place.
+fn free_slots(alloc: Global, count: u16) -> Result<Vec<u16>, AllocError>
+    ensures count { IfOk result (λ slots. length slots.items ≡ count) }
+    ensures first { IfOk result (λ slots. EachIndex slots.items (λ i. slice_index slots.items i ≡ 0)) }
+{
+    let mut slots = Vec::with_capacity(alloc, count as usize)?;
+    for _slot in 0..count {
+        slots.push_reserved(0);
+    }
+    Ok(slots)
+}
+
+// Packs the states of the box, one after another. Answers how many there are.
+fn pack_all<const K: usize>(
+    program: &Program<K>,
+    bounds: &Bounds,
+    out: &mut [Packed<K>],
+) -> usize
+    requires room { length (box bounds.now.lo bounds.now.hi) ≤ length out.old }
+    requires within { IsBelow bounds.now.hi program.now.packing.caps }
+    ensures words { words_of_first result out.new ≡ map (packed K program.now.packing) (box bounds.now.lo bounds.now.hi) }
+    ensures count { result ≡ length (box bounds.now.lo bounds.now.hi) }
+    ensures room { length out.new ≡ length out.old }
+{
+    let mut count = 0;
+    for state in bounds.states() {
+        out[count] = program.pack_one(&state);
+        count += 1;
+    }
+    count
+}
