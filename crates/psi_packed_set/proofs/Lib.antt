@@ -1,1 +1,4 @@
 -- The lemmas of this crate.
+mod Halving
+mod Following
+mod Packing

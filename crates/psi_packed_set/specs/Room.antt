@@ -11,8 +11,9 @@ pub record Room : Type 0 where
 abbrev pub held : {K : ℕ} → Lists K → List (List ℕ)
 held l = halves (take l.used l.pairs.items)
 
--- there is room for the states of all pairs one after another, each slot names a place there, and the first pairs are in use
+-- a state has at most 32 words, there is room for the states of all pairs one after another, each slot names a place there, and the first pairs are in use
 pub record AreLists {K : ℕ} (l : Lists K) : Type 0 where
+  pub words : K ≤ 32
   pub small : length l.states.items ≤ 4096
   pub double : length l.states.items ≡ 2 * length l.pairs.items
   pub slots : 1 ≤ length l.seen.items

@@ -3,6 +3,7 @@
 
 mod gathering;
 mod lists;
+mod moving;
 mod pace;
 mod packed_set;
 

@@ -12,6 +12,7 @@ ghost use Rattle.psi_packed_set.specs.Room.{held, AreLists};
 ghost use Rattle.psi_packed_set.specs.Holding.{Holds, SetFollows};
 
 use crate::gathering::{gather, only, pair_up};
+use crate::moving::{follow_one, pack_all, step_first};
 use crate::pace::Pace;
 use psi_packed::{Packed, Pairs, Program};
 use psi_state::Bounds;
@@ -30,13 +31,16 @@ pub(crate) struct Lists<const K: usize> {
 }
 
 impl<const K: usize> Lists<K> {
-    /// Room for `most` states, 1 to 4,096.
+    /// Room for `most` states, 1 to 4,096; `AllocError` where a state has more than 32 words, as no packed state has.
     pub(crate) fn reserve(alloc: Global, most: u16) -> Result<Lists<K>, AllocError>
         requires least { 1 ≤ most }
         requires most { most ≤ 4096 }
         ensures lists { IfOk result (λ lists. AreLists lists) }
         ensures room { IfOk result (λ lists. most ≤ length lists.states.items) }
     {
+        if K > 32 {
+            return Err(AllocError);
+        }
         let bits = bits_for(most);
         let pairs = (most + 1) / 2;
         Ok(Lists {
@@ -58,6 +62,8 @@ impl<const K: usize> Lists<K> {
         ensures room { length self.new.states.items ≡ length self.old.states.items }
         ensures some { 1 ≤ self.new.used }
     {
+        // Called for its clause: a box has a state.
+        let _queues = bounds.len();
         let count = pack_all(program, bounds, self.states.as_mut_slice());
         self.used = pair_up(&self.states[..count], self.pairs.as_mut_slice());
     }
@@ -74,7 +80,7 @@ impl<const K: usize> Lists<K> {
     {
         let left = self.follow_apart(program, numbers);
         if left > 0 {
-            program.follow(&numbers[..left], &mut self.pairs[0]);
+            follow_one(program, &numbers[..left], self.pairs.as_mut_slice());
         }
     }
 
@@ -111,7 +117,7 @@ impl<const K: usize> Lists<K> {
         ensures room { length self.new.states.items ≡ length self.old.states.items }
         ensures same { self.new.used ≡ self.old.used }
     {
-        program.step(number, &mut self.pairs[..self.used]);
+        step_first(program, number, self.pairs.as_mut_slice(), self.used);
     }
 
     // Takes repeats out, and lets the pace know how many pairs there were and are.
@@ -200,24 +206,4 @@ fn free_slots(alloc: Global, count: u16) -> Result<Vec<u16>, AllocError>
         slots.push_reserved(0);
     }
     Ok(slots)
-}
-
-// Packs the states of the box, one after another. Answers how many there are.
-fn pack_all<const K: usize>(
-    program: &Program<K>,
-    bounds: &Bounds,
-    out: &mut [Packed<K>],
-) -> usize
-    requires room { length (box bounds.now.lo bounds.now.hi) ≤ length out.old }
-    requires within { IsBelow bounds.now.hi program.now.packing.caps }
-    ensures words { words_of_first result out.new ≡ map (packed K program.now.packing) (box bounds.now.lo bounds.now.hi) }
-    ensures count { result ≡ length (box bounds.now.lo bounds.now.hi) }
-    ensures room { length out.new ≡ length out.old }
-{
-    let mut count = 0;
-    for state in bounds.states() {
-        out[count] = program.pack_one(&state);
-        count += 1;
-    }
-    count
 }

@@ -40,7 +40,8 @@ impl<const K: usize> PackedSet<K> {
     ///
     /// # Errors
     ///
-    /// `AllocError` where there is no memory for it; no clause says when that is.
+    /// `AllocError` where there is no memory for it, or a state has more than 32 words, as no packed state has; no clause
+    /// says when that is.
     pub fn reserve(alloc: Global, most: u16) -> Result<PackedSet<K>, AllocError>
         requires least { 1 ≤ most }
         requires most { most ≤ 4096 }

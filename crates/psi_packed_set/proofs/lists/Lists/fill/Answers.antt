@@ -1,0 +1,64 @@
+use Rattle.std.proofs.Common.{List, ℕ, length, map, take, ap, sym, subst, ◌∙◌, arith, rules}
+use Rattle.std.proofs.lemmas.List.{with_items_is, length-take-le}
+use Rattle.psi_state.specs.State.{box}
+use Rattle.psi_state.specs.Ascending.{HaveSame}
+use Rattle.psi_state.proofs.BoxesLemmas.{In-low, In-of_box, below-through}
+use Rattle.psi_packed.specs.Packed.{packed}
+use Rattle.psi_packed.specs.declared.layout.Packed.{Packed}
+use Rattle.psi_packed.specs.declared.pairs.Pairs.{Pairs}
+use Rattle.psi_packed_set.specs.Halves.{halves, words_of_first}
+use Rattle.psi_packed_set.proofs.Halving.{same-again, some-members}
+use Rattle.psi_packed_set.proofs.lists.Lists.fill.Goals as goal
+
+pub pack_all-count-requires : goal.pack_all-count-requires
+pack_all-count-requires g c =
+    let states = ap (λ (xs : List (Packed g.row.K)). length xs) c.as_mut_slice.ensures.value in
+    (omega arith, (let words = c.requires.lists.words in search rules, (omega (arith, states, c.requires.room), c.requires.within)))
+
+pub pair_up-self-requires : goal.pair_up-self-requires
+pair_up-self-requires g c =
+    let own = c.args.self.now in
+    let out = c.pack_all-count.new.out in
+    let n = c.pack_all-count.result in
+    let states = c.deref.ensures.value ∙ with_items_is own.states out (c.pack_all-count.auto.out ∙ c.as_mut_slice.ensures.len) in
+    let long = ap (λ (xs : List (Packed g.row.K)). length xs) states in
+    let outs = ap (λ (xs : List (Packed g.row.K)). length xs) c.as_mut_slice.ensures.value in
+    let pairs = ap (λ (ps : List (Pairs g.row.K)). length ps) c.as_mut_slice-2.ensures.value in
+    let front = length-take-le n c.deref.result.now (omega (arith, long, outs, c.pack_all-count.ensures.room, c.pack_all-count.ensures.count, c.requires.room)) in (
+      let words = c.requires.lists.words in search rules,
+      (
+        let words = c.requires.lists.words in search rules,
+        omega (arith, front, pairs, c.pack_all-count.ensures.count, c.requires.room, c.requires.lists.double),
+      ),
+    )
+
+pub returns-clause-holds : goal.returns-clause-holds
+returns-clause-holds g c =
+    let own = c.args.self.now in
+    let bounds = c.args.bounds.now in
+    let list = c.pair_up-self.new.list in
+    let out = c.pack_all-count.new.out in
+    let n = c.pack_all-count.result in
+    let states = c.deref.ensures.value ∙ with_items_is own.states out (c.pack_all-count.auto.out ∙ c.as_mut_slice.ensures.len) in
+    let whole = map (packed g.row.K c.args.program.now.packing) (box bounds.lo bounds.hi) in
+    let paired : HaveSame (halves (take c.pair_up-self.result list)) (words_of_first n out) =
+    same-again out c.deref.result.now n (halves (take c.pair_up-self.result list)) states c.pair_up-self.ensures.members in
+    record {
+      same = subst (λ (ps : List (Pairs g.row.K)). HaveSame (halves (take c.pair_up-self.result ps)) whole)
+          (sym (with_items_is own.pairs list (c.pair_up-self.auto.list ∙ c.as_mut_slice-2.ensures.len)))
+          (subst (λ (ws : List (List ℕ)). HaveSame (halves (take c.pair_up-self.result list)) ws) c.pack_all-count.ensures.words paired);
+      below = λ x member. below-through x bounds.hi c.args.program.now.packing.caps (In-of_box bounds.lo bounds.hi x member).high c.requires.within;
+    }
+
+pub returns-clause-some : goal.returns-clause-some
+returns-clause-some g c =
+    let own = c.args.self.now in
+    let bounds = c.args.bounds.now in
+    let out = c.pack_all-count.new.out in
+    let n = c.pack_all-count.result in
+    let some = some-members (box bounds.lo bounds.hi) bounds.lo (In-low bounds.lo bounds.hi c.len-queues.ensures.ordered) in
+    let states = c.deref.ensures.value ∙ with_items_is own.states out (c.pack_all-count.auto.out ∙ c.as_mut_slice.ensures.len) in
+    let long = ap (λ (xs : List (Packed g.row.K)). length xs) states in
+    let outs = ap (λ (xs : List (Packed g.row.K)). length xs) c.as_mut_slice.ensures.value in
+    let front = length-take-le n c.deref.result.now (omega (arith, long, outs, c.pack_all-count.ensures.room, c.pack_all-count.ensures.count, c.requires.room)) in
+    omega (arith, some, front, c.pack_all-count.ensures.count, c.pair_up-self.ensures.count)
