@@ -7,5 +7,7 @@ mod Changes
 mod Building
 mod Moving
 mod Pairing
+mod Widths
 pub mod Following
 mod Stepping
+mod Descending

@@ -2,4 +2,5 @@
 pub mod Packed
 pub mod Moves
 pub mod Programs
+pub mod Boxes
 pub mod Views

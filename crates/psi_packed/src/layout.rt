@@ -128,6 +128,15 @@ impl<const K: usize> Layout<K> {
         self.caps
     }
 
+    // The bits of a field.
+    #[inline]
+    pub(crate) fn bits(&self) -> u8
+        ensures value { result ≡ self.now.bits }
+        ensures valid { IsPacking K self.now }
+    {
+        self.bits
+    }
+
     // What brings up the guard of each queue that is at its bound or above it.
     pub(crate) fn offsets(&self, bounds: &State) -> Packed<K>
         requires { IsBelow bounds.now self.now.caps }

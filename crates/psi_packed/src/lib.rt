@@ -2,6 +2,7 @@
 //! queues by one addition a word, and changes all queues by another.
 #![tactic(auto)]
 
+mod boxes;
 mod layout;
 mod moves;
 mod pairs;

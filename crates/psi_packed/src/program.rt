@@ -18,8 +18,8 @@ use std::marker::Model;
 /// The events of a network whose states fit `K` words and whose events are all of pieces.
 #[derive(Drop)]
 pub struct Program<const K: usize> {
-    layout: Layout<K>,
-    moves: Vec<Moves<K>>,
+    pub(crate) layout: Layout<K>,
+    pub(crate) moves: Vec<Moves<K>>,
     // Where it is true, no second piece changes a state.
     first_alone: bool,
 }

@@ -1,0 +1,85 @@
+//! Boxes of states between two packed corners: how many states they have, and runs that follow the corners while these
+//! are many.
+
+ghost use Rattle.std.specs.Prelude.{◌≡◌, ◌+◌, ◌-◌, ◌*◌, ◌%◌, ◌^◌, ◌<◌, ◌≤◌, ℕ, List, length, slice_index, EachIndex};
+ghost use Rattle.psi_packed.specs.Packed.{Packing, IsPacking, word_of};
+ghost use Rattle.psi_packed.specs.Boxes.{widths, IsCount, TellsFew, FollowsBox};
+ghost use Rattle.psi_packed.specs.Views.{lows, highs};
+
+use crate::pairs::Pairs;
+use crate::program::Program;
+
+impl<const K: usize> Program<K> {
+    /// Whether the box between the two packed states, of which the low one is nowhere above the high one, has at most
+    /// so many states.
+    pub fn box_has_at_most(&self, x: &Pairs<K>, most: u32) -> bool
+        ensures { TellsFew K self.now.packing (lows x.now) (highs x.now) most result }
+    {
+        has_at_most(x, self.layout.bits(), most)
+    }
+
+    /// Follows the events of these numbers, the last number's first, as long as the box between the two packed states
+    /// has more than `most` states and the next event doesn't halt the run. The answer is how many numbers are left.
+    ///
+    /// Each event that doesn't halt is monotone, and the low state is nowhere above the high one.
+    #[inline(never)]
+    pub fn follow_while_many(
+        &self,
+        numbers: &[u16],
+        halts: &[bool],
+        most: u32,
+        x: &mut Pairs<K>,
+    ) -> usize
+        requires numbers { EachIndex numbers.now (λ i. slice_index numbers.now i < length self.now.moves) }
+        requires halts { length halts.now ≡ length self.now.moves }
+        ensures left { result ≤ length numbers.now }
+        ensures run { FollowsBox K self.now numbers.now halts.now most (lows x.old) (highs x.old) (lows x.new) (highs x.new) result }
+    {
+        let moves = self.moves.as_slice();
+        let bits = self.layout.bits();
+        // In a variable of its own it stays in registers.
+        let mut own = *x;
+        for place in (0..numbers.len()).rev() {
+            let event = numbers[place] as usize;
+            if has_at_most(&own, bits, most) || halts[event] {
+                *x = own;
+                return place + 1;
+            }
+            moves[event].advance(&mut own);
+        }
+        *x = own;
+        0
+    }
+}
+
+// Whether the box between the two packed states has at most so many states, by fields of so many bits.
+#[inline]
+fn has_at_most<const K: usize>(x: &Pairs<K>, bits: u8, most: u32) -> bool
+    requires some { 1 ≤ bits }
+    requires few { bits ≤ 16 }
+    ensures { (p : Packing) → IsPacking K p → p.bits ≡ bits → TellsFew K p (lows x.now) (highs x.now) most result }
+{
+    let mut count = 1;
+    for at in 0..K {
+        let widths = x.pairs[at].high.wrapping_sub(x.pairs[at].low);
+        count = times_widths(widths, bits, most, count);
+    }
+    count <= most as u64
+}
+
+// The count times one more than each number in the fields of the word, given up once it is above `most`.
+#[inline]
+fn times_widths(word: u64, bits: u8, most: u32, count: u64) -> u64
+    requires some { 1 ≤ bits }
+    requires few { bits ≤ 16 }
+    ensures { (x : List ℕ) → EachIndex x (λ q. slice_index x q < 2 ^ bits) → word ≡ word_of bits x → IsCount most (count * widths x) result }
+{
+    let mask = (1 << bits) - 1;
+    let mut rest = word;
+    let mut product = count;
+    while rest != 0 && product <= most as u64 {
+        product *= (rest & mask) + 1;
+        rest >>= bits;
+    }
+    product
+}
