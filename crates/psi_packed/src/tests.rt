@@ -253,6 +253,78 @@ fn a_program_has_a_move_for_each_event(rt: HostRuntime) -> Result<(), Fail> {
     Ok(())
 }
 
+// From (2, 4) to (3, 5) there are 2 · 2 states, and from (0, 0) to (3, 5) there are 4 · 6.
+#[test]
+fn a_box_has_as_many_states_as_the_product_of_its_widths(rt: HostRuntime) -> Result<(), Fail> {
+    let caps = room();
+    let events = [Still {
+        idle: Idle::new(caps),
+    }];
+    let layout = Layout::<1>::new(caps).expect(&rt, "one word for two queues");
+    let program = Program::new(rt.alloc(), layout, &events)?.expect(&rt, "events of pieces");
+    for (low, count) in [(pair(2, 4), 4), (pair(0, 0), 24), (pair(3, 5), 1)] {
+        let x = pack_by(&rt, &program, &caps, &low, &pair(3, 5));
+        assert!(rt; program.box_has_at_most(&x, count));
+        assert!(rt; !program.box_has_at_most(&x, count - 1));
+        assert!(rt; program.box_has_at_most(&x, u32::MAX));
+    }
+    Ok(())
+}
+
+// The first queue is in the first word and the last in the second: 3 · 5 states.
+#[test]
+fn a_box_of_two_words_is_counted_by_both(rt: HostRuntime) -> Result<(), Fail> {
+    let caps = even(17, 5);
+    let events = [Still {
+        idle: Idle::new(caps),
+    }];
+    let layout = Layout::<2>::new(caps).expect(&rt, "two words for 17 queues");
+    let program = Program::new(rt.alloc(), layout, &events)?.expect(&rt, "events of pieces");
+    let mut high = lone(17, 16, 4);
+    high.set(0, 2);
+    let x = pack_by(&rt, &program, &caps, &State::zero(17), &high);
+    assert!(rt; program.box_has_at_most(&x, 15));
+    assert!(rt; !program.box_has_at_most(&x, 14));
+    let whole = pack_by(&rt, &program, &caps, &State::zero(17), &caps);
+    assert!(rt; !program.box_has_at_most(&whole, u32::MAX));
+    Ok(())
+}
+
+// The box has 4 states throughout. It is asked about first, then the event of the next number.
+#[test]
+fn a_run_ends_where_the_box_is_small_or_an_event_halts(rt: HostRuntime) -> Result<(), Fail> {
+    let caps = room();
+    let events = [
+        Still {
+            idle: Idle::new(caps),
+        },
+        Still {
+            idle: Idle::new(caps),
+        },
+    ];
+    let layout = Layout::<1>::new(caps).expect(&rt, "one word for two queues");
+    let program = Program::new(rt.alloc(), layout, &events)?.expect(&rt, "events of pieces");
+    let mut x = pack_by(&rt, &program, &caps, &pair(2, 4), &pair(3, 5));
+    assert_eq!(rt;
+        program.follow_while_many(&[0, 1, 0], &[false, true], 3, &mut x),
+        2
+    );
+    assert_eq!(rt;
+        program.follow_while_many(&[0, 1, 0], &[true, false], 3, &mut x),
+        3
+    );
+    assert_eq!(rt;
+        program.follow_while_many(&[0, 1, 0], &[false, false], 3, &mut x),
+        0
+    );
+    assert_eq!(rt;
+        program.follow_while_many(&[0, 1, 0], &[false, false], 4, &mut x),
+        3
+    );
+    assert_eq!(rt; program.unpack(&x), (pair(2, 4), pair(3, 5)));
+    Ok(())
+}
+
 #[test]
 fn a_program_needs_pieces(rt: HostRuntime) -> Result<(), Fail> {
     let caps = room();
