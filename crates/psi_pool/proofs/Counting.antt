@@ -42,7 +42,7 @@ single-all : (xs : List (List ℕ)) (s : List ℕ) → 0 < length xs → ((z : L
 single-all [] s some each = absurd (omega arith)
 single-all (x ∷ xs) s some each = ap (λ (ys : List (List ℕ)). single ys) (ascending-same s x xs each)
 
-positive : (n : ℕ) → (n == 0) ≡ false → 0 < n
+pub positive : (n : ℕ) → (n == 0) ≡ false → 0 < n
 positive zero not = absurd cc
 positive (suc n) not = omega arith
 

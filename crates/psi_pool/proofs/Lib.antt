@@ -8,3 +8,4 @@ pub mod Relinking
 pub mod Keeping
 pub mod Counting
 pub mod Within
+pub mod Listing

@@ -4,10 +4,12 @@
 //! none. It leads to the last node of a bucket before some place, so links fall along a chain, and every chain
 //! ends.
 
-ghost use Rattle.std.specs.Prelude.{◌≡◌, ℕ, ◌+◌, ◌<◌, ◌≤◌, ◌↔◌, List, IsTrue, IfOk, MatchOption, length, map, slice_index, vec_capacity};
+ghost use Rattle.std.specs.Prelude.{◌≡◌, ℕ, ◌+◌, ◌<◌, ◌≤◌, ◌↔◌, List, ◌∷◌, ◌++◌, IsTrue, IfOk, MatchOption, length, map, slice_index, vec_capacity};
+ghost use Rattle.std.specs.declared.cmp.Ordering.TheVariants.{Less, Equal, Greater};
 ghost use Rattle.psi_state.specs.State.{IsBelow};
 ghost use Rattle.psi_state.specs.Members.{In};
-ghost use Rattle.psi_state.specs.Sets.{ascending, single};
+ghost use Rattle.psi_state.specs.Sets.{state_cmp, ascending, single};
+ghost use Rattle.psi_state.specs.Ascending.{IsRising, IsDistinct, HaveSame};
 ghost use Rattle.psi_pool.specs.Buckets.{bucket};
 ghost use Rattle.psi_pool.specs.Nodes.{node_at, states, IsLinked, IsNew, HoldSet};
 
@@ -15,6 +17,7 @@ use crate::hashing::bucket_of;
 use psi_event::EventLaw;
 use psi_state::State;
 use std::alloc::{AllocError, Global};
+use std::cmp::Ordering;
 
 /// The link to no node: the most nodes there can be, so that none stands at this place.
 pub(crate) const NONE: u16 = 4096;
@@ -221,8 +224,138 @@ fn link_all(nodes: &mut [Node], heads: &mut [u16]) -> usize
     left
 }
 
-/// Lists the states of the nodes.
-pub(crate) fn gather(nodes: &[Node], out: &mut Vec<State>)
+/// Lists the states of the first `len` nodes in ascending order where the nodes are in it, and answers 0 then. Else some
+/// states aren't listed, and the answer is how many nodes have one of these: the listed ones and these are put into the
+/// first nodes, in their order where these are ascending by themselves.
+pub(crate) fn list_first(nodes: &mut [Node], len: usize, out: &mut Vec<State>) -> usize
+    requires len { len ≤ length nodes.old }
+    requires room { len ≤ vec_capacity out.old }
+    ensures members { HaveSame (states nodes.new (length out.new.items + result)) (states nodes.old len) }
+    ensures listed { result ≡ 0 → out.new.items ≡ ascending (states nodes.old len) }
+    ensures fewer { length out.new.items + result ≤ len }
+    ensures capacity { vec_capacity out.new ≡ vec_capacity out.old }
+{
+    list_or_merge(&mut nodes[..len], out)
+}
+
+// The same of all the nodes.
+fn list_or_merge(nodes: &mut [Node], out: &mut Vec<State>) -> usize
+    requires { length nodes.old ≤ vec_capacity out.old }
+    ensures members { HaveSame (states nodes.new (length out.new.items + result)) (states nodes.old (length nodes.old)) }
+    ensures listed { result ≡ 0 → out.new.items ≡ ascending (states nodes.old (length nodes.old)) }
+    ensures fewer { length out.new.items + result ≤ length nodes.old }
+    ensures capacity { vec_capacity out.new ≡ vec_capacity out.old }
+{
+    let aside = list_ascending(nodes, out);
+    if out.len() == nodes.len() {
+        return aside;
+    }
+    merge(nodes, out.as_slice(), aside);
+    aside
+}
+
+/// Lists the states of the first `len` nodes in ascending order, and puts them into the first nodes in that order. No
+/// state stands in two of them.
+pub(crate) fn sort_first(nodes: &mut [Node], len: usize, out: &mut Vec<State>)
+    requires len { len ≤ length nodes.old }
+    requires room { len ≤ vec_capacity out.old }
+    requires distinct { IsDistinct (states nodes.old len) }
+    ensures members { HaveSame (states nodes.new (length out.new.items)) (states nodes.old len) }
+    ensures listed { out.new.items ≡ ascending (states nodes.old len) }
+    ensures fewer { length out.new.items ≤ len }
+    ensures capacity { vec_capacity out.new ≡ vec_capacity out.old }
+{
+    gather(&nodes[..len], out);
+    out.sort_unstable();
+    merge(nodes, out.as_slice(), 0);
+}
+
+// Lists the states of the nodes that come in ascending order, each once. A state that is below one before it is set
+// aside: these states are those of the first nodes, in the order in which they came, and the answer is their number.
+fn list_ascending(nodes: &mut [Node], out: &mut Vec<State>) -> usize
+    requires { length nodes.old ≤ vec_capacity out.old }
+    ensures rising { IsRising out.new.items }
+    ensures members { HaveSame (out.new.items ++ states nodes.new result) (states nodes.old (length nodes.old)) }
+    ensures fewer { length out.new.items + result ≤ length nodes.old }
+    ensures still { result ≡ 0 → nodes.new ≡ nodes.old }
+    ensures capacity { vec_capacity out.new ≡ vec_capacity out.old }
+{
+    out.clear();
+    let mut aside = 0;
+    for place in 0..nodes.len() {
+        if !extend(out, &nodes[place].state) {
+            nodes[aside].state = nodes[place].state;
+            aside += 1;
+        }
+    }
+    aside
+}
+
+// Puts a state behind ascending ones that it is above. The answer is whether it is among them then.
+#[inline]
+fn extend(out: &mut Vec<State>, x: &State) -> bool
+    requires rising { IsRising out.old.items }
+    requires room { length out.old.items < vec_capacity out.old }
+    ensures rising { IsRising out.new.items }
+    ensures listed { IsTrue result → HaveSame out.new.items (x.now ∷ out.old.items) }
+    ensures unlisted { (IsTrue result → ⊥) → out.new.items ≡ out.old.items }
+    ensures longer { length out.new.items ≤ length out.old.items + 1 }
+    ensures capacity { vec_capacity out.new ≡ vec_capacity out.old }
+{
+    match against_last(out.as_slice(), x) {
+        Ordering::Greater => {
+            out.push_reserved(*x);
+            true
+        }
+        Ordering::Equal => true,
+        Ordering::Less => false,
+    }
+}
+
+// How a state compares with the last of ascending ones; it is above none.
+#[inline]
+fn against_last(out: &[State], x: &State) -> Ordering
+    requires { IsRising out.now }
+    ensures above { result ≡ Greater → (z : List ℕ) → In z out.now → state_cmp z x.now ≡ Less }
+    ensures there { result ≡ Equal → In x.now out.now }
+{
+    if out.is_empty() {
+        return Ordering::Greater;
+    }
+    x.cmp(&out[out.len() - 1])
+}
+
+// Puts the states of a list and those of the first `aside` nodes into the first nodes, as many as they are. Where both are
+// ascending, so are these, which no clause promises.
+fn merge(nodes: &mut [Node], out: &[State], aside: usize)
+    requires { length out.now + aside ≤ length nodes.old }
+    ensures { HaveSame (states nodes.new (length out.now + aside)) (out.now ++ states nodes.old aside) }
+{
+    let mut listed = out.len();
+    let mut aside = aside;
+    while listed > 0 {
+        let place = listed + aside - 1;
+        if ends_above(nodes, aside, &out[listed - 1]) {
+            aside -= 1;
+            nodes[place].state = nodes[aside].state;
+        } else {
+            listed -= 1;
+            nodes[place].state = out[listed];
+        }
+    }
+}
+
+// Whether the last of the first `aside` nodes has a state above `x`.
+#[inline]
+fn ends_above(nodes: &[Node], aside: usize, x: &State) -> bool
+    requires { aside ≤ length nodes.now }
+    ensures { IsTrue result → 1 ≤ aside }
+{
+    aside > 0 && nodes[aside - 1].state > *x
+}
+
+// Lists the states of the nodes.
+fn gather(nodes: &[Node], out: &mut Vec<State>)
     requires { length nodes.now ≤ vec_capacity out.old }
     ensures items { out.new.items ≡ states nodes.now (length nodes.now) }
     ensures capacity { vec_capacity out.new ≡ vec_capacity out.old }

@@ -1,23 +1,26 @@
 //! The set of states.
 
-ghost use Rattle.std.specs.Prelude.{◌≡◌, ◌<◌, ◌≤◌, ◌↔◌, ◌⊎◌, ℕ, List, [], IsTrue, IfOk, length};
+ghost use Rattle.std.specs.Prelude.{◌≡◌, ◌<◌, ◌≤◌, ◌↔◌, ◌⊎◌, ℕ, List, [], IsTrue, IfOk, length, vec_capacity};
 ghost use Rattle.std.specs.Prelude.{⊤};
 ghost use Rattle.std.specs.Borrow.{sem, follows_so};
 ghost use mathlib.Core.Option.{none};
 ghost use Rattle.psi_state.specs.State.{IsBelow};
 ghost use Rattle.psi_state.specs.Members.{In};
-ghost use Rattle.psi_state.specs.Sets.{insert_state, image, single};
+ghost use Rattle.psi_state.specs.Sets.{insert_state, ascending, image, single};
 ghost use Rattle.psi_state.specs.Ascending.{IsRising, HaveSame};
 ghost use Rattle.psi_pool.specs.Tables.{held, IsTable};
 ghost use Rattle.psi_pool.specs.contracts.pool.Pool.{the_row};
 
-use crate::nodes::{gather, one_state};
+use crate::nodes::one_state;
 use crate::pace::Pace;
 use crate::table::Table;
 use psi_event::EventLaw;
 use psi_state::State;
 use std::alloc::{AllocError, Global};
 use std::marker::Model;
+
+// After how many merges of its nodes a set that isn't in order yet is sorted.
+const MERGES: u8 = 3;
 
 /// Memory ran out.
 #[derive(Clone, Copy, Debug, PartialEq, Eq)]
@@ -79,8 +82,8 @@ impl Pool {
 
     /// The number of states.
     ///
-    /// The work may grow with the square of their number where `step` was called since the last `walk`. Its other
-    /// clauses are those of `most`.
+    /// The work may grow with the square of their number where another call than `contains` or `most` came after the
+    /// last `insert`. Its other clauses are those of `most`.
     pub fn len(&self) -> u16
         ensures value { result ≡ length self.now.states }
         ensures few { length self.now.states ≤ self.now.most }
@@ -155,12 +158,7 @@ impl Pool {
         ensures states { result.now ≡ self.old.states }
         ensures* same { sem 𝓛 (follows_so the_row the_row self.entry.ghost_name none (λ _ _. ⊤) (λ v. v ≡ self.old)) }
     {
-        self.table.link();
-        gather(
-            &self.table.nodes[..self.table.len as usize],
-            &mut self.order,
-        );
-        self.order.sort_unstable();
+        list_all(&mut self.table, &mut self.order);
         self.order.as_slice()
     }
 
@@ -170,6 +168,26 @@ impl Pool {
     {
         one_state(&self.table.nodes[..self.table.len as usize])
     }
+}
+
+// Lists the states in ascending order, and puts the nodes into it. Where they were in it before a step by an event that
+// moves some states alike and leaves the others, they are two ascending lists then, one among the other, and one merge
+// does. They are sorted where some merges don't do.
+fn list_all(table: &mut Table, order: &mut Vec<State>)
+    requires table { IsTable table.old }
+    requires listed { length table.old.nodes.items ≤ vec_capacity order.old }
+    ensures table { IsTable table.new }
+    ensures members { HaveSame (held table.new) (held table.old) }
+    ensures room { length table.new.nodes.items ≡ length table.old.nodes.items }
+    ensures states { order.new.items ≡ ascending (held table.old) }
+    ensures capacity { vec_capacity order.new ≡ vec_capacity order.old }
+{
+    for _merge in 0..MERGES {
+        if table.list(order) {
+            return;
+        }
+    }
+    table.sort(order);
 }
 
 // Links the nodes anew where there are several and it is time to.

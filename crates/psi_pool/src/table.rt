@@ -3,7 +3,7 @@
 //! A list of states with repeats stands for its set as well, so an event moves the nodes alone. The links are
 //! made anew now and then, and repeats fall away.
 
-ghost use Rattle.std.specs.Prelude.{◌≡◌, ℕ, ◌*◌, ◌+◌, ◌<◌, ◌≤◌, ◌↔◌, ◌⊎◌, true, List, ◌∷◌, IsTrue, IfOk, length, map};
+ghost use Rattle.std.specs.Prelude.{◌≡◌, ℕ, ◌*◌, ◌+◌, ◌<◌, ◌≤◌, ◌↔◌, ◌⊎◌, true, List, ◌∷◌, IsTrue, IfOk, length, map, vec_capacity};
 ghost use Rattle.psi_state.specs.State.{IsBelow};
 ghost use Rattle.psi_state.specs.Members.{In};
 ghost use Rattle.psi_state.specs.Sets.{ascending};
@@ -12,7 +12,8 @@ ghost use Rattle.psi_pool.specs.Tables.{held, IsTable};
 
 use crate::hashing::bucket_of;
 use crate::nodes::{
-    NONE, Node, count_states, empty, free_heads, free_nodes, has, move_first, relink, stands_in,
+    NONE, Node, count_states, empty, free_heads, free_nodes, has, list_first, move_first, relink,
+    sort_first, stands_in,
 };
 use psi_event::EventLaw;
 use psi_state::State;
@@ -166,6 +167,40 @@ impl Table {
     {
         self.is_linked = false;
         move_first(self.nodes.as_mut_slice(), self.len as usize, e);
+    }
+
+    /// Lists the states in ascending order where the nodes are in it. Else it puts the nodes into an order that is nearer
+    /// to it: into that order where they are two ascending lists, one among the other. The answer is whether the states
+    /// are listed. The nodes aren't linked from then on.
+    pub(crate) fn list(&mut self, out: &mut Vec<State>) -> bool
+        requires table { IsTable self.old }
+        requires listed { length self.old.nodes.items ≤ vec_capacity out.old }
+        ensures table { IsTable self.new }
+        ensures members { HaveSame (held self.new) (held self.old) }
+        ensures room { length self.new.nodes.items ≡ length self.old.nodes.items }
+        ensures states { IsTrue result → out.new.items ≡ ascending (held self.old) }
+        ensures capacity { vec_capacity out.new ≡ vec_capacity out.old }
+    {
+        let aside = list_first(self.nodes.as_mut_slice(), self.len as usize, out);
+        self.len = (out.len() + aside) as u16;
+        self.is_linked = false;
+        aside == 0
+    }
+
+    /// Lists the states in ascending order, and puts the nodes into it. They aren't linked from then on.
+    pub(crate) fn sort(&mut self, out: &mut Vec<State>)
+        requires table { IsTable self.old }
+        requires listed { length self.old.nodes.items ≤ vec_capacity out.old }
+        ensures table { IsTable self.new }
+        ensures members { HaveSame (held self.new) (held self.old) }
+        ensures room { length self.new.nodes.items ≡ length self.old.nodes.items }
+        ensures states { out.new.items ≡ ascending (held self.old) }
+        ensures capacity { vec_capacity out.new ≡ vec_capacity out.old }
+    {
+        self.link();
+        sort_first(self.nodes.as_mut_slice(), self.len as usize, out);
+        self.len = out.len() as u16;
+        self.is_linked = false;
     }
 
     /// Links the nodes where they aren't linked: from then on each state stands in one of them.
