@@ -287,27 +287,50 @@ merging-listed all xs nodes total listed aside w merging came =
         | inl first ↦ (let small = first.1 in elim (cases_lt first.0 listed) [
           | inl less ↦ inl (first.0, less, first.2)
           | inr past ↦ (let same : first.0 ≡ listed = omega arith in
-              inr (inr (listed + aside, omega arith, omega arith,
-              first.2 ∙ (ap (λ i. get_or xs i []) same ∙ (sym came ∙ sym (written-here nodes (listed + aside) w (omega arith))))))
-          )
+              inr (inr (
+                listed + aside,
+                omega arith,
+                omega arith,
+                first.2 ∙ (ap (λ i. get_or xs i []) same ∙ (sym came ∙ sym (written-here nodes (listed + aside) w (omega arith)))),
+              ))
+              )
         ])
         | inr stands ↦ elim stands [
-          | inl node ↦ (let small = node.2 in inr (inl (node.0, omega arith, node.2,
-              node.3 ∙ sym (written-other nodes (listed + aside) w (omega arith) node.0 (λ e. (omega arith))))))
-          | inr last ↦ (let low = last.1 in inr (inr (last.0, omega arith, last.2,
-              last.3 ∙ sym (written-other nodes (listed + aside) w (omega arith) last.0 (λ e. (omega arith))))))
+          | inl node ↦ (let small = node.2 in inr (inl (
+            node.0,
+            omega arith,
+            node.2,
+            node.3 ∙ sym (written-other nodes (listed + aside) w (omega arith) node.0 (λ e. (omega arith))),
+          )))
+          | inr last ↦ (let low = last.1 in inr (inr (
+            last.0,
+            omega arith,
+            last.2,
+            last.3 ∙ sym (written-other nodes (listed + aside) w (omega arith) last.0 (λ e. (omega arith))),
+          )))
         ]
       ];
       back = λ z found. merging.back z (elim found [
         | inl first ↦ (let small = first.1 in inl (first.0, omega arith, first.2))
         | inr stands ↦ elim stands [
-          | inl node ↦ (let small = node.2 in inr (inl (node.0, omega arith, node.2,
-              node.3 ∙ written-other nodes (listed + aside) w (omega arith) node.0 (λ e. (omega arith)))))
+          | inl node ↦ (let small = node.2 in inr (inl (
+            node.0,
+            omega arith,
+            node.2,
+            node.3 ∙ written-other nodes (listed + aside) w (omega arith) node.0 (λ e. (omega arith)),
+          )))
           | inr last ↦ (let low = last.1 in elim (cases_eq last.0 (listed + aside)) [
-            | inl same ↦ inl (listed, omega arith,
-                last.3 ∙ (ap (λ i. (node_at (slice_set nodes (listed + aside) w) i).state) same ∙ (written-here nodes (listed + aside) w (omega arith) ∙ came)))
-            | inr apart ↦ inr (inr (last.0, omega arith, last.2,
-                last.3 ∙ written-other nodes (listed + aside) w (omega arith) last.0 apart))
+            | inl same ↦ inl (
+              listed,
+              omega arith,
+              last.3 ∙ (ap (λ i. (node_at (slice_set nodes (listed + aside) w) i).state) same ∙ (written-here nodes (listed + aside) w (omega arith) ∙ came)),
+            )
+            | inr apart ↦ inr (inr (
+              last.0,
+              omega arith,
+              last.2,
+              last.3 ∙ written-other nodes (listed + aside) w (omega arith) last.0 apart,
+            ))
           ])
         ]
       ]);
@@ -329,26 +352,50 @@ merging-node all xs nodes total listed aside w merging came =
         | inl first ↦ inl first
         | inr stands ↦ elim stands [
           | inl node ↦ (let small = node.2 in elim (cases_lt node.0 aside) [
-            | inl less ↦ inr (inl (node.0, omega arith, less,
-                node.3 ∙ sym (written-other nodes (suc listed + aside) w (omega arith) node.0 (λ e. (omega arith)))))
+            | inl less ↦ inr (inl (
+              node.0,
+              omega arith,
+              less,
+              node.3 ∙ sym (written-other nodes (suc listed + aside) w (omega arith) node.0 (λ e. (omega arith))),
+            ))
             | inr past ↦ (let same : node.0 ≡ aside = omega arith in
-                inr (inr (suc listed + aside, omega arith, omega arith,
-                node.3 ∙ (ap (λ i. (node_at nodes i).state) same ∙ (sym came ∙ sym (written-here nodes (suc listed + aside) w (omega arith)))))))
+                inr (inr (
+                  suc listed + aside,
+                  omega arith,
+                  omega arith,
+                  node.3 ∙ (ap (λ i. (node_at nodes i).state) same ∙ (sym came ∙ sym (written-here nodes (suc listed + aside) w (omega arith)))),
+                )))
           ])
-          | inr last ↦ (let low = last.1 in inr (inr (last.0, omega arith, last.2,
-              last.3 ∙ sym (written-other nodes (suc listed + aside) w (omega arith) last.0 (λ e. (omega arith))))))
+          | inr last ↦ (let low = last.1 in inr (inr (
+            last.0,
+            omega arith,
+            last.2,
+            last.3 ∙ sym (written-other nodes (suc listed + aside) w (omega arith) last.0 (λ e. (omega arith))),
+          )))
         ]
       ];
       back = λ z found. merging.back z (elim found [
         | inl first ↦ inl first
         | inr stands ↦ elim stands [
-          | inl node ↦ (let small = node.2 in inr (inl (node.0, omega arith, omega arith,
-              node.3 ∙ written-other nodes (suc listed + aside) w (omega arith) node.0 (λ e. (omega arith)))))
+          | inl node ↦ (let small = node.2 in inr (inl (
+            node.0,
+            omega arith,
+            omega arith,
+            node.3 ∙ written-other nodes (suc listed + aside) w (omega arith) node.0 (λ e. (omega arith)),
+          )))
           | inr last ↦ (let low = last.1 in elim (cases_eq last.0 (suc listed + aside)) [
-            | inl same ↦ inr (inl (aside, omega arith, omega arith,
-                last.3 ∙ (ap (λ i. (node_at (slice_set nodes (suc listed + aside) w) i).state) same ∙ (written-here nodes (suc listed + aside) w (omega arith) ∙ came))))
-            | inr apart ↦ inr (inr (last.0, omega arith, last.2,
-                last.3 ∙ written-other nodes (suc listed + aside) w (omega arith) last.0 apart))
+            | inl same ↦ inr (inl (
+              aside,
+              omega arith,
+              omega arith,
+              last.3 ∙ (ap (λ i. (node_at (slice_set nodes (suc listed + aside) w) i).state) same ∙ (written-here nodes (suc listed + aside) w (omega arith) ∙ came)),
+            ))
+            | inr apart ↦ inr (inr (
+              last.0,
+              omega arith,
+              last.2,
+              last.3 ∙ written-other nodes (suc listed + aside) w (omega arith) last.0 apart,
+            ))
           ])
         ]
       ]);

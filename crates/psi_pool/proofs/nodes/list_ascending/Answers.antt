@@ -1,10 +1,10 @@
 -- Answers in the proof of `list_ascending`.
-use Rattle.std.proofs.Common.{List, ℕ, ◌+◌, slice_set, ◌≡◌, length, get_or, ap, sym, ◌∙◌, refl, arith, subst}
+use Rattle.std.proofs.Common.{List, ℕ, ◌+◌, slice_set, ◌≡◌, get_or, ap, sym, ◌∙◌, refl, arith, subst}
 use Rattle.std.proofs.lemmas.Bool.{true≢false}
 use Rattle.psi_pool.specs.declared.nodes.Node.{Node}
 use Rattle.psi_pool.specs.Nodes.{node_at}
 use Rattle.psi_pool.proofs.Places.{node-read}
-use Rattle.psi_pool.proofs.Listing.{IsListing, listing-start, listing-listed, listing-aside}
+use Rattle.psi_pool.proofs.Listing.{IsListing, listing-listed, listing-aside}
 use Rattle.psi_pool.proofs.nodes.list_ascending.Goals as goal
 use Rattle.psi_pool.proofs.nodes.list_ascending.Goals.{then-not-extend, else-not-extend}
 

@@ -1,5 +1,5 @@
 -- Answers in the proof of `list_or_merge`.
-use Rattle.std.proofs.Common.{◌≡◌, ◌+◌, ◌++◌, List, ℕ, length, subst, ap, sym}
+use Rattle.std.proofs.Common.{◌+◌, ◌++◌, List, ℕ, length, subst}
 use Rattle.psi_state.specs.Ascending.{HaveSame}
 use Rattle.psi_pool.specs.Nodes.{states}
 use Rattle.psi_pool.proofs.Listing.{listed-all, same-through}

@@ -1,6 +1,5 @@
 -- Answers in the proof of `merge`.
-use Rattle.std.proofs.Common.{◌≡◌, ◌+◌, ◌-◌, ◌++◌, List, ℕ, length, get_or, refl, subst, arith}
-use Rattle.psi_pool.specs.declared.nodes.Node.{Node}
+use Rattle.std.proofs.Common.{◌≡◌, ◌+◌, ◌-◌, ◌++◌, length, get_or, refl, subst, arith}
 use Rattle.psi_pool.specs.Nodes.{states}
 use Rattle.psi_pool.proofs.Listing.{IsMerging, merging-start, merging-end, merged-listed, merged-node}
 use Rattle.psi_pool.proofs.nodes.merge.Goals as goal

@@ -1,5 +1,5 @@
 -- Answers in the proof of `Table::sort`.
-use Rattle.std.proofs.Common.{List, ℕ, length, sym, ◌∙◌, subst, ap}
+use Rattle.std.proofs.Common.{List, length, sym, ◌∙◌, subst, ap}
 use Rattle.std.specs.Vec.{with_items}
 use Rattle.std.proofs.lemmas.List.{with_items_is}
 use Rattle.psi_state.specs.Sets.{ascending}
