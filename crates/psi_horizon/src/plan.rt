@@ -209,6 +209,22 @@ impl<'n, E: EventLaw, P: Past + Drop> Plan<'n, E, P> {
         self.system.limit()
     }
 
+    /// The capacities of the network, in customers.
+    pub fn caps(&self) -> State
+        ensures { result ≡ self.now.system.caps }
+    {
+        self.system.caps()
+    }
+
+    /// The number of states up to which a region is followed state by state, 1 to 4,096.
+    pub fn split(&self) -> u16
+        ensures value { result ≡ self.now.system.split }
+        ensures some { 1 ≤ result }
+        ensures most { result ≤ 4096 }
+    {
+        self.system.split()
+    }
+
     /// Takes other words for the next calls. The network stays, and no run is begun.
     pub fn replace(&mut self, past: P)
         ensures { self.new ≡ record { system = self.old.system; past = past; run = None } }
