@@ -46,7 +46,7 @@ end-short x vector =
     omega arith
 
 -- one more of a number of things
-times-more : (k m : ℕ) → suc k * m ≡ m + k * m
+pub times-more : (k m : ℕ) → suc k * m ≡ m + k * m
 times-more k m = omega arith
 
 -- the words of states of so many queues
@@ -63,7 +63,7 @@ set-short n (x ∷ xs) each =
     omega arith
 
 -- the line of a step
-step-short : (s : Step) (words : List (List ℕ)) → s.number < 10 ^ 7 → s.event < 10 ^ 4 → length (step_text s words) ≤ 18 + length (spaced_words words)
+pub step-short : (s : Step) (words : List (List ℕ)) → s.number < 10 ^ 7 → s.event < 10 ^ 4 → length (step_text s words) ≤ 18 + length (spaced_words words)
 unfolding spaced_words
 step-short s words number event =
     let first : length (decimal s.number) ≤ 7 = length-decimal-le 7 s.number (omega arith) number (omega arith) in
@@ -91,7 +91,7 @@ module _ (split : ℕ) (f : ℕ → List ℕ → List ℕ) (caps : List ℕ) (ev
     pub set : a.is_split ≡ true
     pub few : length a.states ≤ k
 
-  few-next : (k : ℕ) (g : List ℕ → List ℕ) (a : Area) → HasFew k a → HasFew k (step split g a)
+  pub few-next : (k : ℕ) (g : List ℕ → List ℕ) (a : Area) → HasFew k a → HasFew k (step split g a)
   few-next k g a few =
       let is : splits split a ≡ true = or_left a.is_split _ few.set in
       let shorter = length-image g a.states in

@@ -5,5 +5,6 @@ pub mod TextLemmas
 pub mod RoomLemmas
 pub mod RegionLemmas
 pub mod BoundLemmas
+pub mod WidthLemmas
 pub mod AcceptedLemmas
 mod Worked

@@ -1,5 +1,5 @@
 -- The text of the log of a run, from one step to the next.
-use Rattle.std.specs.Prelude.{◌≡◌, ℕ, ◌+◌, ◌*◌, ◌≤◌, List, ◌++◌, length, map, true, Option, Some, None, IfSome}
+use Rattle.std.specs.Prelude.{◌≡◌, ℕ, suc, ◌+◌, ◌*◌, ◌^◌, ◌<◌, ◌≤◌, slice_index, List, ◌++◌, length, map, true, Option, Some, None, IfSome}
 use Rattle.psi_state.specs.State.{Corners, IsBelow, numbers_from}
 use Rattle.psi_rate.specs.Composition.{Functions, Parts, system_functions}
 use Rattle.psi_region.specs.Region.{Area, start, ShowsBox}
@@ -25,6 +25,17 @@ pub record IsTold (caps : List ℕ) (a : Area) (told : Option Corners) : Type 0 
 pub record IsAmple (caps : List ℕ) (a : Area) (left room : ℕ) : Type 0 where
   pub split : a.is_split ≡ true
   pub enough : left * (22 + length a.states * (6 * length caps + 1)) + 200 ≤ room
+
+-- the lines of so many steps of any run, with the last line, surely fit in the room: a box's words are at most those of all its queues, and a set has at most the split number of
+-- states, where no capacity has more digits than the given number
+pub record IsRoomy (caps : List ℕ) (split left room : ℕ) : Type 0 where
+  pub digits : ℕ
+  pub width : ℕ
+  pub some : 0 < digits
+  pub numbers : (i : ℕ) → slice_index caps i < 10 ^ digits
+  pub boxes : 23 + length caps * (2 * digits + 5) ≤ width
+  pub sets : 23 + split * suc (length caps * suc digits) ≤ width
+  pub enough : left * width + 200 ≤ room
 
 -- the runs of a network with this split number, these functions, these capacities and these events
 module _ (split : ℕ) (f : Functions) (caps : List ℕ) (events : ℕ → ℕ) where

@@ -1,6 +1,6 @@
 //! A log, measured and written.
 
-ghost use Rattle.std.specs.Prelude.{◌≡◌, ℕ, ◌^◌, ◌++◌, ◌+◌, ◌-◌, ◌<◌, ◌≤◌, ◌↔◌, Some, [], length, IsTrue, IsSome, IfSome, IsOk, OnOk, OnErr, MatchOption};
+ghost use Rattle.std.specs.Prelude.{◌≡◌, ℕ, ◌^◌, ◌++◌, suc, ◌+◌, ◌-◌, ◌*◌, ◌<◌, ◌≤◌, ◌↔◌, Some, [], length, slice_index, IsTrue, IsSome, IfSome, IsOk, OnOk, OnErr, MatchOption};
 ghost use Rattle.psi_io.specs.Counts.{Rose};
 ghost use Rattle.psi_io.specs.Sink.{appended, GrewByPrefix};
 ghost use Rattle.psi_rate.specs.Composition.{system_functions};
@@ -9,7 +9,7 @@ ghost use Rattle.psi_record.specs.Recorded.{log_of};
 ghost use Rattle.psi_replay.specs.Verdict.{event_numbers};
 ghost use Rattle.psi_record.specs.Accepted.{IsAccepted};
 ghost use Rattle.psi_record.specs.Sending.{Sends};
-ghost use Rattle.psi_record.specs.Walking.{IsToldAfter, IsAmpleAfter};
+ghost use Rattle.psi_record.specs.Walking.{IsRoomy, IsToldAfter, IsAmpleAfter};
 ghost use Rattle.psi_lines.specs.Text.{log_text};
 
 use crate::block::Block;
@@ -87,6 +87,9 @@ fn room_left<E: EventLaw, P: Past + Drop>(
     let mut before = begin_line(plan, header.horizon, line);
     room = room.checked_sub(line.bytes().len())?;
     for done in 0..header.horizon {
+        if is_roomy(plan, header.horizon - done, room) {
+            return Some(());
+        }
         if is_ample(plan, &before, header.horizon - done, room) {
             return Some(());
         }
@@ -97,6 +100,61 @@ fn room_left<E: EventLaw, P: Past + Drop>(
     line.end(state);
     let _rest = room.checked_sub(line.bytes().len())?;
     Some(())
+}
+
+// Whether the lines of so many steps, and the last line, surely fit in the room, whatever regions these have. It is
+// asked at each 64th step, and answered by the queues, the digits of the capacities and the split number.
+fn is_roomy<E: EventLaw, P: Past + Drop>(plan: &Plan<'_, E, P>, left: u32, room: usize) -> bool
+    ensures { IsTrue result → IsRoomy plan.now.system.caps plan.now.system.split left room }
+{
+    if left % 64 != 0 {
+        return false;
+    }
+    let caps = plan.caps();
+    let digits = count_digits(greatest(&caps));
+    let width = width_of(caps.len(), digits, plan.split());
+    left as usize * width as usize + 200 <= room
+}
+
+// The number of bytes that a step's line has at most, with so many queues, digits of a capacity, and states of a set.
+fn width_of(queues: u8, digits: u8, split: u16) -> u32
+    requires queues { queues ≤ 32 }
+    requires digits { digits ≤ 5 }
+    requires split { split ≤ 4096 }
+    ensures boxes { 23 + queues * (2 * digits + 5) ≤ result }
+    ensures sets { 23 + split * suc (queues * suc digits) ≤ result }
+{
+    let queues = queues as u32;
+    let digits = digits as u32;
+    let boxes = queues * (2 * digits + 5);
+    let sets = split as u32 * (queues * (digits + 1) + 1);
+    23 + boxes.max(sets)
+}
+
+// The greatest number of a state.
+fn greatest(x: &State) -> u16
+    ensures { (i : ℕ) → slice_index x.now i ≤ result }
+{
+    let mut most = 0;
+    for queue in 0..x.len() {
+        most = most.max(x.get(queue));
+    }
+    most
+}
+
+// How many decimal digits a number has.
+fn count_digits(n: u16) -> u8
+    ensures enough { n < 10 ^ result }
+    ensures some { 0 < result }
+    ensures few { result ≤ 5 }
+{
+    match n {
+        0..=9 => 1,
+        10..=99 => 2,
+        100..=999 => 3,
+        1_000..=9_999 => 4,
+        _ => 5,
+    }
 }
 
 // Whether the lines of the steps that are left, and the last line, surely fit in the room, since the run's region

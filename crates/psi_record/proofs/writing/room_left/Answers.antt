@@ -8,12 +8,13 @@ use Rattle.psi_horizon.specs.Runs.{region_after}
 use Rattle.psi_lines.specs.Text.{header_text, begin_text, end_text, log_text}
 use Rattle.psi_record.specs.Recorded.{region_of, log_of}
 use Rattle.psi_replay.specs.Verdict.{event_numbers}
-use Rattle.psi_record.specs.Walking.{front_of, line_of, IsAmpleAfter}
+use Rattle.psi_record.specs.Walking.{front_of, line_of, IsRoomy, IsAmpleAfter}
 use Rattle.psi_record.proofs.WalkingLemmas.{walking-begun, walking-before, walking-left, walking-next, walking-line, walking-same, walking-run}
 use Rattle.psi_record.proofs.TextLemmas.{front_text-zero, front_text-more, log_text-recorded, front_text-rest, header_text-rest}
 use Rattle.psi_record.proofs.RoomLemmas.{none-left, line-past, line-fits}
 use Rattle.psi_record.proofs.AcceptedLemmas.{events-few}
 use Rattle.psi_record.proofs.BoundLemmas.{HasFew, log-short}
+use Rattle.psi_record.proofs.WidthLemmas.{roomy-same, log-wide}
 use Rattle.psi_record.proofs.writing.room_left.Goals as goal
 
 pub returns-in_err-room-clause-room : goal.returns-in_err-room-clause-room
@@ -142,6 +143,27 @@ returns-then-is_ample-clause-room g c =
     let whole = log-short system.split f system.caps (event_numbers system words) h.horizon fit.valid closed (omega arith)
     (λ t. (let few = events-few system words t fit.rated.few in omega arith)) h state
     (length (region_after system.split f system.caps h.horizon done).states) done c.loop-done.room c.requires.version refl (omega arith) c.len-queues.ensures.vector few ample.enough in
+    let left = kept.room in
+    omega arith
+
+pub returns-then-is_roomy-clause-room : goal.returns-then-is_roomy-clause-room
+returns-then-is_roomy-clause-room g c =
+    let system = c.args.plan.now.system in
+    let words = g.P.Past.words c.args.plan.now.past in
+    let f = system_functions g.E.EventLaw.function system words in
+    let h = c.args.header.now in
+    let state = c.args.state.now in
+    let done = c.loop-done.done in
+    let small = c.loop-done-test.true in
+    let kept = c.loop-done.invariant in
+    let fit = c.limit-limit.ensures.fit in
+    let powered : 2 ^ system.limit ≤ 2 ^ 22 = pow-order system.limit 22 fit.most_limit in
+    let most = c.requires.most in
+    let closed = functions-closed g.E.EventLaw.capacities g.E.EventLaw.function system words g.met.E.EventLaw.closed fit.same_caps in
+    let roomy : IsRoomy system.caps system.split (h.horizon - done) c.loop-done.room =
+    roomy-same _ system (h.horizon - done) c.loop-done.room kept.walk.system (c.is_roomy.ensures c.if-is_roomy.true) in
+    let whole = log-wide system.split f system.caps (event_numbers system words) h state done c.loop-done.room fit.valid closed (omega arith)
+    (λ t. (let few = events-few system words t fit.rated.few in omega arith)) c.requires.version (omega arith) c.len-queues.ensures.vector roomy in
     let left = kept.room in
     omega arith
 
