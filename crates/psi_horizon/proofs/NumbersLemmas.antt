@@ -1,8 +1,8 @@
 -- A run over the numbers that are kept is the run over all places.
-use Rattle.std.specs.Prelude.{◌≡◌, ℕ, zero, suc, ◌-◌, ◌+◌, ◌<◌, ◌≤◌, List, [], ◌∷◌, ◌++◌, length, map, slice_get, slice_index, slice_index_or, option_map, All, Bool, true, false, nat_eq, nat_lt, if◌then◌else◌, Option, Some, None, refl}
+use Rattle.std.specs.Prelude.{◌≡◌, ℕ, zero, suc, ◌-◌, ◌+◌, ◌<◌, ◌≤◌, List, [], ◌∷◌, ◌++◌, length, map, slice_get, slice_index, slice_index_or, option_map, All, Bool, true, false, not, nat_eq, nat_lt, if◌then◌else◌, Option, Some, None, refl}
 use Rattle.std.proofs.Common.{inl, inr, ap, ap₂, sym, ◌∙◌, subst, take, arith, eq-eqb, ne_eqb}
 use Rattle.std.proofs.lemmas.Bool.{cases_lt, lt-ltb, le-ltb, ltb-true}
-use Rattle.std.proofs.lemmas.List.{get_or_past, length-append, append-nil}
+use Rattle.std.proofs.lemmas.List.{get_or_past, length-append, append-nil, take-append-le}
 use Rattle.std.proofs.lemmas.List.Elements.{All-nil, All-cons, All-append}
 use Rattle.std.proofs.lemmas.Option.{get_or_from_slice_get, slice_get_within, slice_get-map}
 use mir.Val.{bool_byte}
@@ -144,3 +144,54 @@ numbers-ending split caps functions rates words t numbers o same is closed mono 
         closed mono (runs (zeros caps)) (runs caps) apart
     last (Some s) met =
         corners-ending split caps (function_at functions rates words) t s s closed mono (met.0 ∙ runs (zeros caps)) (met.1 ∙ runs caps) refl
+
+pub bool_byte-most : (b : Bool) → bool_byte b ≤ 1
+bool_byte-most true = omega arith
+bool_byte-most false = omega arith
+
+length-one : (count number : ℕ) → number ≤ count → length (unless_idle count number) ≡ bool_byte (not (nat_eq number count))
+length-one count number most = elim (cases_lt number count) [
+  | inl small ↦ ap (λ (b : Bool). length (if b then number ∷ [] else [])) (lt-ltb number count small)
+      ∙ sym (ap (λ (b : Bool). bool_byte (not b)) (ne_eqb number count (λ e. omega arith)))
+  | inr past ↦ ap (λ (b : Bool). length (if b then number ∷ [] else [])) (le-ltb number count past)
+      ∙ sym (ap (λ (b : Bool). bool_byte (not b)) (eq-eqb number count (omega arith)))
+]
+
+-- one place more has one number more, where it isn't that of idle
+pub length-next : (rates : List ℕ) (words : ℕ → ℕ) (place number idle word : ℕ) → word ≡ words place → number ≡ event_of rates word → idle ≡ length rates
+    → number ≤ length rates
+    → length (numbers_below rates words (place + 1)) ≡ length (numbers_below rates words place) + bool_byte (not (nat_eq number idle))
+length-next rates words place number idle word read is none most =
+    let e : place + 1 ≡ suc place = omega arith in
+    let own : event_of rates (words place) ≡ number = ap (event_of rates) (sym read) ∙ sym is in
+    ap (λ n. length (numbers_below rates words n)) e
+    ∙ length-append (numbers_below rates words place) (unless_idle (length rates) (event_of rates (words place)))
+    ∙ ap (λ n. length (numbers_below rates words place) + n)
+    (ap (λ n. length (unless_idle (length rates) n)) own ∙ ap (λ n. length (unless_idle n number)) (sym none) ∙ length-one idle number (omega arith))
+
+-- the numbers of fewer places are the first of those of more
+numbers-more : (rates : List ℕ) (words : ℕ → ℕ) (t more : ℕ) → length (numbers_below rates words t) ≤ length (numbers_below rates words (more + t))
+numbers-more rates words t zero = (let e : 0 + t ≡ t = omega arith in subst (λ n. length (numbers_below rates words t) ≤ length (numbers_below rates words n)) (sym e) (omega arith))
+numbers-more rates words t (suc more) =
+    let e : suc more + t ≡ suc (more + t) = omega arith in
+    let rest = numbers-more rates words t more in
+    let sum = length-append (numbers_below rates words (more + t)) (unless_idle (length rates) (event_of rates (words (more + t)))) in
+    subst (λ n. length (numbers_below rates words t) ≤ length (numbers_below rates words n)) (sym e) (omega arith)
+
+pub numbers-take : (rates : List ℕ) (words : ℕ → ℕ) (t more : ℕ)
+    → take (length (numbers_below rates words t)) (numbers_below rates words (more + t)) ≡ numbers_below rates words t
+numbers-take rates words t zero =
+    let e : 0 + t ≡ t = omega arith in
+    ap (λ n. take (length (numbers_below rates words t)) (numbers_below rates words n)) e ∙ take-length (numbers_below rates words t)
+numbers-take rates words t (suc more) =
+    let e : suc more + t ≡ suc (more + t) = omega arith in
+    let few = numbers-more rates words t more in
+    ap (λ n. take (length (numbers_below rates words t)) (numbers_below rates words n)) e
+    ∙ take-append-le (length (numbers_below rates words t)) (numbers_below rates words (more + t)) (unless_idle (length rates) (event_of rates (words (more + t)))) few
+    ∙ numbers-take rates words t more
+
+pub numbers-prefix : (rates : List ℕ) (words : ℕ → ℕ) (horizon reached count : ℕ) (items : List ℕ) → horizon ≤ reached → items ≡ numbers_below rates words reached
+    → count ≡ length (numbers_below rates words horizon) → take count items ≡ numbers_below rates words horizon
+numbers-prefix rates words horizon reached count items order kept counted =
+    let e : reached ≡ (reached - horizon) + horizon = omega arith in
+    ap₂ (λ n (ns : List ℕ). take n ns) counted (kept ∙ ap (numbers_below rates words) e) ∙ numbers-take rates words horizon (reached - horizon)

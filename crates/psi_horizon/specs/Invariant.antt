@@ -1,14 +1,15 @@
 -- What every plan keeps.
-use Rattle.std.specs.Prelude.{◌≡◌, ℕ, ◌≤◌, ◌^◌, List, Bool, IsTrue, All, Option, IfSome, option_map}
+use Rattle.std.specs.Prelude.{◌≡◌, ℕ, ◌≤◌, ◌^◌, List, Option, IfSome, option_map}
 use Rattle.psi_past.specs.Keeping.{Keeping}
-use Rattle.psi_event.specs.Law.{IsMonotone}
 use Rattle.psi_rate.specs.Composition.{Functions, Parts}
 use Rattle.psi_region.specs.Region.{Regional}
 use Rattle.psi_horizon.specs.declared.plan.Progress.{Progress}
 use Rattle.psi_horizon.specs.Runs.{region_after}
 use Rattle.psi_horizon.specs.Planned.{Running}
-use Rattle.psi_horizon.specs.declared.form.Form.{Form}
-use Rattle.psi_horizon.specs.Forms.{IsForm}
+use Rattle.psi_horizon.specs.declared.numbers.Numbers.{Numbers}
+use Rattle.psi_horizon.specs.Keeping.{KeepsNumbers}
+use Rattle.psi_horizon.specs.declared.doubling.Means.{Means}
+use Rattle.psi_horizon.specs.Sets.{AreMeans}
 
 -- the run that was begun, as its plan is seen
 abbrev pub running_of : Option Progress → Option Running
@@ -20,14 +21,13 @@ pub record IsUnderway (f : Functions) (split : ℕ) (caps : List ℕ) (count : �
   pub done : r.done ≤ r.horizon
   pub area : region.area ≡ region_after split f caps r.horizon r.done
 
--- there is room for the words of the greatest horizon, which no run passes, and for a split region; where the plan is marked monotone, each of
--- the events' functions is, and there is room for the event numbers of the greatest horizon; the form is made for them
-pub record IsPlan {E P : Type 0} (functions : List (List ℕ → List ℕ)) (f : Functions) (system : Parts E) (words : Keeping P) (region : Regional)
-    (is_monotone : Bool) (number_room : ℕ) (form : Form) (progress : Option Progress) : Type 0 where
+-- there is room for the words of the greatest horizon, which no run passes, and for a split region; the numbers that are kept are those of the
+-- words; runs are followed by means that are made for the events' functions
+pub record IsPlan {E P : Type 0} (functions : List (List ℕ → List ℕ)) (f : Functions) (past : ℕ → ℕ) (system : Parts E) (words : Keeping P) (region : Regional)
+    (numbers : Numbers) (means : Means) (progress : Option Progress) : Type 0 where
   pub room : 2 ^ system.limit ≤ words.most
   pub split : region.split ≡ system.split
-  pub monotone : IsTrue is_monotone → All (λ g. IsMonotone system.caps g) functions
-  pub numbers : IsTrue is_monotone → 2 ^ system.limit ≤ number_room
-  pub formed : IsForm system.caps functions form
+  pub kept : KeepsNumbers system.rates past (2 ^ system.limit) numbers
+  pub made : AreMeans system.caps functions system.split means
   pub within : IfSome progress (λ r. r.horizon ≤ 2 ^ system.limit)
   pub run : IfSome progress (λ r. IsUnderway f system.split system.caps words.count region r)

@@ -4,5 +4,8 @@ pub mod Agreeing
 pub mod Sample
 pub mod Planned
 pub mod Numbers
+pub mod Keeping
+pub mod Areas
 pub mod Forms
+pub mod Sets
 pub mod Invariant

@@ -3,13 +3,16 @@
 ghost use Rattle.std.specs.Prelude.{◌≡◌, length, map, IfOk, IfSome};
 ghost use Rattle.psi_state.specs.State.{zeros};
 ghost use Rattle.psi_packed.specs.Programs.{Prepares};
+ghost use Rattle.psi_keyed.specs.Keyed.{IsKeyed};
 ghost use Rattle.psi_horizon.specs.Numbers.{follow_numbers, AreEvents, IsOne};
 ghost use Rattle.psi_horizon.specs.Forms.{IsForm};
 
 use psi_event::EventLaw;
+use psi_keyed::Keyed;
 use psi_packed::{Layout, Program};
 use psi_piecewise::PiecewiseLaw;
 use psi_rate::System;
+use psi_route::RouteLaw;
 use psi_state::State;
 use std::alloc::{AllocError, Global};
 
@@ -26,10 +29,26 @@ pub(crate) enum Form {
     Three(Program<3>),
     /// Packed into four words.
     Four(Program<4>),
+    /// With the keys of the queues that customers may join.
+    Keyed(Keyed),
+}
+
+// The form by keys, where customers join the queue with the least one; else that of packed states.
+pub(crate) fn form_of<E: PiecewiseLaw + RouteLaw>(
+    alloc: Global,
+    system: &System<'_, E>,
+) -> Result<Form, AllocError>
+    ensures { IfOk result (λ form. IsForm system.now.caps (map E.function system.now.events) form) }
+{
+    let caps = system.caps();
+    if let Some(keyed) = Keyed::new(alloc, caps, system.events())? {
+        return Ok(Form::Keyed(keyed));
+    }
+    packed_form_of(alloc, system)
 }
 
 // The form of the fewest words that the network's states fit, where each event tells its pieces, and otherwise the plain one.
-pub(crate) fn form_of<E: PiecewiseLaw>(
+fn packed_form_of<E: PiecewiseLaw>(
     alloc: Global,
     system: &System<'_, E>,
 ) -> Result<Form, AllocError>
@@ -56,7 +75,7 @@ pub(crate) fn form_of<E: PiecewiseLaw>(
 }
 
 // The events on states that are packed so, where each tells its pieces.
-fn program_of<const K: usize, E: PiecewiseLaw>(
+pub(crate) fn program_of<const K: usize, E: PiecewiseLaw>(
     alloc: Global,
     layout: Layout<K>,
     system: &System<'_, E>,
@@ -85,6 +104,23 @@ pub(crate) fn packed_meeting<const K: usize, E: EventLaw>(
     let mut corners = program.pack(&State::zero(caps.len()), &caps);
     program.follow(numbers, &mut corners);
     let (least, greatest) = program.unpack(&corners);
+    one_of(least, greatest)
+}
+
+// The same by keys.
+pub(crate) fn keyed_meeting<E: EventLaw>(
+    keyed: &Keyed,
+    system: &System<'_, E>,
+    numbers: &[u16],
+) -> Option<State>
+    requires keyed { IsKeyed system.now.caps (map E.function system.now.events) keyed.now }
+    requires numbers { AreEvents (length system.now.events) numbers.now }
+    ensures { let functions = map E.function system.now.events in
+        IsOne (follow_numbers functions numbers.now (zeros system.now.caps)) (follow_numbers functions numbers.now system.now.caps) result }
+{
+    let mut greatest = system.caps();
+    let mut least = State::zero(greatest.len());
+    keyed.follow(numbers, &mut least, &mut greatest);
     one_of(least, greatest)
 }
 

@@ -3,9 +3,13 @@
 //! least and the greatest state alone.
 #![tactic(auto)]
 
+mod areas;
+mod boxes;
 mod corners;
 mod doubling;
 mod form;
+mod numbers;
 mod plan;
+mod sets;
 
 pub use plan::{OutOfMemory, Plan};

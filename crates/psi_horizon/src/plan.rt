@@ -1,13 +1,12 @@
 //! The plan to sample a network.
 
-ghost use Rattle.std.specs.Prelude.{◌≡◌, ◌-◌, ◌+◌, ◌^◌, ◌≤◌, ◌↔◌, ⊤, ℕ, List, true, Some, None, [], length, map, vec_capacity, All, IfOk, IfSome, IsSome, IsTrue};
+ghost use Rattle.std.specs.Prelude.{◌≡◌, ◌-◌, ◌+◌, ◌^◌, ◌≤◌, ◌↔◌, ⊤, ℕ, List, true, Some, None, [], length, map, IfOk, IfSome, IsSome};
 ghost use Rattle.std.specs.Borrow.{sem, follows_so};
 ghost use mathlib.Core.Option.{none};
 ghost use Rattle.psi_state.specs.State.{IsBelow, all_states};
 ghost use Rattle.psi_state.specs.Members.{In};
 ghost use Rattle.psi_state.specs.Sets.{single};
 ghost use Rattle.psi_state.specs.Ascending.{IsRising};
-ghost use Rattle.psi_event.specs.Law.{IsMonotone};
 ghost use Rattle.psi_rate.specs.Rates.{event_of};
 ghost use Rattle.psi_rate.specs.Composition.{system_functions};
 ghost use Rattle.psi_rate.specs.Outcomes.{outcome_within, IsOutcome};
@@ -15,19 +14,22 @@ ghost use Rattle.psi_rate.specs.System.{IsSystem};
 ghost use Rattle.psi_region.specs.Region.{ShowsBox};
 ghost use Rattle.psi_horizon.specs.Runs.{region_at, ending_at, region_after, AreOrdered, AreExact};
 ghost use Rattle.psi_horizon.specs.Sample.{IsSample};
-ghost use Rattle.psi_horizon.specs.Forms.{IsForm};
+ghost use Rattle.psi_horizon.specs.Sets.{AreMeans};
 ghost use Rattle.psi_horizon.specs.Planned.{IsOver, onward};
 ghost use Rattle.psi_horizon.specs.contracts.plan.Plan.{the_row};
 ghost use mir.Syntax.{named};
 
-use crate::corners::{self, are_monotone, first_meeting};
-use crate::doubling::{self, first_ending, follow_word};
-use crate::form::{Form, form_of};
+use crate::corners::are_monotone;
+use crate::doubling::{Means, ending, first_ending, follow_word};
+use crate::form::form_of;
+use crate::numbers::Numbers;
+use crate::sets::set_form_of;
 use psi_event::EventLaw;
 use psi_past::{Kept, Past};
 use psi_piecewise::PiecewiseLaw;
 use psi_rate::System;
 use psi_region::Region;
+use psi_route::RouteLaw;
 use psi_state::{Bounds, Outcome, State, Step};
 use std::alloc::{AllocError, Global};
 use std::marker::Model;
@@ -62,8 +64,7 @@ struct Progress {
 }
 
 /// A network with the past that its samples are drawn from, the room for the words of the greatest
-/// horizon and, where every event is monotone, for the numbers of their events, and the room for a split
-/// region.
+/// horizon and for the numbers of their events, and the room for a split region.
 ///
 /// It is seen as the network, the past, and the run that was begun, if one was.
 #[derive(Drop)]
@@ -71,17 +72,14 @@ pub struct Plan<'n, E: EventLaw, P: Past + Drop> {
     system: System<'n, E>,
     words: Kept<P>,
     region: Region,
-    // Whether each event is monotone.
-    is_monotone: bool,
-    // Where each is: the room for the numbers of the events of the greatest horizon.
-    numbers: Vec<u16>,
-    // Where each is: how the least and the greatest state are followed.
-    form: Form,
+    // The numbers of the events of the words, as far as they were picked.
+    numbers: Numbers,
+    means: Means,
     run: Option<Progress>,
 }
 
 impl<'n, E: EventLaw, P: Past + Drop> Model for Plan<'n, E, P> {
-    ghost use Rattle.std.specs.Prelude.{map, vec_capacity};
+    ghost use Rattle.std.specs.Prelude.{map};
     ghost use Rattle.psi_rate.specs.Composition.{system_functions};
     ghost use Rattle.psi_horizon.specs.Planned.{Planned};
     ghost use Rattle.psi_horizon.specs.Invariant.{running_of, IsPlan};
@@ -91,14 +89,15 @@ impl<'n, E: EventLaw, P: Past + Drop> Model for Plan<'n, E, P> {
     ghost view = { λ p. record { system = p.system; past = p.words.past; run = running_of p.run } };
 
     ghost invariant = { λ p.
-        IsPlan (map E.function p.system.events) (system_functions E.function p.system (P.words p.words.past)) p.system p.words p.region p.is_monotone (vec_capacity p.numbers) p.form p.run };
+        IsPlan (map E.function p.system.events) (system_functions E.function p.system (P.words p.words.past)) (P.words p.words.past) p.system p.words p.region
+        p.numbers p.means p.run };
 }
 
-impl<'n, E: PiecewiseLaw, P: Past + Drop> Plan<'n, E, P> {
+impl<'n, E: PiecewiseLaw + RouteLaw, P: Past + Drop> Plan<'n, E, P> {
     /// The plan to sample the network from this past. It takes the room for the 2 to the power `limit`
-    /// words of the greatest horizon, of 4 bytes each, and for a region of `split` states; where every event
-    /// is monotone, also for the numbers of the events of these words, of 2 bytes each, and for the events on
-    /// packed states. No other call takes memory.
+    /// words of the greatest horizon, of 4 bytes each, for the numbers of their events, of 2 bytes each, for
+    /// a region of `split` states, and for the events on packed states; where some event isn't monotone, also
+    /// for `split` packed states. No other call takes memory.
     ///
     /// `OutOfMemory` is the answer where there is no memory for it; no clause says when that is.
     pub fn new(alloc: Global, system: System<'n, E>, past: P) -> Result<Plan<'n, E, P>, OutOfMemory>
@@ -107,20 +106,14 @@ impl<'n, E: PiecewiseLaw, P: Past + Drop> Plan<'n, E, P> {
         let most = 1 << system.limit();
         let words = Kept::reserve(alloc, past, most)?;
         let region = Region::reserve(alloc, system.split())?;
-        let is_monotone = are_monotone(&system);
-        let numbers = room_for_numbers(alloc, is_monotone, most)?;
-        let form = if is_monotone {
-            form_of(alloc, &system)?
-        } else {
-            Form::Plain
-        };
+        let numbers = Numbers::reserve(alloc, most)?;
+        let means = means_of(alloc, &system)?;
         Ok(Plan {
             system,
             words,
             region,
-            is_monotone,
             numbers,
-            form,
+            means,
             run: None,
         })
     }
@@ -157,13 +150,12 @@ impl<'n, E: EventLaw, P: Past + Drop> Plan<'n, E, P> {
         // Called for its clause: the events fit the capacities.
         let _caps = self.system.caps();
         self.run = None;
-        first_outcome(
+        first_ending(
             &self.system,
             &mut self.words,
-            &mut self.region,
-            self.is_monotone,
             &mut self.numbers,
-            &self.form,
+            &mut self.region,
+            &mut self.means,
         )
     }
 
@@ -185,13 +177,12 @@ impl<'n, E: EventLaw, P: Past + Drop> Plan<'n, E, P> {
         // Called for its clause: the events fit the capacities.
         let _caps = self.system.caps();
         self.run = None;
-        ending_after(
+        ending(
             &self.system,
             &mut self.words,
-            &mut self.region,
-            self.is_monotone,
             &mut self.numbers,
-            &self.form,
+            &mut self.region,
+            &mut self.means,
             horizon,
         )
     }
@@ -231,6 +222,7 @@ impl<'n, E: EventLaw, P: Past + Drop> Plan<'n, E, P> {
     {
         self.run = None;
         self.words.replace(past);
+        self.numbers.clear();
     }
 
     /// Begins the region run of this horizon, 1 to 2 to the power `limit` steps: its region is the box of
@@ -332,70 +324,16 @@ impl<'n, E: EventLaw, P: Past + Drop> Plan<'n, E, P> {
     }
 }
 
-// Room for so many event numbers where each event is monotone, and for none otherwise.
-fn room_for_numbers(alloc: Global, is_monotone: bool, most: u32) -> Result<Vec<u16>, AllocError>
-    ensures { IfOk result (λ numbers. IsTrue is_monotone → most ≤ vec_capacity numbers) }
-{
-    let room = if is_monotone { most } else { 0 };
-    Vec::with_capacity(alloc, room as usize)
-}
-
-// The least horizon among 1, 2, 4, .., 2^limit whose run ends with one state, with that state. Where each event is
-// known to be monotone, a run is followed by its corners, and otherwise by the region.
-fn first_outcome<E: EventLaw, P: Past + Drop>(
+// By the corners where each event is monotone, and otherwise by regions, each on packed states where the network's fit.
+fn means_of<E: PiecewiseLaw + RouteLaw>(
+    alloc: Global,
     system: &System<'_, E>,
-    words: &mut Kept<P>,
-    region: &mut Region,
-    is_monotone: bool,
-    numbers: &mut Vec<u16>,
-    form: &Form,
-) -> Outcome
-    requires form { IsForm system.now.caps (map E.function system.now.events) form.now }
-    requires room { 2 ^ system.now.limit ≤ words.old.most }
-    requires split { region.old.split ≡ system.now.split }
-    requires monotone { IsTrue is_monotone → All (λ f. IsMonotone system.now.caps f) (map E.function system.now.events) }
-    requires number_room { IsTrue is_monotone → 2 ^ system.now.limit ≤ vec_capacity numbers.old }
-    ensures least { let f = system_functions E.function system.now (P.words words.old.past) in
-        IsOutcome (ending_at system.now.split f system.now.caps) system.now.limit result }
-    ensures words { P.words words.new.past ≡ P.words words.old.past }
-    ensures most { words.new.most ≡ words.old.most }
-    ensures split { region.new.split ≡ region.old.split }
-    ensures capacity { vec_capacity numbers.new ≡ vec_capacity numbers.old }
+) -> Result<Means, AllocError>
+    ensures { IfOk result (λ means. AreMeans system.now.caps (map E.function system.now.events) system.now.split means) }
 {
-    if is_monotone {
-        first_meeting(system, words, numbers, form)
+    if are_monotone(system) {
+        Ok(Means::Corners(form_of(alloc, system)?))
     } else {
-        first_ending(system, words, region)
-    }
-}
-
-// The one state with which the run of a horizon ends, if it ends with one. Where each event is known to be monotone,
-// the run is followed by its corners, and otherwise by the region.
-fn ending_after<E: EventLaw, P: Past + Drop>(
-    system: &System<'_, E>,
-    words: &mut Kept<P>,
-    region: &mut Region,
-    is_monotone: bool,
-    numbers: &mut Vec<u16>,
-    form: &Form,
-    horizon: u32,
-) -> Option<State>
-    requires form { IsForm system.now.caps (map E.function system.now.events) form.now }
-    requires room { 2 ^ system.now.limit ≤ words.old.most }
-    requires split { region.old.split ≡ system.now.split }
-    requires monotone { IsTrue is_monotone → All (λ f. IsMonotone system.now.caps f) (map E.function system.now.events) }
-    requires number_room { IsTrue is_monotone → 2 ^ system.now.limit ≤ vec_capacity numbers.old }
-    requires most { horizon ≤ 2 ^ system.now.limit }
-    ensures ending { result ≡ ending_at system.now.split (system_functions E.function system.now (P.words words.old.past)) system.now.caps horizon }
-    ensures words { P.words words.new.past ≡ P.words words.old.past }
-    ensures most { words.new.most ≡ words.old.most }
-    ensures split { region.new.split ≡ region.old.split }
-    ensures capacity { vec_capacity numbers.new ≡ vec_capacity numbers.old }
-{
-    if is_monotone {
-        numbers.clear();
-        corners::ending(system, words, numbers, form, 0, horizon)
-    } else {
-        doubling::ending(system, words, region, horizon)
+        Ok(Means::Areas(set_form_of(alloc, system)?))
     }
 }

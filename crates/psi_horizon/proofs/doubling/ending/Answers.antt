@@ -1,49 +1,45 @@
 -- Answers in the proof of `ending`.
-use Rattle.std.proofs.Common.{◌≡◌, ℕ, ◌≤◌, List, map, ap, sym, ◌∙◌, subst, arith}
-use Rattle.psi_rate.specs.Composition.{picked, system_functions}
-use Rattle.psi_rate.proofs.FunctionsLemmas.{functions-closed}
-use Rattle.psi_region.specs.Region.{Area, step, start, IsArea}
-use Rattle.psi_region.proofs.RegionLemmas.{start-area, step-area}
-use Rattle.psi_horizon.specs.Runs.{follow, region_at, ending_at}
-use Rattle.psi_horizon.proofs.Running.{follow-step, follow-ends}
+use Rattle.std.proofs.Common.{ℕ, map, length, ap, sym, ◌∙◌}
+use Rattle.std.proofs.lemmas.List.{length-map}
+use Rattle.psi_rate.proofs.FunctionsLemmas.{functions-closed, function_at-monotone}
+use Rattle.psi_horizon.specs.Numbers.{numbers_below}
+use Rattle.psi_horizon.proofs.NumbersLemmas.{numbers-events, numbers-ending}
+use Rattle.psi_horizon.proofs.AreasLemmas.{areas-ending}
+use Rattle.psi_horizon.proofs.SetsLemmas.{corners-monotone}
 use Rattle.psi_horizon.proofs.doubling.ending.Goals as goal
 
-pub loop-place-init : goal.loop-place-init
-loop-place-init g c =
+pub meeting-requires-clause-numbers : goal.meeting-requires-clause-numbers
+meeting-requires-clause-numbers g c =
     let system = c.args.system.now in
-    let f = system_functions g.E.EventLaw.function system (g.P.Past.words c.extend_to.new.self.past) in
-    let begun = c.start.ensures.area ∙ ap (λ (caps : List ℕ). start caps) c.caps.ensures.value in
-    record {
-      area = subst (λ (a : Area). IsArea system.caps a) (sym begun) (start-area system.caps);
-      left = ap (λ (a : Area). follow system.split f c.args.horizon a) begun;
-      split = c.start.ensures.split ∙ c.requires.split;
-    }
+    numbers-events system.rates (g.P.Past.words c.extend_to.new.words.past) c.args.horizon (length system.events) c.below-run.result.now
+    c.caps-caps.ensures.fit.same_count c.below-run.ensures
 
-pub loop-place-preserved : goal.loop-place-preserved
-loop-place-preserved g c =
+pub set_ending-requires-clause-numbers : goal.set_ending-requires-clause-numbers
+set_ending-requires-clause-numbers g c =
     let system = c.args.system.now in
-    let words = g.P.Past.words c.extend_to.new.self.past in
-    let f = system_functions g.E.EventLaw.function system words in
-    let function_of_word = λ (word : ℕ). picked (map g.E.EventLaw.function system.events) system.rates word in
-    let kept = c.loop-place.invariant in
-    let old = c.loop-place.region.area in
-    let some : 1 ≤ c.loop-place.place = c.loop-place-test.true in
-    let closed = functions-closed g.E.EventLaw.capacities g.E.EventLaw.function system words g.met.E.EventLaw.closed c.caps.ensures.fit.same_caps in
-    let stepped : c.follow_word-event.new.region.area ≡ step system.split (f c.loop-place.place) old =
-    c.follow_word-event.ensures.area
-    ∙ (ap (λ m. step m (function_of_word c.at.result) old) kept.split
-    ∙ ap (λ word. step system.split (function_of_word word) old) c.at.ensures) in
-    record {
-      area = subst (λ (a : Area). IsArea system.caps a) (sym stepped)
-          (step-area system.split system.caps (f c.loop-place.place) old (closed.each c.loop-place.place) kept.area);
-      left = follow-step system.split f c.loop-place.place old c.follow_word-event.new.region.area (region_at system.split f system.caps c.args.horizon) some kept.left stepped;
-      split = c.follow_word-event.ensures.split ∙ kept.split;
-    }
+    numbers-events system.rates (g.P.Past.words c.extend_to.new.words.past) c.args.horizon (length system.events) c.below-run.result.now
+    c.caps-caps.ensures.fit.same_count c.below-run.ensures
 
-pub returns-clause-ending : goal.returns-clause-ending
-returns-clause-ending g c =
+pub returns-in-Corners-clause-ending : goal.returns-in-Corners-clause-ending
+returns-in-Corners-clause-ending g c =
     let system = c.args.system.now in
-    let f = system_functions g.E.EventLaw.function system (g.P.Past.words c.extend_to.new.self.past) in
-    let none : c.loop-place.place ≡ 0 = omega (arith, c.loop-place-test.false) in
-    follow-ends system.split f system.caps c.loop-place.place c.args.horizon c.loop-place.region.area c.single.result none c.loop-place.invariant.left c.single.ensures.value
-    ∙ ap (λ w. ending_at system.split (system_functions g.E.EventLaw.function system w) system.caps c.args.horizon) c.extend_to.ensures.words
+    let words = g.P.Past.words c.args.words.now.past in
+    let functions = map g.E.EventLaw.function system.events in
+    numbers-ending system.split system.caps functions system.rates words c.args.horizon c.below-run.result.now c.meeting.result
+    (c.caps-caps.ensures.fit.same_count ∙ sym (length-map system.events g.E.EventLaw.function))
+    (c.below-run.ensures ∙ ap (λ (w : ℕ → ℕ). numbers_below system.rates w c.args.horizon) c.extend_to.ensures.words)
+    (functions-closed g.E.EventLaw.capacities g.E.EventLaw.function system words g.met.E.EventLaw.closed c.caps-caps.ensures.fit.same_caps)
+    (function_at-monotone system.caps functions system.rates words
+    (corners-monotone system.caps functions system.split c.args.means.now c.in-Corners.form c.requires.means c.in-Corners.is))
+    c.meeting.ensures
+
+pub returns-in-Areas-clause-ending : goal.returns-in-Areas-clause-ending
+returns-in-Areas-clause-ending g c =
+    let system = c.args.system.now in
+    let words = g.P.Past.words c.args.words.now.past in
+    let functions = map g.E.EventLaw.function system.events in
+    areas-ending system.split system.caps functions system.rates words c.args.horizon c.below-run.result.now c.set_ending.result
+    (c.caps-caps.ensures.fit.same_count ∙ sym (length-map system.events g.E.EventLaw.function))
+    (c.below-run.ensures ∙ ap (λ (w : ℕ → ℕ). numbers_below system.rates w c.args.horizon) c.extend_to.ensures.words)
+    (functions-closed g.E.EventLaw.capacities g.E.EventLaw.function system words g.met.E.EventLaw.closed c.caps-caps.ensures.fit.same_caps)
+    c.set_ending.ensures.ending

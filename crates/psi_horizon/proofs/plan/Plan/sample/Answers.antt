@@ -16,17 +16,17 @@ returns-clause-sample g c =
     let plan = c.args.self.now in
     let words = g.P.Past.words plan.past in
     let fit = subst (λ (p : Planned g.row.E.Denot g.row.P.Denot). IsSystem g.E.EventLaw.capacities p.system) c.self.view_is c.caps-caps.ensures.fit in
-    sample-is plan.system.caps (map g.E.EventLaw.function plan.system.events) plan.system.rates plan.system.limit plan.system.split words c.first_outcome.result
+    sample-is plan.system.caps (map g.E.EventLaw.function plan.system.events) plan.system.rates plan.system.limit plan.system.split words c.first_ending.result
     (functions-closed g.E.EventLaw.capacities g.E.EventLaw.function plan.system words g.met.E.EventLaw.closed fit.same_caps)
     (subst (λ (p : Planned g.row.E.Denot g.row.P.Denot).
-    IsOutcome (ending_at p.system.split (system_functions g.E.EventLaw.function p.system (g.P.Past.words p.past)) p.system.caps) p.system.limit c.first_outcome.result)
-    c.self.view_is c.first_outcome.ensures.least)
+    IsOutcome (ending_at p.system.split (system_functions g.E.EventLaw.function p.system (g.P.Past.words p.past)) p.system.caps) p.system.limit c.first_ending.result)
+    c.self.view_is c.first_ending.ensures.least)
 
 pub returns-clause-outcome : goal.returns-clause-outcome
 returns-clause-outcome g c =
     let plan = c.args.self.now in
     outcome_within-only (ending_at plan.system.split (system_functions g.E.EventLaw.function plan.system (g.P.Past.words plan.past)) plan.system.caps)
-    plan.system.limit c.first_outcome.result (returns-clause-sample g c).least
+    plan.system.limit c.first_ending.result (returns-clause-sample g c).least
 
 pub returns-clause-exact : goal.returns-clause-exact
 returns-clause-exact g c = λ few.

@@ -1,0 +1,21 @@
+-- Answers in the proof of `shrink`.
+use Rattle.std.specs.Prelude.{refl}
+use Rattle.std.proofs.Common.{◌≡◌, List, Bool, map, length, take, ap, sym, ◌∙◌, subst, arith}
+use Rattle.std.proofs.lemmas.List.{length-map}
+use Rattle.psi_packed.specs.Boxes.{AreMonotoneUnhalted}
+use Rattle.psi_horizon.specs.Numbers.{AreEvents}
+use Rattle.psi_horizon.proofs.SetsLemmas.{events-left}
+use Rattle.psi_horizon.proofs.sets.shrink.Goals as goal
+
+pub follow_corners-left-requires : goal.follow_corners-left-requires
+follow_corners-left-requires g c =
+    let system = c.args.system.now in
+    let functions = map g.E.EventLaw.function system.events in
+    let machine = c.requires.machine in
+    let kept = c.loop-left.invariant in
+    let count = length system.events in
+    let as_many : length c.as_slice-halts.result.now ≡ count =
+    ap (λ (halts : List Bool). length halts) c.as_slice-halts.ensures.value ∙ machine.halts ∙ length-map system.events g.E.EventLaw.function in
+    let monotone = subst (λ (halts : List Bool). AreMonotoneUnhalted system.caps functions halts) (sym c.as_slice-halts.ensures.value) machine.monotone in
+    let numbers : AreEvents count (take c.loop-left.left c.args.numbers.now) = record { each = events-left count count c.loop-left.left c.args.numbers.now c.requires.numbers kept.few refl } in
+    (omega arith, (machine.program, (as_many, (monotone, (numbers, kept.within)))))
