@@ -111,3 +111,23 @@ fn equal_values_rise_and_a_smaller_last_one_does_not(rt: HostRuntime) -> Result<
     assert_eq!(rt; falling.greatest(0, 2), 3);
     Ok(())
 }
+
+// The first search begins well before its answer, just before it, at it and behind it.
+#[test]
+fn values_pass_a_bound_at_these_places(rt: HostRuntime) -> Result<(), Fail> {
+    let values = Vec::from_slice(rt.alloc(), &[3, 1, 4, 1, 5, 9, 2, 6, 5, 3, 5, 8])?;
+    let table = IndexTable::new(rt.alloc(), values)?;
+    assert_eq!(rt; table.first_at_least_near(0, 6), 5);
+    assert_eq!(rt; table.first_at_least_near(4, 6), 5);
+    assert_eq!(rt; table.first_at_least_near(5, 6), 5);
+    assert_eq!(rt; table.first_at_least_near(12, 6), 5);
+    assert_eq!(rt; table.first_at_least_near(7, 10), 12);
+    assert_eq!(rt; table.first_at_least_between(6, 10, 6), 7);
+    assert_eq!(rt; table.first_at_least_between(6, 11, 7), 11);
+    assert_eq!(rt; table.past_last_below(0, 12, 3), 7);
+    assert_eq!(rt; table.past_last_below(0, 6, 2), 4);
+    assert_eq!(rt; table.past_last_below(7, 12, 3), 7);
+    assert_eq!(rt; table.first_below(4, 12, 3), 6);
+    assert_eq!(rt; table.first_below(7, 12, 3), 12);
+    Ok(())
+}

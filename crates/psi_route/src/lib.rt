@@ -20,7 +20,6 @@ mod parts;
 mod pieces;
 mod route;
 mod routing;
-mod table_search;
 mod target_ends;
 #[cfg(test)]
 mod tests;

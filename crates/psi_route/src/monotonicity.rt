@@ -1,7 +1,6 @@
 //! Whether a route keeps the order of states, and two states whose order it breaks.
 
 use crate::route::Route;
-use crate::table_search::{first_at_least_near, first_below};
 use psi_state::State;
 
 impl Route {
@@ -163,11 +162,11 @@ impl Route {
         }
         let table = &self.tables[a as usize];
         let bound = self.weight(b, w) as u64 + (a < b) as u64;
-        let first = first_at_least_near(table, near, bound);
+        let first = table.first_at_least_near(near, bound);
         if first >= past {
             return (None, first);
         }
-        let below = first_below(table, first, past, bound);
+        let below = table.first_below(first, past, bound);
         if below == past {
             return (None, first);
         }

@@ -4,7 +4,6 @@ ghost use Rattle.std.specs.Prelude.{◌≡◌, ℕ, ◌+◌, ◌-◌, ◌<◌, �
 
 use crate::keys::Key;
 use crate::route::Route;
-use crate::table_search::{first_at_least_between, past_last_below};
 
 impl Route {
     ghost use Rattle.psi_route.specs.Routing.{routing, HasRoom, Lacks};
@@ -123,7 +122,7 @@ impl Route {
         // Called for its clause: there are at most 32 places.
         let _few = self.places();
         let bound = key.weight as u64 + (j <= key.place) as u64;
-        first_at_least_between(&self.tables[j as usize], first, past, bound)
+        self.tables[j as usize].first_at_least_between(first, past, bound)
     }
 
     // One more than the last number of customers from `first` on and before `past` with which the target's key comes
@@ -141,6 +140,6 @@ impl Route {
         // Called for its clause: there are at most 32 places.
         let _few = self.places();
         let bound = key.weight as u64 + (j < key.place) as u64;
-        past_last_below(&self.tables[j as usize], first, past, bound)
+        self.tables[j as usize].past_last_below(first, past, bound)
     }
 }

@@ -1,6 +1,6 @@
--- Invariants of the loops of `first_at_least_between`.
+-- Invariants of the loops of `IndexTable::first_below`.
 use Rattle.std.proofs.Common.{◌<◌, ◌≤◌, ◌-◌, ℕ, slice_index}
-use Rattle.psi_route.proofs.table_search.first_at_least_between.Given as goal
+use Rattle.psi_index.proofs.table.IndexTable.first_below.Given as goal
 
 abbrev pub invariant-loop-low : goal.invariant-loop-low
 invariant-loop-low l =
@@ -8,8 +8,8 @@ invariant-loop-low l =
       from : l.first ≤ l.low;
       ordered : l.low ≤ l.high;
       within : l.high ≤ l.past;
-      before : (k : ℕ) → l.first ≤ k → k < l.low → slice_index l.table k < l.bound;
-      reached : l.high < l.past → (k : ℕ) × (l.first ≤ k) × (k ≤ l.high) × (l.bound ≤ slice_index l.table k);
+      before : (k : ℕ) → l.first ≤ k → k < l.low → l.bound ≤ slice_index l.self k;
+      reached : l.high < l.past → (k : ℕ) × (l.first ≤ k) × (k ≤ l.high) × (slice_index l.self k < l.bound);
     }
 
 abbrev pub decreases-loop-low : goal.decreases-loop-low

@@ -1,6 +1,0 @@
--- Invariants of the loops of `first_at_least_along`.
-use Rattle.std.proofs.Common.{◌<◌, ◌≤◌, ℕ, slice_index}
-use Rattle.psi_route.proofs.table_search.first_at_least_along.Given as goal
-
-abbrev pub invariant-loop-place : goal.invariant-loop-place
-invariant-loop-place l = (k : ℕ) → l.first ≤ k → k < l.place → slice_index l.table k < l.bound
