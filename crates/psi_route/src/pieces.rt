@@ -24,7 +24,6 @@ impl PiecewiseLaw for Route {
 
 impl Route {
     ghost use Rattle.psi_route.specs.Pieces.{for_source, for_target, bound_of, leaving, joining, choosing, Stays};
-    ghost use Rattle.psi_route.specs.Routing.{routing};
     ghost use Rattle.psi_route.specs.Route.{shape_of};
 
     // The pieces where there is no target.
@@ -34,7 +33,7 @@ impl Route {
     {
         let one = self.for_source(1);
         Piecewise {
-            bounds: self.for_source(self.least()),
+            bounds: self.for_source(self.server.least),
             first: Piece {
                 sides: self.for_source(AT_LEAST),
                 ups: State::zero(one.len()),
@@ -53,7 +52,7 @@ impl Route {
         let zero = State::zero(one.len());
         let serving = self.for_source(AT_LEAST);
         Piecewise {
-            bounds: self.for_target(0, self.for_source(self.least()), self.bound(0)),
+            bounds: self.for_target(0, self.for_source(self.server.least), self.bound(0)),
             first: Piece {
                 sides: self.for_target(0, serving, BELOW),
                 ups: self.for_target(0, zero, self.size),
@@ -81,7 +80,7 @@ impl Route {
     {
         let one = self.for_source(1);
         let zero = State::zero(one.len());
-        let least = self.for_target(0, self.for_source(self.least()), self.bound(0));
+        let least = self.for_target(0, self.for_source(self.server.least), self.bound(0));
         let full = self.for_target(0, one, AT_LEAST);
         Piecewise {
             bounds: self.for_target(1, least, self.bound(1)),
@@ -107,16 +106,6 @@ impl Route {
             list.set(source.queue, number);
         }
         list
-    }
-
-    // The least number of customers at which the source serves; 0 where there is no source.
-    fn least(&self) -> u16
-        ensures { let r = routing (shape_of self.now) in result ≡ r.least }
-    {
-        match self.source {
-            None => 0,
-            Some(source) => source.k,
-        }
     }
 
     // A number for the target at place `i`, and those of a list for the other queues.
