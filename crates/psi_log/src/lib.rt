@@ -18,6 +18,7 @@ mod steps;
 mod words;
 
 pub use form::Form;
+pub use header::read_head;
 pub use log::{Log, read_log};
 pub use psi_lines::{Header, LineBuf};
 pub use refusals::{Cause, LogError};

@@ -65,6 +65,7 @@ fn a_text_is_read_as_its_log(rt: HostRuntime) -> Result<(), Fail> {
         horizon: 3,
     };
     assert_eq!(rt; log.header(), header);
+    assert_eq!(rt; read_head(rt.alloc(), MOVES)?, header);
     assert_eq!(rt; log.end(), pair(0, 1));
     let whole = Bounds::whole(&pair(1, 1));
     let lower = Bounds::new(pair(0, 0), pair(0, 1));
