@@ -1,5 +1,5 @@
 -- What stands in a text, byte by byte.
-use Rattle.std.specs.Prelude.{◌≡◌, ◌⊎◌, ℕ, ◌+◌, ◌-◌, ◌*◌, ◌<◌, ◌≤◌, ◌^◌, ◌/◌, ◌%◌, List, [], ◌∷◌, ◌++◌, length, map, take, drop, slice_index, refl}
+use Rattle.std.specs.Prelude.{◌≡◌, ◌⊎◌, ℕ, ◌+◌, ◌-◌, ◌*◌, ◌<◌, ◌≤◌, ◌/◌, ◌%◌, List, [], ◌∷◌, ◌++◌, length, map, take, drop, slice_index, refl}
 use Rattle.std.specs.Fmt.{decimal}
 use Rattle.std.proofs.Common.{get_or, set, ap, sym, ◌∙◌, subst, arith, length-append, inl, inr}
 use Rattle.std.proofs.lemmas.Fmt.{decimal_digit, decimal_step}
@@ -9,7 +9,7 @@ use Rattle.psi_state.specs.State.{IsVector}
 use Rattle.psi_state.specs.Members.{In}
 use Rattle.psi_lines.specs.Log.{IsState}
 use Rattle.psi_lines.specs.Text.{numbers_text}
-use Rattle.psi_lines.specs.Room.{Puts, spaced_words}
+use Rattle.psi_lines.specs.Room.{spaced_words}
 use Rattle.psi_lines.proofs.JoinedLemmas.{then, then_words, one_word, numbers_text_first, numbers_text_more}
 use Rattle.psi_log.specs.Scanned.{Stands, AreScanned}
 

@@ -1,20 +1,19 @@
 -- The line of a step with a set, read in one pass.
-use Rattle.std.specs.Prelude.{◌≡◌, ℕ, ◌+◌, ◌<◌, ◌≤◌, List, [], ◌∷◌, ◌++◌, length, map, take, drop, codes, true, Option, Some, None, Result, Ok, refl}
-use Rattle.std.specs.List.{list_all, flat_map}
+use Rattle.std.specs.Prelude.{◌≡◌, ℕ, ◌+◌, ◌<◌, ◌≤◌, List, [], ◌∷◌, ◌++◌, length, map, take, drop, codes, true, Option, Some, None, Ok, refl}
+use Rattle.std.specs.List.{list_all}
 use Rattle.std.specs.Fmt.{decimal}
-use Rattle.std.proofs.Common.{ap, sym, ◌∙◌, subst, arith, append_assoc}
+use Rattle.std.proofs.Common.{ap, sym, ◌∙◌, subst, arith}
 use Rattle.std.proofs.lemmas.Bool.{and_from}
 use Rattle.std.proofs.lemmas.List.{take-append-drop, take_all, append-nil, length-drop}
 use Rattle.psi_state.specs.State.{Corners}
 use Rattle.psi_state.specs.declared.outcome.Step.{Step}
 use Rattle.psi_lines.specs.declared.header.Header.{Header}
 use Rattle.psi_lines.specs.Log.{in_set, Entry, greatest_horizon, IsSet}
-use Rattle.psi_lines.specs.Text.{line_text, numbers_text, region_words, step_text}
-use Rattle.psi_lines.specs.Room.{spaced, spaced_words}
+use Rattle.psi_lines.specs.Text.{numbers_text, region_words, step_text}
+use Rattle.psi_lines.specs.Room.{spaced_words}
 use Rattle.psi_lines.proofs.JoinedLemmas.{then, then_words, one_word, three_pieces}
 use Rattle.psi_lines.proofs.LinePieces.{step_pieces}
-use Rattle.psi_log.specs.Refusal.{Refusal, ◌>>=◌}
-use Rattle.psi_log.specs.Words.{line_of, words_of, number_in}
+use Rattle.psi_log.specs.Words.{number_in}
 use Rattle.psi_log.specs.Regions.{form_of, ascends}
 use Rattle.psi_log.specs.Reading.{read_step}
 use Rattle.psi_log.specs.Scanned.{Stands, AreScanned, next_step}

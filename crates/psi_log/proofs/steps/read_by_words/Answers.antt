@@ -1,5 +1,5 @@
 -- Answers in the proof of `steps::read_by_words`.
-use Rattle.std.proofs.Common.{◌∙◌, ℕ, List, Ok, map, sym, ap, subst, arith}
+use Rattle.std.proofs.Common.{◌∙◌, ℕ, List, map, sym, ap, subst, arith}
 use Rattle.std.specs.Prelude.{option_copied}
 use Rattle.std.proofs.lemmas.Grind.{common_steps}
 use Rattle.psi_log.specs.Refusal.{IsLogError}

@@ -1,5 +1,5 @@
 -- Answers in the proof of `steps::read_steps`.
-use Rattle.std.proofs.Common.{◌∙◌, ◌+◌, ◌-◌, ◌≡◌, ℕ, List, Result, map, sym, ap, subst, arith}
+use Rattle.std.proofs.Common.{◌∙◌, ◌+◌, ◌-◌, List, map, sym, ap, subst, arith}
 use Rattle.std.specs.Prelude.{Option}
 use Rattle.std.specs.List.{All}
 use Rattle.std.proofs.lemmas.List.Elements.{All-push}
