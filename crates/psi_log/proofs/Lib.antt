@@ -15,7 +15,6 @@ mod PieceLemmas
 mod PieceTurns
 mod LineWords
 mod MovedLemmas
-mod RowsLemmas
 pub mod ToldLemmas
 pub mod StepLemmas
 mod OrderLemmas

@@ -3,7 +3,6 @@ pub mod Refusal
 pub mod Words
 pub mod Regions
 pub mod Reading
-pub mod Rows
 pub mod Seen
 pub mod Changed
 pub mod Kept

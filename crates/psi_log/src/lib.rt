@@ -13,7 +13,6 @@ mod refusals;
 mod regions;
 mod scan;
 mod set_line;
-mod state_list;
 mod steps;
 mod words;
 

@@ -10,10 +10,10 @@ use crate::forms::form_of;
 use crate::header::read_start;
 use crate::refusals::{Cause, LogError};
 use crate::regions::{Kept, box_before, read_given, read_state};
-use crate::state_list::StateList;
 use crate::steps::{Line, read_steps};
 use crate::words::{has_pieces, read_words};
 use psi_lines::Header;
+use psi_rows::StateList;
 use psi_state::State;
 use std::alloc::Global;
 

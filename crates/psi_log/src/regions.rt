@@ -14,7 +14,7 @@ use crate::forms::Given;
 use crate::moves::read_move;
 use crate::numbers::piece_in;
 use crate::refusals::{Cause, LogError};
-use crate::state_list::StateList;
+use psi_rows::StateList;
 use psi_state::{Bounds, State};
 
 /// A region as it is read: a box, or a set of states by their places in a list.

@@ -10,9 +10,9 @@ ghost use Rattle.psi_log.specs.Scanned.{Stands, AreScanned, next_step};
 use crate::header::greatest_horizon;
 use crate::regions::{Kept, ascends};
 use crate::scan::{has_byte, has_word, number_at, state_at};
-use crate::state_list::StateList;
 use crate::steps::Line;
 use psi_lines::Header;
+use psi_rows::StateList;
 use psi_state::Step;
 use std::alloc::AllocError;
 

@@ -13,9 +13,9 @@ use crate::numbers::number_in;
 use crate::refusals::{Cause, LogError};
 use crate::regions::{Kept, box_before, read_given};
 use crate::set_line::read_set_line;
-use crate::state_list::StateList;
 use crate::words::read_words;
 use psi_lines::Header;
+use psi_rows::StateList;
 use psi_state::{Bounds, Step};
 use std::alloc::Global;
 

@@ -1,6 +1,6 @@
 -- Invariants of the loops of `state_list::is_below`.
 use Rattle.std.specs.Prelude.{ℕ, ◌<◌, ◌≤◌, slice_index}
-use Rattle.psi_log.proofs.state_list.is_below.Given as goal
+use Rattle.psi_rows.proofs.state_list.is_below.Given as goal
 
 -- the numbers so far are at most the others
 abbrev pub invariant-loop-queue : goal.invariant-loop-queue

@@ -5,7 +5,7 @@ use Rattle.std.proofs.Common.{ap, sym, ◌∙◌, arith}
 use Rattle.std.proofs.lemmas.List.{take_all, nil_from_length, take-append-le, drop-append-le, drop-drop, length-drop}
 use Rattle.std.proofs.lemmas.Nat.{mul-le}
 use Rattle.std.proofs.Math.Nat.{suc-mul}
-use Rattle.psi_log.specs.Rows.{rows}
+use Rattle.psi_rows.specs.Rows.{rows}
 
 pub length_rows : (count queues : ℕ) (numbers : List ℕ) → length (rows count queues numbers) ≡ count
 length_rows zero queues numbers = refl

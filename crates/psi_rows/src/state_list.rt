@@ -5,15 +5,16 @@ ghost use Rattle.std.specs.Ordering.{is_lt, nat_cmp};
 ghost use Rattle.std.specs.Cmp.Lexicographic.{slice_cmp};
 ghost use Rattle.std.specs.List.{slice_get};
 ghost use Rattle.psi_state.specs.State.{IsBelow};
-ghost use Rattle.psi_log.specs.Rows.{States, rows};
+ghost use Rattle.psi_rows.specs.Rows.{States, rows};
 
 use psi_state::State;
 use std::alloc::{AllocError, Global};
 use std::marker::Model;
 
-/// A list of states of so many queues, 1 to 32. It takes two bytes for each queue of each state.
+/// A list of states of so many queues, 1 to 32; it is seen as the number of queues and the states. It takes two bytes
+/// for each queue of each state, and keeps no memory for a state by itself.
 #[derive(Drop)]
-pub(crate) struct StateList {
+pub struct StateList {
     queues: u8,
     count: usize,
     numbers: Vec<u16>,
@@ -21,7 +22,7 @@ pub(crate) struct StateList {
 
 impl Model for StateList {
     ghost use Rattle.std.specs.Prelude.{◌≡◌, ◌*◌, ◌≤◌, length};
-    ghost use Rattle.psi_log.specs.Rows.{States, rows};
+    ghost use Rattle.psi_rows.specs.Rows.{States, rows};
 
     ghost Value = { States };
 
@@ -73,8 +74,8 @@ fn state_of(row: &[u16], queues: u8) -> State
 }
 
 impl StateList {
-    /// No states of so many queues.
-    pub(crate) fn new(alloc: Global, queues: u8) -> StateList
+    /// The list of no states, for states of so many queues, 1 to 32. It takes no memory yet.
+    pub fn new(alloc: Global, queues: u8) -> StateList
         requires some { 1 ≤ queues }
         requires few { queues ≤ 32 }
         ensures { result ≡ record { queues = queues; states = [] } }
@@ -86,28 +87,34 @@ impl StateList {
         }
     }
 
-    /// The number of states.
+    /// The number of states. It takes the same time whatever that number is.
     #[tactic(auto, using(crate::proofs::RowsLemmas::length_rows))]
-    pub(crate) fn len(&self) -> usize
+    pub fn len(&self) -> usize
         ensures { result ≡ length self.now.states }
     {
         self.count
     }
 
-    /// Puts a state at the end.
+    /// Puts a state of the list's number of queues behind the others. The vector grows where it has no room left, so
+    /// that a state takes time for its queues alone, over many states.
+    ///
+    /// # Errors
+    ///
+    /// `AllocError` where memory is wanting, and no clause says when that is; the list is then as it was.
     #[tactic(auto, using(crate::proofs::RowsLemmas::rows_push))]
-    pub(crate) fn push(&mut self, x: &State) -> Result<(), AllocError>
+    pub fn push(&mut self, x: &State) -> Result<(), AllocError>
         requires { length x.now ≡ self.old.queues }
         ensures queues { self.new.queues ≡ self.old.queues }
         ensures states { OnOk result (self.new.states ≡ self.old.states ++ x.now ∷ []) }
+        ensures kept { OnErr result (self.new.states ≡ self.old.states) }
     {
         push_numbers(&mut self.numbers, x)?;
         self.count += 1;
         Ok(())
     }
 
-    /// The state at a place, counted from 0.
-    pub(crate) fn get(&self, place: usize) -> State
+    /// The state at a place, counted from 0. It takes time for the state's queues, wherever it stands.
+    pub fn get(&self, place: usize) -> State
         requires { place < length self.now.states }
         ensures { slice_get self.now.states place ≡ Some result }
     {
@@ -125,8 +132,9 @@ impl StateList {
         &self.numbers[first..first + self.queues as usize]
     }
 
-    /// Whether the state at a place, counted from 0, is lexicographically below the next one.
-    pub(crate) fn is_below_next(&self, place: usize) -> bool
+    /// Whether the state at a place, counted from 0, is lexicographically below the next one: below it in the first
+    /// queue in which the two differ. Neither is copied.
+    pub fn is_below_next(&self, place: usize) -> bool
         requires { place + 1 < length self.now.states }
         ensures { MatchOption (slice_get self.now.states place) ⊥ (λ x. MatchOption (slice_get self.now.states (place + 1)) ⊥ (λ y. result ≡ is_lt (slice_cmp nat_cmp x y))) }
     {
@@ -135,8 +143,9 @@ impl StateList {
         self.row(place).cmp(self.row(place + 1)).is_lt()
     }
 
-    /// Whether the state at a place, counted from 0, is componentwise at most another.
-    pub(crate) fn leq(&self, place: usize, most: &State) -> bool
+    /// Whether the state at a place, counted from 0, is componentwise at most another: it has as many queues, and in
+    /// each at most as many customers. It isn't copied.
+    pub fn leq(&self, place: usize, most: &State) -> bool
         requires { place < length self.now.states }
         ensures { MatchOption (slice_get self.now.states place) ⊥ (λ x. IsTrue result ↔ IsBelow x most.now) }
     {

@@ -1,6 +1,6 @@
 -- Invariants of the loops of `state_list::push_numbers`.
 use Rattle.std.specs.Prelude.{◌≡◌, ◌≤◌, ◌+◌, ◌-◌, ◌++◌, take, vec_len, vec_capacity}
-use Rattle.psi_log.proofs.state_list.push_numbers.Given as goal
+use Rattle.psi_rows.proofs.state_list.push_numbers.Given as goal
 
 abbrev pub invariant-loop-queue : goal.invariant-loop-queue
 invariant-loop-queue l = record {
