@@ -1,5 +1,5 @@
-//! What keeps lists that it is given, or is lent them: files in memory, rewards, routes, kinds of events, tables of a
-//! file, and the words of a command.
+//! What keeps lists that it is given, or is lent them: files in memory, rewards, routes, kinds of events, lists of
+//! states, tables of a file, and the words of a command.
 
 ghost use Rattle.std.specs.Prelude.{◌≡◌, ◌∷◌, [], All, IfSome};
 ghost use Rattle.psi_reward.specs.Refusing.{IsSmall};
@@ -13,6 +13,7 @@ use psi_kinds::{Kind, Tables, lower, refusal_of};
 use psi_network::{accepted_reward, index_values, source_of};
 use psi_reward::{Grid, Numbers, Reward, RewardKind};
 use psi_route::{Full, Route};
+use psi_rows::StateList;
 use psi_state::{Queues, State};
 use std::alloc::Global;
 use toml::table_from_str;
@@ -27,6 +28,7 @@ pub(crate) fn make(alloc: Global, calls: bool) -> Option<()> {
     make_grid(alloc, calls)?;
     make_route(alloc, calls)?;
     make_kind(alloc, calls)?;
+    make_states(alloc, calls)?;
     make_document(alloc, calls)?;
     make_words(alloc, calls)
 }
@@ -35,6 +37,7 @@ pub(crate) fn make(alloc: Global, calls: bool) -> Option<()> {
 fn call_empty(alloc: Global) {
     let _shelf = MemoryShelf::new(alloc, Vec::new(alloc));
     let _lists = (Numbers::new(alloc), Grid::new(alloc), Tables::new(alloc));
+    let _states = StateList::new(alloc, 32);
 }
 
 // The events of kinds without tables, which keep the allocator.
@@ -151,6 +154,19 @@ fn call_kind(kind: &Kind)
 {
     let _refusal = refusal_of(&caps(), kind);
     let _told = (kind.as_move(), source_of(kind), index_values(kind));
+}
+
+// Two states of one queue.
+fn make_states(alloc: Global, calls: bool) -> Option<()> {
+    let mut states = StateList::new(alloc, 1);
+    let (Ok(()), Ok(())) = (states.push(&State::zero(1)), states.push(&caps())) else {
+        return None;
+    };
+    if calls {
+        let _told = (states.len(), states.get(1), states.is_below_next(0));
+        let _within = states.leq(0, &caps());
+    }
+    Some(())
 }
 
 // A table of a file with one key.
