@@ -1,34 +1,21 @@
 -- The log of a sample.
-use Rattle.std.specs.Prelude.{◌≡◌, ℕ, zero, suc, ◌-◌, ◌%◌, ◌^◌, ◌<◌, ◌≤◌, List, [], ◌∷◌, length, map, Bool, true, false, nat_le, if◌then◌else◌, Option, Some, Result, Ok, refl}
+use Rattle.std.specs.Prelude.{◌≡◌, ℕ, ◌^◌, ◌<◌, ◌≤◌, List, [], length, Bool, true, false, nat_le, if◌then◌else◌, Option, Some, Ok, refl}
 use Rattle.std.proofs.Common.{inl, inr, ap, sym, ◌∙◌, subst, arith}
 use Rattle.std.proofs.lemmas.Bool.{cases_lt, le-leb, lt-leb, leb-true}
 use Rattle.std.proofs.lemmas.List.{length-map}
 use Rattle.psi_io.specs.Sink.{appended}
 use Rattle.psi_io.proofs.SinkLemmas.{appended-nothing}
-use Rattle.psi_state.specs.State.{numbers_from}
 use Rattle.psi_state.specs.declared.Outcome.{Outcome}
 use Rattle.psi_state.specs.declared.Outcome.TheVariants.{Met, NotMet}
 use Rattle.psi_past.specs.SeedWord.{seed_word}
-use Rattle.psi_rate.specs.Rates.{total, least_power, event_of}
-use Rattle.psi_rate.specs.Composition.{Parts, Functions, AreClosed, function_at}
+use Rattle.psi_rate.specs.Composition.{Parts}
 use Rattle.psi_rate.specs.Doubling.{IsFirst}
-use Rattle.psi_rate.proofs.RatesLemmas.{event_at-below}
 use Rattle.psi_rate.proofs.PowersLemmas.{pow-order}
-use Rattle.psi_region.specs.Region.{Area, start, step, IsArea}
-use Rattle.psi_region.proofs.RegionLemmas.{start-area, step-area}
-use Rattle.psi_horizon.specs.Runs.{region_after, ending_at}
-use Rattle.psi_horizon.specs.Agreeing.{Agree}
-use Rattle.psi_horizon.proofs.AgreeingLemmas.{step-agree}
-use Rattle.psi_lines.specs.declared.header.Header.{Header}
-use Rattle.psi_lines.specs.Log.{Entry, Certificate, IsLog}
+use Rattle.psi_horizon.specs.Runs.{ending_at}
+use Rattle.psi_lines.specs.Log.{Certificate}
 use Rattle.psi_lines.specs.Text.{log_text, IsLogOf}
-use Rattle.psi_log.specs.Refusal.{Refusal}
-use Rattle.psi_log.proofs.ReadLaws.{read_again}
-use Rattle.psi_record.specs.Recorded.{region_of, entry_after, recorded, header_of, log_of}
-use Rattle.psi_record.proofs.AcceptedLemmas.{recorded-log, recorded-judged}
-use Rattle.psi_replay.specs.Verdict.{verdict_of}
-use Rattle.psi_network.proofs.QueueLemmas.{capacities_kept}
-use Rattle.psi_network.specs.Network.{Network, caps_of, rates_of}
+use Rattle.psi_record.specs.Recorded.{log_of}
+use Rattle.psi_network.specs.Network.{Network, caps_of}
 use Rattle.psi_network.specs.Valid.{IsNetwork}
 use Rattle.psi_network.specs.declared.entries.Queue.{Queue}
 use Rattle.psi_net.specs.Reading.{network_of}
@@ -38,57 +25,16 @@ use Rattle.psi_command.specs.Command.{certify, net_file}
 use Rattle.psi_texts.specs.Lines.{too_long_line}
 use Rattle.psi_run.specs.Sample.{functions_by_time, sampled, IsDrawn}
 use Rattle.psi_run.specs.Networks.{IsSystemOf}
-use Rattle.psi_run.specs.Replay.{events_by_time, judgement}
-use Rattle.psi_texts.specs.Texts.{accepted_text}
 use Rattle.psi_run.specs.Certify.{certificate}
-use Rattle.psi_run.specs.Reply.{Reply, text_reply, line_reply, log_reply, certify_reply, verdict_reply, judged_log, reply_to}
+use Rattle.psi_run.specs.Reply.{Reply, text_reply, line_reply, log_reply, certify_reply, reply_to}
 use Rattle.psi_run.specs.Certified.{IsWrittenOf, IsCertified}
 use Rattle.psi_run.specs.Seen.{SinkSeen, Grew, GrewByPart, HasFailed}
 use Rattle.psi_run.specs.Ending.{Ending, replied, EndsWith}
 use Rattle.psi_run.specs.Finished.{IsFinished}
 use Rattle.psi_run.proofs.Endings.{IsAbout, first_read}
-use Rattle.psi_run.proofs.Sampling.{functions_by_time-closed, functions-alike, sampled-drawn, accepted_kept}
+use Rattle.psi_run.proofs.Certificates.{log-by, certificate_log, certificate_replayed}
+use Rattle.psi_run.proofs.Sampling.{sampled-drawn, accepted_kept}
 use Rattle.psi_run.proofs.Finishing.{finished_with, finished_whole, finished_cut}
-
--- ---- functions that agree on the states within the capacities
-
-module _ (split : ℕ) (caps : List ℕ) (f g : Functions) (closed : AreClosed caps f) (agree : (k : ℕ) → Agree caps (f k) (g k)) where
-  after-area : (horizon done : ℕ) → IsArea caps (region_after split f caps horizon done)
-  after-area horizon zero = start-area caps
-  after-area horizon (suc done) = step-area split caps (f (horizon - done)) (region_after split f caps horizon done) (closed.each (horizon - done)) (after-area horizon done)
-
-  after-agree : (horizon done : ℕ) → region_after split f caps horizon done ≡ region_after split g caps horizon done
-  after-agree horizon zero = refl
-  after-agree horizon (suc done) =
-      step-agree split caps (f (horizon - done)) (g (horizon - done)) (region_after split f caps horizon done) (agree (horizon - done)) (after-area horizon done)
-      ∙ ap (λ (a : Area). step split (g (horizon - done)) a) (after-agree horizon done)
-
-  entries-agree : (events : ℕ → ℕ) (horizon first count : ℕ) → map (entry_after split f caps events horizon) (numbers_from first count) ≡ map (entry_after split g caps events horizon) (numbers_from first count)
-  entries-agree events horizon first zero = refl
-  entries-agree events horizon first (suc count) =
-      ap (λ (a : Area). Entry-of a ∷ map (entry_after split f caps events horizon) (numbers_from (suc first) count)) (after-agree horizon (suc first))
-      ∙ ap (λ (es : List Entry). entry_after split g caps events horizon first ∷ es) (entries-agree events horizon (suc first) count)
-    where
-      Entry-of : Area → Entry
-      Entry-of a = record { step = record { number = horizon - first; event = events (horizon - first) }; region = region_of a }
-
-  recorded-agree : (events : ℕ → ℕ) (h : Header) (state : List ℕ) → recorded split f caps events h state ≡ recorded split g caps events h state
-  unfolding recorded
-  recorded-agree events h state =
-      ap (λ (es : List Entry). record { header = h; begin = region_of (start caps); entries = es; final = state }) (entries-agree events h.horizon 0 h.horizon)
-
--- the log of a system that is the network's is that of the network
-log-by : {E : Type 0} (function : E → List ℕ → List ℕ) (system : Parts E) (n : Network) (seed stream horizon : ℕ) (state : List ℕ) → IsNetwork n → IsSystemOf function n system
-    → log_of function system (seed_word seed stream) (header_of (caps_of n) seed stream horizon) state ≡ certificate n seed stream horizon state
-unfolding certificate events_by_time
-log-by function system n seed stream horizon state kept of =
-    let fs = map function system.events in
-    let words = seed_word seed stream in
-    let alike = functions-alike n seed stream fs kept of.functions in
-    let h = header_of (caps_of n) seed stream horizon in
-    let At : ℕ → List ℕ → List ℕ → Certificate = λ split caps rates. recorded split (function_at fs rates words) caps (λ t. event_of rates (words (t - 1))) h state in
-    ap (λ k. At k system.caps system.rates) of.split ∙ ap (λ cs. At n.split cs system.rates) of.caps ∙ ap (λ rs. At n.split (caps_of n) rs) of.rates
-    ∙ recorded-agree n.split (caps_of n) (function_at fs (rates_of n) words) (functions_by_time n seed stream) alike.0 alike.1 (λ t. event_of (rates_of n) (words (t - 1))) h state
 
 -- so the reply with it is the network's
 pub certified_by : {E : Type 0} (function : E → List ℕ → List ℕ) (system : Parts E) (n : Network) (seed stream horizon : ℕ) (state : List ℕ) (queues : ℕ) (o : Outcome)
@@ -113,52 +59,22 @@ queues_counted n queues is = is ∙ sym (length-map n.queues (λ (q : Queue). q.
 abbrev chosen : List ℕ → Bool → Reply
 chosen text fitting = if fitting then text_reply status.Done text else line_reply status.LogTooLong too_long_line
 
--- a power of two of at most the greatest horizon is one of the horizons of a log
-horizon-fits : (exponent limit horizon : ℕ) → exponent ≤ limit → limit ≤ 22 → horizon ≡ 2 ^ exponent → (1 ≤ horizon) × (horizon ≤ 2 ^ limit) × (horizon ≤ 4194304)
-horizon-fits exponent limit horizon within few power =
+-- a power of two of at most the limit's is one of the horizons of a network's logs
+horizon-fits : (exponent limit horizon : ℕ) → exponent ≤ limit → horizon ≡ 2 ^ exponent → (1 ≤ horizon) × (horizon ≤ 2 ^ limit)
+horizon-fits exponent limit horizon within power =
     let low : 2 ^ exponent ≤ 2 ^ limit = pow-order exponent limit within in
-    let high : 2 ^ exponent ≤ 4194304 = pow-order exponent 22 (omega arith) in
     let some : 1 ≤ 2 ^ exponent = pow-order 0 exponent (omega arith) in
-    (rw power some, rw power low, rw power high)
+    (rw power some, rw power low)
 
--- the log of the run of a sample that is met is one, and it breaks no rule of the network
+-- the log of the run of a sample that is met, written or too long
 module _ (n : Network) (seed stream : ℕ) (kept : IsNetwork n) (small : seed < 2 ^ 64) (less : stream < 2 ^ 64) (horizon : ℕ) (state : List ℕ)
     (drawn : IsDrawn n seed stream (Met horizon state)) where
   ends : ending_at n.split (functions_by_time n seed stream) (caps_of n) horizon ≡ Some state
   unfolding functions_by_time
   ends = drawn.least.answer
 
-  fits : (1 ≤ horizon) × (horizon ≤ 2 ^ n.limit) × (horizon ≤ 4194304)
-  fits = horizon-fits drawn.least.exponent n.limit horizon drawn.least.within kept.limit drawn.least.power
-
-  few-events : (t : ℕ) → events_by_time n seed stream t ≤ 1024
-  unfolding events_by_time event_of
-  few-events t =
-      few-of (event_of (rates_of n) (seed_word seed stream (t - 1))) (length (rates_of n))
-      (event_at-below (rates_of n) (seed_word seed stream (t - 1) % least_power (total (rates_of n)))) kept.rates.few
-    where
-      few-of : (e count : ℕ) → e ≤ count → count ≤ 1024 → e ≤ 1024
-      few-of e count below few = omega arith
-
-  certificate-log : IsLog (certificate n seed stream horizon state)
-  unfolding certificate
-  certificate-log =
-      recorded-log (caps_of n) n.limit (events_by_time n seed stream) (functions_by_time n seed stream) n.split (header_of (caps_of n) seed stream horizon) state
-      (capacities_kept n.queues kept.queues) kept.most_split (functions_by_time-closed n seed stream kept) few-events refl refl small less fits.0 fits.2 ends
-
-  certificate-kept : judgement n (certificate n seed stream horizon state) ≡ Ok tt
-  unfolding judgement certificate recorded
-  certificate-kept =
-      recorded-judged (caps_of n) n.limit (events_by_time n seed stream) (functions_by_time n seed stream) n.split (header_of (caps_of n) seed stream horizon) state
-      kept.most_split (functions_by_time-closed n seed stream kept) refl fits.1 ends
-
-  certificate-told : verdict_reply (verdict_of (certificate n seed stream horizon state) (Ok tt)) ≡ text_reply status.Done (accepted_text horizon state)
-  unfolding certificate recorded
-  certificate-told = refl
-
-  certificate-replayed : judged_log n (Ok (certificate n seed stream horizon state)) ≡ text_reply status.Done (accepted_text horizon state)
-  certificate-replayed =
-      ap (λ (r : Result (Unit {0}) Refusal). verdict_reply (verdict_of (certificate n seed stream horizon state) r)) certificate-kept ∙ certificate-told
+  fits : (1 ≤ horizon) × (horizon ≤ 2 ^ n.limit)
+  fits = horizon-fits drawn.least.exponent n.limit horizon drawn.least.within drawn.least.power
 
   past : (count : ℕ) → nat_le count 33554432 ≡ false → 33554432 < count
   past count fails = elim (cases_lt 33554432 count) [
@@ -170,12 +86,12 @@ module _ (n : Network) (seed stream : ℕ) (kept : IsNetwork n) (small : seed < 
       → after ≡ appended before (chosen text fitting).out → IsWrittenOf before after (chosen text fitting).status n seed stream (Met horizon state)
   logged-as before after text true written fitting grew =
       let is : IsLogOf text (certificate n seed stream horizon state) =
-      record { log = certificate-log; text = written; few = leb-true (length text) 33554432 fitting } in
+      record { log = certificate_log n seed stream kept small less horizon state ends fits.0 fits.1; text = written; few = leb-true (length text) 33554432 fitting } in
       inl (record {
         text = text;
         grew = grew;
         is = is;
-        replayed = ap (judged_log n) (read_again text (certificate n seed stream horizon state) is) ∙ certificate-replayed;
+        replayed = certificate_replayed n seed stream kept small less horizon state ends fits.0 fits.1 text is;
         status = refl;
       })
   logged-as before after text false written fitting grew = inr (record {

@@ -7,6 +7,7 @@ pub mod Coupling
 pub mod Surveying
 pub mod Closing
 pub mod Judging
+pub mod Certificates
 pub mod Replaying
 pub mod Asked
 pub mod Finishing

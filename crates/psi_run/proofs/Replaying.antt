@@ -23,7 +23,7 @@ use Rattle.psi_run.specs.Replay.{judgement, IsReplayed}
 use Rattle.psi_run.specs.Reply.{line_reply, verdict_reply, judged_log, replay_reply, reply_to}
 use Rattle.psi_run.specs.Seen.{ShelfSeen, IsMissed}
 use Rattle.psi_run.specs.Ending.{Ending, replied, unread, no_memory, EndsWith, IsEnding}
-use Rattle.psi_run.specs.Ended.{ending_of, IsNetAt, IsLogAt, IsNoLog}
+use Rattle.psi_run.specs.Ended.{ending_of, IsNetAt, IsTextAt, IsNoText}
 use Rattle.psi_run.proofs.Endings.{IsAbout, first_read, second_read, verdict_replied, line_replied, of_any, replied_on}
 use Rattle.psi_run.proofs.Sampling.{accepted_kept}
 use Rattle.psi_run.proofs.Judging.{judged_certifies}
@@ -44,12 +44,12 @@ read-take bytes =
     ]
 
 -- what the front of a file is read as, the file is
-pub read_whole : (most : ℕ) → most ≡ 33554432 → (told : Option (List ℕ)) (front : List ℕ) (answer : Result Certificate Refusal)
-    → IfSome told (λ bytes. front ≡ take (most + 1) bytes) → read front ≡ answer → IfSome told (λ bytes. read bytes ≡ answer)
-read_whole most is None front answer cut reads = tt
-read_whole most is (Some bytes) front answer cut reads =
+pub read_whole : (most : ℕ) → most ≡ 33554432 → (told : Option (List ℕ)) (front : List ℕ)
+    → IfSome told (λ bytes. front ≡ take (most + 1) bytes) → IfSome told (λ bytes. read bytes ≡ read front)
+read_whole most is None front cut = tt
+read_whole most is (Some bytes) front cut =
     let count : most + 1 ≡ 33554433 = omega arith in
-    read-take bytes ∙ sym (ap read (cut ∙ ap (λ n. take n bytes) count)) ∙ reads
+    read-take bytes ∙ sym (ap read (cut ∙ ap (λ n. take n bytes) count))
 
 -- ---- what is told of a log
 
@@ -99,40 +99,46 @@ module _ (shelf : ShelfSeen) (name log : List ℕ) (net : Network) where
   has-network None at = tt
   has-network (Some bytes) at = subst (λ n. IsOk n) (sym at) refl
 
-  -- the work where no log was had
-  pub no_log : (ended : Ended) → IsNetAt shelf.told name net → IsNoLog shelf log ended → IsEnding shelf (Ok (replay name log)) (ending_of ended)
-  no_log (Printed own text) at none = absurd none
-  no_log (Usage place) at none = absurd none
-  no_log (NetRefused refusal) at none = absurd none
-  no_log (LogRejected line cause) at none = absurd none
-  no_log LogTooLong at none = absurd none
-  no_log UnknownReward at none = absurd none
-  no_log TooManyStates at none = absurd none
-  no_log (NotClosed event) at none = absurd none
-  no_log NoSuchTotal at none = absurd none
-  no_log (NetUnread own) at none = absurd none
-  no_log (LogRefused line cause) at none =
-      let refusal : Refusal = record { line = line; cause = cause } in
-      replied_on (replay name log) name _ shelf net (line_reply status.LogRefused (log_refused_line line cause)) (replay_about shelf.told name log) at
-      (log-replied net (shelf.told log) (Err refusal) none) (line_replied name log (log_refused_line line cause))
-      (λ _ accepted before after grew bytes there. refusal-told net bytes refusal (one-log shelf.told log bytes (Err refusal) none there) before after grew)
-  no_log (LogUnread own) at none = record {
+  -- the work where no bytes were had
+  pub no_text : (ended : Ended) → IsNetAt shelf.told name net → IsNoText shelf log ended → IsEnding shelf (Ok (replay name log)) (ending_of ended)
+  no_text (Printed own text) at none = absurd none
+  no_text (Usage place) at none = absurd none
+  no_text (NetRefused refusal) at none = absurd none
+  no_text (LogRejected line cause) at none = absurd none
+  no_text LogTooLong at none = absurd none
+  no_text UnknownReward at none = absurd none
+  no_text TooManyStates at none = absurd none
+  no_text (NotClosed event) at none = absurd none
+  no_text NoSuchTotal at none = absurd none
+  no_text (NetUnread own) at none = absurd none
+  no_text (LogRefused line cause) at none = absurd none
+  no_text (LogUnread own) at none = record {
     reply = of_any (reply_to (Ok (replay name log)) shelf.told);
     cause = subst (λ (n : List ℕ). IsMissed shelf (Ok (replay name log)) (log_file n)) (sym none.0)
         (let missed : IsMissed shelf (Ok (replay name log)) (log_file log) =
         record { read = second_read (net_file name) (log_file log) []; needed = has-network (shelf.told name) at; rose = none.1 } in missed);
     means = tt;
   }
-  no_log OutOfMemory at none = record { reply = of_any (reply_to (Ok (replay name log)) shelf.told); cause = refl; means = tt }
+  no_text OutOfMemory at none = record { reply = of_any (reply_to (Ok (replay name log)) shelf.told); cause = refl; means = tt }
 
-  -- the work on the log that was had
-  pub on_log : (c : Certificate) (ending : Ending) → IsNetAt shelf.told name net → IsLogAt shelf.told log c
-      → EndsWith ending (verdict_reply (verdict_of c (judgement net c))) → IsEnding shelf (Ok (replay name log)) ending
-  on_log c (replied given) at is ends =
+  -- the work on what its bytes are read as: a log, or none
+  on-answer : (answer : Result Certificate Refusal) (ending : Ending) → IsNetAt shelf.told name net → IfSome (shelf.told log) (λ bytes. read bytes ≡ answer)
+      → EndsWith ending (judged_log net answer) → IsEnding shelf (Ok (replay name log)) ending
+  on-answer (Ok c) (replied given) at is ends =
       subst (λ r. IsEnding shelf (Ok (replay name log)) (replied r)) (sym ends)
       (replied_on (replay name log) name _ shelf net (verdict_reply (verdict_of c (judgement net c))) (replay_about shelf.told name log) at
       (log-replied net (shelf.told log) (Ok c) is) (verdict_replied name log (verdict_of c (judgement net c)))
       (λ own accepted before after grew bytes there.
       verdict-told net bytes c (judgement net c) (accepted_kept own net accepted) (one-log shelf.told log bytes (Ok c) is there) refl before after grew))
-  on_log c (unread file) at is ends = absurd ends
-  on_log c no_memory at is ends = record { reply = of_any (reply_to (Ok (replay name log)) shelf.told); cause = refl; means = tt }
+  on-answer (Err refusal) (replied given) at is ends =
+      subst (λ r. IsEnding shelf (Ok (replay name log)) (replied r)) (sym ends)
+      (replied_on (replay name log) name _ shelf net (line_reply status.LogRefused (log_refused_line refusal.line refusal.cause)) (replay_about shelf.told name log) at
+      (log-replied net (shelf.told log) (Err refusal) is) (line_replied name log (log_refused_line refusal.line refusal.cause))
+      (λ _ accepted before after grew bytes there. refusal-told net bytes refusal (one-log shelf.told log bytes (Err refusal) is there) before after grew))
+  on-answer answer (unread file) at is ends = absurd ends
+  on-answer answer no_memory at is ends = record { reply = of_any (reply_to (Ok (replay name log)) shelf.told); cause = refl; means = tt }
+
+  -- the work on the bytes that were had
+  pub on_text : (text : List ℕ) (ending : Ending) → IsNetAt shelf.told name net → IsTextAt shelf.told log text
+      → EndsWith ending (replay_reply net text) → IsEnding shelf (Ok (replay name log)) ending
+  on_text text ending at is ends = on-answer (read text) ending at is ends

@@ -1,6 +1,5 @@
 -- The program's own ending, as the definition's, and what a file gives.
 use Rattle.std.specs.Prelude.{◌≡◌, ℕ, List, Option, Ok, Err, IfSome}
-use Rattle.psi_lines.specs.Log.{Certificate}
 use Rattle.psi_log.specs.Reading.{read}
 use Rattle.psi_network.specs.Network.{Network}
 use Rattle.psi_net.specs.Reading.{network_of}
@@ -40,13 +39,12 @@ IsNoNet shelf name (NetUnread own) = (own.now ≡ name) × IsUnread shelf name
 IsNoNet shelf name OutOfMemory = Unit {0}
 IsNoNet shelf name ended = ⊥
 
--- the log is that in the file of the name, where the shelf tells it
-abbrev pub IsLogAt : (List ℕ → Option (List ℕ)) → List ℕ → Certificate → Type 0
-IsLogAt told name log = IfSome (told name) (λ bytes. read bytes ≡ Ok log)
+-- what the bytes are read as, the file of the name is, where the shelf tells it
+abbrev pub IsTextAt : (List ℕ → Option (List ℕ)) → List ℕ → List ℕ → Type 0
+IsTextAt told name text = IfSome (told name) (λ bytes. read bytes ≡ read text)
 
--- how the work ends where no log is had from the file of the name: it is refused, a read of it failed, or memory ran out
-abbrev pub IsNoLog : ShelfSeen → List ℕ → Ended → Type 0
-IsNoLog shelf name (LogRefused line cause) = IfSome (shelf.told name) (λ bytes. read bytes ≡ Err (record { line = line; cause = cause }))
-IsNoLog shelf name (LogUnread own) = (own.now ≡ name) × IsUnread shelf name
-IsNoLog shelf name OutOfMemory = Unit {0}
-IsNoLog shelf name ended = ⊥
+-- how the work ends where no bytes are had from the file of the name: a read of it failed, or memory ran out
+abbrev pub IsNoText : ShelfSeen → List ℕ → Ended → Type 0
+IsNoText shelf name (LogUnread own) = (own.now ≡ name) × IsUnread shelf name
+IsNoText shelf name OutOfMemory = Unit {0}
+IsNoText shelf name ended = ⊥

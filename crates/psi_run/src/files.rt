@@ -2,11 +2,10 @@
 
 ghost use Rattle.std.specs.Prelude.{◌≡◌, ◌≤◌, ℕ, List, IfOk, IfErr};
 ghost use Rattle.psi_run.specs.Spared.{HasRead};
-ghost use Rattle.psi_run.specs.Ended.{ending_of, IsNetAt, IsNoNet, IsLogAt, IsNoLog};
+ghost use Rattle.psi_run.specs.Ended.{ending_of, IsNetAt, IsNoNet, IsTextAt, IsNoText};
 
 use crate::ending::Ending;
 use psi_io::{Shelf, ShelfFault};
-use psi_log::{Log, LogError, read_log};
 use psi_net::{Net, NetError, net_of};
 use std::alloc::Global;
 
@@ -46,28 +45,23 @@ pub(crate) fn network_at<'w, F: Shelf>(
     }
 }
 
-/// The log in the file of this name. Where there is none, it is refused, a read of it failed in this call,
-/// or there was not enough memory.
-pub(crate) fn log_at<'w, F: Shelf>(
+/// The bytes of the log in the file of this name; of a longer file than a log may be, no more than show that it is
+/// too long. Where there are none, a read of the file failed in this call, or there was not enough memory.
+pub(crate) fn log_bytes<'w, F: Shelf>(
     alloc: Global,
     shelf: &mut F,
     name: &'w str,
-) -> Result<Log, Ending<'w>>
-    ensures log { IfOk result (IsLogAt (F.told shelf.old) name.now) }
-    ensures none { IfErr result (IsNoLog (record { told = F.told shelf.old; faults_before = F.faults shelf.old; faults_after = F.faults shelf.new })
+) -> Result<Vec<u8>, Ending<'w>>
+    ensures text { IfOk result (λ bytes. IsTextAt (F.told shelf.old) name.now bytes.items) }
+    ensures none { IfErr result (IsNoText (record { told = F.told shelf.old; faults_before = F.faults shelf.old; faults_after = F.faults shelf.new })
         name.now) }
     // Where the shelf gives the file, no read of it failed, and no count rose.
     ensures read { F.gives shelf.old name.now → IfErr result (λ ending. HasRead (ending_of ending)) }
     ensures spared { F.gives shelf.old name.now → F.faults shelf.new ≡ F.faults shelf.old }
 {
-    let bytes = match shelf.read(alloc, name, MOST_LOG_BYTES) {
-        Ok(bytes) => bytes,
-        Err(ShelfFault::Failed) => return Err(Ending::LogUnread(name)),
-        Err(ShelfFault::OutOfMemory) => return Err(Ending::OutOfMemory),
-    };
-    match read_log(alloc, bytes.as_slice()) {
-        Ok(log) => Ok(log),
-        Err(LogError::Refused { line, cause }) => Err(Ending::LogRefused { line, cause }),
-        Err(LogError::OutOfMemory) => Err(Ending::OutOfMemory),
+    match shelf.read(alloc, name, MOST_LOG_BYTES) {
+        Ok(bytes) => Ok(bytes),
+        Err(ShelfFault::Failed) => Err(Ending::LogUnread(name)),
+        Err(ShelfFault::OutOfMemory) => Err(Ending::OutOfMemory),
     }
 }
