@@ -1,6 +1,6 @@
 //! The program `psi_memory`: whether a call that is to take no memory takes some.
 //!
-//! It makes three networks and, group by group, what the calls are made on; with the word `each` it does each call
+//! It makes four networks and, group by group, what the calls are made on; with the word `each` it does each call
 //! that is to take no memory, with the word `none` it does none; then it asks for one byte again and again, until
 //! that is refused, and prints how often it was given. Where the allocation of one fixed number is refused, this
 //! tells how many came before it. So it has to print the same with both words, and prints fewer where a call takes
@@ -66,11 +66,19 @@ fn given(alloc: Global) -> u32 {
 }
 
 // Makes what is called, group by group, and calls it or not; `None` where memory is wanting.
-fn each_group(alloc: Global, net: &Net, pair: &Net, ring: &Net, calls: bool) -> Option<()> {
+fn each_group(
+    alloc: Global,
+    net: &Net,
+    pair: &Net,
+    ring: &Net,
+    fork: &Net,
+    calls: bool,
+) -> Option<()> {
     networks::make(calls, net);
     lists::make(alloc, calls)?;
     keeping::make(alloc, calls, net)?;
     sampling::make(alloc, calls, net)?;
+    sampling::make(alloc, calls, fork)?;
     tallies::make(alloc, calls, net)?;
     logs::make(alloc, calls, net, pair, ring)?;
     maps::make(alloc, calls, net)?;
@@ -83,10 +91,11 @@ fn counted(rt: &HostRuntime) -> Result<u32, Missing> {
     let net = net_of_file(rt, "net.toml")?;
     let pair = net_of_file(rt, "pair.toml")?;
     let ring = net_of_file(rt, "ring.toml")?;
+    let fork = net_of_file(rt, "fork.toml")?;
     if calls {
         let _shelf = DiskShelf::new(rt);
     }
-    match each_group(rt.alloc(), &net, &pair, &ring, calls) {
+    match each_group(rt.alloc(), &net, &pair, &ring, &fork, calls) {
         Some(()) => Ok(given(rt.alloc())),
         None => Err(Missing::Memory),
     }
