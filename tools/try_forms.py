@@ -35,7 +35,7 @@ import tempfile
 import tomllib
 
 import plain
-from plain_network import Network, box
+from plain_network import Event, Network, box
 from small_networks import Dice
 from toml_text import table
 
@@ -251,6 +251,9 @@ def differs(psi, path, family, number, forms):
     said = subprocess.run(
         [psi, "sample", path, str(seed), str(stream)], capture_output=True, text=True, check=False
     )
+    # What was learnt of this network's events and words is of no use for the next.
+    Event.after.cache_clear()
+    plain.block.cache_clear()
     form = words_of(net.caps)
     forms[form] = forms.get(form, 0) + 1
     if (said.returncode, said.stdout) == (status, wanted):
