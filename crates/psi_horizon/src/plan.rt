@@ -97,7 +97,9 @@ impl<'n, E: PiecewiseLaw + RouteLaw, P: Past + Drop> Plan<'n, E, P> {
     /// The plan to sample the network from this past. It takes the room for the 2 to the power `limit`
     /// words of the greatest horizon, of 4 bytes each, for the numbers of their events, of 2 bytes each, for
     /// a region of `split` states, and for the events on packed states; where some event isn't monotone, also
-    /// for `split` packed states. No other call takes memory.
+    /// for `split` packed states. In a network whose customers join the queue with the least key, the keys take
+    /// the place of the events on packed states: 4 bytes for each target and each number of customers from 0 to
+    /// its capacity, or up to twice that, and 8 bytes for each event. No other call takes memory.
     ///
     /// `OutOfMemory` is the answer where there is no memory for it; no clause says when that is.
     pub fn new(alloc: Global, system: System<'n, E>, past: P) -> Result<Plan<'n, E, P>, OutOfMemory>
