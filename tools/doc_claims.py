@@ -35,7 +35,7 @@ NAMES = {
 UNTRIED = {
     "README.md": [
         # What the first build takes: measured.
-        ("The first build proves every crate", "Later calls build only where a source is newer."),
+        ("Its first call proves every crate", "The answers are the same."),
         # tools/try_memory.py tries it.
         ("With status 8 there is no line", "for the words themselves."),
         ("`./psi` looks for changed files first,", "the built program itself:"),
@@ -229,7 +229,16 @@ def claim_ends(document, clone):
     )
 
 
+def claim_first_answer(document, clone):
+    """The run without a proof says that nothing is proved. The block ran before."""
+    _, _, _, error = clone.answer("tools/psi-first sample examples/tandem-blocking.toml 0 0\n")[0]
+    says = error.count("\n") == 1 and "it isn't proved yet" in error
+    document.hold(says, f"psi-first doesn't say that nothing is proved, but {error}")
+    document.claim("nothing of it is proved by this call, and a line on standard error says so.")
+
+
 def claim_readme(document, clone):
+    claim_first_answer(document, clone)
     tandem = "./psi sample examples/tandem-blocking.toml 0 0"
     horizon, state = sample_of(said(document, clone, tandem))
     one, two, three = state.split(",")
