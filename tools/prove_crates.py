@@ -115,7 +115,7 @@ class Builder:
         if crate.is_built():
             return True
         self.progress.start(crate)
-        own = copy.copy(crate)
+        own, begin = copy.copy(crate), time.monotonic()
         os.makedirs(f"{own.folder}/out", exist_ok=True)
         with tempfile.TemporaryFile("w+", errors="replace") as own.out:
             status = own.build_rlib(["--jobs", str(jobs)], anew=False)
@@ -123,8 +123,9 @@ class Builder:
                 print("killed, most likely for memory: once more", file=own.out)
                 status = own.build_rlib(["--jobs", "1"], anew=False)
             own.out.seek(0)
+            took = f"{time.monotonic() - begin:.0f} s with {jobs} jobs"
             with self.printing:
-                print(f"== {own.name}\n{own.out.read()}", end="", flush=True)
+                print(f"== {own.name}: {took}\n{own.out.read()}", end="", flush=True)
         if status == 0:
             self.progress.end(crate)
         return status == 0
@@ -145,7 +146,8 @@ class Builder:
 def prove_by_rt():
     """Whether the toolchain's own command proved all."""
     tell("proving by `rt all check`, which takes longer")
-    return subprocess.run(["rt", "all", "check", "--jobs", str(os.cpu_count())], cwd=CRATE).returncode == 0
+    words = ["rt", "all", "check", "--jobs", str(os.cpu_count())]
+    return subprocess.run(words, cwd=CRATE).returncode == 0
 
 
 def main():
