@@ -1,10 +1,10 @@
 -- Steps over the pairs of a list.
 use Rattle.std.specs.Prelude.{◌≡◌, ℕ, ◌+◌, ◌<◌, ◌≤◌, List, [], ◌∷◌, length, get_or, slice_set, slice_index_or}
-use Rattle.std.proofs.Common.{ap, sym, subst, ◌∙◌, arith, below_more, get_or-set_same, get_or-set_other}
+use Rattle.std.proofs.Common.{sym, subst, ◌∙◌, arith, below_more, get_or-set_same, get_or-set_other}
 use Rattle.std.proofs.lemmas.List.{get_or_default}
-use Rattle.psi_packed.specs.Moves.{Moving, IsMoved, no_move}
-use Rattle.psi_packed.specs.Views.{lows, highs, moving_by, low_word, high_word, pair_at}
-use Rattle.psi_packed.specs.Programs.{Prepared, Follows, AllFollow}
+use Rattle.psi_packed.specs.Moves.{IsMoved, no_move}
+use Rattle.psi_packed.specs.Views.{pair_at}
+use Rattle.psi_packed.specs.Programs.{Prepared, Follows}
 use Rattle.psi_packed.specs.declared.pairs.Pairs.{Pairs}
 use Rattle.psi_packed.proofs.Moving.{program-moves}
 

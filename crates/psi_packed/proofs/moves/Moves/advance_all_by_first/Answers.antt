@@ -1,4 +1,4 @@
-use Rattle.std.proofs.Common.{sym, ◌∙◌, length-set, arith}
+use Rattle.std.proofs.Common.{◌∙◌, length-set, arith}
 use Rattle.psi_packed.specs.Views.{lows, highs, low_word, high_word, moving_by}
 use Rattle.psi_packed.specs.Moves.{IsMoved}
 use Rattle.psi_packed.proofs.Stepping.{pairs-step, pairs-wait}

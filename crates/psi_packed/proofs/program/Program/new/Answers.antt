@@ -1,4 +1,4 @@
-use Rattle.std.proofs.Common.{◌≡◌, ◌<◌, ◌+◌, ℕ, List, [], ◌∷◌, ◌++◌, length, get_or, map, slice_index_or, ap, ap₂, sym, subst, ◌∙◌, arith}
+use Rattle.std.proofs.Common.{◌≡◌, ◌<◌, ◌+◌, ℕ, List, [], ◌∷◌, ◌++◌, length, get_or, map, rules, slice_index_or, refl, ap, ap₂, sym, subst, ◌∙◌, arith}
 use Rattle.std.proofs.lemmas.List.{get_or-map, length-map}
 use Rattle.std.proofs.lemmas.List.Elements.{All-get_or}
 use Rattle.psi_event.specs.Law.{Function, IsClosed}
@@ -7,6 +7,7 @@ use Rattle.psi_packed.specs.Views.{low_word, high_word, moving_by}
 use Rattle.psi_packed.specs.Moves.{Moving, ChangesNothing, no_move}
 use Rattle.psi_packed.specs.Programs.{IsMoveFor}
 use Rattle.psi_packed.proofs.Moving.{moves-more, moving-push, length-more, alone-more, and-first, and-second}
+use Rattle.psi_packed.specs.declared.moves.Moves.{Moves}
 use Rattle.psi_packed.proofs.program.Program.new.Goals as goal
 
 pub loop-event-preserved : goal.loop-event-preserved
@@ -45,4 +46,33 @@ loop-event-preserved g c =
           (alone-more g.row.K (map low moves) k (low own_move) long
           (c.loop-event.invariant.alone (and-first c.loop-event.first_alone c.is_of_one_piece-first_alone.result both))
           (c.is_of_one_piece-first_alone.ensures.0 (and-second c.loop-event.first_alone c.is_of_one_piece-first_alone.result both)));
+    }
+
+pub loop-event-init : goal.loop-event-init
+loop-event-init g c =
+    let none = c.in_ok-moves.ensures.items in
+    record {
+      long = ap (λ (ms : List (Moves g.row.K)). length ms) none;
+      room = c.in_ok-moves.ensures.exact;
+      each = λ i small. absurd (omega arith);
+      same = ap (map (moving_by {K = g.row.K} high_word)) none ∙ sym (ap (map (moving_by {K = g.row.K} low_word)) none);
+      alone = λ yes i small. absurd (omega arith);
+    }
+
+pub invariant_of-result : goal.invariant_of-result
+invariant_of-result g c =
+    record {
+      packing = search rules;
+      same = c.loop-event.invariant.same;
+      alone = λ yes i small. c.loop-event.invariant.alone yes i (omega (arith, length-map c.loop-event.moves.items (moving_by {K = g.row.K} low_word), c.loop-event.invariant.long));
+    }
+
+pub returns : goal.returns
+returns g c =
+    let all : c.loop-event.event-index ≡ length c.args.events.now = omega (arith, c.loop-event-test.false, c.loop-event.auto.event-index-end) in
+    record {
+      packing = search rules;
+      same_caps = refl;
+      same_count = length-map c.loop-event.moves.items (moving_by {K = g.row.K} low_word) ∙ c.loop-event.invariant.long ∙ all ∙ sym (length-map c.args.events.now g.E.EventLaw.function);
+      each = λ i small. c.loop-event.invariant.each i (omega (arith, length-map c.args.events.now g.E.EventLaw.function));
     }
