@@ -4,7 +4,6 @@ pub mod CopyLemmas
 pub mod KindLemmas
 pub mod RewardLemmas
 pub mod EventLemmas
-mod Cells
 mod Servers
 mod Parts
 mod Lowered

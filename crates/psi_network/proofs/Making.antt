@@ -7,7 +7,7 @@ use Rattle.std.proofs.lemmas.Bool.{eq-eqb, ne_eqb}
 use Rattle.std.proofs.lemmas.List.{length-map, append-nil, flat_map_more}
 use Rattle.std.proofs.lemmas.List.Concat.{flat_map-append}
 use Rattle.psi_state.specs.State.{numbers_from}
-use Rattle.psi_network.specs.Name.{is_name}
+use Rattle.psi_name.specs.Name.{is_name}
 use Rattle.psi_network.specs.Expansion.{expanded}
 use Rattle.psi_network.specs.Generated.{queue_count, nth_queue, generated_queues, arrival_event, passing_event, leaving_event, bulk_event, negative_event, odd_events, generated_events}
 use Rattle.psi_network.specs.declared.entries.Queue.{Queue}

@@ -1,7 +1,7 @@
 //! What a network is made of.
 
-use crate::name::Name;
 use psi_kinds::Kind;
+use psi_name::Name;
 use psi_reward::Reward;
 use psi_state::State;
 

@@ -4,7 +4,7 @@ ghost use Rattle.std.specs.Prelude.{◌≡◌, ◌+◌, ◌-◌, ◌≤◌, ◌<
 ghost use Rattle.std.specs.List.{flat_map};
 ghost use Rattle.psi_reward.specs.Rewards.{reward_caps};
 ghost use Rattle.psi_state.specs.State.{AreCapacities, numbers_from};
-ghost use Rattle.psi_network.specs.Name.{is_name};
+ghost use Rattle.psi_name.specs.Name.{is_name};
 ghost use Rattle.psi_network.specs.Expansion.{source_of, expanded};
 ghost use Rattle.psi_network.specs.Draft.{named};
 ghost use Rattle.psi_network.specs.Generated.{queue_count, nth_queue, generated_queues, server_of, arrival_event, full_behind, passing_event, leaving_event, bulk_event, negative_event, odd_events, generated_events, total_reward, generated_network};
@@ -12,10 +12,10 @@ ghost use Rattle.psi_network.specs.Generated.{queue_count, nth_queue, generated_
 use crate::building::{accepted_reward, capacities};
 use crate::entries::{Draft, NamedEvent, Queue, RewardEntry};
 use crate::expansion::{push_expanded, servers_at, source_of};
-use crate::name::{Name, name_from};
 use crate::net::Net;
 use crate::out_of_memory::OutOfMemory;
 use psi_kinds::Kind;
+use psi_name::{Name, name_from};
 use psi_reward::{Numbers, RewardKind};
 use psi_route::{Full, Source};
 use psi_state::{Queues, State};
@@ -78,7 +78,7 @@ fn server_of(i: u8) -> Source
 }
 
 // Customers join the first queue, or the second where it is full.
-#[tactic(auto, unfolding(crate::specs::Name::is_name))]
+#[tactic(auto, unfolding(psi_name::specs::Name::is_name))]
 fn arrival_event() -> NamedEvent
     ensures { result ≡ arrival_event }
 {
@@ -143,7 +143,7 @@ fn leaving_event(alloc: Global, last: u8) -> Result<NamedEvent, OutOfMemory>
 }
 
 // Three customers at once join the first queue.
-#[tactic(auto, unfolding(crate::specs::Name::is_name))]
+#[tactic(auto, unfolding(psi_name::specs::Name::is_name))]
 fn bulk_event() -> NamedEvent
     ensures { result ≡ bulk_event }
 {
@@ -158,7 +158,7 @@ fn bulk_event() -> NamedEvent
 }
 
 // A customer of the second queue takes one from the last queue.
-#[tactic(auto, unfolding(crate::specs::Name::is_name))]
+#[tactic(auto, unfolding(psi_name::specs::Name::is_name))]
 fn negative_event(last: u8) -> NamedEvent
     requires { 1 ≤ last }
     ensures { result ≡ negative_event last }
@@ -267,7 +267,7 @@ fn ones(alloc: Global, count: u8) -> Result<Numbers, OutOfMemory>
 }
 
 // The number of customers in the network.
-#[tactic(auto, unfolding(crate::specs::Generated::total_reward, crate::specs::Name::is_name))]
+#[tactic(auto, unfolding(crate::specs::Generated::total_reward, psi_name::specs::Name::is_name))]
 fn total_reward(alloc: Global, number: u16, caps: State) -> Result<RewardEntry, OutOfMemory>
     requires valid { AreCapacities caps }
     requires count { length caps ≡ queue_count number }

@@ -10,7 +10,6 @@ mod building;
 mod entries;
 mod expansion;
 mod generating;
-mod name;
 mod net;
 mod out_of_memory;
 #[cfg(test)]
@@ -20,6 +19,6 @@ pub use building::{accepted_reward, capacities};
 pub use entries::{Draft, NamedEvent, Queue, RewardEntry};
 pub use expansion::{MOST_INDEX_VALUES, index_values, push_expanded, servers_at, source_of};
 pub use generating::generated;
-pub use name::{Name, name_of};
 pub use net::Net;
 pub use out_of_memory::OutOfMemory;
+pub use psi_name::{Name, name_of};

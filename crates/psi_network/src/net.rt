@@ -4,10 +4,10 @@ ghost use Rattle.std.specs.Prelude.{◌≡◌, ℕ, ◌<◌, List, length, map, 
 
 use crate::building::{all_lowered, rates, wheel};
 use crate::entries::{Draft, NamedEvent, Queue, RewardEntry};
-use crate::name::Name;
 use crate::out_of_memory::OutOfMemory;
 use psi_event::EventLaw;
 use psi_kinds::{Event, Move};
+use psi_name::Name;
 use psi_rate::{System, Wheel};
 use psi_reward::Reward;
 use psi_state::State;

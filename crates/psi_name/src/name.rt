@@ -8,7 +8,7 @@ ghost use Rattle.std.specs.Cmp.Lexicographic.{nat_list_eq_equiv};
 ghost use Rattle.std.specs.Hash as fed;
 ghost use Rattle.std.specs.Cmp.Rules.{hashing};
 ghost use Rattle.std.proofs.Common.{rules};
-ghost use Rattle.psi_network.specs.Name.{is_name_byte, is_name, name_of};
+ghost use Rattle.psi_name.specs.Name.{is_name_byte, is_name, name_of};
 
 use std::fmt;
 use std::hash::{Hash, Hasher};
@@ -25,7 +25,7 @@ pub struct Name {
 
 impl Model for Name {
     ghost use Rattle.std.specs.Prelude.{◌≡◌, ℕ, ◌-◌, ◌≤◌, ◌++◌, List, IsTrue, length, take, drop, replicate};
-    ghost use Rattle.psi_network.specs.Name.{is_name};
+    ghost use Rattle.psi_name.specs.Name.{is_name};
 
     ghost Value = { List ℕ };
 
@@ -35,7 +35,7 @@ impl Model for Name {
 
     ghost inverse = { λ bytes. record { cells = bytes ++ replicate (32 - length bytes) 0; len = length bytes } };
 
-    ghost use Rattle.psi_network.specs.NameLaws.{padded};
+    ghost use Rattle.psi_name.specs.NameLaws.{padded};
 
     ghost inverse_ok = { λ a h. padded a.cells a.len h.0 h.1 h.2 };
 }
@@ -102,9 +102,9 @@ fn is_name(bytes: &[u8]) -> bool
     1 <= bytes.len() && bytes.len() <= 32 && are_name_bytes(bytes)
 }
 
-// The name of bytes that have the form of one.
+/// The name of bytes that have the form of one.
 #[tactic(auto, using(crate::proofs::Cells::few, crate::proofs::Cells::filled, crate::proofs::Cells::full, crate::proofs::Cells::front))]
-pub(crate) fn name_from(bytes: &[u8]) -> Name
+pub fn name_from(bytes: &[u8]) -> Name
     requires { is_name bytes.now ≡ true }
     ensures { result ≡ bytes.now }
 {

@@ -4,7 +4,7 @@ use Rattle.std.proofs.lemmas.Bool.{and_parts, leb-true}
 use Rattle.std.proofs.lemmas.List.{drop-replicate, length-drop, length-take-le}
 use Rattle.std.proofs.Math.Seq.{take-append_seam, drop-append_seam}
 use Rattle.std.specs.List.{list_all}
-use Rattle.psi_network.specs.Name.{is_name, is_name_byte}
+use Rattle.psi_name.specs.Name.{is_name, is_name_byte}
 
 -- a name has at most 32 bytes
 pub few : (bytes : List ℕ) → is_name bytes ≡ true → length bytes ≤ 32

@@ -1,7 +1,7 @@
 -- Answers in the proof of `name_from`.
 use Rattle.std.proofs.Common.{sym}
-use Rattle.psi_network.proofs.Cells.{few, covered}
-use Rattle.psi_network.proofs.name.name_from.Goals as goal
+use Rattle.psi_name.proofs.Cells.{few, covered}
+use Rattle.psi_name.proofs.name.name_from.Goals as goal
 
 pub slice_bounds-copy_from_slice-end : goal.slice_bounds-copy_from_slice-end
 slice_bounds-copy_from_slice-end c = sym (covered c.args.bytes.now (few c.args.bytes.now c.requires))
