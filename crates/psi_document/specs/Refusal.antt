@@ -1,12 +1,10 @@
--- The refusals of a network file, and what a function that reads may answer.
+-- The refusals of a network file, and what a reading answers.
 use Rattle.std.specs.Prelude.{◌≡◌, ℕ, List, Bool, true, false, None, Result, Ok, Err}
-use Rattle.psi_network.specs.Name.{name_of}
+use Rattle.psi_name.specs.Name.{name_of}
 use Rattle.psi_document.specs.declared.refusals.Cause.{Cause}
 use Rattle.psi_document.specs.declared.refusals.Cause.TheVariants as cause
 use Rattle.psi_document.specs.declared.refusals.Place.{Place}
 use Rattle.psi_document.specs.declared.refusals.NetRefusal.{NetRefusal}
-use Rattle.psi_document.specs.declared.refusals.NetError.{NetError}
-use Rattle.psi_document.specs.declared.refusals.NetError.TheVariants.{Refused, OutOfMemory}
 use Rattle.psi_document.specs.declared.refusals.Section.TheVariants as section
 
 -- the number of a cause
@@ -65,12 +63,7 @@ abbrev pub holds_or : NetRefusal → Bool → Result (Unit {0}) NetRefusal
 holds_or refusal true = Ok tt
 holds_or refusal false = Err refusal
 
--- what an error says of what it read: a refusal is the reading's own, want of memory says nothing
-abbrev pub IsNetError : {Y : Type 0} → NetError → Result Y NetRefusal → Type 0
-IsNetError (Refused refusal) reading = reading ≡ Err refusal
-IsNetError OutOfMemory reading = Unit {0}
-
--- the answer, seen by view, is the reading's, unless memory is wanting
-abbrev pub Gives : {X Y : Type 0} → (X → Y) → Result X NetError → Result Y NetRefusal → Type 0
+-- the answer, seen by view, is the reading's: its value, or its refusal
+abbrev pub Gives : {X Y : Type 0} → (X → Y) → Result X NetRefusal → Result Y NetRefusal → Type 0
 Gives view (Ok x) reading = reading ≡ Ok (view x)
-Gives view (Err error) reading = IsNetError error reading
+Gives view (Err refusal) reading = reading ≡ Err refusal

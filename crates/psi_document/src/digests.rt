@@ -3,10 +3,10 @@
 ghost use Rattle.std.specs.Prelude.{◌+◌, ◌≤◌, length};
 
 use indexmap::IndexSet;
-use psi_network::Name;
+use psi_name::Name;
 
-/// The fingerprints of at most 32 names, by their places; behind the last one stands 0.
-pub fn fingerprints(names: &IndexSet<Name>) -> [u64; 32] {
+// The fingerprints of at most 32 names, by their places; behind the last one stands 0.
+pub(crate) fn fingerprints(names: &IndexSet<Name>) -> [u64; 32] {
     let mut all = [0; 32];
     for (place, name) in names.as_slice().iter().take(32).enumerate() {
         all[place] = fingerprint(name.bytes());

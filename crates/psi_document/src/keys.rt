@@ -8,14 +8,13 @@ ghost use Rattle.toml.specs.Data.{get_member};
 ghost use Rattle.toml.specs.View.{view, table_view};
 ghost use Rattle.psi_document.specs.Refusal.{Gives, at_key};
 ghost use Rattle.psi_document.specs.declared.refusals.Cause.TheVariants.{MissingKey};
-ghost use Rattle.psi_document.specs.declared.refusals.NetError.TheVariants.{Refused};
 ghost use Rattle.psi_document.specs.Values.{seen, no_unknown, required, optional, number_in, integer_in, text_in, array_in, elements_in, table_in};
 
 use crate::read;
-use crate::refusals::{Cause, NetError, Place};
+use crate::refusals::{Cause, NetRefusal, Place};
 use toml::{Table, Value};
 
-/// What a reading gives, or the return of its error. (The operator `?` is not proved at an error that
+/// What a reading gives, or the return of its refusal. (The operator `?` is not proved at an error that
 /// holds a `Name`.)
 #[macro_export]
 macro_rules! read {
@@ -60,7 +59,7 @@ pub fn no_unknown(
     common: &[&str],
     own: &[&str],
     table: &Table,
-) -> Result<(), NetError>
+) -> Result<(), NetRefusal>
     ensures { Gives (λ _. tt) result (no_unknown place (map (λ k. k.now) common.now ++ map (λ k. k.now) own.now) (table_view table.now)) }
 {
     for key in table.keys() {
@@ -77,9 +76,13 @@ pub fn no_unknown(
 /// # Errors
 ///
 /// `MissingKey` at the key where nothing was found.
-pub fn present<'t>(place: Place, key: &str, found: Option<&'t Value>) -> Result<&'t Value, NetError>
+pub fn present<'t>(
+    place: Place,
+    key: &str,
+    found: Option<&'t Value>,
+) -> Result<&'t Value, NetRefusal>
     ensures value { IfOk result (λ value. seen found.entry ≡ Some (view value.now)) }
-    ensures missing { IfErr result (λ error. (seen found.entry ≡ None) × (error ≡ Refused (at_key MissingKey place key.now))) }
+    ensures missing { IfErr result (λ refusal. (seen found.entry ≡ None) × (refusal ≡ at_key MissingKey place key.now)) }
 {
     match found {
         Some(value) => Ok(value),
@@ -93,7 +96,13 @@ pub fn present<'t>(place: Place, key: &str, found: Option<&'t Value>) -> Result<
 ///
 /// At the key, `WrongType` where the value is no integer, and `OutOfRange` where it isn't between them.
 #[tactic(auto, unfolding(crate::specs::Values::number_in))]
-pub fn number_in(place: Place, key: &str, lo: u32, hi: u32, value: &Value) -> Result<u32, NetError>
+pub fn number_in(
+    place: Place,
+    key: &str,
+    lo: u32,
+    hi: u32,
+    value: &Value,
+) -> Result<u32, NetRefusal>
     ensures value { Gives (λ n. n) result (number_in place key.now lo hi (view value.now)) }
     ensures range { IfOk result (λ n. (lo ≤ n) × (n ≤ hi)) }
 {
@@ -120,7 +129,7 @@ pub fn required_number(
     lo: u32,
     hi: u32,
     value: Option<&Value>,
-) -> Result<u32, NetError>
+) -> Result<u32, NetRefusal>
     ensures value { Gives (λ n. n) result (required place key.now (number_in place key.now lo hi) (seen value.entry)) }
     ensures range { IfOk result (λ n. (lo ≤ n) × (n ≤ hi)) }
 {
@@ -140,7 +149,7 @@ pub fn number_or(
     lo: u32,
     hi: u32,
     value: Option<&Value>,
-) -> Result<u32, NetError>
+) -> Result<u32, NetRefusal>
     requires least { lo ≤ default }
     requires most { default ≤ hi }
     ensures value { Gives (λ n. n) result (optional default (number_in place key.now lo hi) (seen value.entry)) }
@@ -158,7 +167,7 @@ pub fn number_or(
 ///
 /// At the key, `WrongType` where the value is no integer, and `OutOfRange` where it isn't between them.
 #[tactic(auto, unfolding(crate::specs::Values::integer_in))]
-pub fn integer_in(place: Place, key: &str, most: u32, value: &Value) -> Result<i32, NetError>
+pub fn integer_in(place: Place, key: &str, most: u32, value: &Value) -> Result<i32, NetRefusal>
     requires { most < 2 ^ 31 }
     ensures value { Gives (λ z. z) result (integer_in place key.now most (view value.now)) }
     ensures range { IfOk result (λ z. unsigned_abs z ≤ most) }
@@ -185,7 +194,7 @@ pub fn integer_or_zero(
     key: &str,
     most: u32,
     value: Option<&Value>,
-) -> Result<i32, NetError>
+) -> Result<i32, NetRefusal>
     requires { most < 2 ^ 31 }
     ensures value { Gives (λ z. z) result (optional (pos 0) (integer_in place key.now most) (seen value.entry)) }
     ensures range { IfOk result (λ z. unsigned_abs z ≤ most) }
@@ -202,7 +211,7 @@ pub fn integer_or_zero(
 ///
 /// `WrongType` at the key where the value is no string.
 #[tactic(auto, unfolding(crate::specs::Values::text_in))]
-pub fn text_in<'t>(place: Place, key: &str, value: &'t Value) -> Result<&'t str, NetError>
+pub fn text_in<'t>(place: Place, key: &str, value: &'t Value) -> Result<&'t str, NetRefusal>
     ensures { Gives (λ text. text.now) result (text_in place key.now (view value.now)) }
 {
     match value {
@@ -217,7 +226,7 @@ pub fn text_in<'t>(place: Place, key: &str, value: &'t Value) -> Result<&'t str,
 ///
 /// `WrongType` at the key where the value is no array.
 #[tactic(auto, unfolding(crate::specs::Values::array_in))]
-pub fn array_in<'t>(place: Place, key: &str, value: &'t Value) -> Result<&'t [Value], NetError>
+pub fn array_in<'t>(place: Place, key: &str, value: &'t Value) -> Result<&'t [Value], NetRefusal>
     ensures { Gives (λ values. map view values.now) result (array_in place key.now (view value.now)) }
 {
     match value {
@@ -239,7 +248,7 @@ pub fn elements_in<'t>(
     empty: Cause,
     most: usize,
     value: &'t Value,
-) -> Result<&'t [Value], NetError>
+) -> Result<&'t [Value], NetRefusal>
     ensures value { Gives (λ values. map view values.now) result (elements_in place key.now empty most (view value.now)) }
     ensures few { IfOk result (λ values. length values.now ≤ most) }
 {
@@ -259,7 +268,7 @@ pub fn elements_in<'t>(
 ///
 /// `WrongType` at the place where it is none.
 #[tactic(auto, unfolding(crate::specs::Values::table_in))]
-pub fn table_in(place: Place, value: &Value) -> Result<&Table, NetError>
+pub fn table_in(place: Place, value: &Value) -> Result<&Table, NetRefusal>
     ensures { Gives (λ table. table_view table.now) result (table_in place (view value.now)) }
 {
     match value {

@@ -10,14 +10,14 @@ ghost use Rattle.psi_document.specs.Names.{name_in, unless_taken};
 
 use crate::keys::{present, text_in};
 use crate::read;
-use crate::refusals::{Cause, NetError, Place};
+use crate::refusals::{Cause, NetRefusal, Place};
 use indexmap::IndexSet;
-use psi_network::{Name, name_of};
+use psi_name::{Name, name_of};
 use toml::Value;
 
 // A string in the form of a name.
 #[tactic(auto, unfolding(crate::specs::Names::name_in))]
-fn name_in(place: Place, key: &str, value: &Value) -> Result<Name, NetError>
+fn name_in(place: Place, key: &str, value: &Value) -> Result<Name, NetRefusal>
     ensures { Gives (λ name. name) result (name_in place key.now (view value.now)) }
 {
     let text = read!(text_in(place, key, value));
@@ -33,7 +33,7 @@ fn name_in(place: Place, key: &str, value: &Value) -> Result<Name, NetError>
 ///
 /// Those of [`present`](crate::present) and [`text_in`](crate::text_in), and `OutOfRange` at the key where
 /// the string is no name.
-pub fn required_name(place: Place, key: &str, value: Option<&Value>) -> Result<Name, NetError>
+pub fn required_name(place: Place, key: &str, value: Option<&Value>) -> Result<Name, NetRefusal>
     ensures { Gives (λ name. name) result (required place key.now (name_in place key.now) (seen value.entry)) }
 {
     let value = read!(present(place, key, value));
@@ -46,7 +46,7 @@ pub fn required_name(place: Place, key: &str, value: Option<&Value>) -> Result<N
 ///
 /// `DuplicateName` at the key `name` where one has it.
 #[tactic(auto, unfolding(crate::specs::Names::unless_taken))]
-pub fn unless_taken(place: Place, earlier: &IndexSet<Name>, name: Name) -> Result<(), NetError>
+pub fn unless_taken(place: Place, earlier: &IndexSet<Name>, name: Name) -> Result<(), NetRefusal>
     ensures value { Gives (λ _. tt) result (unless_taken place earlier.now.keys name) }
     ensures fresh { OnOk result (list_any (bytes_eq name) earlier.now.keys ≡ false) }
 {

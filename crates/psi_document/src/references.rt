@@ -2,7 +2,7 @@
 
 ghost use Rattle.std.specs.Prelude.{◌≡◌, ◌<◌, ℕ, [], length, map, Some, IfSome, IfOk, OnOk};
 ghost use Rattle.toml.specs.View.{view};
-ghost use Rattle.psi_network.specs.Name.{name_of};
+ghost use Rattle.psi_name.specs.Name.{name_of};
 ghost use Rattle.psi_document.specs.Refusal.{Gives};
 ghost use Rattle.psi_document.specs.Values.{seen, required, each};
 ghost use Rattle.psi_document.specs.References.{number_of, queue_in, target_in, target_step, targets_in, some_targets_in};
@@ -10,18 +10,18 @@ ghost use Rattle.psi_document.specs.Targets.{AreTargets};
 
 use crate::digests::fingerprint;
 use crate::keys::{array_in, present, text_in};
-use crate::known_queues::KnownQueues;
+use crate::known_names::KnownNames;
 use crate::read;
-use crate::refusals::{Cause, NetError, Place};
-use psi_network::name_of;
+use crate::refusals::{Cause, NetRefusal, Place};
+use psi_name::name_of;
 use psi_state::Queues;
 use toml::Value;
 
 // The number of the queue whose fingerprint the text has and which it names, if there is one.
-fn number_by_fingerprint(known: &KnownQueues, text: &str) -> Option<usize>
-    ensures { IfSome result (λ number. number_of known.now.names.keys (name_of text.now) ≡ Some number) }
+fn number_by_fingerprint(known: &KnownNames, text: &str) -> Option<usize>
+    ensures { IfSome result (λ number. number_of known.now.list.keys (name_of text.now) ≡ Some number) }
 {
-    let names = known.names.as_slice();
+    let names = known.list.as_slice();
     let wanted = fingerprint(text.as_bytes());
     for number in 0..names.len() {
         if known.fingerprints[number] == wanted && names[number].bytes() == text.as_bytes() {
@@ -32,14 +32,14 @@ fn number_by_fingerprint(known: &KnownQueues, text: &str) -> Option<usize>
 }
 
 // The number of the queue that a text names.
-fn number_of(known: &KnownQueues, text: &str) -> Option<usize>
-    ensures { result ≡ number_of known.now.names.keys (name_of text.now) }
+fn number_of(known: &KnownNames, text: &str) -> Option<usize>
+    ensures { result ≡ number_of known.now.list.keys (name_of text.now) }
 {
     if let Some(number) = number_by_fingerprint(known, text) {
         return Some(number);
     }
     match name_of(text) {
-        Some(name) => known.names.get_index_of(&name),
+        Some(name) => known.list.get_index_of(&name),
         None => None,
     }
 }
@@ -50,9 +50,14 @@ fn number_of(known: &KnownQueues, text: &str) -> Option<usize>
 ///
 /// At the key, `WrongType` where the value is no string, and `UnknownQueue` where it is no queue's name.
 #[tactic(auto, unfolding(crate::specs::References::queue_in))]
-pub fn queue_in(place: Place, key: &str, known: &KnownQueues, value: &Value) -> Result<u8, NetError>
-    ensures value { Gives (λ q. q) result (queue_in place key.now known.now.names.keys (view value.now)) }
-    ensures within { IfOk result (λ q. q < length known.now.names.keys) }
+pub fn queue_in(
+    place: Place,
+    key: &str,
+    known: &KnownNames,
+    value: &Value,
+) -> Result<u8, NetRefusal>
+    ensures value { Gives (λ q. q) result (queue_in place key.now known.now.list.keys (view value.now)) }
+    ensures within { IfOk result (λ q. q < length known.now.list.keys) }
 {
     let text = read!(text_in(place, key, value));
     match number_of(known, text) {
@@ -69,10 +74,10 @@ pub fn queue_in(place: Place, key: &str, known: &KnownQueues, value: &Value) -> 
 pub fn required_queue(
     place: Place,
     key: &str,
-    known: &KnownQueues,
+    known: &KnownNames,
     value: Option<&Value>,
-) -> Result<u8, NetError>
-    ensures { Gives (λ q. q) result (required place key.now (queue_in place key.now known.now.names.keys) (seen value.entry)) }
+) -> Result<u8, NetRefusal>
+    ensures { Gives (λ q. q) result (required place key.now (queue_in place key.now known.now.list.keys) (seen value.entry)) }
 {
     let value = read!(present(place, key, value));
     queue_in(place, key, known, value)
@@ -87,12 +92,12 @@ pub fn required_queue(
 pub fn target_in(
     place: Place,
     key: &str,
-    known: &KnownQueues,
+    known: &KnownNames,
     sources: &Queues,
     value: &Value,
-) -> Result<u8, NetError>
-    ensures value { Gives (λ q. q) result (target_in place key.now known.now.names.keys sources.now (view value.now)) }
-    ensures within { IfOk result (λ q. q < length known.now.names.keys) }
+) -> Result<u8, NetRefusal>
+    ensures value { Gives (λ q. q) result (target_in place key.now known.now.list.keys sources.now (view value.now)) }
+    ensures within { IfOk result (λ q. q < length known.now.list.keys) }
 {
     let queue = read!(queue_in(place, key, known, value));
     if sources.contains(queue) {
@@ -109,11 +114,11 @@ pub fn target_in(
 pub fn required_target(
     place: Place,
     key: &str,
-    known: &KnownQueues,
+    known: &KnownNames,
     sources: &Queues,
     value: Option<&Value>,
-) -> Result<u8, NetError>
-    ensures { Gives (λ q. q) result (required place key.now (target_in place key.now known.now.names.keys sources.now) (seen value.entry)) }
+) -> Result<u8, NetRefusal>
+    ensures { Gives (λ q. q) result (required place key.now (target_in place key.now known.now.list.keys sources.now) (seen value.entry)) }
 {
     let value = read!(present(place, key, value));
     target_in(place, key, known, sources, value)
@@ -125,14 +130,14 @@ pub fn required_target(
 fn push_target(
     place: Place,
     key: &str,
-    known: &KnownQueues,
+    known: &KnownNames,
     sources: &Queues,
     earlier: &mut Queues,
     value: &Value,
-) -> Result<(), NetError>
-    requires { AreTargets (length known.now.names.keys) sources.now earlier.old }
-    ensures value { (n : ℕ) → Gives (λ _. earlier.new) result (target_step place key.now known.now.names.keys sources.now n earlier.old (view value.now)) }
-    ensures valid { OnOk result (AreTargets (length known.now.names.keys) sources.now earlier.new) }
+) -> Result<(), NetRefusal>
+    requires { AreTargets (length known.now.list.keys) sources.now earlier.old }
+    ensures value { (n : ℕ) → Gives (λ _. earlier.new) result (target_step place key.now known.now.list.keys sources.now n earlier.old (view value.now)) }
+    ensures valid { OnOk result (AreTargets (length known.now.list.keys) sources.now earlier.new) }
 {
     let queue = read!(queue_in(place, key, known, value));
     if earlier.contains(queue) {
@@ -150,12 +155,12 @@ fn push_target(
 fn all_targets(
     place: Place,
     key: &str,
-    known: &KnownQueues,
+    known: &KnownNames,
     sources: &Queues,
     values: &[Value],
-) -> Result<Queues, NetError>
-    ensures value { Gives (λ qs. qs) result (each (target_step place key.now known.now.names.keys sources.now) 1 [] (map view values.now)) }
-    ensures valid { IfOk result (AreTargets (length known.now.names.keys) sources.now) }
+) -> Result<Queues, NetRefusal>
+    ensures value { Gives (λ qs. qs) result (each (target_step place key.now known.now.list.keys sources.now) 1 [] (map view values.now)) }
+    ensures valid { IfOk result (AreTargets (length known.now.list.keys) sources.now) }
 {
     let mut queues = Queues::empty();
     for value in values {
@@ -176,12 +181,12 @@ fn all_targets(
 pub fn targets_in(
     place: Place,
     key: &str,
-    known: &KnownQueues,
+    known: &KnownNames,
     sources: &Queues,
     value: &Value,
-) -> Result<Queues, NetError>
-    ensures value { Gives (λ qs. qs) result (targets_in place key.now known.now.names.keys sources.now (view value.now)) }
-    ensures valid { IfOk result (AreTargets (length known.now.names.keys) sources.now) }
+) -> Result<Queues, NetRefusal>
+    ensures value { Gives (λ qs. qs) result (targets_in place key.now known.now.list.keys sources.now (view value.now)) }
+    ensures valid { IfOk result (AreTargets (length known.now.list.keys) sources.now) }
 {
     let values = read!(array_in(place, key, value));
     all_targets(place, key, known, sources, values)
@@ -196,12 +201,12 @@ pub fn targets_in(
 pub fn some_targets_in(
     place: Place,
     key: &str,
-    known: &KnownQueues,
+    known: &KnownNames,
     sources: &Queues,
     value: &Value,
-) -> Result<Queues, NetError>
-    ensures value { Gives (λ qs. qs) result (some_targets_in place key.now known.now.names.keys sources.now (view value.now)) }
-    ensures valid { IfOk result (AreTargets (length known.now.names.keys) sources.now) }
+) -> Result<Queues, NetRefusal>
+    ensures value { Gives (λ qs. qs) result (some_targets_in place key.now known.now.list.keys sources.now (view value.now)) }
+    ensures valid { IfOk result (AreTargets (length known.now.list.keys) sources.now) }
 {
     let values = read!(array_in(place, key, value));
     if values.is_empty() {
@@ -218,12 +223,12 @@ pub fn some_targets_in(
 pub fn required_targets(
     place: Place,
     key: &str,
-    known: &KnownQueues,
+    known: &KnownNames,
     sources: &Queues,
     value: Option<&Value>,
-) -> Result<Queues, NetError>
-    ensures value { Gives (λ qs. qs) result (required place key.now (some_targets_in place key.now known.now.names.keys sources.now) (seen value.entry)) }
-    ensures valid { IfOk result (AreTargets (length known.now.names.keys) sources.now) }
+) -> Result<Queues, NetRefusal>
+    ensures value { Gives (λ qs. qs) result (required place key.now (some_targets_in place key.now known.now.list.keys sources.now) (seen value.entry)) }
+    ensures valid { IfOk result (AreTargets (length known.now.list.keys) sources.now) }
 {
     let value = read!(present(place, key, value));
     some_targets_in(place, key, known, sources, value)

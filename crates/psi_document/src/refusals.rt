@@ -1,10 +1,8 @@
 //! Why a network file is refused.
 
 ghost use Rattle.std.specs.Prelude.{◌≡◌, Option};
-ghost use Rattle.psi_document.specs.declared.refusals.NetError.TheVariants.{Refused, OutOfMemory};
 
-use psi_network::{Name, OutOfMemory, name_of};
-use std::alloc::{AllocError, AllocFailed};
+use psi_name::{Name, name_of};
 
 /// The part of a network file that a refusal names.
 #[derive(Clone, Copy, PartialEq, Eq, Debug)]
@@ -53,15 +51,6 @@ pub struct NetRefusal {
     pub number: u32,
     /// The key of the refused value, where there is one and it has the form of a name.
     pub key: Option<Name>,
-}
-
-/// Why bytes give no network.
-#[derive(Clone, Copy, PartialEq, Eq, Debug)]
-pub enum NetError {
-    /// The bytes are refused.
-    Refused(NetRefusal),
-    /// There is no memory for the network or for its reading.
-    OutOfMemory,
 }
 
 /// Why a value of a file is refused; [`NetRefusal`] tells what each cause is.
@@ -135,27 +124,27 @@ impl Cause {
     }
 
     /// The refusal of the value at a key of a place; a key that hasn't the form of a name isn't given.
-    pub fn at_key(self, place: Place, key: &str) -> NetError
-        ensures { result ≡ Refused (at_key self place key.now) }
+    pub fn at_key(self, place: Place, key: &str) -> NetRefusal
+        ensures { result ≡ at_key self place key.now }
     {
-        NetError::Refused(NetRefusal {
+        NetRefusal {
             code: self.code(),
             section: place.section,
             number: place.number,
             key: name_of(key),
-        })
+        }
     }
 
     /// The refusal of what stands at a place, without a key.
-    pub fn at_place(self, place: Place) -> NetError
-        ensures { result ≡ Refused (at_place self place) }
+    pub fn at_place(self, place: Place) -> NetRefusal
+        ensures { result ≡ at_place self place }
     {
-        NetError::Refused(NetRefusal {
+        NetRefusal {
             code: self.code(),
             section: place.section,
             number: place.number,
             key: None,
-        })
+        }
     }
 }
 
@@ -174,28 +163,4 @@ impl Place {
         section: Section::Top,
         number: 0,
     };
-}
-
-impl From<AllocError> for NetError {
-    ghost from_gives = { λ _ error. error ≡ OutOfMemory };
-
-    fn from(_error: AllocError) -> NetError {
-        NetError::OutOfMemory
-    }
-}
-
-impl From<OutOfMemory> for NetError {
-    ghost from_gives = { λ _ error. error ≡ OutOfMemory };
-
-    fn from(_error: OutOfMemory) -> NetError {
-        NetError::OutOfMemory
-    }
-}
-
-impl<T: Drop> From<AllocFailed<T>> for NetError {
-    ghost from_gives = { λ _ error. error ≡ OutOfMemory };
-
-    fn from(_error: AllocFailed<T>) -> NetError {
-        NetError::OutOfMemory
-    }
 }

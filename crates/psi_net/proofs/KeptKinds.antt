@@ -1,6 +1,6 @@
 -- Every kind that is read is accepted: it names queues of the network, and nothing of it is refused.
 use Rattle.std.specs.Prelude.{◌≡◌, ℕ, ◌+◌, ◌<◌, ◌≤◌, ℤ, pos, List, [], ◌∷◌, ◌++◌, length, take, slice_index, codes, IfSome, IfOk, true, false, not, nat_eq, nat_lt, nat_le, Option, Some, None, Result, is_some, Ok, refl}
-use Rattle.std.proofs.Common.{ap, subst, arith, length-append, lit≤}
+use Rattle.std.proofs.Common.{ap, sym, subst, arith, length-append, lit≤}
 use Rattle.std.specs.List.{list_all, list_any}
 use Rattle.std.specs.Int.RustNames.{unsigned_abs}
 use Rattle.std.proofs.lemmas.Bool.{and_from, eqb-true, eq-eqb, leb-true}
@@ -25,7 +25,7 @@ use Rattle.psi_document.specs.Targets.{AreTargets}
 use Rattle.psi_state.specs.Repeats.{repeats}
 use Rattle.psi_net.specs.KindTables.{source_in, queue_of_source, full_in, number_step, row_step, table_of, size_fits, arrival_of, service_of, index_of, batch_of, negative_of, fork_of, joined_in, join_of}
 use Rattle.psi_network.specs.Expansion.{first_server}
-use Rattle.psi_net.specs.PartTables.{part_keys, part_queue, part_of, part_step, parts_in, guarded_of}
+use Rattle.psi_net.specs.PartTables.{part_keys, part_queue, part_numbers, unless_empty, part_of, part_step, parts_in, guarded_of}
 use Rattle.psi_net.specs.EventTables.{kind_of}
 use Rattle.psi_network.specs.Valid.{IsAccepted}
 use Rattle.psi_document.specs.declared.refusals.Cause.TheVariants.{OutOfRange}
@@ -143,31 +143,67 @@ at_most place key default cap ms n same h = grind (arith, number_range)
 follows : (caps : List ℕ) (earlier : List Part) (part : Part) → FitsQueue caps part → is_named earlier part.queue ≡ false → refusal_at caps earlier part ≡ None
 follows caps earlier part fits new = grind arith
 
+-- a part whose guard and limits leave room
+record HasRoom (read part : Part) : Type 0 where
+  same : read ≡ part
+  guard : read.least ≤ read.most
+  limits : read.floor ≤ read.ceiling
+
+ranges_kept : (place : Place) (read part : Part) → unless_empty place read ≡ Ok part → HasRoom read part
+unfolding unless_empty
+ranges_kept place read part h =
+    let guarded = bind_ok (holds_or _ _) _ part h in
+    let bounded = bind_ok (holds_or _ _) _ part guarded.2 in
+    record {
+      same = ok_same read part bounded.2;
+      guard = leb-true read.least read.most (held _ _ guarded.0 guarded.1);
+      limits = leb-true read.floor read.ceiling (held _ _ bounded.0 bounded.1);
+    }
+
+-- the numbers that were read of a part of a queue that holds so many
+record HasNumbers (queue cap : ℕ) (part : Part) : Type 0 where
+  same_queue : part.queue ≡ queue
+  most : part.most ≤ cap
+  ceiling : part.ceiling ≤ cap
+  shift : unsigned_abs part.shift ≤ 65535
+
+numbers_kept : (place : Place) (queue cap : ℕ) (ms : Members) (part : Part) → part_numbers place queue cap ms ≡ Ok part → HasNumbers queue cap part
+unfolding part_numbers
+numbers_kept place queue cap ms part h =
+    let least = bind_ok (optional_number place (codes "least") 0 cap ms) _ part h in
+    let most = bind_ok (optional_number place (codes "most") cap cap ms) _ part least.2 in
+    let shift = bind_ok (optional (pos 0) (integer_in place (codes "shift") 65535) (get_member (codes "shift") ms)) _ part most.2 in
+    let floor = bind_ok (optional_number place (codes "floor") 0 cap ms) _ part shift.2 in
+    let ceiling = bind_ok (optional_number place (codes "ceiling") cap cap ms) _ part floor.2 in
+    subst (λ (p : Part). HasNumbers queue cap p)
+    (ok_same (record { queue = queue; least = least.0; most = most.0; shift = shift.0; floor = floor.0; ceiling = ceiling.0 }) part ceiling.2) (record {
+      same_queue = refl;
+      most = at_most place (codes "most") cap cap ms most.0 refl most.1;
+      ceiling = at_most place (codes "ceiling") cap cap ms ceiling.0 refl ceiling.1;
+      shift = optional_kept (λ (z : ℤ). unsigned_abs z ≤ 65535) (pos 0) (integer_in place (codes "shift") 65535) (get_member (codes "shift") ms) shift.0 (lit≤ tt) (λ d r. integer_range place (codes "shift") 65535 d shift.0 r) shift.1;
+    })
+
 part_kept : (place : Place) (keys : List (List ℕ)) (caps : List ℕ) → length keys ≡ length caps → (earlier : List Part) (ms : Members) (part : Part) → part_of place keys caps earlier ms ≡ Ok part
     → refusal_at caps earlier part ≡ None
 unfolding part_of
 part_kept place keys caps same earlier ms part h =
     let known = bind_ok (no_unknown place part_keys ms) _ part h in
     let queue = bind_ok (required place (codes "queue") (part_queue place keys earlier) (get_member (codes "queue") ms)) _ part known.2 in
-    let cap : ℕ = slice_index caps queue.0 in
-    let least = bind_ok (optional_number place (codes "least") 0 cap ms) _ part queue.2 in
-    let most = bind_ok (optional_number place (codes "most") cap cap ms) _ part least.2 in
-    let shift = bind_ok (optional (pos 0) (integer_in place (codes "shift") 65535) (get_member (codes "shift") ms)) _ part most.2 in
-    let floor = bind_ok (optional_number place (codes "floor") 0 cap ms) _ part shift.2 in
-    let ceiling = bind_ok (optional_number place (codes "ceiling") cap cap ms) _ part floor.2 in
-    let guarded = bind_ok (holds_or _ _) _ part ceiling.2 in
-    let bounded = bind_ok (holds_or _ _) _ part guarded.2 in
+    let numbers = bind_ok (part_numbers place queue.0 (slice_index caps queue.0) ms) (unless_empty place) part queue.2 in
+    let kept = numbers_kept place queue.0 (slice_index caps queue.0) ms numbers.0 numbers.1 in
+    let ranges = ranges_kept place numbers.0 part numbers.2 in
     let read = required_ok place (codes "queue") (part_queue place keys earlier) (get_member (codes "queue") ms) queue.0 queue.1 in
     let named = part_queue_kept place keys earlier read.0 queue.0 read.1 in
-    subst (λ (p : Part). refusal_at caps earlier p ≡ None) (ok_same _ part bounded.2)
-    (follows caps earlier (record { queue = queue.0; least = least.0; most = most.0; shift = shift.0; floor = floor.0; ceiling = ceiling.0 }) (record {
-      queue = subst (λ (n : ℕ). queue.0 < n) same named.0;
-      guard = leb-true least.0 most.0 (held _ _ guarded.0 guarded.1);
-      most = at_most place (codes "most") cap cap ms most.0 refl most.1;
-      limits = leb-true floor.0 ceiling.0 (held _ _ bounded.0 bounded.1);
-      ceiling = at_most place (codes "ceiling") cap cap ms ceiling.0 refl ceiling.1;
-      shift = optional_kept (λ (z : ℤ). unsigned_abs z ≤ 65535) (pos 0) (integer_in place (codes "shift") 65535) (get_member (codes "shift") ms) shift.0 (lit≤ tt) (λ d r. integer_range place (codes "shift") 65535 d shift.0 r) shift.1;
-    }) named.1)
+    let here = sym kept.same_queue in
+    subst (λ (p : Part). refusal_at caps earlier p ≡ None) ranges.same
+    (follows caps earlier numbers.0 (record {
+      queue = subst (λ (q : ℕ). q < length caps) here (subst (λ (n : ℕ). queue.0 < n) same named.0);
+      guard = ranges.guard;
+      most = subst (λ (q : ℕ). numbers.0.most ≤ slice_index caps q) here kept.most;
+      limits = ranges.limits;
+      ceiling = subst (λ (q : ℕ). numbers.0.ceiling ≤ slice_index caps q) here kept.ceiling;
+      shift = kept.shift;
+    }) (subst (λ (q : ℕ). is_named earlier q ≡ false) here named.1))
 
 -- one part more
 after_more : (caps : List ℕ) (earlier parts : List Part) (part : Part) → refusal_after caps earlier parts ≡ None → refusal_at caps (earlier ++ parts) part ≡ None

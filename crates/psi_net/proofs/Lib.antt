@@ -1,5 +1,6 @@
 -- The lemmas of this crate.
 pub mod FrontLemmas
+mod ErrorLemmas
 mod Texts
 mod KeptKinds
 mod KeptQueues

@@ -1,4 +1,5 @@
 -- The definitions of this crate, and the laws that clauses rest on.
+pub mod Errors
 pub mod QueueTables
 pub mod KindTables
 pub mod PartTables

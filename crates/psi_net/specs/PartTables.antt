@@ -28,6 +28,23 @@ part_queue place names earlier d = do
   fresh ← holds_or (at_key RepeatedTarget place (codes "queue")) (not (is_named earlier queue))
   Ok queue
 
+-- the numbers of a part of this queue, which holds at most so many customers
+unfoldable pub part_numbers : Place → ℕ → ℕ → Members → Result Part NetRefusal
+part_numbers place queue cap ms = do
+  least ← optional 0 (number_in place (codes "least") 0 cap) (get_member (codes "least") ms)
+  most ← optional cap (number_in place (codes "most") 0 cap) (get_member (codes "most") ms)
+  shift ← optional (pos 0) (integer_in place (codes "shift") 65535) (get_member (codes "shift") ms)
+  floor ← optional 0 (number_in place (codes "floor") 0 cap) (get_member (codes "floor") ms)
+  ceiling ← optional cap (number_in place (codes "ceiling") 0 cap) (get_member (codes "ceiling") ms)
+  Ok (record { queue = queue; least = least; most = most; shift = shift; floor = floor; ceiling = ceiling })
+
+-- the part, if its guard and its limits leave room
+unfoldable pub unless_empty : Place → Part → Result Part NetRefusal
+unless_empty place part = do
+  guarded ← holds_or (at_key EmptyGuard place (codes "least")) (nat_le part.least part.most)
+  bounded ← holds_or (at_key EmptyGuard place (codes "floor")) (nat_le part.floor part.ceiling)
+  Ok part
+
 -- the event at this place, in a file whose queues have these names and capacities
 module _ (place : Place) (names : List (List ℕ)) (caps : List ℕ) where
   -- a part's table, with the parts before it
@@ -35,14 +52,8 @@ module _ (place : Place) (names : List (List ℕ)) (caps : List ℕ) where
   part_of earlier ms = do
     known ← no_unknown place part_keys ms
     queue ← required place (codes "queue") (part_queue place names earlier) (get_member (codes "queue") ms)
-    least ← optional 0 (number_in place (codes "least") 0 (slice_index caps queue)) (get_member (codes "least") ms)
-    most ← optional (slice_index caps queue) (number_in place (codes "most") 0 (slice_index caps queue)) (get_member (codes "most") ms)
-    shift ← optional (pos 0) (integer_in place (codes "shift") 65535) (get_member (codes "shift") ms)
-    floor ← optional 0 (number_in place (codes "floor") 0 (slice_index caps queue)) (get_member (codes "floor") ms)
-    ceiling ← optional (slice_index caps queue) (number_in place (codes "ceiling") 0 (slice_index caps queue)) (get_member (codes "ceiling") ms)
-    guarded ← holds_or (at_key EmptyGuard place (codes "least")) (nat_le least most)
-    bounded ← holds_or (at_key EmptyGuard place (codes "floor")) (nat_le floor ceiling)
-    Ok (record { queue = queue; least = least; most = most; shift = shift; floor = floor; ceiling = ceiling })
+    part ← part_numbers place queue (slice_index caps queue) ms
+    unless_empty place part
 
   -- one element of the array, with the parts before it
   unfoldable pub part_step : ℕ → List Part → Data → Result (List Part) NetRefusal

@@ -12,6 +12,7 @@ use Rattle.psi_net.specs.EventTables.{events_of}
 use Rattle.psi_net.specs.RewardTables.{rewards_of}
 use Rattle.psi_document.specs.declared.refusals.Cause.TheVariants.{TooLong, NotToml, Version, WrongType}
 use Rattle.psi_document.specs.declared.refusals.NetRefusal.{NetRefusal}
+use Rattle.psi_net.specs.declared.reading.TopNumbers.{TopNumbers}
 
 -- `version`: the integer 1 or 2
 unfoldable pub version_in : Data → Result ℕ NetRefusal
@@ -35,17 +36,23 @@ default_limit = 18
 abbrev pub default_split : ℕ
 default_split = 256
 
--- the network of a document
-unfoldable pub document_network : Members → Result Network NetRefusal
-document_network ms = do
+-- the keys at the top that are numbers; there are no unknown ones
+unfoldable pub numbers_of : Members → Result TopNumbers NetRefusal
+numbers_of ms = do
   version ← required top (codes "version") version_in (get_member (codes "version") ms)
   known ← no_unknown top top_keys ms
   limit ← optional default_limit (number_in top (codes "limit") 0 (most_limit version)) (get_member (codes "limit") ms)
   split ← optional default_split (number_in top (codes "split") 1 4096) (get_member (codes "split") ms)
+  Ok (record { version = version; limit = limit; split = split })
+
+-- the network of a document
+unfoldable pub document_network : Members → Result Network NetRefusal
+document_network ms = do
+  numbers ← numbers_of ms
   queues ← queues_of (get_member (codes "queue") ms)
-  events ← events_of version queues (get_member (codes "event") ms)
+  events ← events_of numbers.version queues (get_member (codes "event") ms)
   rewards ← rewards_of (map (λ q. q.name) queues) (map (λ q. q.capacity) queues) (get_member (codes "reward") ms)
-  Ok (record { queues = queues; events = events; limit = limit; split = split; rewards = rewards })
+  Ok (record { queues = queues; events = events; limit = numbers.limit; split = numbers.split; rewards = rewards })
 
 -- the most bytes that a file may have
 abbrev pub most_bytes : ℕ

@@ -1,24 +1,30 @@
 //! The array `event`.
 
-ghost use Rattle.std.specs.Prelude.{◌≡◌, ◌≤◌, ◌<◌, ◌+◌, ◌++◌, ◌∷◌, [], length, map, codes, None, false, IfSome, IfOk, OnOk};
+ghost use Rattle.std.specs.Prelude.{◌≡◌, ◌≤◌, ◌<◌, ◌+◌, ◌++◌, ◌∷◌, [], length, map, codes, None, false, Result, IfSome, IfOk, OnOk};
 ghost use Rattle.std.specs.List.{list_any};
 ghost use Rattle.std.specs.Str.{bytes_eq};
 ghost use Rattle.toml.specs.View.{view, table_view};
 ghost use Rattle.psi_rate.specs.Rates.{total};
+ghost use Rattle.psi_kinds.specs.declared.Kind.{Kind};
+ghost use Rattle.psi_document.specs.declared.refusals.NetRefusal.{NetRefusal};
 ghost use Rattle.psi_document.specs.Refusal.{Gives};
+ghost use Rattle.psi_net.specs.Errors.{Reads};
 ghost use Rattle.psi_document.specs.Values.{seen, no_unknown, required, each};
 ghost use Rattle.psi_network.specs.Expansion.{source_of, servers_at, served_by};
 ghost use Rattle.psi_net.specs.EventTables.{kind_named, kind_in, event_keys, kind_of, event_of, are_within, event_step, events_of};
 ghost use Rattle.psi_net.specs.Counting.{IsCounted};
 ghost use Rattle.psi_net.specs.Listing.{listed};
 
+use crate::judged;
 use crate::kind_tables::{arrival, batch, fork, index, join, negative, service};
+use crate::known_queues::KnownQueues;
+use crate::net_error::NetError;
 use crate::part_tables::guarded;
 use crate::words::KindWord;
 use indexmap::IndexSet;
 use psi_document::{
-    Cause, KnownQueues, NetError, Place, Section, elements_in, find, no_unknown, present, read,
-    required_name, required_number, table_in, text_in, unless_taken,
+    Cause, NetRefusal, Place, Section, elements_in, find, no_unknown, present, read, required_name,
+    required_number, table_in, text_in, unless_taken,
 };
 use psi_kinds::Kind;
 use psi_network::{
@@ -57,7 +63,7 @@ fn kind_named(version: u32, text: &str) -> Option<KindWord>
 
 // `kind`.
 #[tactic(auto, unfolding(crate::specs::EventTables::kind_in))]
-fn kind_word(place: Place, version: u32, value: Option<&Value>) -> Result<KindWord, NetError>
+fn kind_word(place: Place, version: u32, value: Option<&Value>) -> Result<KindWord, NetRefusal>
     ensures { Gives (λ word. word) result (required place (codes "kind") (kind_in place version) (seen value.entry)) }
 {
     let value = read!(present(place, "kind", value));
@@ -69,14 +75,14 @@ fn kind_word(place: Place, version: u32, value: Option<&Value>) -> Result<KindWo
 }
 
 // The table of an event has no other keys than those of every event and these.
-fn no_other_key(place: Place, own: &[&str], table: &Table) -> Result<(), NetError>
+fn no_other_key(place: Place, own: &[&str], table: &Table) -> Result<(), NetRefusal>
     ensures { Gives (λ _. tt) result (no_unknown place (codes "kind" ∷ codes "name" ∷ codes "rate" ∷ map (λ k. k.now) own.now) (table_view table.now)) }
 {
     no_unknown(place, &["kind", "name", "rate"], own, table)
 }
 
 // The table of an event of this kind has no other keys than the kind's.
-fn no_unknown_event_key(place: Place, word: KindWord, table: &Table) -> Result<(), NetError>
+fn no_unknown_event_key(place: Place, word: KindWord, table: &Table) -> Result<(), NetRefusal>
     ensures { Gives (λ _. tt) result (no_unknown place (event_keys word) (table_view table.now)) }
 {
     match word {
@@ -91,6 +97,13 @@ fn no_unknown_event_key(place: Place, word: KindWord, table: &Table) -> Result<(
     }
 }
 
+// A kind that was judged without memory, as one of those that take some.
+fn as_read(kind: Result<Kind, NetRefusal>) -> Result<Kind, NetError>
+    ensures { (reading : Result Kind NetRefusal) → Gives (λ kind. kind) kind reading → Reads (λ kind. kind) result reading }
+{
+    Ok(judged!(kind))
+}
+
 // The keys of its own that a kind has.
 #[tactic(auto, unfolding(crate::specs::EventTables::kind_of))]
 fn kind_of(
@@ -100,17 +113,17 @@ fn kind_of(
     known: &KnownQueues,
     table: &Table,
 ) -> Result<Kind, NetError>
-    ensures { Gives (λ kind. kind) result (kind_of place word known.now.names.keys known.now.caps (table_view table.now)) }
+    ensures { Reads (λ kind. kind) result (kind_of place word known.now.names.list.keys known.now.caps (table_view table.now)) }
 {
     match word {
-        KindWord::Arrival => arrival(place, known, table),
-        KindWord::Service => service(place, known, table),
+        KindWord::Arrival => as_read(arrival(place, &known.names, table)),
+        KindWord::Service => as_read(service(place, &known.names, table)),
         KindWord::Index => index(alloc, place, known, table),
-        KindWord::Batch => batch(place, known, table),
-        KindWord::Negative => negative(place, known, table),
-        KindWord::Fork => fork(place, known, table),
-        KindWord::Join => join(place, known, table),
-        KindWord::Guarded => guarded(place, known, table),
+        KindWord::Batch => as_read(batch(place, known, table)),
+        KindWord::Negative => as_read(negative(place, &known.names, table)),
+        KindWord::Fork => as_read(fork(place, &known.names, table)),
+        KindWord::Join => as_read(join(place, &known.names, table)),
+        KindWord::Guarded => as_read(guarded(place, known, table)),
     }
 }
 
@@ -125,15 +138,15 @@ fn event(
     known: &KnownQueues,
     table: &Table,
 ) -> Result<NamedEvent, NetError>
-    ensures value { Gives (λ event. event) result (event_of place version earlier.now.keys known.now.names.keys known.now.caps (table_view table.now)) }
+    ensures value { Reads (λ event. event) result (event_of place version earlier.now.keys known.now.names.list.keys known.now.caps (table_view table.now)) }
     ensures fresh { IfOk result (λ event. list_any (bytes_eq event.name) earlier.now.keys ≡ false) }
     ensures rate { IfOk result (λ event. event.rate ≤ 1048576) }
 {
-    let word = read!(kind_word(place, version, find(table, "kind")));
-    read!(no_unknown_event_key(place, word, table));
-    let name = read!(required_name(place, "name", find(table, "name")));
-    read!(unless_taken(place, earlier, name));
-    let rate = read!(required_number(place, "rate", 1, 1_048_576, find(table, "rate")));
+    let word = judged!(kind_word(place, version, find(table, "kind")));
+    judged!(no_unknown_event_key(place, word, table));
+    let name = judged!(required_name(place, "name", find(table, "name")));
+    judged!(unless_taken(place, earlier, name));
+    let rate = judged!(required_number(place, "rate", 1, 1_048_576, find(table, "rate")));
     let kind = read!(kind_of(alloc, place, word, known, table));
     Ok(NamedEvent {
         name,
@@ -166,7 +179,7 @@ fn counted(
     list: &EventList,
     event: &NamedEvent,
     servers: u16,
-) -> Result<Counts, NetError>
+) -> Result<Counts, NetRefusal>
     requires counted { IsCounted list.now.events.items list.now.values list.now.rates }
     requires some { 1 ≤ servers }
     requires few { servers ≤ 64 }
@@ -217,17 +230,17 @@ fn push_event(
     value: &Value,
 ) -> Result<(), NetError>
     requires { IsCounted list.old.events.items list.old.values list.old.rates }
-    ensures value { Gives (λ _. listed list.new) result (event_step version known.now.queues.items number (listed list.old) (view value.now)) }
+    ensures value { Reads (λ _. listed list.new) result (event_step version known.now.queues.items number (listed list.old) (view value.now)) }
     ensures counted { OnOk result (IsCounted list.new.events.items list.new.values list.new.rates) }
 {
     let place = Place {
         section: Section::Event,
         number,
     };
-    let table = read!(table_in(place, value));
+    let table = judged!(table_in(place, value));
     let event = read!(event(alloc, place, version, &list.names, known, table));
     let servers = servers_of(known, &event.kind);
-    let counts = read!(counted(place, list, &event, servers));
+    let counts = judged!(counted(place, list, &event, servers));
     push_expanded(alloc, &mut list.events, &event, servers)?;
     list.names.insert(event.name)?;
     list.values = counts.values;
@@ -236,7 +249,7 @@ fn push_event(
 }
 
 // The events of the array's elements.
-#[tactic(auto, using(psi_document::proofs::TurnLemmas::turn, psi_document::proofs::TurnLemmas::turn_fails, psi_document::proofs::TurnLemmas::turn_ends))]
+#[tactic(auto, using(psi_document::proofs::TurnLemmas::turn, crate::proofs::ErrorLemmas::turn_errs, psi_document::proofs::TurnLemmas::turn_ends))]
 fn all_events(
     alloc: Global,
     version: u32,
@@ -244,7 +257,7 @@ fn all_events(
     values: &[Value],
 ) -> Result<EventList, NetError>
     requires { length values.now ≤ 1024 }
-    ensures { Gives listed result (each (event_step version known.now.queues.items) 1 (record { names = []; events = [] }) (map view values.now)) }
+    ensures { Reads listed result (each (event_step version known.now.queues.items) 1 (record { names = []; events = [] }) (map view values.now)) }
 {
     let mut list = EventList {
         names: IndexSet::new(alloc),
@@ -267,14 +280,14 @@ pub(crate) fn events(
     known: &KnownQueues,
     value: Option<&Value>,
 ) -> Result<Vec<NamedEvent>, NetError>
-    ensures { Gives (λ events. events.items) result (events_of version known.now.queues.items (seen value.entry)) }
+    ensures { Reads (λ events. events.items) result (events_of version known.now.queues.items (seen value.entry)) }
 {
     match value {
         Some(value) => {
-            let values = read!(elements_in(Place::TOP, "event", Cause::NoEvents, 1024, value));
+            let values = judged!(elements_in(Place::TOP, "event", Cause::NoEvents, 1024, value));
             let list = read!(all_events(alloc, version, known, values));
             Ok(list.events)
         }
-        None => Err(Cause::NoEvents.at_key(Place::TOP, "event")),
+        None => Err(NetError::Refused(Cause::NoEvents.at_key(Place::TOP, "event"))),
     }
 }

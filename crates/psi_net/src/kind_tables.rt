@@ -5,13 +5,17 @@ ghost use Rattle.std.specs.List.{list_all};
 ghost use Rattle.toml.specs.View.{view, table_view};
 ghost use Rattle.psi_route.specs.declared.Full.TheVariants.{Lost};
 ghost use Rattle.psi_document.specs.Refusal.{Gives};
+ghost use Rattle.psi_net.specs.Errors.{Reads};
 ghost use Rattle.psi_document.specs.Values.{seen, required, optional, each};
 ghost use Rattle.psi_document.specs.References.{targets_in};
 ghost use Rattle.psi_document.specs.Targets.{are_below};
 ghost use Rattle.psi_net.specs.KindTables.{source_in, queue_of_source, full_in, number_step, row_step, table_of, size_fits, arrival_of, service_of, index_of, batch_of, negative_of, fork_of, joined_in, join_of};
 
+use crate::judged;
+use crate::known_queues::KnownQueues;
+use crate::net_error::NetError;
 use psi_document::{
-    Cause, KnownQueues, NetError, Place, array_in, find, number_in, number_or, present, queue_in,
+    Cause, KnownNames, NetRefusal, Place, array_in, find, number_in, number_or, present, queue_in,
     read, required_number, required_queue, required_target, required_targets, target_in,
     targets_in,
 };
@@ -25,10 +29,10 @@ use toml::{Table, Value};
 #[tactic(auto, unfolding(crate::specs::KindTables::source_in))]
 fn source(
     place: Place,
-    known: &KnownQueues,
+    known: &KnownNames,
     value: Option<&Value>,
-) -> Result<Option<Source>, NetError>
-    ensures { Gives (λ source. source) result (optional None (source_in place known.now.names.keys) (seen value.entry)) }
+) -> Result<Option<Source>, NetRefusal>
+    ensures { Gives (λ source. source) result (optional None (source_in place known.now.list.keys) (seen value.entry)) }
 {
     match value {
         Some(value) => {
@@ -52,7 +56,7 @@ fn queue_of_source(source: Option<Source>) -> Queues
 
 // `full`: "lost" or "stay".
 #[tactic(auto, unfolding(crate::specs::KindTables::full_in))]
-fn full_in(place: Place, value: &Value) -> Result<Full, NetError>
+fn full_in(place: Place, value: &Value) -> Result<Full, NetRefusal>
     ensures { Gives (λ full. full) result (full_in place (view value.now)) }
 {
     match value {
@@ -71,7 +75,7 @@ fn full_in(place: Place, value: &Value) -> Result<Full, NetError>
 }
 
 // `full`, "lost" by default.
-fn full(place: Place, value: Option<&Value>) -> Result<Full, NetError>
+fn full(place: Place, value: Option<&Value>) -> Result<Full, NetRefusal>
     ensures { Gives (λ full. full) result (optional Lost (full_in place) (seen value.entry)) }
 {
     match value {
@@ -86,17 +90,17 @@ const MOST_INDEX_VALUE: u32 = 1_000_000_000;
 // One integer more of a row.
 #[tactic(auto, unfolding(crate::specs::KindTables::number_step))]
 fn push_number(place: Place, numbers: &mut Vec<u32>, value: &Value) -> Result<(), NetError>
-    ensures { (n : ℕ) → Gives (λ _. numbers.new.items) result (number_step place n numbers.old.items (view value.now)) }
+    ensures { (n : ℕ) → Reads (λ _. numbers.new.items) result (number_step place n numbers.old.items (view value.now)) }
 {
-    let number = read!(number_in(place, "table", 0, MOST_INDEX_VALUE, value));
+    let number = judged!(number_in(place, "table", 0, MOST_INDEX_VALUE, value));
     numbers.push(number)?;
     Ok(())
 }
 
 // The integers of a row.
-#[tactic(auto, using(psi_document::proofs::TurnLemmas::turn, psi_document::proofs::TurnLemmas::turn_fails, psi_document::proofs::TurnLemmas::turn_ends))]
+#[tactic(auto, using(psi_document::proofs::TurnLemmas::turn, crate::proofs::ErrorLemmas::turn_errs, psi_document::proofs::TurnLemmas::turn_ends))]
 fn all_numbers(alloc: Global, place: Place, values: &[Value]) -> Result<Vec<u32>, NetError>
-    ensures { Gives (λ numbers. numbers.items) result (each (number_step place) 1 [] (map view values.now)) }
+    ensures { Reads (λ numbers. numbers.items) result (each (number_step place) 1 [] (map view values.now)) }
 {
     let mut numbers = Vec::with_capacity(alloc, values.len())?;
     for value in values {
@@ -119,12 +123,12 @@ fn push_row(
     requires among { are_below (length caps.now) to.now ≡ true }
     requires next { number < length to.now }
     requires count { length rows.old ≡ number }
-    ensures value { (n : ℕ) → Gives (λ _. rows.new) result (row_step place caps.now to.now n rows.old (view value.now)) }
+    ensures value { (n : ℕ) → Reads (λ _. rows.new) result (row_step place caps.now to.now n rows.old (view value.now)) }
     ensures count { OnOk result (length rows.new ≡ number + 1) }
 {
-    let values = read!(array_in(place, "table", value));
+    let values = judged!(array_in(place, "table", value));
     if values.len() != caps.get(to.get(number)) as usize {
-        return Err(Cause::TableLength.at_key(place, "table"));
+        return Err(NetError::Refused(Cause::TableLength.at_key(place, "table")));
     }
     let row = read!(all_numbers(alloc, place, values));
     match rows.push(row) {
@@ -134,7 +138,7 @@ fn push_row(
 }
 
 // The rows of an index's table.
-#[tactic(auto, using(psi_document::proofs::TurnLemmas::turn, psi_document::proofs::TurnLemmas::turn_fails, psi_document::proofs::TurnLemmas::turn_ends))]
+#[tactic(auto, using(psi_document::proofs::TurnLemmas::turn, crate::proofs::ErrorLemmas::turn_errs, psi_document::proofs::TurnLemmas::turn_ends))]
 fn all_rows(
     alloc: Global,
     place: Place,
@@ -144,7 +148,7 @@ fn all_rows(
 ) -> Result<Tables, NetError>
     requires among { are_below (length caps.now) to.now ≡ true }
     requires count { length values.now ≡ length to.now }
-    ensures { Gives (λ rows. rows) result (each (row_step place caps.now to.now) 1 [] (map view values.now)) }
+    ensures { Reads (λ rows. rows) result (each (row_step place caps.now to.now) 1 [] (map view values.now)) }
 {
     let mut rows = Tables::new(alloc);
     for number in 0..to.len() {
@@ -164,12 +168,12 @@ fn table_of(
     value: Option<&Value>,
 ) -> Result<Tables, NetError>
     requires { are_below (length caps.now) to.now ≡ true }
-    ensures { Gives (λ rows. rows) result (required place (codes "table") (table_of place caps.now to.now) (seen value.entry)) }
+    ensures { Reads (λ rows. rows) result (required place (codes "table") (table_of place caps.now to.now) (seen value.entry)) }
 {
-    let value = read!(present(place, "table", value));
-    let values = read!(array_in(place, "table", value));
+    let value = judged!(present(place, "table", value));
+    let values = judged!(array_in(place, "table", value));
     if values.len() != to.len() as usize {
-        return Err(Cause::TableLength.at_key(place, "table"));
+        return Err(NetError::Refused(Cause::TableLength.at_key(place, "table")));
     }
     all_rows(alloc, place, caps, to, values)
 }
@@ -196,7 +200,7 @@ fn size_fits(
     has_source: bool,
     to: &Queues,
     size: u32,
-) -> Result<u16, NetError>
+) -> Result<u16, NetRefusal>
     requires among { are_below (length caps.now) to.now ≡ true }
     requires most { size ≤ 65535 }
     ensures { Gives (λ n. n) result (size_fits place caps.now has_source to.now size) }
@@ -212,8 +216,8 @@ fn size_fits(
 
 // An arrival's keys.
 #[tactic(auto, unfolding(crate::specs::KindTables::arrival_of))]
-pub(crate) fn arrival(place: Place, known: &KnownQueues, table: &Table) -> Result<Kind, NetError>
-    ensures { Gives (λ kind. kind) result (arrival_of place known.now.names.keys (table_view table.now)) }
+pub(crate) fn arrival(place: Place, known: &KnownNames, table: &Table) -> Result<Kind, NetRefusal>
+    ensures { Gives (λ kind. kind) result (arrival_of place known.now.list.keys (table_view table.now)) }
 {
     let to = read!(required_targets(place, "to", known, &Queues::empty(), find(table, "to")));
     Ok(Kind::Arrival { to })
@@ -222,11 +226,11 @@ pub(crate) fn arrival(place: Place, known: &KnownQueues, table: &Table) -> Resul
 // `to` of a service.
 fn optional_targets(
     place: Place,
-    known: &KnownQueues,
+    known: &KnownNames,
     sources: &Queues,
     value: Option<&Value>,
-) -> Result<Queues, NetError>
-    ensures { Gives (λ qs. qs) result (optional [] (targets_in place (codes "to") known.now.names.keys sources.now) (seen value.entry)) }
+) -> Result<Queues, NetRefusal>
+    ensures { Gives (λ qs. qs) result (optional [] (targets_in place (codes "to") known.now.list.keys sources.now) (seen value.entry)) }
 {
     match value {
         Some(value) => targets_in(place, "to", known, sources, value),
@@ -236,8 +240,8 @@ fn optional_targets(
 
 // A service's keys.
 #[tactic(auto, unfolding(crate::specs::KindTables::service_of))]
-pub(crate) fn service(place: Place, known: &KnownQueues, table: &Table) -> Result<Kind, NetError>
-    ensures { Gives (λ kind. kind) result (service_of place known.now.names.keys (table_view table.now)) }
+pub(crate) fn service(place: Place, known: &KnownNames, table: &Table) -> Result<Kind, NetRefusal>
+    ensures { Gives (λ kind. kind) result (service_of place known.now.list.keys (table_view table.now)) }
 {
     let queue = read!(required_queue(place, "from", known, find(table, "from")));
     let from = Source { queue, k: 1 };
@@ -255,15 +259,15 @@ pub(crate) fn index(
     known: &KnownQueues,
     table: &Table,
 ) -> Result<Kind, NetError>
-    ensures { Gives (λ kind. kind) result (index_of place known.now.names.keys known.now.caps (table_view table.now)) }
+    ensures { Reads (λ kind. kind) result (index_of place known.now.names.list.keys known.now.caps (table_view table.now)) }
 {
-    let from = read!(source(place, known, find(table, "from")));
+    let from = judged!(source(place, &known.names, find(table, "from")));
     let sources = queue_of_source(from);
-    let to = read!(required_targets(place, "to", known, &sources, find(table, "to")));
+    let to = judged!(required_targets(place, "to", &known.names, &sources, find(table, "to")));
     let rows = read!(table_of(alloc, place, &known.caps, &to, find(table, "table")));
-    let full = read!(full(place, find(table, "full")));
-    let size = read!(number_or(place, "size", 1, 1, 65535, find(table, "size")));
-    let size = read!(size_fits(place, &known.caps, from.is_some(), &to, size));
+    let full = judged!(full(place, find(table, "full")));
+    let size = judged!(number_or(place, "size", 1, 1, 65535, find(table, "size")));
+    let size = judged!(size_fits(place, &known.caps, from.is_some(), &to, size));
     Ok(Kind::Index {
         from,
         to,
@@ -275,10 +279,16 @@ pub(crate) fn index(
 
 // A batch's keys.
 #[tactic(auto, unfolding(crate::specs::KindTables::batch_of))]
-pub(crate) fn batch(place: Place, known: &KnownQueues, table: &Table) -> Result<Kind, NetError>
-    ensures { Gives (λ kind. kind) result (batch_of place known.now.names.keys known.now.caps (table_view table.now)) }
+pub(crate) fn batch(place: Place, known: &KnownQueues, table: &Table) -> Result<Kind, NetRefusal>
+    ensures { Gives (λ kind. kind) result (batch_of place known.now.names.list.keys known.now.caps (table_view table.now)) }
 {
-    let to = read!(required_targets(place, "to", known, &Queues::empty(), find(table, "to")));
+    let to = read!(required_targets(
+        place,
+        "to",
+        &known.names,
+        &Queues::empty(),
+        find(table, "to")
+    ));
     let size = read!(required_number(place, "size", 1, 65535, find(table, "size")));
     let size = read!(size_fits(place, &known.caps, false, &to, size));
     Ok(Kind::Batch { to, size })
@@ -286,8 +296,8 @@ pub(crate) fn batch(place: Place, known: &KnownQueues, table: &Table) -> Result<
 
 // A negative event's keys.
 #[tactic(auto, unfolding(crate::specs::KindTables::negative_of))]
-pub(crate) fn negative(place: Place, known: &KnownQueues, table: &Table) -> Result<Kind, NetError>
-    ensures { Gives (λ kind. kind) result (negative_of place known.now.names.keys (table_view table.now)) }
+pub(crate) fn negative(place: Place, known: &KnownNames, table: &Table) -> Result<Kind, NetRefusal>
+    ensures { Gives (λ kind. kind) result (negative_of place known.now.list.keys (table_view table.now)) }
 {
     let from = read!(source(place, known, find(table, "from")));
     let sources = queue_of_source(from);
@@ -302,8 +312,8 @@ pub(crate) fn negative(place: Place, known: &KnownQueues, table: &Table) -> Resu
 
 // A fork's keys.
 #[tactic(auto, unfolding(crate::specs::KindTables::fork_of))]
-pub(crate) fn fork(place: Place, known: &KnownQueues, table: &Table) -> Result<Kind, NetError>
-    ensures { Gives (λ kind. kind) result (fork_of place known.now.names.keys (table_view table.now)) }
+pub(crate) fn fork(place: Place, known: &KnownNames, table: &Table) -> Result<Kind, NetRefusal>
+    ensures { Gives (λ kind. kind) result (fork_of place known.now.list.keys (table_view table.now)) }
 {
     let from = read!(source(place, known, find(table, "from")));
     let sources = queue_of_source(from);
@@ -315,11 +325,11 @@ pub(crate) fn fork(place: Place, known: &KnownQueues, table: &Table) -> Result<K
 #[tactic(auto, unfolding(crate::specs::KindTables::joined_in))]
 fn joined(
     place: Place,
-    known: &KnownQueues,
+    known: &KnownNames,
     from: &Queues,
     value: Option<&Value>,
-) -> Result<Option<u8>, NetError>
-    ensures { Gives (λ to. to) result (optional None (joined_in place known.now.names.keys from.now) (seen value.entry)) }
+) -> Result<Option<u8>, NetRefusal>
+    ensures { Gives (λ to. to) result (optional None (joined_in place known.now.list.keys from.now) (seen value.entry)) }
 {
     match value {
         Some(value) => {
@@ -332,8 +342,8 @@ fn joined(
 
 // A join's keys.
 #[tactic(auto, unfolding(crate::specs::KindTables::join_of))]
-pub(crate) fn join(place: Place, known: &KnownQueues, table: &Table) -> Result<Kind, NetError>
-    ensures { Gives (λ kind. kind) result (join_of place known.now.names.keys (table_view table.now)) }
+pub(crate) fn join(place: Place, known: &KnownNames, table: &Table) -> Result<Kind, NetRefusal>
+    ensures { Gives (λ kind. kind) result (join_of place known.now.list.keys (table_view table.now)) }
 {
     let from = read!(required_targets(place, "from", known, &Queues::empty(), find(table, "from")));
     let to = read!(joined(place, known, &from, find(table, "to")));

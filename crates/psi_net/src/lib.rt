@@ -26,6 +26,8 @@
 
 mod event_tables;
 mod kind_tables;
+mod known_queues;
+mod net_error;
 mod part_tables;
 mod queue_tables;
 mod reading;
@@ -34,6 +36,7 @@ mod reward_tables;
 mod tests;
 mod words;
 
-pub use psi_document::{NetError, NetRefusal, Section};
+pub use net_error::NetError;
+pub use psi_document::{NetRefusal, Section};
 pub use psi_network::{Name, Net, OutOfMemory, generated};
 pub use reading::net_of;

@@ -5,13 +5,17 @@ ghost use Rattle.std.specs.List.{list_any};
 ghost use Rattle.std.specs.Str.{bytes_eq};
 ghost use Rattle.toml.specs.View.{view, table_view};
 ghost use Rattle.psi_document.specs.Refusal.{Gives};
+ghost use Rattle.psi_net.specs.Errors.{Reads};
 ghost use Rattle.psi_document.specs.Values.{seen, each};
 ghost use Rattle.psi_net.specs.QueueTables.{queue_of, queue_step, queues_in, queues_of};
 
+use crate::judged;
+use crate::known_queues::KnownQueues;
+use crate::net_error::NetError;
 use indexmap::IndexSet;
 use psi_document::{
-    Cause, KnownQueues, NetError, Place, Section, elements_in, find, fingerprints, no_unknown,
-    number_or, present, read, required_name, required_number, table_in, unless_taken,
+    Cause, KnownNames, NetRefusal, Place, Section, elements_in, find, no_unknown, number_or,
+    present, read, required_name, required_number, table_in, unless_taken,
 };
 use psi_network::{Name, Queue, capacities};
 use std::alloc::Global;
@@ -26,7 +30,7 @@ struct QueueList {
 
 // A queue's table, with its number and the names of the queues before it.
 #[tactic(auto, unfolding(crate::specs::QueueTables::queue_of))]
-fn queue(number: u32, earlier: &IndexSet<Name>, table: &Table) -> Result<Queue, NetError>
+fn queue(number: u32, earlier: &IndexSet<Name>, table: &Table) -> Result<Queue, NetRefusal>
     ensures value { Gives (λ queue. queue) result (queue_of number earlier.now.keys (table_view table.now)) }
     ensures fresh { IfOk result (λ queue. list_any (bytes_eq queue.name) earlier.now.keys ≡ false) }
 {
@@ -62,25 +66,25 @@ fn push_queue(
     value: &Value,
 ) -> Result<(), NetError>
     requires { names.old.keys ≡ map (λ q. q.name) queues.old.items }
-    ensures value { Gives (λ _. queues.new.items) result (queue_step number queues.old.items (view value.now)) }
+    ensures value { Reads (λ _. queues.new.items) result (queue_step number queues.old.items (view value.now)) }
     ensures names { OnOk result (names.new.keys ≡ map (λ q. q.name) queues.new.items) }
 {
     let place = Place {
         section: Section::Queue,
         number,
     };
-    let table = read!(table_in(place, value));
-    let queue = read!(queue(number, names, table));
+    let table = judged!(table_in(place, value));
+    let queue = judged!(queue(number, names, table));
     names.insert(queue.name)?;
     queues.push(queue)?;
     Ok(())
 }
 
 // The queues of the array's elements.
-#[tactic(auto, using(psi_document::proofs::TurnLemmas::turn, psi_document::proofs::TurnLemmas::turn_fails, psi_document::proofs::TurnLemmas::turn_ends))]
+#[tactic(auto, using(psi_document::proofs::TurnLemmas::turn, crate::proofs::ErrorLemmas::turn_errs, psi_document::proofs::TurnLemmas::turn_ends))]
 fn all_queues(alloc: Global, values: &[Value]) -> Result<QueueList, NetError>
     requires { length values.now ≤ 32 }
-    ensures value { Gives (λ list. list.queues.items) result (each queue_step 1 [] (map view values.now)) }
+    ensures value { Reads (λ list. list.queues.items) result (each queue_step 1 [] (map view values.now)) }
     ensures names { IfOk result (λ list. list.names.keys ≡ map (λ q. q.name) list.queues.items) }
 {
     let mut names = IndexSet::new(alloc);
@@ -94,25 +98,23 @@ fn all_queues(alloc: Global, values: &[Value]) -> Result<QueueList, NetError>
 // `queue`: an array of 1 to 32 tables.
 #[tactic(auto, unfolding(crate::specs::QueueTables::queues_in))]
 fn listed_queues(alloc: Global, value: Option<&Value>) -> Result<QueueList, NetError>
-    ensures value { Gives (λ list. list.queues.items) result (queues_of (seen value.entry)) }
+    ensures value { Reads (λ list. list.queues.items) result (queues_of (seen value.entry)) }
     ensures names { IfOk result (λ list. list.names.keys ≡ map (λ q. q.name) list.queues.items) }
 {
-    let value = read!(present(Place::TOP, "queue", value));
-    let values = read!(elements_in(Place::TOP, "queue", Cause::MissingKey, 32, value));
+    let value = judged!(present(Place::TOP, "queue", value));
+    let values = judged!(elements_in(Place::TOP, "queue", Cause::MissingKey, 32, value));
     all_queues(alloc, values)
 }
 
 // The same queues, as the rest of the file may name them.
 pub(crate) fn queues(alloc: Global, value: Option<&Value>) -> Result<KnownQueues, NetError>
-    ensures { Gives (λ known. known.queues.items) result (queues_of (seen value.entry)) }
+    ensures { Reads (λ known. known.queues.items) result (queues_of (seen value.entry)) }
 {
     let list = read!(listed_queues(alloc, value));
     let caps = capacities(list.queues.as_slice());
-    let fingerprints = fingerprints(&list.names);
     Ok(KnownQueues {
         queues: list.queues,
-        names: list.names,
+        names: KnownNames::new(list.names),
         caps,
-        fingerprints,
     })
 }

@@ -1,23 +1,26 @@
 //! Reading a file.
 
 ghost use Rattle.std.specs.Prelude.{◌≡◌, ◌≤◌, take, codes, Ok, IfOk, IfErr};
-ghost use Rattle.psi_document.specs.Refusal.{Gives, IsNetError, top};
+ghost use Rattle.psi_document.specs.Refusal.{Gives, top};
+ghost use Rattle.psi_net.specs.Errors.{IsNetError, Reads};
 ghost use Rattle.toml.specs.View.{view, table_view};
 ghost use Rattle.psi_document.specs.Values.{seen, required};
 ghost use Rattle.psi_network.specs.Draft.{drafted, IsWhole};
-ghost use Rattle.psi_net.specs.Reading.{version_in, most_limit, document_network, file_text, text_network, network_of};
+ghost use Rattle.psi_net.specs.Reading.{version_in, most_limit, numbers_of, document_network, file_text, text_network, network_of};
 
 use crate::event_tables::events;
+use crate::judged;
+use crate::net_error::NetError;
 use crate::queue_tables::queues;
 use crate::reward_tables::rewards;
-use psi_document::{Cause, NetError, Place, find, no_unknown, number_or, present, read};
+use psi_document::{Cause, NetRefusal, Place, find, no_unknown, number_or, present, read};
 use psi_network::{Draft, Net};
 use std::alloc::Global;
 use toml::{Table, Value};
 
 // `version`: the integer 1 or 2.
 #[tactic(auto, unfolding(crate::specs::Reading::version_in))]
-fn version_in(value: &Value) -> Result<u32, NetError>
+fn version_in(value: &Value) -> Result<u32, NetRefusal>
     ensures value { Gives (λ n. n) result (version_in (view value.now)) }
     ensures range { IfOk result (λ n. (1 ≤ n) × (n ≤ 2)) }
 {
@@ -34,7 +37,7 @@ fn version_in(value: &Value) -> Result<u32, NetError>
 }
 
 // `version`, which is required.
-fn version(value: Option<&Value>) -> Result<u32, NetError>
+fn version(value: Option<&Value>) -> Result<u32, NetRefusal>
     ensures value { Gives (λ n. n) result (required top (codes "version") version_in (seen value.entry)) }
     ensures range { IfOk result (λ n. (1 ≤ n) × (n ≤ 2)) }
 {
@@ -51,11 +54,18 @@ fn most_limit(version: u32) -> u32
     if version == 1 { 20 } else { 22 }
 }
 
-// The network that a document says.
-#[tactic(auto, unfolding(crate::specs::Reading::document_network))]
-fn document(alloc: Global, table: &Table) -> Result<Draft, NetError>
-    ensures network { Gives drafted result (document_network (table_view table.now)) }
-    ensures whole { IfOk result IsWhole }
+// What the keys at the top say that are numbers.
+#[derive(Clone, Copy)]
+pub(crate) struct TopNumbers {
+    pub(crate) version: u32,
+    pub(crate) limit: u8,
+    pub(crate) split: u16,
+}
+
+// The keys at the top that are numbers; there are no unknown ones.
+#[tactic(auto, unfolding(crate::specs::Reading::numbers_of))]
+fn top_numbers(table: &Table) -> Result<TopNumbers, NetRefusal>
+    ensures { Gives (λ numbers. numbers) result (numbers_of (table_view table.now)) }
 {
     let version = read!(version(find(table, "version")));
     let keys = &["version", "limit", "split", "queue", "event", "reward"];
@@ -63,22 +73,36 @@ fn document(alloc: Global, table: &Table) -> Result<Draft, NetError>
     let most = most_limit(version);
     let limit = read!(number_or(Place::TOP, "limit", 18, 0, most, find(table, "limit")));
     let split = read!(number_or(Place::TOP, "split", 256, 1, 4096, find(table, "split")));
+    Ok(TopNumbers {
+        version,
+        limit: limit as u8,
+        split: split as u16,
+    })
+}
+
+// The network that a document says.
+#[tactic(auto, unfolding(crate::specs::Reading::document_network))]
+fn document(alloc: Global, table: &Table) -> Result<Draft, NetError>
+    ensures network { Reads drafted result (document_network (table_view table.now)) }
+    ensures whole { IfOk result IsWhole }
+{
+    let numbers = judged!(top_numbers(table));
     let known = read!(queues(alloc, find(table, "queue")));
-    let events = read!(events(alloc, version, &known, find(table, "event")));
+    let events = read!(events(alloc, numbers.version, &known, find(table, "event")));
     let rewards = read!(rewards(alloc, &known, find(table, "reward")));
     Ok(Draft {
         queues: known.queues,
         caps: known.caps,
         events,
-        limit: limit as u8,
-        split: split as u16,
+        limit: numbers.limit,
+        split: numbers.split,
         rewards,
     })
 }
 
 // The text of a file's bytes: not too many, and UTF-8.
 #[tactic(auto, using(crate::proofs::Texts::valid, crate::proofs::Texts::invalid), unfolding(crate::specs::Reading::file_text))]
-fn file_text(bytes: &[u8]) -> Result<&str, NetError>
+fn file_text(bytes: &[u8]) -> Result<&str, NetRefusal>
     ensures { Gives (λ text. text.now) result (file_text bytes.now) }
 {
     if bytes.len() > 1048576 {
@@ -93,7 +117,7 @@ fn file_text(bytes: &[u8]) -> Result<&str, NetError>
 // What a text says. The TOML table is dropped here, so it is gone when the network is made.
 #[tactic(auto, unfolding(crate::specs::Reading::text_network))]
 fn text_draft(alloc: Global, text: &str) -> Result<Draft, NetError>
-    ensures network { Gives drafted result (text_network text.now) }
+    ensures network { Reads drafted result (text_network text.now) }
     ensures whole { IfOk result IsWhole }
 {
     match toml::table_from_str(alloc, text) {
@@ -102,7 +126,7 @@ fn text_draft(alloc: Global, text: &str) -> Result<Draft, NetError>
             if error.is_memory() {
                 Err(NetError::OutOfMemory)
             } else {
-                Err(Cause::NotToml.at_place(Place::TOP))
+                Err(NetError::Refused(Cause::NotToml.at_place(Place::TOP)))
             }
         }
     }
@@ -161,7 +185,7 @@ pub fn net_of(alloc: Global, bytes: &[u8]) -> Result<Net, NetError>
     // A file is judged by its first 1,048,577 bytes.
     ensures front { network_of bytes.now ≡ network_of (take 1048577 bytes.now) }
 {
-    let text = read!(file_text(bytes));
+    let text = judged!(file_text(bytes));
     let draft = read!(text_draft(alloc, text));
     Ok(Net::made(alloc, draft)?)
 }

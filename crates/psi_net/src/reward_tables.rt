@@ -6,16 +6,20 @@ ghost use Rattle.std.specs.Str.{bytes_eq};
 ghost use Rattle.psi_reward.specs.Rewards.{reward_caps};
 ghost use Rattle.toml.specs.View.{view, table_view};
 ghost use Rattle.psi_document.specs.Refusal.{Gives};
+ghost use Rattle.psi_net.specs.Errors.{Reads};
 ghost use Rattle.psi_document.specs.Values.{seen, no_unknown, required, each};
 ghost use Rattle.psi_document.specs.Targets.{AreTargets, are_below};
 ghost use Rattle.psi_network.specs.Draft.{named};
 ghost use Rattle.psi_document.specs.References.{some_targets_in};
 ghost use Rattle.psi_net.specs.RewardTables.{reward_named, reward_kind_in, reward_keys, integer_step, weights_in, grid_step, grid_in, reward_kind_of, reward_of, reward_step, rewards_in, rewards_of};
 
+use crate::judged;
+use crate::known_queues::KnownQueues;
+use crate::net_error::NetError;
 use crate::words::RewardWord;
 use indexmap::IndexSet;
 use psi_document::{
-    Cause, KnownQueues, NetError, Place, Section, array_in, find, integer_in, no_unknown, present,
+    Cause, KnownNames, NetRefusal, Place, Section, array_in, find, integer_in, no_unknown, present,
     read, required_name, required_number, some_targets_in, table_in, text_in, unless_taken,
 };
 use psi_network::{Name, RewardEntry, accepted_reward};
@@ -45,7 +49,7 @@ fn reward_named(text: &str) -> Option<RewardWord>
 
 // `kind`.
 #[tactic(auto, unfolding(crate::specs::RewardTables::reward_kind_in))]
-fn reward_word(place: Place, value: Option<&Value>) -> Result<RewardWord, NetError>
+fn reward_word(place: Place, value: Option<&Value>) -> Result<RewardWord, NetRefusal>
     ensures { Gives (λ word. word) result (required place (codes "kind") (reward_kind_in place) (seen value.entry)) }
 {
     let value = read!(present(place, "kind", value));
@@ -57,14 +61,14 @@ fn reward_word(place: Place, value: Option<&Value>) -> Result<RewardWord, NetErr
 }
 
 // The table of a reward has no other keys than those of every reward and these.
-fn no_other_key(place: Place, own: &[&str], table: &Table) -> Result<(), NetError>
+fn no_other_key(place: Place, own: &[&str], table: &Table) -> Result<(), NetRefusal>
     ensures { Gives (λ _. tt) result (no_unknown place (codes "kind" ∷ codes "name" ∷ codes "queues" ∷ map (λ k. k.now) own.now) (table_view table.now)) }
 {
     no_unknown(place, &["kind", "name", "queues"], own, table)
 }
 
 // The table of a reward of this kind has no other keys than the kind's.
-fn no_unknown_reward_key(place: Place, word: RewardWord, table: &Table) -> Result<(), NetError>
+fn no_unknown_reward_key(place: Place, word: RewardWord, table: &Table) -> Result<(), NetRefusal>
     ensures { Gives (λ _. tt) result (no_unknown place (reward_keys word) (table_view table.now)) }
 {
     match word {
@@ -87,9 +91,9 @@ fn push_integer(
     numbers: &mut Numbers,
     value: &Value,
 ) -> Result<(), NetError>
-    ensures { (n : ℕ) → Gives (λ _. numbers.new) result (integer_step place key.now n numbers.old (view value.now)) }
+    ensures { (n : ℕ) → Reads (λ _. numbers.new) result (integer_step place key.now n numbers.old (view value.now)) }
 {
-    let number = read!(integer_in(place, key, MOST_NUMBER, value));
+    let number = judged!(integer_in(place, key, MOST_NUMBER, value));
     match numbers.push(number) {
         Ok(()) => Ok(()),
         Err(_) => Err(NetError::OutOfMemory),
@@ -97,14 +101,14 @@ fn push_integer(
 }
 
 // The integers of an array.
-#[tactic(auto, using(psi_document::proofs::TurnLemmas::turn, psi_document::proofs::TurnLemmas::turn_fails, psi_document::proofs::TurnLemmas::turn_ends))]
+#[tactic(auto, using(psi_document::proofs::TurnLemmas::turn, crate::proofs::ErrorLemmas::turn_errs, psi_document::proofs::TurnLemmas::turn_ends))]
 fn all_integers(
     alloc: Global,
     place: Place,
     key: &str,
     values: &[Value],
 ) -> Result<Numbers, NetError>
-    ensures { Gives (λ numbers. numbers) result (each (integer_step place key.now) 1 [] (map view values.now)) }
+    ensures { Reads (λ numbers. numbers) result (each (integer_step place key.now) 1 [] (map view values.now)) }
 {
     let mut numbers = Numbers::new(alloc);
     for value in values {
@@ -121,12 +125,12 @@ fn weights(
     queues: &Queues,
     value: Option<&Value>,
 ) -> Result<Numbers, NetError>
-    ensures { Gives (λ numbers. numbers) result (required place (codes "weights") (weights_in place (length queues.now)) (seen value.entry)) }
+    ensures { Reads (λ numbers. numbers) result (required place (codes "weights") (weights_in place (length queues.now)) (seen value.entry)) }
 {
-    let value = read!(present(place, "weights", value));
-    let values = read!(array_in(place, "weights", value));
+    let value = judged!(present(place, "weights", value));
+    let values = judged!(array_in(place, "weights", value));
     if values.len() != queues.len() as usize {
-        return Err(Cause::TableLength.at_key(place, "weights"));
+        return Err(NetError::Refused(Cause::TableLength.at_key(place, "weights")));
     }
     all_integers(alloc, place, "weights", values)
 }
@@ -145,12 +149,12 @@ fn push_grid_row(
     requires among { are_below (length caps.now) queues.now ≡ true }
     requires next { number < length queues.now }
     requires count { length rows.old ≡ number }
-    ensures value { (n : ℕ) → Gives (λ _. rows.new) result (grid_step place caps.now queues.now n rows.old (view value.now)) }
+    ensures value { (n : ℕ) → Reads (λ _. rows.new) result (grid_step place caps.now queues.now n rows.old (view value.now)) }
     ensures count { OnOk result (length rows.new ≡ number + 1) }
 {
-    let values = read!(array_in(place, "table", value));
+    let values = judged!(array_in(place, "table", value));
     if values.len() != caps.get(queues.get(number)) as usize + 1 {
-        return Err(Cause::TableLength.at_key(place, "table"));
+        return Err(NetError::Refused(Cause::TableLength.at_key(place, "table")));
     }
     let row = read!(all_integers(alloc, place, "table", values));
     match rows.push(row) {
@@ -160,7 +164,7 @@ fn push_grid_row(
 }
 
 // The rows of `table`.
-#[tactic(auto, using(psi_document::proofs::TurnLemmas::turn, psi_document::proofs::TurnLemmas::turn_fails, psi_document::proofs::TurnLemmas::turn_ends))]
+#[tactic(auto, using(psi_document::proofs::TurnLemmas::turn, crate::proofs::ErrorLemmas::turn_errs, psi_document::proofs::TurnLemmas::turn_ends))]
 fn all_grid_rows(
     alloc: Global,
     place: Place,
@@ -170,7 +174,7 @@ fn all_grid_rows(
 ) -> Result<Grid, NetError>
     requires among { are_below (length caps.now) queues.now ≡ true }
     requires count { length values.now ≡ length queues.now }
-    ensures { Gives (λ rows. rows) result (each (grid_step place caps.now queues.now) 1 [] (map view values.now)) }
+    ensures { Reads (λ rows. rows) result (each (grid_step place caps.now queues.now) 1 [] (map view values.now)) }
 {
     let mut rows = Grid::new(alloc);
     for number in 0..queues.len() {
@@ -190,12 +194,12 @@ fn grid(
     value: Option<&Value>,
 ) -> Result<Grid, NetError>
     requires { are_below (length caps.now) queues.now ≡ true }
-    ensures { Gives (λ rows. rows) result (required place (codes "table") (grid_in place caps.now queues.now) (seen value.entry)) }
+    ensures { Reads (λ rows. rows) result (required place (codes "table") (grid_in place caps.now queues.now) (seen value.entry)) }
 {
-    let value = read!(present(place, "table", value));
-    let values = read!(array_in(place, "table", value));
+    let value = judged!(present(place, "table", value));
+    let values = judged!(array_in(place, "table", value));
     if values.len() != queues.len() as usize {
-        return Err(Cause::TableLength.at_key(place, "table"));
+        return Err(NetError::Refused(Cause::TableLength.at_key(place, "table")));
     }
     all_grid_rows(alloc, place, caps, queues, values)
 }
@@ -211,7 +215,7 @@ fn reward_kind_of(
     table: &Table,
 ) -> Result<RewardKind, NetError>
     requires { are_below (length caps.now) queues ≡ true }
-    ensures { Gives (λ kind. kind) result (reward_kind_of place word caps.now queues (table_view table.now)) }
+    ensures { Reads (λ kind. kind) result (reward_kind_of place word caps.now queues (table_view table.now)) }
 {
     match word {
         RewardWord::Linear => {
@@ -225,7 +229,7 @@ fn reward_kind_of(
         RewardWord::Greatest => Ok(RewardKind::Greatest { queues }),
         RewardWord::Least => Ok(RewardKind::Least { queues }),
         RewardWord::Above => {
-            let level = read!(required_number(place, "level", 0, 65535, find(table, "level")));
+            let level = judged!(required_number(place, "level", 0, 65535, find(table, "level")));
             Ok(RewardKind::Above {
                 queues,
                 level: level as u16,
@@ -237,11 +241,11 @@ fn reward_kind_of(
 // `queues`: a list of at least one name.
 fn reward_queues(
     place: Place,
-    known: &KnownQueues,
+    known: &KnownNames,
     value: Option<&Value>,
-) -> Result<Queues, NetError>
-    ensures value { Gives (λ qs. qs) result (required place (codes "queues") (some_targets_in place (codes "queues") known.now.names.keys []) (seen value.entry)) }
-    ensures valid { IfOk result (AreTargets (length known.now.names.keys) []) }
+) -> Result<Queues, NetRefusal>
+    ensures value { Gives (λ qs. qs) result (required place (codes "queues") (some_targets_in place (codes "queues") known.now.list.keys []) (seen value.entry)) }
+    ensures valid { IfOk result (AreTargets (length known.now.list.keys) []) }
 {
     let value = read!(present(place, "queues", value));
     some_targets_in(place, "queues", known, &Queues::empty(), value)
@@ -256,15 +260,15 @@ fn reward(
     known: &KnownQueues,
     table: &Table,
 ) -> Result<RewardEntry, NetError>
-    ensures value { Gives named result (reward_of place earlier.now.keys known.now.names.keys known.now.caps (table_view table.now)) }
+    ensures value { Reads named result (reward_of place earlier.now.keys known.now.names.list.keys known.now.caps (table_view table.now)) }
     ensures fresh { IfOk result (λ value. list_any (bytes_eq value.name) earlier.now.keys ≡ false) }
     ensures caps { IfOk result (λ value. reward_caps value.reward ≡ known.now.caps) }
 {
-    let word = read!(reward_word(place, find(table, "kind")));
-    read!(no_unknown_reward_key(place, word, table));
-    let name = read!(required_name(place, "name", find(table, "name")));
-    read!(unless_taken(place, earlier, name));
-    let queues = read!(reward_queues(place, known, find(table, "queues")));
+    let word = judged!(reward_word(place, find(table, "kind")));
+    judged!(no_unknown_reward_key(place, word, table));
+    let name = judged!(required_name(place, "name", find(table, "name")));
+    judged!(unless_taken(place, earlier, name));
+    let queues = judged!(reward_queues(place, &known.names, find(table, "queues")));
     let kind = read!(reward_kind_of(alloc, place, word, &known.caps, queues, table));
     Ok(RewardEntry {
         name,
@@ -284,7 +288,7 @@ fn push_reward(
 ) -> Result<(), NetError>
     requires names { earlier.old.keys ≡ map (λ r. r.name) (map named rewards.old.items) }
     requires caps { All (λ v. reward_caps v.reward ≡ known.now.caps) rewards.old.items }
-    ensures value { Gives (λ _. map named rewards.new.items) result (reward_step known.now.names.keys known.now.caps number (map named rewards.old.items) (view value.now)) }
+    ensures value { Reads (λ _. map named rewards.new.items) result (reward_step known.now.names.list.keys known.now.caps number (map named rewards.old.items) (view value.now)) }
     ensures names { OnOk result (earlier.new.keys ≡ map (λ r. r.name) (map named rewards.new.items)) }
     ensures caps { OnOk result (All (λ v. reward_caps v.reward ≡ known.now.caps) rewards.new.items) }
 {
@@ -292,7 +296,7 @@ fn push_reward(
         section: Section::Reward,
         number,
     };
-    let table = read!(table_in(place, value));
+    let table = judged!(table_in(place, value));
     let reward = read!(reward(alloc, place, earlier, known, table));
     earlier.insert(reward.name)?;
     rewards.push(reward)?;
@@ -300,14 +304,14 @@ fn push_reward(
 }
 
 // The rewards of the array's elements.
-#[tactic(auto, using(psi_document::proofs::TurnLemmas::turn, psi_document::proofs::TurnLemmas::turn_fails, psi_document::proofs::TurnLemmas::turn_ends, crate::proofs::KeptRewards::no_caps))]
+#[tactic(auto, using(psi_document::proofs::TurnLemmas::turn, crate::proofs::ErrorLemmas::turn_errs, psi_document::proofs::TurnLemmas::turn_ends, crate::proofs::KeptRewards::no_caps))]
 fn all_rewards(
     alloc: Global,
     known: &KnownQueues,
     values: &[Value],
 ) -> Result<Vec<RewardEntry>, NetError>
     requires { length values.now ≤ 64 }
-    ensures value { Gives (λ rewards. map named rewards.items) result (each (reward_step known.now.names.keys known.now.caps) 1 [] (map view values.now)) }
+    ensures value { Reads (λ rewards. map named rewards.items) result (each (reward_step known.now.names.list.keys known.now.caps) 1 [] (map view values.now)) }
     ensures caps { IfOk result (λ rewards. All (λ v. reward_caps v.reward ≡ known.now.caps) rewards.items) }
 {
     let mut earlier = IndexSet::new(alloc);
@@ -326,14 +330,14 @@ pub(crate) fn rewards(
     known: &KnownQueues,
     value: Option<&Value>,
 ) -> Result<Vec<RewardEntry>, NetError>
-    ensures value { Gives (λ rewards. map named rewards.items) result (rewards_of known.now.names.keys known.now.caps (seen value.entry)) }
+    ensures value { Reads (λ rewards. map named rewards.items) result (rewards_of known.now.names.list.keys known.now.caps (seen value.entry)) }
     ensures caps { IfOk result (λ rewards. All (λ v. reward_caps v.reward ≡ known.now.caps) rewards.items) }
 {
     match value {
         Some(value) => {
-            let values = read!(array_in(Place::TOP, "reward", value));
+            let values = judged!(array_in(Place::TOP, "reward", value));
             if values.len() > 64 {
-                return Err(Cause::TooMany.at_key(Place::TOP, "reward"));
+                return Err(NetError::Refused(Cause::TooMany.at_key(Place::TOP, "reward")));
             }
             all_rewards(alloc, known, values)
         }

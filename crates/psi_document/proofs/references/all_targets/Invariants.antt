@@ -8,6 +8,6 @@ use Rattle.psi_document.proofs.references.all_targets.Given as goal
 
 abbrev pub invariant-loop-value : goal.invariant-loop-value
 invariant-loop-value l =
-    (each (target_step l.place l.key l.known.names.keys l.sources) (l.value-index + 1) l.queues (map view (drop l.value-index l.values))
-    ≡ each (target_step l.place l.key l.known.names.keys l.sources) 1 [] (map view l.values))
-    × AreTargets (length l.known.names.keys) l.sources l.queues
+    (each (target_step l.place l.key l.known.list.keys l.sources) (l.value-index + 1) l.queues (map view (drop l.value-index l.values))
+    ≡ each (target_step l.place l.key l.known.list.keys l.sources) 1 [] (map view l.values))
+    × AreTargets (length l.known.list.keys) l.sources l.queues

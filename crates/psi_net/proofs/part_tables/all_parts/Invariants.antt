@@ -7,5 +7,5 @@ use Rattle.psi_net.proofs.part_tables.all_parts.Given as goal
 
 abbrev pub invariant-loop-value : goal.invariant-loop-value
 invariant-loop-value l =
-    (each (part_step l.place l.known.names.keys l.known.caps) (l.value-index + 1) l.parts (map view (drop l.value-index l.values)) ≡ each (part_step l.place l.known.names.keys l.known.caps) 1 [] (map view l.values))
+    (each (part_step l.place l.known.names.list.keys l.known.caps) (l.value-index + 1) l.parts (map view (drop l.value-index l.values)) ≡ each (part_step l.place l.known.names.list.keys l.known.caps) 1 [] (map view l.values))
     × (length l.parts ≡ l.value-index)

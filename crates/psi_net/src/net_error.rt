@@ -1,0 +1,52 @@
+//! Why bytes give no network.
+
+ghost use Rattle.std.specs.Prelude.{◌≡◌};
+ghost use Rattle.psi_net.specs.declared.net_error.NetError.TheVariants.{OutOfMemory};
+
+use psi_document::NetRefusal;
+use psi_network::OutOfMemory;
+use std::alloc::{AllocError, AllocFailed};
+
+/// Why bytes give no network.
+#[derive(Clone, Copy, PartialEq, Eq, Debug)]
+pub enum NetError {
+    /// The bytes are refused.
+    Refused(NetRefusal),
+    /// There is no memory for the network or for its reading.
+    OutOfMemory,
+}
+
+impl From<AllocError> for NetError {
+    ghost from_gives = { λ _ error. error ≡ OutOfMemory };
+
+    fn from(_error: AllocError) -> NetError {
+        NetError::OutOfMemory
+    }
+}
+
+impl From<OutOfMemory> for NetError {
+    ghost from_gives = { λ _ error. error ≡ OutOfMemory };
+
+    fn from(_error: OutOfMemory) -> NetError {
+        NetError::OutOfMemory
+    }
+}
+
+impl<T: Drop> From<AllocFailed<T>> for NetError {
+    ghost from_gives = { λ _ error. error ≡ OutOfMemory };
+
+    fn from(_error: AllocFailed<T>) -> NetError {
+        NetError::OutOfMemory
+    }
+}
+
+/// What a reading that takes no memory gives, or the return of its refusal from one that takes some.
+#[macro_export]
+macro_rules! judged {
+    ($reading:expr) => {
+        match $reading {
+            Ok(value) => value,
+            Err(refusal) => return Err(NetError::Refused(refusal)),
+        }
+    };
+}
