@@ -99,7 +99,8 @@ impl Route {
 
     // A number for the source, if there is one, and none for the other queues.
     fn for_source(&self, number: u16) -> State
-        ensures { result ≡ for_source (shape_of self.now) number }
+        ensures value { result ≡ for_source (shape_of self.now) number }
+        ensures length { length result ≡ length self.now.caps }
     {
         let mut list = State::zero(self.caps.len());
         if let Some(source) = self.source {
@@ -112,7 +113,8 @@ impl Route {
     fn for_target(&self, i: u8, list: State, number: u16) -> State
         requires place { i < length self.now.targets }
         requires length { length list ≡ length self.now.caps }
-        ensures { result ≡ for_target (shape_of self.now) i list number }
+        ensures value { result ≡ for_target (shape_of self.now) i list number }
+        ensures length { length result ≡ length self.now.caps }
     {
         let mut changed = list;
         changed.set(self.target(i), number);
