@@ -1,6 +1,6 @@
 -- Answers in the proof of `steps_of`.
 use Rattle.std.proofs.Common.{◌≡◌, ◌+◌, ◌<◌, List, length, map, slice_index_or, ap, sym, subst, ◌∙◌, arith}
-use Rattle.std.proofs.lemmas.List.{get_or-map, length_push}
+use Rattle.std.proofs.lemmas.List.{get_or-map, length-map, length_push}
 use Rattle.psi_event.specs.Law.{Function}
 use Rattle.psi_keyed.specs.Keyed.{IsStepFor}
 use Rattle.psi_keyed.specs.declared.step.Step.{Step}
@@ -23,4 +23,19 @@ loop-at-preserved g c =
       room = omega (arith, c.push_reserved.ensures.capacity, c.loop-at.invariant.room);
       each = steps-more c.args.board.now (map g.E.EventLaw.function events) steps more at c.in-Some.step c.loop-at.invariant.long c.push_reserved.ensures.items
           c.loop-at.invariant.each (subst (λ (f : Function). IsStepFor c.args.board.now f c.in-Some.step) (sym function) c.in-Some.ensures);
+    }
+
+pub loop-at-init : goal.loop-at-init
+loop-at-init g c = record {
+  long = ap (λ (ss : List Step). length ss) c.in_ok-steps.ensures.items;
+  room = c.in_ok-steps.ensures.exact;
+  each = λ i small. absurd (omega arith);
+}
+
+pub returns : goal.returns
+returns g c =
+    let all : c.loop-at.at ≡ length c.args.events.now = omega (arith, c.loop-at-test.false, c.loop-at.auto.at-end) in
+    record {
+      count = c.loop-at.invariant.long ∙ all ∙ sym (length-map c.args.events.now g.E.EventLaw.function);
+      each = λ i small. c.loop-at.invariant.each i (omega (arith, length-map c.args.events.now g.E.EventLaw.function));
     }

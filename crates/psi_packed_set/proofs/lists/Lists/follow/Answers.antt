@@ -1,5 +1,7 @@
-use Rattle.std.proofs.Common.{◌≡◌, take, drop, inl, inr, subst, ◌∙◌, arith}
+use Rattle.std.proofs.Common.{◌≡◌, List, length, take, drop, ap, inl, inr, subst, ◌∙◌, arith}
 use Rattle.std.proofs.lemmas.List.{with_items_is}
+use Rattle.std.specs.Vec.{with_items}
+use Rattle.psi_packed.specs.declared.pairs.Pairs.{Pairs}
 use Rattle.psi_packed_set.specs.Room.{held}
 use Rattle.psi_packed_set.specs.Holding.{SetFollows}
 use Rattle.psi_packed_set.proofs.Following.{set-rest, follow-end}
@@ -24,3 +26,24 @@ pub returns-else-left-gt0-clause-follows : goal.returns-else-left-gt0-clause-fol
 returns-else-left-gt0-clause-follows g c =
     let none : c.follow_apart-left.result ≡ 0 = omega arith in
     subst (λ n. SetFollows g.row.K c.args.program.now (drop n c.args.numbers.now) (held c.args.self.now) (held c.follow_apart-left.new.self)) none c.follow_apart-left.ensures.follows
+
+pub returns-then-left-gt0-clause-lists : goal.returns-then-left-gt0-clause-lists
+returns-then-left-gt0-clause-lists g c =
+    let before = c.follow_apart-left.ensures.lists in
+    let middle = c.follow_apart-left.new.self in
+    let made = c.follow_one.new.list in
+    let count = λ (ps : List (Pairs g.row.K)). length ps in
+    let same : length (with_items middle.pairs made).items ≡ length middle.pairs.items =
+    ap count (with_items_is middle.pairs made (c.follow_one.auto.list ∙ c.as_mut_slice.ensures.len)) ∙ c.follow_one.ensures.room ∙ ap count c.as_mut_slice.ensures.value in
+    record {
+      words = before.words;
+      small = before.small;
+      double = omega (arith, before.double, same);
+      slots = before.slots;
+      shift = before.shift;
+      places = before.places;
+      fits = omega (arith, before.fits, same);
+    }
+
+pub returns-else-left-gt0-clause-lists : goal.returns-else-left-gt0-clause-lists
+returns-else-left-gt0-clause-lists g c = c.follow_apart-left.ensures.lists
