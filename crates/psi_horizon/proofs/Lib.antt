@@ -8,3 +8,4 @@ mod NumbersLemmas
 mod AreasLemmas
 mod SetsLemmas
 mod Running
+mod MonotoneLemmas

@@ -20,12 +20,21 @@ use psi_region::Region;
 use psi_state::{Outcome, State};
 
 /// How the runs of a network are followed.
-#[derive(Drop)]
 pub(crate) enum Means {
     /// By the least and the greatest state, where each event is monotone.
     Corners(Form),
     /// By regions.
     Areas(SetForm),
+}
+
+// By hand, so that the end of these means is a call where they end, and not all of its steps.
+impl Drop for Means {
+    fn drop(self) {
+        match self {
+            Means::Corners(_form) => {}
+            Means::Areas(_form) => {}
+        }
+    }
 }
 
 // The least horizon among 1, 2, 4, .., 2^limit whose run ends with one state, with that state. The numbers of the events

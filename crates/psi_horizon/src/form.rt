@@ -17,7 +17,6 @@ use psi_state::State;
 use std::alloc::{AllocError, Global};
 
 /// How a monotone network's least and greatest state are followed.
-#[derive(Drop)]
 pub(crate) enum Form {
     /// By the events themselves.
     Plain,
@@ -31,6 +30,20 @@ pub(crate) enum Form {
     Four(Program<4>),
     /// With the keys of the queues that customers may join.
     Keyed(Keyed),
+}
+
+// By hand, so that the end of a form is a call where it ends, and not all of its steps.
+impl Drop for Form {
+    fn drop(self) {
+        match self {
+            Form::Plain => {}
+            Form::One(_program) => {}
+            Form::Two(_program) => {}
+            Form::Three(_program) => {}
+            Form::Four(_program) => {}
+            Form::Keyed(_keyed) => {}
+        }
+    }
 }
 
 // The form by keys, where customers join the queue with the least one; else that of packed states.

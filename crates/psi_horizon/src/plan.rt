@@ -67,7 +67,6 @@ struct Progress {
 /// horizon and for the numbers of their events, and the room for a split region.
 ///
 /// It is seen as the network, the past, and the run that was begun, if one was.
-#[derive(Drop)]
 pub struct Plan<'n, E: EventLaw, P: Past + Drop> {
     system: System<'n, E>,
     words: Kept<P>,
@@ -91,6 +90,20 @@ impl<'n, E: EventLaw, P: Past + Drop> Model for Plan<'n, E, P> {
     ghost invariant = { λ p.
         IsPlan (map E.function p.system.events) (system_functions E.function p.system (P.words p.words.past)) (P.words p.words.past) p.system p.words p.region
         p.numbers p.means p.run };
+}
+
+// By hand, so that the end of a plan is a call where it ends, and not all of its steps.
+impl<'n, E: EventLaw, P: Past + Drop> Drop for Plan<'n, E, P> {
+    fn drop(self) {
+        let Plan {
+            system: _,
+            words: _,
+            region: _,
+            numbers: _,
+            means: _,
+            run: _,
+        } = self;
+    }
 }
 
 impl<'n, E: PiecewiseLaw + RouteLaw, P: Past + Drop> Plan<'n, E, P> {

@@ -22,7 +22,6 @@ use psi_state::{Bounds, State};
 use std::alloc::{AllocError, Global};
 
 /// The events on states that are packed into `K` words, and the room for a set of such states.
-#[derive(Drop)]
 pub(crate) struct Machine<const K: usize> {
     program: Program<K>,
     // Which events aren't monotone.
@@ -30,8 +29,18 @@ pub(crate) struct Machine<const K: usize> {
     set: PackedSet<K>,
 }
 
+// By hand, as that of each means to follow a run: its end is a call where it ends, and not all of its steps.
+impl<const K: usize> Drop for Machine<K> {
+    fn drop(self) {
+        let Machine {
+            program: _,
+            halts: _,
+            set: _,
+        } = self;
+    }
+}
+
 /// How the states of a region are followed once they are few.
-#[derive(Drop)]
 pub(crate) enum SetForm {
     /// By the events themselves.
     Plain,
@@ -43,6 +52,18 @@ pub(crate) enum SetForm {
     Three(Machine<3>),
     /// Packed into four words.
     Four(Machine<4>),
+}
+
+impl Drop for SetForm {
+    fn drop(self) {
+        match self {
+            SetForm::Plain => {}
+            SetForm::One(_machine) => {}
+            SetForm::Two(_machine) => {}
+            SetForm::Three(_machine) => {}
+            SetForm::Four(_machine) => {}
+        }
+    }
 }
 
 // The form of the fewest words that the network's states fit, where each event tells its pieces, and otherwise the
