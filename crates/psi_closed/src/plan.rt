@@ -20,7 +20,6 @@ use std::marker::Model;
 /// diagram and for the words of the greatest horizon.
 ///
 /// It is seen as the network, its number of customers with it, and the past.
-#[derive(Drop)]
 pub struct ClosedPlan<'n, P: Past + Drop> {
     diagram: Diagram,
     moves: &'n [Move],
@@ -40,6 +39,19 @@ impl<'n, P: Past + Drop> Model for ClosedPlan<'n, P> {
     } };
 
     ghost invariant = { λ p. IsPlan p.diagram p.moves.now p.wheel.now p.limit p.words };
+}
+
+// By hand, so that the end of a plan is a call where it ends, and not all of its steps.
+impl<'n, P: Past + Drop> Drop for ClosedPlan<'n, P> {
+    fn drop(self) {
+        let ClosedPlan {
+            diagram: _,
+            moves: _,
+            wheel: _,
+            limit: _,
+            words: _,
+        } = self;
+    }
 }
 
 impl<'n, P: Past + Drop> ClosedPlan<'n, P> {
