@@ -1,8 +1,12 @@
 -- Lemmas. Counts of faults, which rise by one and stand still at the greatest number of 64 bits.
-use Rattle.std.specs.Prelude.{◌≡◌, ℕ, ◌-◌, ◌^◌, ◌<◌, ◌≤◌, ◌⊎◌}
+use Rattle.std.specs.Prelude.{◌≡◌, ℕ, min, ◌-◌, ◌^◌, ◌<◌, ◌≤◌, ◌⊎◌}
 use Rattle.std.proofs.Common.{arith, inl, inr}
 use Rattle.std.proofs.lemmas.Bool.{cases_lt}
 use Rattle.psi_io.specs.Counts.{counted, Rose}
+
+-- one more than a count that stands still is one more than the count
+pub counted-still : (count : ℕ) → counted (min count (2 ^ 64 - 1)) ≡ counted count
+counted-still count = omega arith
 
 -- the two ways in which a count can have risen
 pub rose-cases : (before after : ℕ) → Rose before after → (before < after) ⊎ (2 ^ 64 - 1 ≤ after)

@@ -11,7 +11,7 @@ use Rattle.std.proofs.lemmas.List.Quantifiers.{position-Some}
 use Rattle.std.proofs.lemmas.List.Recursion.{found_at}
 use Rattle.std.proofs.lemmas.Slice.Eq.{bytes_eq-Decides}
 use Rattle.psi_io.specs.Counts.{counted}
-use Rattle.psi_io.specs.MemoryShelf.{ShelfFile, ShelfContents, has_name, file_of, told_of, faults_of, changed, with_fault, with_bytes, FailsToRead, after_put, after_failed_read}
+use Rattle.psi_io.specs.MemoryShelf.{ShelfFile, ShelfContents, has_name, file_of, told_of, faults_of, changed, with_fault, with_bytes, FailsToRead, asked_after, after_put, after_failed_read}
 use Rattle.psi_io.specs.declared.shelf.ShelfFault.{ShelfFault}
 use Rattle.psi_io.specs.declared.shelf.ShelfFault.TheVariants.{Failed, OutOfMemory}
 
@@ -208,20 +208,20 @@ counts-after_put shelf name bytes other = counts-put shelf name bytes other (fil
 
 -- a shelf with one more fault at a name's place is the shelf after its failed read
 pub fail-place :
-    (shelf : ShelfContents) (name : List ℕ) (place : ℕ) (file : ShelfFile)
+    (shelf : ShelfContents) (name : List ℕ) (most place : ℕ) (file : ShelfFile)
     → position (has_name name) shelf.files ≡ Some place → file ≡ get_or shelf.files place file
-    → record shelf { files = set shelf.files place (with_fault file); reads = counted shelf.reads } ≡ after_failed_read shelf name
-fail-place shelf name place file found is =
+    → record shelf { files = set shelf.files place (with_fault file); asked = asked_after shelf name most } ≡ after_failed_read shelf name most
+fail-place shelf name most place file found is =
     rw (find-at name shelf.files place file found)
-    (ap (λ (files : List ShelfFile). record shelf { files = files; reads = counted shelf.reads })
+    (ap (λ (files : List ShelfFile). record shelf { files = files; asked = asked_after shelf name most })
     (changed-at with_fault name shelf.files place file found is))
 
 -- a shelf with one more fault of the names that aren't there is the shelf after a failed read of one
 pub fail-absent :
-    (shelf : ShelfContents) (name : List ℕ)
+    (shelf : ShelfContents) (name : List ℕ) (most : ℕ)
     → position (has_name name) shelf.files ≡ None
-    → record shelf { absent = counted shelf.absent; reads = counted shelf.reads } ≡ after_failed_read shelf name
-fail-absent shelf name none =
+    → record shelf { absent = counted shelf.absent; asked = asked_after shelf name most } ≡ after_failed_read shelf name most
+fail-absent shelf name most none =
     let missing = find-none name shelf.files none in
     rw (missing, changed-none with_fault name shelf.files missing) refl
 
@@ -235,13 +235,13 @@ count-fault (Some file) absent = refl
 
 -- a failed read raises the count of its name by one
 pub faults-after_failed :
-    (shelf : ShelfContents) (name : List ℕ) → faults_of (after_failed_read shelf name) name ≡ counted (faults_of shelf name)
-faults-after_failed shelf name =
+    (shelf : ShelfContents) (name : List ℕ) (most : ℕ) → faults_of (after_failed_read shelf name most) name ≡ counted (faults_of shelf name)
+faults-after_failed shelf name most =
     rw (find-own with_fault (λ _. refl) name shelf.files) (count-fault (file_of shelf name) shelf.absent)
 
 -- a failed read changes nothing that is told
-pub told-after_failed : (shelf : ShelfContents) (name : List ℕ) → told_of (after_failed_read shelf name) ≡ told_of shelf
-told-after_failed shelf name =
+pub told-after_failed : (shelf : ShelfContents) (name : List ℕ) (most : ℕ) → told_of (after_failed_read shelf name most) ≡ told_of shelf
+told-after_failed shelf name most =
     fun_ext (λ other. find-changed (option_map (λ (f : ShelfFile). f.bytes)) with_fault (λ _. refl) (λ _. refl) name other shelf.files)
 
 -- the count of no file falls where one more fault of a name is counted
@@ -277,21 +277,21 @@ count-absent (Some file) absent small = omega arith
 
 -- a failed read makes no count smaller, by whether its name is there
 counts-failed :
-    (shelf : ShelfContents) (name other : List ℕ) (found : Option ShelfFile)
+    (shelf : ShelfContents) (name other : List ℕ) (most : ℕ) (found : Option ShelfFile)
     → file_of shelf name ≡ found → faults_of shelf name < 2 ^ 64
-    → faults_of shelf other ≤ faults_of (after_failed_read shelf name) other
-counts-failed shelf name other None is small =
+    → faults_of shelf other ≤ faults_of (after_failed_read shelf name most) other
+counts-failed shelf name other most None is small =
     let bound : shelf.absent < 2 ^ 64 = rw is at small in
     rw (is, changed-none with_fault name shelf.files is) (count-absent (find (has_name other) shelf.files) shelf.absent bound)
-counts-failed shelf name other (Some file) is small =
+counts-failed shelf name other most (Some file) is small =
     let bound : option_map_or (λ (f : ShelfFile). f.count) (find (has_name name) shelf.files) 0 < 2 ^ 64 = rw is (rw is at small) in
     rw is (count-raised name other shelf.files shelf.absent bound)
 
 -- the same for each shelf
 pub counts-after_failed :
-    (shelf : ShelfContents) (name other : List ℕ)
-    → faults_of shelf name < 2 ^ 64 → faults_of shelf other ≤ faults_of (after_failed_read shelf name) other
-counts-after_failed shelf name other small = counts-failed shelf name other (file_of shelf name) refl small
+    (shelf : ShelfContents) (name other : List ℕ) (most : ℕ)
+    → faults_of shelf name < 2 ^ 64 → faults_of shelf other ≤ faults_of (after_failed_read shelf name most) other
+counts-after_failed shelf name other most small = counts-failed shelf name other most (file_of shelf name) refl small
 
 -- the bytes of the file at a name's place are told of the name
 pub told-at :
@@ -315,10 +315,10 @@ told-none shelf name none = ap (option_map (λ (f : ShelfFile). f.bytes)) (find-
 -- a read of a name that is there, whose number isn't to fail, doesn't fail
 pub reads-at :
     (shelf : ShelfContents) (name : List ℕ) (file : ShelfFile)
-    → told_of shelf name ≡ Some file.bytes → list_any (λ (n : ℕ). nat_eq n (counted shelf.reads)) shelf.fails ≡ false
+    → told_of shelf name ≡ Some file.bytes → list_any (λ (n : ℕ). nat_eq n (counted (length shelf.asked))) shelf.fails ≡ false
     → FailsToRead shelf name → ⊥
 reads-at shelf name file told spared (inl (place, within, is)) =
-    let found = list_any_at (λ (n : ℕ). nat_eq n (counted shelf.reads)) shelf.fails place (counted shelf.reads) within (eq-eqb _ _ is) in cc
+    let found = list_any_at (λ (n : ℕ). nat_eq n (counted (length shelf.asked))) shelf.fails place (counted (length shelf.asked)) within (eq-eqb _ _ is) in cc
 reads-at shelf name file told spared (inr missing) = cc
 
 -- an answer that is an error for want of memory alone isn't a fault

@@ -23,24 +23,24 @@ pub no-fault-given : {T : Type 0} (shelf : ShelfContents) (name : List ℕ) (r :
 no-fault-given shelf name r gives fails is = gives-no_fault shelf name gives (fails.0 is)
 
 -- so the read is one read more, and no count rises
-pub spared-given : {T : Type 0} (old new : ShelfContents) (name : List ℕ) (r : Result T ShelfFault) → Gives old name → IsErrOf r Failed ↔ FailsToRead old name
-    → OnOk r (new ≡ after_read old) → (IsErrOf r OutOfMemory → new ≡ after_read old) → faults_of new ≡ faults_of old
-spared-given old new name (Ok read) gives fails after refused = ap faults_of after
-spared-given old new name (Err OutOfMemory) gives fails after refused = ap faults_of (refused refl)
-spared-given old new name (Err Failed) gives fails after refused = absurd (gives-no_fault old name gives (fails.0 refl))
+pub spared-given : {T : Type 0} (old new : ShelfContents) (name : List ℕ) (most : ℕ) (r : Result T ShelfFault) → Gives old name → IsErrOf r Failed ↔ FailsToRead old name
+    → OnOk r (new ≡ after_read old name most) → (IsErrOf r OutOfMemory → new ≡ after_read old name most) → faults_of new ≡ faults_of old
+spared-given old new name most (Ok read) gives fails after refused = ap faults_of after
+spared-given old new name most (Err OutOfMemory) gives fails after refused = ap faults_of (refused refl)
+spared-given old new name most (Err Failed) gives fails after refused = absurd (gives-no_fault old name gives (fails.0 refl))
 
 -- each read leaves the numbers of those that are to fail
-fails-read : {T : Type 0} (old new : ShelfContents) (name : List ℕ) (r : Result T ShelfFault) → OnOk r (new ≡ after_read old)
-    → (IsErrOf r Failed → new ≡ after_failed_read old name) → (IsErrOf r OutOfMemory → new ≡ after_read old) → new.fails ≡ old.fails
-fails-read old new name (Ok read) after failed refused = ap (λ (shelf : ShelfContents). shelf.fails) after
-fails-read old new name (Err OutOfMemory) after failed refused = ap (λ (shelf : ShelfContents). shelf.fails) (refused refl)
-fails-read old new name (Err Failed) after failed refused = ap (λ (shelf : ShelfContents). shelf.fails) (failed refl)
+fails-read : {T : Type 0} (old new : ShelfContents) (name : List ℕ) (most : ℕ) (r : Result T ShelfFault) → OnOk r (new ≡ after_read old name most)
+    → (IsErrOf r Failed → new ≡ after_failed_read old name most) → (IsErrOf r OutOfMemory → new ≡ after_read old name most) → new.fails ≡ old.fails
+fails-read old new name most (Ok read) after failed refused = ap (λ (shelf : ShelfContents). shelf.fails) after
+fails-read old new name most (Err OutOfMemory) after failed refused = ap (λ (shelf : ShelfContents). shelf.fails) (refused refl)
+fails-read old new name most (Err Failed) after failed refused = ap (λ (shelf : ShelfContents). shelf.fails) (failed refl)
 
 -- and so what the shelf gives
-pub gives-read : {T : Type 0} (old new : ShelfContents) (name other : List ℕ) (r : Result T ShelfFault) → OnOk r (new ≡ after_read old)
-    → (IsErrOf r Failed → new ≡ after_failed_read old name) → (IsErrOf r OutOfMemory → new ≡ after_read old) → told_of new ≡ told_of old
+pub gives-read : {T : Type 0} (old new : ShelfContents) (name other : List ℕ) (most : ℕ) (r : Result T ShelfFault) → OnOk r (new ≡ after_read old name most)
+    → (IsErrOf r Failed → new ≡ after_failed_read old name most) → (IsErrOf r OutOfMemory → new ≡ after_read old name most) → told_of new ≡ told_of old
     → Gives old other → Gives new other
-gives-read old new name other r after failed refused same gives = record {
+gives-read old new name other most r after failed refused same gives = record {
   there = λ none. gives.there (sym (ap (λ (told : List ℕ → Option (List ℕ)). told other) same) ∙ none);
-  no_fails = fails-read old new name r after failed refused ∙ gives.no_fails;
+  no_fails = fails-read old new name most r after failed refused ∙ gives.no_fails;
 }

@@ -2,5 +2,6 @@
 pub mod Counts
 pub mod MemoryShelf
 pub mod MemorySink
+pub mod Shelf
 pub mod Sink
 pub mod StdSink

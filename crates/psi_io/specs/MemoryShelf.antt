@@ -1,8 +1,9 @@
 -- What a shelf in memory is: its files with their counts, and which reads fail.
-use Rattle.std.specs.Prelude.{◌≡◌, ◌≢◌, ℕ, ◌⊎◌, Bool, if◌then◌else◌, List, [], ◌∷◌, ◌++◌, Option, None, find, option_map, Contains}
+use Rattle.std.specs.Prelude.{◌≡◌, ◌≢◌, ℕ, ◌⊎◌, Bool, if◌then◌else◌, List, [], ◌∷◌, ◌++◌, length, Option, None, find, option_map, Contains}
 use Rattle.std.specs.Option.{option_map_or}
 use Rattle.std.specs.Str.{bytes_eq}
 use Rattle.psi_io.specs.Counts.{counted}
+use Rattle.psi_io.specs.Shelf.{Read}
 
 -- a file of the shelf: its name, its bytes, and the count of its failed reads
 pub record ShelfFile : Type 0 where
@@ -10,12 +11,12 @@ pub record ShelfFile : Type 0 where
   pub bytes : List ℕ
   pub count : ℕ
 
--- a shelf in memory: its files, the count that all names share that aren't there, the number of
--- the last read, and the numbers of the reads that fail
+-- a shelf in memory: its files, the count that all names share that aren't there, the reads that
+-- it was asked for, oldest first, and the numbers of the reads that fail
 pub record ShelfContents : Type 0 where
   pub files : List ShelfFile
   pub absent : ℕ
-  pub reads : ℕ
+  pub asked : List Read
   pub fails : List ℕ
 
 -- whether a file has this name
@@ -36,10 +37,6 @@ with_fault file = record file { count = counted file.count }
 abbrev pub with_bytes : List ℕ → ShelfFile → ShelfFile
 with_bytes bytes file = record file { bytes = bytes }
 
--- the shelf after a read that doesn't fail, given or refused for want of memory: one more read
-abbrev pub after_read : ShelfContents → ShelfContents
-after_read shelf = record shelf { reads = counted shelf.reads }
-
 -- a shelf and a name
 module _ (shelf : ShelfContents) (name : List ℕ) where
   -- the file of a name
@@ -54,21 +51,29 @@ module _ (shelf : ShelfContents) (name : List ℕ) where
   abbrev pub faults_of : ℕ
   faults_of = option_map_or (λ file. file.count) file_of shelf.absent
 
-  -- a read of a name fails: its number is to fail, or the name isn't there
+  -- a read of a name fails: its number, one more than that of the last read, is to fail, or the name isn't there
   abbrev pub FailsToRead : Type 0
-  FailsToRead = Contains shelf.fails (counted shelf.reads) ⊎ (told_of ≡ None)
+  FailsToRead = Contains shelf.fails (counted (length shelf.asked)) ⊎ (told_of ≡ None)
 
   -- no read of a name is to fail: it is there, and no number of a read is to fail
   pub record Gives : Type 0 where
     pub there : told_of ≢ None
     pub no_fails : shelf.fails ≡ []
 
+  -- the reads that it was asked for, once it is asked for this name too
+  abbrev pub asked_after : ℕ → List Read
+  asked_after most = shelf.asked ++ (record { name = name; most = most }) ∷ []
+
+  -- the shelf after a read of a name that doesn't fail, given or refused for want of memory: one more read
+  abbrev pub after_read : ℕ → ShelfContents
+  after_read most = record shelf { asked = asked_after most }
+
   -- the shelf after a read of a name that fails: one more read, and one more fault of the name
-  abbrev pub after_failed_read : ShelfContents
-  after_failed_read = record shelf {
+  abbrev pub after_failed_read : ℕ → ShelfContents
+  after_failed_read most = record shelf {
     files = changed with_fault name shelf.files;
     absent = option_map_or (λ file. shelf.absent) file_of (counted shelf.absent);
-    reads = counted shelf.reads;
+    asked = asked_after most;
   }
 
   -- the shelf once bytes are put under a name: a name that wasn't there begins with the count of

@@ -1,42 +1,49 @@
 //! A shelf over the files of the system.
 
-ghost use Rattle.std.specs.Prelude.{◌≡◌, ◌+◌, ◌≤◌, ◌^◌, ◌↔◌, length, take, IfOk, IfSome, OnOk, OnErr, IsErrOf};
+ghost use Rattle.std.specs.Prelude.{◌≡◌, ◌+◌, ◌≤◌, ◌^◌, ◌↔◌, ◌++◌, [], ◌∷◌, length, take, IfOk, IfSome, IsOkAnd, OnOk, OnErr, IsErrOf};
 ghost use Rattle.std.specs.IoError.{error_kind};
 ghost use Rattle.psi_io.specs.Counts.{counted, Rose};
 
+use crate::asked::Asked;
 use crate::shelf::{Shelf, ShelfFault};
 use std::alloc::Global;
-use std::fs;
 use std::io::{Error, ErrorKind, Read};
 use std::marker::Model;
 use std::rt::Files;
+use std::{fs, io};
 
 /// The most bytes that one turn of a read asks for.
 const CHUNK: usize = 8192;
 
 /// A shelf over the files of the system, opened through the runtime that it is lent. It tells
-/// nothing of what they hold, and is seen as its count of faults: one number for all names, which
-/// stands still at the greatest u64.
+/// nothing of what they hold, and is seen as the reads that it was asked for and its count of
+/// faults: one number for all names, which stands still at the greatest u64.
 #[derive(Drop)]
 pub struct DiskShelf<'r, R: Files> {
     rt: &'r R,
+    asked: Asked,
     count: u64,
 }
 
 impl<'r, R: Files> Model for DiskShelf<'r, R> {
-    ghost use Rattle.std.specs.Prelude.{ℕ};
+    ghost use Rattle.psi_io.specs.Shelf.{OverFiles};
 
-    ghost Value = { ℕ };
+    ghost Value = { OverFiles };
 
-    ghost view = { λ shelf. shelf.count };
+    ghost view = { λ shelf. record { asked = shelf.asked.reads; count = shelf.count } };
 }
 
 impl<'r, R: Files> DiskShelf<'r, R> {
-    /// A shelf over the files of this runtime, with no fault yet.
+    /// A shelf over the files of this runtime, with no read and no fault yet.
     pub fn new(rt: &'r R) -> DiskShelf<'r, R>
-        ensures { result ≡ 0 }
+        ensures asked { result.asked ≡ [] }
+        ensures count { result.count ≡ 0 }
     {
-        DiskShelf { rt, count: 0 }
+        DiskShelf {
+            rt,
+            asked: Asked::new(),
+            count: 0,
+        }
     }
 }
 
@@ -73,12 +80,18 @@ fn read_front<F: Read>(file: &mut F, alloc: Global, most: u32) -> Result<Vec<u8>
     Ok(bytes)
 }
 
-/// The bytes of the file of this name, but at most `most + 1` of them.
-fn front_of<R: Files>(rt: &R, alloc: Global, name: &str, most: u32) -> Result<Vec<u8>, ShelfFault>
+/// The bytes of a file that was to be opened, but at most `most + 1` of them.
+fn front_of<F: Read + Drop>(
+    opened: io::Result<F>,
+    alloc: Global,
+    most: u32,
+) -> Result<Vec<u8>, ShelfFault>
     requires { most ≤ 2 ^ 30 }
-    ensures { IfOk result (λ read. length read.items ≤ most + 1) }
+    // There are none where the file wasn't opened.
+    ensures bytes { IfOk result (λ read. IsOkAnd opened (λ file. IfSome (F.remaining file) (λ bytes. read.items ≡ take (most + 1) bytes))) }
+    ensures bound { IfOk result (λ read. length read.items ≤ most + 1) }
 {
-    match fs::open(rt, name) {
+    match opened {
         Ok(mut file) => read_front(&mut file, alloc, most),
         Err(error) => Err(fault_of(&error)),
     }
@@ -89,7 +102,9 @@ impl<R: Files> Shelf for DiskShelf<'_, R> {
 
     ghost told = { λ shelf name. None };
 
-    ghost faults = { λ shelf name. shelf };
+    ghost asked = { λ shelf. shelf.asked };
+
+    ghost faults = { λ shelf name. shelf.count };
 
     /// Opens the file of this name and reads it, chunk by chunk, up to its end or to `most + 1`
     /// bytes. Memory grows with what is read.
@@ -100,15 +115,17 @@ impl<R: Files> Shelf for DiskShelf<'_, R> {
     /// [`ShelfFault::OutOfMemory`] where there is no memory. With each of them the count rises by one.
     fn read(&mut self, alloc: Global, name: &str, most: u32) -> Result<Vec<u8>, ShelfFault>
         requires { most ≤ 2 ^ 30 }
-        ensures still { OnOk result (self.new ≡ self.old) }
-        ensures raised { OnErr result (self.new ≡ counted self.old) }
+        ensures still { OnOk result (self.new.count ≡ self.old.count) }
+        ensures raised { OnErr result (self.new.count ≡ counted self.old.count) }
 
         // What every shelf keeps.
         ensures bound { IfOk result (λ read. length read.items ≤ most + 1) }
-        ensures failed { IsErrOf result ShelfFault.Failed → Rose self.old self.new }
-        ensures counts { self.old ≤ self.new }
+        ensures failed { IsErrOf result ShelfFault.Failed → Rose self.old.count self.new.count }
+        ensures counts { self.old.count ≤ self.new.count }
+        ensures noted { self.new.asked ≡ self.old.asked ++ (record { name = name.now; most = most }) ∷ [] }
     {
-        let answer = front_of(self.rt, alloc, name, most);
+        self.asked = self.asked.and(name.as_bytes(), most);
+        let answer = front_of(fs::open(self.rt, name), alloc, most);
         if answer.is_err() {
             self.count = self.count.saturating_add(1);
         }

@@ -6,6 +6,7 @@
 //! [`StdSink`] are thin adapters to the files and the output of the system.
 #![tactic(auto)]
 
+mod asked;
 mod disk_shelf;
 mod memory_file;
 mod memory_shelf;

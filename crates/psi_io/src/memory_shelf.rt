@@ -1,9 +1,10 @@
 //! A shelf of files in memory.
 
-ghost use Rattle.std.specs.Prelude.{◌≡◌, ◌≢◌, ℕ, ◌+◌, ◌≤◌, ◌^◌, ◌↔◌, List, [], Some, length, take, position, IfOk, IfSome, OnOk, OnErr, IsErrOf};
+ghost use Rattle.std.specs.Prelude.{◌≡◌, ◌≢◌, ℕ, ◌+◌, ◌≤◌, ◌^◌, ◌↔◌, ◌++◌, List, [], ◌∷◌, Some, length, take, position, IfOk, IfSome, OnOk, OnErr, IsErrOf};
 ghost use Rattle.psi_io.specs.Counts.{counted, Rose};
 ghost use Rattle.psi_io.specs.MemoryShelf.{has_name, told_of, faults_of, FailsToRead, after_read, after_failed_read, after_put};
 
+use crate::asked::Asked;
 use crate::memory_file::MemoryFile;
 use crate::out_of_memory::OutOfMemory;
 use crate::shelf::{Shelf, ShelfFault};
@@ -13,19 +14,21 @@ use std::marker::Model;
 /// A shelf of files in memory, whose reads fail where they are told to. It tells the bytes that
 /// were last put under a name, and nothing of a name that isn't there.
 ///
-/// Reads are numbered from 1. All names that aren't there share one count of faults, and a name
-/// that is first put begins with it. The number of a read and each count stand still at the
-/// greatest u64.
+/// Reads are numbered from 1, in the order in which they were asked for. All names that aren't there
+/// share one count of faults, and a name that is first put begins with it. The number of a read and
+/// each count stand still at the greatest u64.
 #[derive(Drop)]
 pub struct MemoryShelf {
     files: Vec<MemoryFile>,
     absent: u64,
+    asked: Asked,
     reads: u64,
     fails: Vec<u64>,
     alloc: Global,
 }
 
 impl Model for MemoryShelf {
+    ghost use Rattle.std.specs.Prelude.{◌≡◌, ◌-◌, ◌^◌, length, min};
     ghost use Rattle.psi_io.specs.MemoryShelf.{ShelfContents};
 
     ghost Value = { ShelfContents };
@@ -33,9 +36,12 @@ impl Model for MemoryShelf {
     ghost view = { λ shelf. record {
       files = shelf.files.items;
       absent = shelf.absent;
-      reads = shelf.reads;
+      asked = shelf.asked.reads;
       fails = shelf.fails.items;
     } };
+
+    // The number of the last read.
+    ghost invariant = { λ shelf. shelf.reads ≡ min (length shelf.asked.reads) (2 ^ 64 - 1) };
 }
 
 impl MemoryShelf {
@@ -43,12 +49,13 @@ impl MemoryShelf {
     pub fn new(alloc: Global, fails: Vec<u64>) -> MemoryShelf
         ensures files { result.files ≡ [] }
         ensures absent { result.absent ≡ 0 }
-        ensures reads { result.reads ≡ 0 }
+        ensures asked { result.asked ≡ [] }
         ensures fails { result.fails ≡ fails.items }
     {
         MemoryShelf {
             files: Vec::new(alloc),
             absent: 0,
+            asked: Asked::new(),
             reads: 0,
             fails,
             alloc,
@@ -92,6 +99,8 @@ impl Shelf for MemoryShelf {
 
     ghost told = { told_of };
 
+    ghost asked = { λ shelf. shelf.asked };
+
     ghost faults = { faults_of };
 
     ghost gives = { Gives };
@@ -108,9 +117,9 @@ impl Shelf for MemoryShelf {
         requires { most ≤ 2 ^ 30 }
         ensures fails { IsErrOf result ShelfFault.Failed ↔ FailsToRead self.old name.now }
         ensures raised { IsErrOf result ShelfFault.Failed → faults_of self.new name.now ≡ counted (faults_of self.old name.now) }
-        ensures after { OnOk result (self.new ≡ after_read self.old) }
-        ensures after_failed { IsErrOf result ShelfFault.Failed → self.new ≡ after_failed_read self.old name.now }
-        ensures after_refused { IsErrOf result ShelfFault.OutOfMemory → self.new ≡ after_read self.old }
+        ensures after { OnOk result (self.new ≡ after_read self.old name.now most) }
+        ensures after_failed { IsErrOf result ShelfFault.Failed → self.new ≡ after_failed_read self.old name.now most }
+        ensures after_refused { IsErrOf result ShelfFault.OutOfMemory → self.new ≡ after_read self.old name.now most }
 
         // What every shelf keeps.
         ensures bytes { IfOk result (λ read. IfSome (told_of self.old name.now) (λ bytes. read.items ≡ take (most + 1) bytes)) }
@@ -118,7 +127,9 @@ impl Shelf for MemoryShelf {
         ensures failed { IsErrOf result ShelfFault.Failed → Rose (faults_of self.old name.now) (faults_of self.new name.now) }
         ensures counts { (other : List ℕ) → faults_of self.old other ≤ faults_of self.new other }
         ensures same { told_of self.new ≡ told_of self.old }
+        ensures noted { self.new.asked ≡ self.old.asked ++ (record { name = name.now; most = most }) ∷ [] }
     {
+        self.asked = self.asked.and(name.as_bytes(), most);
         self.reads = self.reads.saturating_add(1);
         let fails = self.fails.contains(&self.reads);
         match place_of(self.files.as_slice(), name) {

@@ -1,7 +1,8 @@
 //! The contract of a shelf.
 
-ghost use Rattle.std.specs.Prelude.{◌≡◌, ℕ, ◌+◌, ◌≤◌, ◌^◌, List, Option, length, take, IfOk, IfSome, IsErrOf};
+ghost use Rattle.std.specs.Prelude.{◌≡◌, ℕ, ◌+◌, ◌≤◌, ◌^◌, ◌++◌, List, [], ◌∷◌, Option, length, take, IfOk, IfSome, IsErrOf};
 ghost use Rattle.psi_io.specs.Counts.{Rose};
+ghost use Rattle.psi_io.specs.Shelf.{Read};
 ghost use Rattle.psi_io.specs.declared.shelf.ShelfFault.TheVariants.{OutOfMemory};
 
 use std::alloc::{AllocError, Global};
@@ -26,12 +27,16 @@ impl From<AllocError> for ShelfFault {
 
 /// Files, each under a name.
 ///
-/// Three meanings belong to a shelf. `told` gives the bytes under a name, where the shelf tells
-/// them: a shelf over real files tells none, and no call changes what a shelf tells. `faults` is
-/// the count of faults of a name, which never falls. `gives` says of a name that no read of it is
-/// to fail, now or later: no count rises there. A shelf over real files says it of no name.
+/// Four meanings belong to a shelf. `told` gives the bytes under a name, where the shelf tells
+/// them: a shelf over real files tells none, and no call changes what a shelf tells. `asked` lists
+/// the reads that the shelf was asked for since it was made, oldest first, whatever came of them.
+/// `faults` is the count of faults of a name, which never falls. `gives` says of a name that no
+/// read of it is to fail, now or later: no count rises there. A shelf over real files says it of
+/// no name.
 pub trait Shelf {
     ghost told: { Self → List ℕ → Option (List ℕ) };
+
+    ghost asked: { Self → List Read };
 
     ghost faults: { Self → List ℕ → ℕ };
 
@@ -51,6 +56,7 @@ pub trait Shelf {
         ensures failed { IsErrOf result ShelfFault.Failed → Rose (faults self.old name.now) (faults self.new name.now) }
         ensures counts { (other : List ℕ) → faults self.old other ≤ faults self.new other }
         ensures same { told self.new ≡ told self.old }
+        ensures noted { asked self.new ≡ asked self.old ++ (record { name = name.now; most = most }) ∷ [] }
         ensures given { gives self.old name.now → IsErrOf result ShelfFault.Failed → ⊥ }
         ensures spared { gives self.old name.now → faults self.new ≡ faults self.old }
         ensures gives_on { (other : List ℕ) → gives self.old other → gives self.new other };

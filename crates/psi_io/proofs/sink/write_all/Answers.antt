@@ -1,5 +1,5 @@
 -- Answers in the proof of `write_all`.
-use Rattle.std.proofs.Common.{◌≡◌, ℕ, ◌-◌, ◌≤◌, List, length, take, drop, sym, ◌∙◌, ap, subst, arith}
+use Rattle.std.proofs.Common.{◌≡◌, ◌-◌, length, ◌∙◌, subst, arith}
 use Rattle.psi_io.proofs.Growing.{grown_front, grown_more, length-rest, sub-sub}
 use Rattle.psi_io.proofs.sink.write_all.Goals as goal
 

@@ -15,6 +15,7 @@ read-tells g c = record {
   failed = c.ensures.failed;
   counts = λ other. c.ensures.counts;
   same = refl;
+  noted = c.ensures.noted;
   given = λ gives. absurd gives;
   spared = λ gives. absurd gives;
   gives_on = λ other gives. gives;

@@ -9,7 +9,8 @@ read-tells c = record {
   failed = c.ensures.failed;
   counts = c.ensures.counts;
   same = c.ensures.same;
+  noted = c.ensures.noted;
   given = λ gives. no-fault-given c.args.self.now c.args.name.now c.result gives c.ensures.fails;
-  spared = λ gives. spared-given c.args.self.now c.new.self.now c.args.name.now c.result gives c.ensures.fails c.ensures.after c.ensures.after_refused;
-  gives_on = λ other gives. gives-read c.args.self.now c.new.self.now c.args.name.now other c.result c.ensures.after c.ensures.after_failed c.ensures.after_refused c.ensures.same gives;
+  spared = λ gives. spared-given c.args.self.now c.new.self.now c.args.name.now c.args.most c.result gives c.ensures.fails c.ensures.after c.ensures.after_refused;
+  gives_on = λ other gives. gives-read c.args.self.now c.new.self.now c.args.name.now other c.args.most c.result c.ensures.after c.ensures.after_failed c.ensures.after_refused c.ensures.same gives;
 }

@@ -1,23 +1,23 @@
 -- Answers in the proof of `MemoryShelfShelf::read`.
-use Rattle.std.proofs.Common.{◌≡◌, ◌+◌, ◌^◌, ◌<◌, ◌≤◌, false, List, ℕ, Option, None, Some, get_or, take, refl, sym, ◌∙◌, ap, subst, inr, arith}
+use Rattle.std.proofs.Common.{◌≡◌, ◌+◌, ◌^◌, ◌<◌, ◌≤◌, false, List, ℕ, length, Option, None, Some, get_or, take, refl, sym, ◌∙◌, ap, subst, inr, arith}
 use Rattle.std.specs.Prelude.{nat_eq, position, IfOk, IfSome}
 use Rattle.std.specs.List.{list_any}
 use Rattle.psi_io.specs.Counts.{counted}
-use Rattle.psi_io.proofs.CountsLemmas.{rose-counted}
+use Rattle.psi_io.proofs.CountsLemmas.{counted-still, rose-counted}
 use Rattle.psi_io.specs.MemoryShelf.{ShelfContents, has_name, told_of, faults_of}
 use Rattle.psi_io.proofs.Files.{fail-place, fail-absent, faults-after_failed, told-after_failed, counts-after_failed, faults-at, told-at, told-none, reads-at, no-fault}
 use Rattle.psi_io.proofs.memory_shelf.MemoryShelfShelf.read.Goals as goal
 
 pub returns-in-Some-clause-after_failed : goal.returns-in-Some-clause-after_failed
 returns-in-Some-clause-after_failed c = λ _.
-    rw (← c.self.view_is, c.count_fault.ensures.after, c.saturating_add-self-inside.ensures)
-    (fail-place _ c.args.name.now c.in-Some.place c.index_mut.result.now
+    rw (← c.self.view_is, c.count_fault.ensures.after, c.and-self-inside.ensures, c.as_bytes.ensures.value)
+    (fail-place _ c.args.name.now c.args.most c.in-Some.place c.index_mut.result.now
     (rw c.as_slice.ensures.value at (sym c.in-Some.ensures)) c.index_mut.ensures.value)
 
 pub returns-in-Some-clause-raised : goal.returns-in-Some-clause-raised
 returns-in-Some-clause-raised c = λ is.
     ap (λ (shelf : ShelfContents). faults_of shelf c.args.name.now) (returns-in-Some-clause-after_failed c is)
-    ∙ faults-after_failed c.args.self.now c.args.name.now
+    ∙ faults-after_failed c.args.self.now c.args.name.now c.args.most
 
 pub returns-in-Some-clause-failed : goal.returns-in-Some-clause-failed
 returns-in-Some-clause-failed c = λ is. rose-counted _ _ (returns-in-Some-clause-raised c is)
@@ -31,11 +31,11 @@ returns-in-Some-clause-counts c = λ other.
     let small : faults_of c.args.self.now c.args.name.now < 2 ^ 64 =
     omega (arith, c.count_fault.ensures.bounded, faults-at c.args.self.now c.args.name.now c.in-Some.place c.index_mut.result.now found file) in
     subst (λ (shelf : ShelfContents). faults_of c.args.self.now other ≤ faults_of shelf other)
-    (sym (returns-in-Some-clause-after_failed c refl)) (counts-after_failed c.args.self.now c.args.name.now other small)
+    (sym (returns-in-Some-clause-after_failed c refl)) (counts-after_failed c.args.self.now c.args.name.now other c.args.most small)
 
 pub returns-in-Some-clause-same : goal.returns-in-Some-clause-same
 returns-in-Some-clause-same c =
-    ap told_of (returns-in-Some-clause-after_failed c refl) ∙ told-after_failed c.args.self.now c.args.name.now
+    ap told_of (returns-in-Some-clause-after_failed c refl) ∙ told-after_failed c.args.self.now c.args.name.now c.args.most
 
 -- the bytes that are told of the name are those of the file at its place
 told : (c : goal.After-front) → told_of c.args.self.now c.args.name.now ≡ Some c.index.result.now.bytes
@@ -48,8 +48,10 @@ told c =
 
 pub returns-in-Some-2-clause-fails : goal.returns-in-Some-2-clause-fails
 returns-in-Some-2-clause-fails c =
-    let spared : list_any (λ (n : ℕ). nat_eq n (counted c.args.self.now.reads)) c.args.self.now.fails ≡ false =
-    rw (← c.self.view_is, ← c.saturating_add-self-inside.ensures, ← c.deref.ensures.value) (sym c.if-fails.ensures.value) in
+    let number : c.saturating_add-self-inside.result ≡ counted (length c.self.inside.asked.reads) =
+    c.saturating_add-self-inside.ensures ∙ ap counted c.self.invariant ∙ counted-still _ in
+    let spared : list_any (λ (n : ℕ). nat_eq n (counted (length c.args.self.now.asked))) c.args.self.now.fails ≡ false =
+    rw (← c.self.view_is, ← number, ← c.deref.ensures.value) (sym c.if-fails.ensures.value) in
     (λ is. absurd (no-fault c.front.result c.front.ensures.memory is), λ fails. absurd (reads-at c.args.self.now c.args.name.now c.index.result.now (told c) spared fails))
 
 pub returns-in-Some-2-clause-bytes : goal.returns-in-Some-2-clause-bytes
@@ -59,8 +61,8 @@ returns-in-Some-2-clause-bytes c =
 
 pub returns-in-None-clause-after_failed : goal.returns-in-None-clause-after_failed
 returns-in-None-clause-after_failed c = λ _.
-    rw (← c.self.view_is, c.saturating_add-self-inside.ensures, c.saturating_add-self-inside-in-None.ensures)
-    (fail-absent _ c.args.name.now (rw c.as_slice.ensures.value at (sym c.in-None.ensures)))
+    rw (← c.self.view_is, c.saturating_add-self-inside-in-None.ensures, c.and-self-inside.ensures, c.as_bytes.ensures.value)
+    (fail-absent _ c.args.name.now c.args.most (rw c.as_slice.ensures.value at (sym c.in-None.ensures)))
 
 pub returns-in-None-clause-fails : goal.returns-in-None-clause-fails
 returns-in-None-clause-fails c =
@@ -71,7 +73,7 @@ returns-in-None-clause-fails c =
 pub returns-in-None-clause-raised : goal.returns-in-None-clause-raised
 returns-in-None-clause-raised c = λ is.
     ap (λ (shelf : ShelfContents). faults_of shelf c.args.name.now) (returns-in-None-clause-after_failed c is)
-    ∙ faults-after_failed c.args.self.now c.args.name.now
+    ∙ faults-after_failed c.args.self.now c.args.name.now c.args.most
 
 pub returns-in-None-clause-failed : goal.returns-in-None-clause-failed
 returns-in-None-clause-failed c = λ is. rose-counted _ _ (returns-in-None-clause-raised c is)
