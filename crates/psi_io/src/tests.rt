@@ -12,8 +12,8 @@ use std::os::unix::fs::PermissionsExt;
 use std::test::Fail;
 use std::{fs, io};
 
-/// A writer that takes at most `most` bytes in a write, into a text that it borrows, and may fail
-/// when it is flushed.
+/// A writer that takes at most `most` bytes in a write, into a text that it borrows, and marks there
+/// that it is flushed, or fails where it is to be.
 #[derive(Drop)]
 struct Narrow<'a> {
     text: &'a mut Vec<u8>,
@@ -28,7 +28,7 @@ impl Write for Narrow<'_> {
 
     fn flush(&mut self) -> io::Result<()> {
         if self.flushes {
-            Ok(())
+            self.text.write_all(b"|")
         } else {
             Err(io::Error::from(io::ErrorKind::Other))
         }
@@ -105,12 +105,13 @@ fn gives_front(rt: &HostRuntime, alloc: Global, name: &str, most: u32, text: &[u
     })
 }
 
-/// A file longer than a command reads of one, and than many chunks of a read.
+/// A file longer than 16 MiB, and so than many chunks of a read and than a command reads of a network,
+/// under a name with spaces at its ends.
 #[test]
 fn a_shelf_over_files_gives_their_bytes_up_to_a_bound(rt: HostRuntime) -> Result<(), Fail> {
     let alloc = rt.alloc();
-    let name = "psi_io_letters.txt";
-    let text = letters(alloc, 1_200_000)?;
+    let name = " psi_io_letters.txt ";
+    let text = letters(alloc, 17_000_000)?;
     let text = text.as_slice();
     fs::write(&rt, name, text)?;
     assert!(rt; gives_front(&rt, alloc, name, 0, text));
@@ -122,8 +123,8 @@ fn a_shelf_over_files_gives_their_bytes_up_to_a_bound(rt: HostRuntime) -> Result
     Ok(())
 }
 
-/// What can't be opened or read is a fault, and no empty file: a name that isn't there, one below a file, a folder,
-/// and a file without permission, where the system refuses this to whom the test runs as. An empty file is empty.
+/// What can't be opened or read is a fault, and no empty file: a name that isn't there, one that is but for a space,
+/// one below a file, a folder, and a file without permission, where the system refuses this to whom the test runs as. An empty file is empty.
 #[test]
 fn what_the_system_refuses_is_no_empty_file(rt: HostRuntime) -> Result<(), Fail> {
     let alloc = rt.alloc();
@@ -135,6 +136,8 @@ fn what_the_system_refuses_is_no_empty_file(rt: HostRuntime) -> Result<(), Fail>
     for (name, gives) in [
         ("psi_io_empty.txt", true),
         ("psi_io_absent.txt", false),
+        (" psi_io_empty.txt", false),
+        ("psi_io_empty.txt ", false),
         ("psi_io_empty.txt/below", false),
         (".", false),
         ("", false),
@@ -157,7 +160,7 @@ fn what_the_system_refuses_is_no_empty_file(rt: HostRuntime) -> Result<(), Fail>
 fn a_sink_over_a_writer_writes_and_flushes(rt: HostRuntime) -> Result<(), Fail> {
     // A writer that takes four bytes in a write, one that takes none, and one that can't be flushed.
     let cases = [
-        (4, true, Ok(()), "state 3,1\n"),
+        (4, true, Ok(()), "stat|e 3,|1\n|"),
         (0, true, Err(SinkFault::Failed), ""),
         (4, false, Err(SinkFault::Failed), "stat"),
     ];
