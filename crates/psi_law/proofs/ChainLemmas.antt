@@ -1,0 +1,63 @@
+-- What is true of the chain of every network, and its runs.
+use Rattle.std.specs.Prelude.{◌≡◌, ℕ, zero, suc, ◌-◌, List, length, All, true, refl}
+use Rattle.std.proofs.Common.{inl, inr, ap, sym, ◌∙◌, subst, arith}
+use Rattle.std.proofs.lemmas.Bool.{cases_lt, cases_Bool}
+use Rattle.std.proofs.lemmas.List.{get_or_past}
+use Rattle.psi_state.specs.Members.{In}
+use Rattle.psi_state.specs.Ascending.{IsDistinct}
+use Rattle.psi_state.proofs.StatesLemmas.{apart-from_eq}
+use Rattle.psi_rate.specs.Rates.{AreRates, event_of}
+use Rattle.psi_rate.specs.Composition.{picked, function_at, compose, Keeps}
+use Rattle.psi_rate.proofs.CompositionLemmas.{compose-keeps}
+use Rattle.psi_law.specs.Counting.{Words}
+use Rattle.psi_law.specs.Chains.{Chain, function_of, is_same, end_of}
+
+pub is_same-itself : (x : List ℕ) → is_same x x ≡ true
+is_same-itself x = elim (cases_Bool (is_same x x)) [
+  | inl so ↦ so
+  | inr not_so ↦ absurd (apart-from_eq x x not_so refl)
+]
+
+-- a state of the chain
+abbrev pub Own : Chain → List ℕ → Type 0
+Own chain x = In x chain.states
+
+-- what is true of the chain of every network: its rates make a wheel, there are as many functions, no state stands twice, there is one, and each function keeps the states
+pub record IsChain (chain : Chain) : Type 0 where
+  pub rated : AreRates chain.rates
+  pub same_count : length chain.rates ≡ length chain.functions
+  pub distinct : IsDistinct chain.states
+  pub some : (x : List ℕ) × In x chain.states
+  pub keeps : All (Keeps (Own chain)) chain.functions
+
+-- idle keeps them too
+pub function_of-idle : (chain : Chain) → IsChain chain → function_of chain (length chain.rates) ≡ (λ x. x)
+function_of-idle chain is = (let count = is.same_count in get_or_past chain.functions (length chain.rates) (λ x. x) (omega (arith, count)))
+
+pub function_of-keeps : (chain : Chain) (e : ℕ) → IsChain chain → Keeps (Own chain) (function_of chain e)
+function_of-keeps chain e is =
+    elim (cases_lt e (length chain.functions)) [
+      | inl small ↦ is.keeps e (λ x. x) small
+      | inr past ↦ record {
+        each = λ x member. subst (λ (f : List ℕ → List ℕ). Own chain (f x)) (sym (get_or_past chain.functions e (λ x. x) past)) member;
+      }
+    ]
+
+-- and so does every run
+pub end_of-keeps : (chain : Chain) (past : Words) (n : ℕ) (x : List ℕ) → IsChain chain → Own chain x → Own chain (end_of chain past n x)
+end_of-keeps chain past n x is member =
+    compose-keeps (Own chain) (function_at chain.functions chain.rates past)
+    (record { each = λ t. function_of-keeps chain (event_of chain.rates (past (t - 1))) is }) n x member
+
+-- the newest word comes after what the older ones made
+pub end_of-first : (chain : Chain) (past : Words) (n : ℕ) (x : List ℕ)
+    → end_of chain past (suc n) x ≡ picked chain.functions chain.rates (past 0) (end_of chain (λ k. past (suc k)) n x)
+end_of-first chain past zero x = refl
+end_of-first chain past (suc n) x =
+    let f = function_at chain.functions chain.rates past in
+    let older = function_at chain.functions chain.rates (λ k. past (suc k)) in
+    let a : suc (suc n) - 1 ≡ suc n = omega arith in
+    let b : suc n - 1 ≡ n = omega arith in
+    let e : f (suc (suc n)) x ≡ older (suc n) x
+    = ap (λ k. picked chain.functions chain.rates (past k) x) a ∙ ap (λ k. picked chain.functions chain.rates (past (suc k)) x) (sym b) in
+    ap (λ (z : List ℕ). compose f (suc n) z) e ∙ end_of-first chain past n (older (suc n) x)

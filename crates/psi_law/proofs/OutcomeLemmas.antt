@@ -1,0 +1,65 @@
+-- Outcomes of runs under the words of a past: what they reach, and which words they look at.
+use Rattle.std.specs.Prelude.{◌≡◌, ℕ, suc, ◌-◌, ◌^◌, ◌<◌, ◌≤◌, List, Option}
+use Rattle.std.proofs.Common.{ap, sym, ◌∙◌, subst, arith}
+use Rattle.psi_state.specs.declared.Outcome.{Outcome}
+use Rattle.psi_state.specs.declared.Outcome.TheVariants.{Met, NotMet}
+use Rattle.psi_rate.specs.Composition.{Functions, picked, function_at, compose, IsReachedFrom}
+use Rattle.psi_rate.specs.Doubling.{HasNone}
+use Rattle.psi_rate.specs.Outcomes.{outcome_within, IsOutcome, ReachesFrom}
+use Rattle.psi_rate.proofs.PowersLemmas.{pow-order}
+use Rattle.psi_rate.proofs.OutcomesLemmas.{outcome_within-is, outcome_within-only}
+use Rattle.psi_law.specs.Counting.{Words}
+use Rattle.psi_law.specs.Chains.{Chain}
+use Rattle.psi_law.specs.Laws.{LooksAtFirst}
+use Rattle.psi_law.proofs.ChainLemmas.{Own}
+use Rattle.psi_law.proofs.LawLemmas.{Reaches}
+
+-- what a set reaches from an outcome's horizon on, it reaches from 2^limit steps before time zero on
+met-reached : (S : List ℕ → Type 0) (f : Functions) (run : ℕ → Option (List ℕ)) (limit : ℕ) (o : Outcome) → IsOutcome run limit o → ReachesFrom S f o
+    → (x : List ℕ) → S x → (t : ℕ) (y : List ℕ) → o ≡ Met t y → compose f (2 ^ limit) x ≡ y
+met-reached S f run limit o is reaches x member t y met =
+    let own : IsOutcome run limit (Met t y) = subst (λ (p : Outcome). IsOutcome run limit p) met is in
+    let reached : IsReachedFrom S f t y = subst (λ (p : Outcome). ReachesFrom S f p) met reaches in
+    let order : t ≤ 2 ^ limit = (let power = own.power in let e = pow-order own.exponent limit own.within in omega arith) in
+    reached.each x (2 ^ limit) member order
+
+-- so where all states of a chain are of a set that reaches each outcome, these are samples that the chain reaches
+pub outcome-reaches : (S : List ℕ → Type 0) (chain : Chain) (run : Functions → ℕ → Option (List ℕ)) (limit : ℕ) → ((x : List ℕ) → Own chain x → S x)
+    → ((past : Words) (o : Outcome) → IsOutcome (run (function_at chain.functions chain.rates past)) limit o → ReachesFrom S (function_at chain.functions chain.rates past) o)
+    → Reaches chain (λ past. outcome_within (run (function_at chain.functions chain.rates past)) limit) (2 ^ limit)
+outcome-reaches S chain run limit among reaches = record {
+  each = λ past x own t y met.
+      (let f = function_at chain.functions chain.rates past in
+      let is = outcome_within-is (run f) limit in
+      met-reached S f (run f) limit (outcome_within (run f) limit) is (reaches past (outcome_within (run f) limit) is) x (among x own) t y met);
+}
+
+-- runs that are the same at the powers of two have the same outcome
+none-first : (run other : ℕ → Option (List ℕ)) (limit exponent : ℕ) → ((k : ℕ) → k ≤ limit → run (2 ^ k) ≡ other (2 ^ k)) → exponent ≤ suc limit
+    → HasNone run exponent → HasNone other exponent
+none-first run other limit exponent agree most none = record { each = λ k small. sym (agree k (omega arith)) ∙ none.each k small }
+
+outcome-first : (run other : ℕ → Option (List ℕ)) (limit : ℕ) (o : Outcome) → ((k : ℕ) → k ≤ limit → run (2 ^ k) ≡ other (2 ^ k)) → IsOutcome run limit o → IsOutcome other limit o
+outcome-first run other limit (Met t s) agree is = record {
+  exponent = is.exponent;
+  within = is.within;
+  power = is.power;
+  answer = ap other is.power ∙ (sym (agree is.exponent is.within) ∙ (ap run (sym is.power) ∙ is.answer));
+  earlier = none-first run other limit is.exponent agree (let w = is.within in omega arith) is.earlier;
+}
+outcome-first run other limit (NotMet l) agree is = (is.0, none-first run other limit (suc limit) agree (omega arith) is.1)
+
+-- so outcomes of runs that look at the functions of their own steps alone look at the first 2^limit words alone
+pub outcome-looks : (run : Functions → ℕ → Option (List ℕ)) (functions : List (List ℕ → List ℕ)) (rates : List ℕ) (limit : ℕ)
+    → ((f g : Functions) (t : ℕ) → ((k : ℕ) → k < t → f (suc k) ≡ g (suc k)) → run f t ≡ run g t)
+    → LooksAtFirst (λ past. outcome_within (run (function_at functions rates past)) limit) (2 ^ limit)
+outcome-looks run functions rates limit looks = λ past other same.
+    (let f = function_at functions rates past in
+    let g = function_at functions rates other in
+    outcome_within-only (run g) limit (outcome_within (run f) limit)
+    (outcome-first (run f) (run g) limit (outcome_within (run f) limit)
+    (λ k most. looks f g (2 ^ k)
+    (λ j small. (let order = pow-order k limit most in
+    let e : suc j - 1 ≡ j = omega arith in
+    ap (λ i. picked functions rates (past i)) e ∙ (ap (λ w. picked functions rates w) (same j (omega arith)) ∙ ap (λ i. picked functions rates (other i)) (sym e)))))
+    (outcome_within-is (run f) limit)))

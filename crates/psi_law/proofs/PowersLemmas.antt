@@ -1,0 +1,63 @@
+-- What stays below a part that falls like a power is nothing.
+use Rattle.std.specs.Prelude.{◌≡◌, ℕ, zero, suc, ◌+◌, ◌-◌, ◌*◌, ◌^◌, ◌<◌, ◌≤◌, refl}
+use Rattle.std.proofs.Common.{inl, inr, ap, arith}
+use Rattle.std.proofs.Math.Nat.{pow-zero, pow-succ', pow-le-pow_left, mul-le-mul_left, mul-le-mul_right, le_of_mul-le-mul_left, one-le-pow}
+use Rattle.std.proofs.lemmas.Nat.{pow-add}
+use Rattle.std.proofs.lemmas.Bool.{cases_lt}
+
+-- the powers of the next number grow by more than a part each (Bernoulli's inequality)
+bernoulli : (b k : ℕ) → b ^ k * (b + k) ≤ suc b ^ k * b
+bernoulli b zero =
+    let p : b ^ zero * (b + zero) ≡ 1 * (b + zero) = ap (λ m. m * (b + zero)) (pow-zero b) in
+    let q : suc b ^ zero * b ≡ 1 * b = ap (λ m. m * b) (pow-zero (suc b)) in omega arith
+bernoulli b (suc k) =
+    let rest = mul-le-mul_left (suc b) (bernoulli b k) in
+    let p : b ^ suc k * (b + suc k) ≡ b * b ^ k * (b + suc k) = ap (λ m. m * (b + suc k)) (pow-succ' b k) in
+    let q : suc b ^ suc k * b ≡ suc b * suc b ^ k * b = ap (λ m. m * b) (pow-succ' (suc b) k) in
+    omega arith
+
+pub pow-times : (b n j : ℕ) → b ^ (j * n) ≡ (b ^ n) ^ j
+pow-times b n zero =
+    let z : zero * n ≡ 0 = omega arith in
+    let e : b ^ (zero * n) ≡ b ^ 0 = ap (λ m. b ^ m) z in
+    let p = pow-zero b in
+    let q = pow-zero (b ^ n) in omega arith
+pow-times b n (suc j) =
+    let z : suc j * n ≡ n + j * n = omega arith in
+    let e : b ^ (suc j * n) ≡ b ^ (n + j * n) = ap (λ m. b ^ m) z in
+    let p = pow-add b n (j * n) in
+    let q = pow-succ' (b ^ n) j in
+    let r : b ^ n * b ^ (j * n) ≡ b ^ n * (b ^ n) ^ j = ap (λ m. b ^ n * m) (pow-times b n j) in omega arith
+
+-- what is left of a difference, as often
+pub less-times : (a b p c : ℕ) → a * p ≤ b * p + c → (a - b) * p ≤ c
+less-times a b p c under = elim (cases_lt a b) [
+  | inl less ↦ (let z : a - b ≡ 0 = omega arith in let e : (a - b) * p ≡ 0 * p = ap (λ m. m * p) z in omega arith)
+  | inr more ↦ (let z : a ≡ b + (a - b) = omega arith in let e : a * p ≡ (b + (a - b)) * p = ap (λ m. m * p) z in omega arith)
+]
+
+-- what isn't more than c * (u / a)^j, for every j, is nothing where u is below a: take c * u for j
+pub vanishes : (d c u a : ℕ) → u < a → ((j : ℕ) → d * a ^ j ≤ c * u ^ j) → d ≡ 0
+vanishes zero c u a less under = refl
+vanishes (suc d) c u a less under =
+    elim (cases_lt 0 u) [
+      | inl some ↦
+          (let j = c * u in
+          let more : suc u ^ j ≤ a ^ j = pow-le-pow_left less j in
+          let first : suc d * (u ^ j * (u + j)) ≤ suc d * (suc u ^ j * u) = mul-le-mul_left (suc d) (bernoulli u j) in
+          let second : suc u ^ j * u ≤ a ^ j * u = mul-le-mul_right u more in
+          let third : suc d * (suc u ^ j * u) ≤ suc d * (a ^ j * u) = mul-le-mul_left (suc d) second in
+          let fourth : suc d * a ^ j * u ≤ c * u ^ j * u = mul-le-mul_right u (under j) in
+          let whole : u ^ j * (suc d * (u + j)) ≤ u ^ j * (c * u) = omega arith in
+          let part : suc d * (u + j) ≤ c * u = le_of_mul-le-mul_left whole (let s = one-le-pow j u some in omega arith) in
+          absurd (omega arith))
+      | inr none ↦
+          (let z : u ≡ 0 = omega arith in
+          let e = pow-succ' u 0 in
+          let g : u * u ^ 0 ≡ 0 * u ^ 0 = ap (λ m. m * u ^ 0) z in
+          let p : c * u ^ 1 ≡ c * 0 = ap (λ m. c * m) (omega arith) in
+          let q : 1 ≤ a ^ 1 = one-le-pow 1 a (omega arith) in
+          let r = mul-le-mul_left (suc d) q in
+          let one = under 1 in
+          absurd (omega arith))
+    ]

@@ -1,0 +1,226 @@
+-- Sums: what holds of each way to sum, and that the order of two of them doesn't matter.
+use Rattle.std.specs.Prelude.{◌≡◌, ℕ, zero, suc, ◌+◌, ◌*◌, ◌%◌, ◌<◌, ◌≤◌, List, [], ◌∷◌, filter, Bool, true, false, nat_eq, if◌then◌else◌, refl}
+use Rattle.std.specs.List.{sum_by}
+use Rattle.std.proofs.Common.{inl, inr, ap, sym, ◌∙◌, subst, arith}
+use Rattle.std.proofs.Math.Nat.{mod-eq_of_lt, add-mod_left}
+use Rattle.std.proofs.lemmas.Bool.{cases_lt, cases_Bool, eqb-true, eqb-false}
+use Rattle.std.proofs.lemmas.List.Sums.{sum_by-cons}
+use Rattle.psi_state.specs.Members.{In}
+use Rattle.psi_state.specs.Ascending.{IsDistinct}
+use Rattle.psi_law.specs.Counting.{Words, sum_below, after, sum_pasts}
+
+-- one where it is so, and none where it isn't
+abbrev pub one_if : Bool → ℕ
+one_if b = if b then 1 else 0
+
+pub at_most_one : (b : Bool) → one_if b ≤ 1
+at_most_one true = omega arith
+at_most_one false = omega arith
+
+-- a way to sum the values of a function
+pub record IsSum {A : Type 0} (sum : (A → ℕ) → ℕ) : Type 0 where
+  pub none : sum (λ a. 0) ≡ 0
+  pub more : (g h : A → ℕ) → sum (λ a. g a + h a) ≡ sum g + sum h
+  pub order : (g h : A → ℕ) → ((a : A) → g a ≤ h a) → sum g ≤ sum h
+
+-- the same values have the same sum
+pub sum-same : {A : Type 0} (sum : (A → ℕ) → ℕ) → IsSum sum → (g h : A → ℕ) → ((a : A) → g a ≡ h a) → sum g ≡ sum h
+sum-same sum is g h same =
+    let under : sum g ≤ sum h = is.order g h (λ a. (let e = same a in omega arith)) in
+    let over : sum h ≤ sum g = is.order h g (λ a. (let e = same a in omega arith)) in
+    omega arith
+
+pub sum-times : {A : Type 0} (sum : (A → ℕ) → ℕ) → IsSum sum → (c : ℕ) (g : A → ℕ) → sum (λ a. c * g a) ≡ c * sum g
+sum-times sum is zero g = (let e = sum-same sum is (λ a. zero * g a) (λ a. 0) (λ a. omega arith) in let n = is.none in omega arith)
+sum-times sum is (suc c) g =
+    let e = sum-same sum is (λ a. suc c * g a) (λ a. g a + c * g a) (λ a. omega arith) in
+    let m = is.more g (λ a. c * g a) in
+    let rest = sum-times sum is c g in omega arith
+
+-- the three ways
+pub sum_below-is : (n : ℕ) → IsSum (sum_below n)
+unfolding sum_below
+sum_below-is zero = record { none = refl; more = λ g h. refl; order = λ g h each. omega arith }
+sum_below-is (suc n) = (let rest = sum_below-is n in record {
+  none = (let e = rest.none in omega arith);
+  more = λ g h. (let e = rest.more g h in omega arith);
+  order = λ g h each. (let e = rest.order g h each in let last = each n in omega arith);
+})
+
+pub sum_pasts-is : (bound n : ℕ) → IsSum (sum_pasts bound n)
+sum_pasts-is bound zero = record { none = refl; more = λ g h. refl; order = λ g h each. each (λ k. 0) }
+sum_pasts-is bound (suc n) =
+    let rest = sum_pasts-is bound n in
+    let outer = sum_below-is bound in
+    let inner : (Words → ℕ) → ℕ → ℕ = λ g word. sum_pasts bound n (λ past. g (after word past)) in
+    record {
+      none = sum-same (sum_below bound) outer (λ word. sum_pasts bound n (λ past. 0)) (λ word. 0) (λ word. rest.none) ∙ outer.none;
+      more = λ g h. sum-same (sum_below bound) outer (λ word. sum_pasts bound n (λ past. g (after word past) + h (after word past))) (λ word. inner g word + inner h word)
+          (λ word. rest.more (λ past. g (after word past)) (λ past. h (after word past)))
+          ∙ outer.more (inner g) (inner h);
+      order = λ g h each. outer.order (inner g) (inner h)
+          (λ word. rest.order (λ past. g (after word past)) (λ past. h (after word past)) (λ past. each (after word past)));
+    }
+
+pub sum_by-is : {A : Type 0} (xs : List A) → IsSum (λ (g : A → ℕ). sum_by g xs)
+sum_by-is [] = record { none = refl; more = λ g h. refl; order = λ g h each. omega arith }
+sum_by-is {A} (x ∷ xs) = (let rest = sum_by-is xs in record {
+  none = (let first : sum_by (λ (a : A). 0) (x ∷ xs) ≡ 0 + sum_by (λ (a : A). 0) xs = sum_by-cons (λ (a : A). 0) x xs in let e = rest.none in omega arith);
+  more = λ g h.
+      (let both = sum_by-cons (λ a. g a + h a) x xs in
+      let one = sum_by-cons g x xs in
+      let other = sum_by-cons h x xs in
+      let e = rest.more g h in omega arith);
+  order = λ g h each.
+      (let one = sum_by-cons g x xs in
+      let other = sum_by-cons h x xs in
+      let e = rest.order g h each in
+      let first = each x in omega arith);
+})
+
+-- the order of two sums doesn't matter
+pub sum_by-swap : {A B : Type 0} (sum : (A → ℕ) → ℕ) → IsSum sum → (xs : List B) (g : B → A → ℕ)
+    → sum_by (λ x. sum (λ a. g x a)) xs ≡ sum (λ a. sum_by (λ x. g x a) xs)
+sum_by-swap sum is [] g = sym is.none
+sum_by-swap {A} {B} sum is (x ∷ xs) g =
+    let first : sum_by (λ (y : B). sum (λ a. g y a)) (x ∷ xs) ≡ sum (λ a. g x a) + sum_by (λ (y : B). sum (λ a. g y a)) xs = sum_by-cons (λ y. sum (λ a. g y a)) x xs in
+    let each = sum-same sum is (λ a. sum_by (λ y. g y a) (x ∷ xs)) (λ a. g x a + sum_by (λ y. g y a) xs) (λ a. sum_by-cons (λ y. g y a) x xs) in
+    let more = is.more (λ a. g x a) (λ a. sum_by (λ y. g y a) xs) in
+    let rest = sum_by-swap sum is xs g in omega arith
+
+-- only the members of a list count, and only the numbers below the bound
+pub sum_by-same : {A : Type 0} (xs : List A) (g h : A → ℕ) → ((x : A) → In x xs → g x ≡ h x) → sum_by g xs ≡ sum_by h xs
+sum_by-same [] g h same = refl
+sum_by-same (x ∷ xs) g h same =
+    let one = sum_by-cons g x xs in
+    let other = sum_by-cons h x xs in
+    let first = same x (inl refl) in
+    let rest = sum_by-same xs g h (λ y member. same y (inr member)) in omega arith
+
+pub sum_by-order : {A : Type 0} (xs : List A) (g h : A → ℕ) → ((x : A) → In x xs → g x ≤ h x) → sum_by g xs ≤ sum_by h xs
+sum_by-order [] g h order = omega arith
+sum_by-order (x ∷ xs) g h order =
+    let one = sum_by-cons g x xs in
+    let other = sum_by-cons h x xs in
+    let first = order x (inl refl) in
+    let rest = sum_by-order xs g h (λ y member. order y (inr member)) in omega arith
+
+-- what is in each term stands outside the sum
+pub sum_by-out : {A : Type 0} (xs : List A) (g : A → ℕ) (c : ℕ) → sum_by (λ x. g x * c) xs ≡ sum_by g xs * c
+sum_by-out {A} xs g c =
+    let turned = sum_by-same xs (λ x. g x * c) (λ x. c * g x) (λ x member. omega arith) in
+    let out = sum-times (λ (h : A → ℕ). sum_by h xs) (sum_by-is xs) c g in omega arith
+
+-- a test in each term
+pub times-one : (b : Bool) (n : ℕ) → b ≡ true → n * one_if b ≡ n
+times-one b n so = (let e : n * one_if b ≡ n * 1 = ap (λ (c : Bool). n * one_if c) so in omega arith)
+
+pub times-none : (b : Bool) (n : ℕ) → b ≡ false → n * one_if b ≡ 0
+times-none b n not_so = (let e : n * one_if b ≡ n * 0 = ap (λ (c : Bool). n * one_if c) not_so in omega arith)
+
+pub sum_by-filter : {A : Type 0} (test : A → Bool) (g : A → ℕ) (xs : List A) → sum_by g (filter test xs) ≡ sum_by (λ x. g x * one_if (test x)) xs
+sum_by-filter test g [] = refl
+sum_by-filter test g (x ∷ xs) =
+    let rest = sum_by-filter test g xs in
+    let first = sum_by-cons (λ y. g y * one_if (test y)) x xs in
+    elim (cases_Bool (test x)) [
+      | inl so ↦ (let one = times-one (test x) (g x) so in
+          let kept : sum_by g (filter test (x ∷ xs)) ≡ sum_by g (x ∷ filter test xs) = rw so refl in
+          let e = sum_by-cons g x (filter test xs) in omega arith)
+      | inr not_so ↦ (let none = times-none (test x) (g x) not_so in
+          let left : sum_by g (filter test (x ∷ xs)) ≡ sum_by g (filter test xs) = rw not_so refl in omega arith)
+    ]
+
+sum_by-none : {A : Type 0} (xs : List A) (test : A → Bool) (g : A → ℕ) → ((x : A) → In x xs → test x ≡ false) → sum_by (λ x. g x * one_if (test x)) xs ≡ 0
+sum_by-none [] test g none = refl
+sum_by-none (x ∷ xs) test g none =
+    let first = sum_by-cons (λ y. g y * one_if (test y)) x xs in
+    let own = times-none (test x) (g x) (none x (inl refl)) in
+    let rest = sum_by-none xs test g (λ y member. none y (inr member)) in omega arith
+
+-- of a list without repeats one member passes the test
+pub sum_by-at : {A : Type 0} (xs : List A) (test : A → Bool) (z : A) (g : A → ℕ) → test z ≡ true → ((x : A) → test x ≡ true → x ≡ z)
+    → IsDistinct xs → In z xs → sum_by (λ x. g x * one_if (test x)) xs ≡ g z
+sum_by-at [] test z g own only distinct member = absurd member
+sum_by-at {A} (x ∷ xs) test z g own only distinct member =
+    let first = sum_by-cons (λ y. g y * one_if (test y)) x xs in
+    elim (cases_Bool (test x)) [
+      | inl so ↦ (let one = times-one (test x) (g x) so in
+          let same : g x ≡ g z = ap g (only x so) in
+          let rest = sum_by-none xs test g (λ y there. elim (cases_Bool (test y)) [
+            | inl also ↦ absurd (distinct.0 (subst (λ (a : A). In a xs) (only y also ∙ sym (only x so)) there))
+            | inr not_so ↦ not_so
+          ]) in omega arith)
+      | inr not_so ↦ (let none = times-none (test x) (g x) not_so in
+          let there : In z xs = elim member [
+            | inl here ↦ (let t : test x ≡ true = ap test (sym here) ∙ own in absurd cc)
+            | inr later ↦ later
+          ] in
+          let rest = sum_by-at xs test z g own only distinct.1 there in omega arith)
+    ]
+
+-- the sum of ones over all pasts is their number
+pub sum_below-constant : (n c : ℕ) → sum_below n (λ k. c) ≡ n * c
+unfolding sum_below
+sum_below-constant zero c = omega arith
+sum_below-constant (suc n) c = (let rest = sum_below-constant n c in omega arith)
+
+-- only the numbers below the bound count
+pub sum_below-same : (n : ℕ) (g h : ℕ → ℕ) → ((k : ℕ) → k < n → g k ≡ h k) → sum_below n g ≡ sum_below n h
+unfolding sum_below
+sum_below-same zero g h same = refl
+sum_below-same (suc n) g h same =
+    let rest = sum_below-same n g h (λ k small. same k (omega arith)) in
+    let last = same n (omega arith) in omega arith
+
+pub sum_below-first : (n : ℕ) (g : ℕ → ℕ) → sum_below (suc n) g ≡ g 0 + sum_below n (λ k. g (suc k))
+unfolding sum_below
+sum_below-first zero g = omega arith
+sum_below-first (suc n) g = (let rest = sum_below-first n g in omega arith)
+
+pub sum_below-add : (a b : ℕ) (g : ℕ → ℕ) → sum_below (a + b) g ≡ sum_below a g + sum_below b (λ k. g (a + k))
+unfolding sum_below
+sum_below-add a zero g = (let e : a + 0 ≡ a = omega arith in let s = ap (λ n. sum_below n g) e in omega arith)
+sum_below-add a (suc b) g =
+    let e : a + suc b ≡ suc (a + b) = omega arith in
+    let s : sum_below (a + suc b) g ≡ sum_below (a + b) g + g (a + b) = ap (λ n. sum_below n g) e in
+    let rest = sum_below-add a b g in omega arith
+
+-- what depends on the rest of a division alone is summed as often as the divisor goes into the bound
+pub sum_below-rests : (q m : ℕ) (g : ℕ → ℕ) → sum_below (q * m) (λ k. g (k % m)) ≡ q * sum_below m g
+unfolding sum_below
+sum_below-rests zero m g =
+    let e : zero * m ≡ 0 = omega arith in
+    let s : sum_below (zero * m) (λ k. g (k % m)) ≡ 0 = ap (λ n. sum_below n (λ k. g (k % m))) e in omega arith
+sum_below-rests (suc q) m g =
+    let e : suc q * m ≡ m + q * m = omega arith in
+    let s : sum_below (suc q * m) (λ k. g (k % m)) ≡ sum_below (m + q * m) (λ k. g (k % m)) = ap (λ n. sum_below n (λ k. g (k % m))) e in
+    let both = sum_below-add m (q * m) (λ k. g (k % m)) in
+    let low = sum_below-same m (λ k. g (k % m)) g (λ k small. ap g (mod-eq_of_lt small)) in
+    let high = sum_below-same (q * m) (λ k. g ((m + k) % m)) (λ k. g (k % m)) (λ k small. ap g (add-mod_left m k)) in
+    let rest = sum_below-rests q m g in omega arith
+
+pub apart-nat_eq : (n e : ℕ) → (n ≡ e → ⊥) → nat_eq n e ≡ false
+apart-nat_eq n e apart = elim (cases_Bool (nat_eq n e)) [ inl so ↦ absurd (apart (eqb-true n e so)) | inr not_so ↦ not_so ]
+
+-- a sum of which one term counts, or none
+pub sum_below-none : (n e : ℕ) (g : ℕ → ℕ) → n ≤ e → sum_below n (λ k. g k * one_if (nat_eq k e)) ≡ 0
+unfolding sum_below
+sum_below-none zero e g past = refl
+sum_below-none (suc n) e g past =
+    let rest = sum_below-none n e g (omega arith) in
+    let none = times-none (nat_eq n e) (g n) (apart-nat_eq n e (λ same. omega (arith, same, past))) in omega arith
+
+pub sum_below-at : (n e : ℕ) (g : ℕ → ℕ) → e < n → sum_below n (λ k. g k * one_if (nat_eq k e)) ≡ g e
+unfolding sum_below
+sum_below-at zero e g small = absurd (omega arith)
+sum_below-at (suc n) e g small =
+    elim (cases_Bool (nat_eq n e)) [
+      | inl so ↦ (let same = eqb-true n e so in
+          let rest = sum_below-none n e g (omega arith) in
+          let one = times-one (nat_eq n e) (g n) so in
+          let s : g n ≡ g e = ap g same in omega arith)
+      | inr not_so ↦ (let apart = eqb-false n e not_so in
+          let rest = sum_below-at n e g (elim (cases_lt e n) [ inl less ↦ less | inr more ↦ absurd (apart (omega arith)) ]) in
+          let none = times-none (nat_eq n e) (g n) not_so in omega arith)
+    ]

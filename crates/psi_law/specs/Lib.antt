@@ -1,0 +1,6 @@
+-- The definitions of this crate.
+pub mod Counting
+pub mod Wheel
+pub mod Chains
+pub mod Samples
+pub mod Laws

@@ -1,0 +1,8 @@
+//! The law of samples by coupling from the past (Propp and Wilson 1996), by counting: how many lists of words
+//! give which state. Each function does nothing: its contract is the law, in whole numbers. How words are
+//! drawn is no part of it.
+#![tactic(auto)]
+
+mod wheel;
+
+pub use wheel::law_of_wheel;

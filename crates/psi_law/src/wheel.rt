@@ -1,0 +1,14 @@
+//! The law of one word.
+
+ghost use Rattle.psi_law.specs.Wheel.{IsExact};
+
+use psi_rate::Wheel;
+
+/// How many of the 2^32 words choose which event: of an event with the rate r, r times 2^32 divided by the wheel's
+/// modulus; and of none, as many as the modulus is above the sum of the rates, times 2^32 divided by the modulus.
+pub fn law_of_wheel(wheel: &Wheel)
+    ensures exact { IsExact wheel.now }
+{
+    // Called for its clause: the rates make a wheel.
+    let _events = wheel.events();
+}
