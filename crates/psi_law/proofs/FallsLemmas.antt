@@ -9,7 +9,7 @@ use Rattle.psi_law.specs.Counting.{Words, sum_below, after, sum_pasts}
 use Rattle.psi_law.specs.Wheel.{word_count}
 use Rattle.psi_law.specs.Chains.{Chain, end_of}
 use Rattle.psi_law.specs.Samples.{are_apart, apart}
-use Rattle.psi_law.specs.Laws.{ApartFalls}
+use Rattle.psi_law.specs.Statements.{ApartFalls}
 use Rattle.psi_law.proofs.SumsLemmas.{one_if, at_most_one, sum-same, sum-times, sum_below-is, sum_pasts-is}
 use Rattle.psi_law.proofs.ChainLemmas.{IsChain, end_of-keeps, end_of-first}
 

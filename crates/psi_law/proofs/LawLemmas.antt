@@ -51,7 +51,7 @@ over-weighted chain weight told c over =
 pub law-is : (chain : Chain) (weight : List ℕ → ℕ) (sample : Words → Outcome) (n : ℕ) → IsStationary chain weight → Reaches chain sample n → HasLaw sample n chain weight
 law-is chain weight sample n stationary reaches =
     let pasts = sum_pasts-is word_count n in
-    let between : List ℕ → List ℕ → ℕ = λ s x. pasts_between chain weight n x s in
+    let between : List ℕ → List ℕ → ℕ = λ s x. pasts_between chain n x s in
     record {
       least = λ s member.
           (let fit = stationary.each n s member in

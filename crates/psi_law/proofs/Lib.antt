@@ -1,10 +1,14 @@
 -- The lemmas of this crate.
 pub mod SumsLemmas
 pub mod WheelLemmas
+pub mod PowersLemmas
 pub mod ChainLemmas
 pub mod BalanceLemmas
 pub mod LawLemmas
 pub mod FallsLemmas
-pub mod PowersLemmas
 pub mod OnlyLemmas
+pub mod LawfulLemmas
 pub mod OutcomeLemmas
+pub mod NetworkLemmas
+pub mod ClosedLemmas
+mod Worked

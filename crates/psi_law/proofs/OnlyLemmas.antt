@@ -12,7 +12,7 @@ use Rattle.psi_law.specs.Counting.{Words, sum_pasts}
 use Rattle.psi_law.specs.Wheel.{word_count}
 use Rattle.psi_law.specs.Chains.{Chain, end_of, whole, IsStationary}
 use Rattle.psi_law.specs.Samples.{is_unmet, met_in, unmet, are_apart, apart}
-use Rattle.psi_law.specs.Laws.{ApartFalls, BalanceIsOne}
+use Rattle.psi_law.specs.Statements.{ApartFalls, BalanceIsOne}
 use Rattle.psi_law.proofs.SumsLemmas.{one_if, at_most_one, sum-same, sum_pasts-is}
 use Rattle.psi_law.proofs.PowersLemmas.{pow-times, less-times, vanishes}
 use Rattle.psi_law.proofs.ChainLemmas.{IsChain}

@@ -10,7 +10,7 @@ use Rattle.psi_rate.proofs.PowersLemmas.{pow-order}
 use Rattle.psi_rate.proofs.OutcomesLemmas.{outcome_within-is, outcome_within-only}
 use Rattle.psi_law.specs.Counting.{Words}
 use Rattle.psi_law.specs.Chains.{Chain}
-use Rattle.psi_law.specs.Laws.{LooksAtFirst}
+use Rattle.psi_law.specs.Statements.{LooksAtFirst}
 use Rattle.psi_law.proofs.ChainLemmas.{Own}
 use Rattle.psi_law.proofs.LawLemmas.{Reaches}
 

@@ -26,6 +26,10 @@ is_same x y = pointwise nat_eq x y
 abbrev pub end_of : Chain → Words → ℕ → List ℕ → List ℕ
 end_of chain past n x = compose (function_at chain.functions chain.rates past) n x
 
+-- how many pasts of n words lead from x to y
+abbrev pub pasts_between : Chain → ℕ → List ℕ → List ℕ → ℕ
+pasts_between chain n x y = count_pasts word_count n (λ past. is_same (end_of chain past n x) y)
+
 -- a chain whose states have weights
 module _ (chain : Chain) (weight : List ℕ → ℕ) where
   -- the sum of all weights
@@ -48,10 +52,6 @@ module _ (chain : Chain) (weight : List ℕ → ℕ) where
   pub record IsBalanced : Type 0 where
     pub each : (y : List ℕ) → In y chain.states → flow_to y ≡ total chain.rates * weight y
 
-  -- how many pasts of n words lead from x to y
-  abbrev pub pasts_between : ℕ → List ℕ → List ℕ → ℕ
-  pasts_between n x y = count_pasts word_count n (λ past. is_same (end_of chain past n x) y)
-
   -- the weights are stationary: over all pasts of n words, as much weight is led to y as y has
   pub record IsStationary : Type 0 where
-    pub each : (n : ℕ) (y : List ℕ) → In y chain.states → weighted (λ x. pasts_between n x y) ≡ weight y * word_count ^ n
+    pub each : (n : ℕ) (y : List ℕ) → In y chain.states → weighted (λ x. pasts_between chain n x y) ≡ weight y * word_count ^ n

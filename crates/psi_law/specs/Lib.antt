@@ -3,4 +3,5 @@ pub mod Counting
 pub mod Wheel
 pub mod Chains
 pub mod Samples
-pub mod Laws
+pub mod Networks
+pub mod Statements

@@ -1,0 +1,30 @@
+-- All statements of a chain and its samples together.
+use Rattle.std.specs.Prelude.{ℕ}
+use Rattle.psi_state.specs.declared.Outcome.{Outcome}
+use Rattle.psi_law.specs.Counting.{Words}
+use Rattle.psi_law.specs.Chains.{Chain}
+use Rattle.psi_law.specs.Statements.{BalanceStays, BalanceIsLaw, ApartFalls, BalanceIsOne, BalanceIsMean, LooksAtFirst}
+use Rattle.psi_law.proofs.ChainLemmas.{IsChain}
+use Rattle.psi_law.proofs.BalanceLemmas.{balanced-stationary}
+use Rattle.psi_law.proofs.LawLemmas.{Reaches, law-is, mean-is}
+use Rattle.psi_law.proofs.FallsLemmas.{apart-falls}
+use Rattle.psi_law.proofs.OnlyLemmas.{balance-one}
+
+pub record IsLawful (chain : Chain) (sample : Words → Outcome) (n : ℕ) : Type 0 where
+  pub balance : BalanceStays chain
+  pub law : BalanceIsLaw chain sample n
+  pub falls : ApartFalls chain
+  pub one : BalanceIsOne chain
+  pub mean : BalanceIsMean chain sample n
+  pub words : LooksAtFirst sample n
+
+-- they hold of the chain of a network and of samples that it reaches by the first n words
+pub lawful : (chain : Chain) (sample : Words → Outcome) (n : ℕ) → IsChain chain → Reaches chain sample n → LooksAtFirst sample n → IsLawful chain sample n
+lawful chain sample n is reaches looks = record {
+  balance = λ weight balanced. balanced-stationary chain weight is balanced;
+  law = λ weight balanced. law-is chain weight sample n (balanced-stationary chain weight is balanced) reaches;
+  falls = apart-falls chain is;
+  one = balance-one chain is;
+  mean = λ weight value low high balanced above below. mean-is chain weight value low high sample n is balanced reaches above below;
+  words = looks;
+}

@@ -1,0 +1,109 @@
+-- The chain and the samples of events on all states.
+use Rattle.std.specs.Prelude.{◌≡◌, ℕ, zero, suc, ◌^◌, ◌<◌, ◌↔◌, List, length, map, slice_index_or, All, refl}
+use Rattle.std.proofs.Common.{ap, sym, ◌∙◌, subst, arith}
+use Rattle.std.proofs.lemmas.List.{length-map}
+use Rattle.std.proofs.lemmas.List.Elements.{All-map}
+use Rattle.psi_state.specs.declared.Outcome.{Outcome}
+use Rattle.psi_state.specs.State.{all_states, zeros}
+use Rattle.psi_state.specs.Sets.{single}
+use Rattle.psi_state.proofs.AscendingLemmas.{box-rising, rising-distinct}
+use Rattle.psi_state.proofs.BoxesLemmas.{In-all_states, In-of_all_states}
+use Rattle.psi_state.proofs.StatesLemmas.{In-caps}
+use Rattle.psi_event.specs.Law.{IsClosed}
+use Rattle.psi_kinds.specs.Kinds.{do_kind}
+use Rattle.psi_kinds.proofs.Closing.{kind-closed}
+use Rattle.psi_rate.specs.Rates.{AreRates}
+use Rattle.psi_rate.specs.Composition.{Parts, Functions, function_at, Below}
+use Rattle.psi_rate.specs.System.{IsSystem}
+use Rattle.psi_rate.specs.Outcomes.{outcome_within}
+use Rattle.psi_rate.proofs.OutcomesLemmas.{outcome_within-is, outcome_within-only}
+use Rattle.psi_rate.proofs.FunctionsLemmas.{function_at-closed}
+use Rattle.psi_region.specs.Region.{Area, start, step}
+use Rattle.psi_horizon.specs.Runs.{follow, ending_at}
+use Rattle.psi_horizon.specs.Sample.{IsSample}
+use Rattle.psi_horizon.proofs.RunsLemmas.{outcome-reached}
+use Rattle.psi_horizon.proofs.SampleLemmas.{sample-is}
+use Rattle.psi_network.specs.Network.{Network, caps_of, rates_of, functions_of}
+use Rattle.psi_network.specs.Valid.{IsNetwork, IsAccepted}
+use Rattle.psi_network.proofs.QueueLemmas.{capacities_kept}
+use Rattle.psi_law.specs.Counting.{Words}
+use Rattle.psi_law.specs.Chains.{Chain}
+use Rattle.psi_law.specs.Statements.{LooksAtFirst}
+use Rattle.psi_law.specs.Networks.{chain_of, sample_of, network_chain, network_sample}
+use Rattle.psi_law.proofs.ChainLemmas.{IsChain}
+use Rattle.psi_law.proofs.LawLemmas.{Reaches}
+use Rattle.psi_law.proofs.LawfulLemmas.{IsLawful, lawful}
+use Rattle.psi_law.proofs.OutcomeLemmas.{outcome-reaches, outcome-looks}
+
+-- a run looks at the functions of its own steps alone
+follow-first : (split : ℕ) (f g : Functions) (t : ℕ) (a : Area) → ((k : ℕ) → k < t → f (suc k) ≡ g (suc k)) → follow split f t a ≡ follow split g t a
+follow-first split f g zero a same = refl
+follow-first split f g (suc t) a same =
+    follow-first split f g t (step split (f (suc t)) a) (λ k small. same k (omega arith))
+    ∙ ap (λ (h : List ℕ → List ℕ). follow split g t (step split h a)) (same t (omega arith))
+
+-- functions that make states of these capacities of such states, with rates of a wheel
+module _ (caps : List ℕ) (functions : List (List ℕ → List ℕ)) (rates : List ℕ) (closed : All (IsClosed caps) functions) where
+  -- their chain on all states
+  abbrev chain_on_all : Chain
+  chain_on_all = record { functions = functions; rates = rates; states = all_states caps }
+
+  all-chain : AreRates rates → length rates ≡ length functions → IsChain chain_on_all
+  all-chain rated count = record {
+    rated = rated;
+    same_count = count;
+    distinct = rising-distinct (all_states caps) (box-rising (zeros caps) caps);
+    some = (caps, In-caps caps);
+    keeps = λ e d small. record { each = λ x member. In-all_states caps (slice_index_or functions e d x) ((closed e d small).each x (In-of_all_states caps x member)) };
+  }
+
+  -- the samples of these capacities with a split number and a limit
+  module _ (split limit : ℕ) where
+    abbrev all_sample : Words → Outcome
+    all_sample past = outcome_within (ending_at split (function_at functions rates past) caps) limit
+
+    all-reaches : Reaches chain_on_all all_sample (2 ^ limit)
+    all-reaches =
+        outcome-reaches (Below caps) chain_on_all (λ f. ending_at split f caps) limit (In-of_all_states caps)
+        (λ past o is. outcome-reached split caps (function_at functions rates past) limit o (function_at-closed caps functions rates past closed) is)
+
+    all-looks : LooksAtFirst all_sample (2 ^ limit)
+    all-looks = outcome-looks (λ f. ending_at split f caps) functions rates limit
+        (λ f g t same. ap (λ (a : Area). single a.states) (follow-first split f g t (start caps) same))
+
+    all-lawful : AreRates rates → length rates ≡ length functions → IsLawful chain_on_all all_sample (2 ^ limit)
+    all-lawful rated count = lawful chain_on_all all_sample (2 ^ limit) (all-chain rated count) all-reaches all-looks
+
+    -- they are the samples that a plan promises
+    pub all-samples : (past : Words) (o : Outcome) → IsSample caps functions rates limit split past o ↔ (o ≡ all_sample past)
+    all-samples past o = (
+      λ sample. outcome_within-only (ending_at split (function_at functions rates past) caps) limit o sample.least,
+      λ same. subst (λ (p : Outcome). IsSample caps functions rates limit split past p) (sym same)
+          (sample-is caps functions rates limit split past (all_sample past) (function_at-closed caps functions rates past closed)
+          (outcome_within-is (ending_at split (function_at functions rates past) caps) limit)),
+    )
+
+-- the events of a system
+pub system-closed : {E : Type 0} (capacities : E → List ℕ) (function : E → List ℕ → List ℕ) (system : Parts E) → IsSystem capacities system
+    → ((event : E) → IsClosed (capacities event) (function event)) → All (IsClosed system.caps) (map function system.events)
+system-closed capacities function system fit closed =
+    All-map (IsClosed system.caps) function system.events
+    (λ k d small. subst (λ (caps : List ℕ). IsClosed caps (function (slice_index_or system.events k d))) (fit.same_caps k d small) (closed (slice_index_or system.events k d)))
+
+pub system-lawful : {E : Type 0} (capacities : E → List ℕ) (function : E → List ℕ → List ℕ) (system : Parts E) → IsSystem capacities system
+    → ((event : E) → IsClosed (capacities event) (function event)) → IsLawful (chain_of function system) (sample_of function system) (2 ^ system.limit)
+system-lawful capacities function system fit closed =
+    all-lawful system.caps (map function system.events) system.rates (system-closed capacities function system fit closed) system.split system.limit
+    fit.rated (fit.same_count ∙ sym (length-map system.events function))
+
+-- and those of a network
+pub network-closed : (net : Network) → IsNetwork net → All (IsClosed (caps_of net)) (functions_of net)
+network-closed net kept =
+    All-map (IsClosed (caps_of net)) (λ e. do_kind (caps_of net) e.kind) net.events
+    (λ k d small. (let is : IsAccepted (caps_of net) (slice_index_or net.events k d).kind = kept.kinds k d small in
+    kind-closed (caps_of net) (slice_index_or net.events k d).kind (capacities_kept net.queues kept.queues) is.named is.accepted))
+
+pub network-lawful : (net : Network) → IsNetwork net → IsLawful (network_chain net) (network_sample net) (2 ^ net.limit)
+network-lawful net kept =
+    all-lawful (caps_of net) (functions_of net) (rates_of net) (network-closed net kept) net.split net.limit kept.rates
+    (length-map net.events (λ e. e.rate) ∙ sym (length-map net.events (λ e. do_kind (caps_of net) e.kind)))

@@ -1,0 +1,152 @@
+-- The definitions on small inputs, worked out by hand and computed by the checker. The modulus of each network is 4, so pasts are
+-- counted of the words below 4.
+use Rattle.std.proofs.Common.{◌≡◌, ℕ, ◌*◌, List, [], ◌∷◌, map, slice_index, nat_eq, inl, inr, ap, sym, ◌∙◌, refl, arith}
+use Rattle.std.specs.Prelude.{codes}
+use Rattle.psi_state.specs.declared.Outcome.{Outcome}
+use Rattle.psi_state.specs.Members.{In}
+use Rattle.psi_route.specs.declared.Full.{Full}
+use Rattle.psi_route.specs.declared.Full.TheVariants.{Lost, Stay}
+use Rattle.psi_kinds.specs.declared.kinds.Kind.{Kind}
+use Rattle.psi_kinds.specs.declared.kinds.Kind.TheVariants.{Arrival, Service}
+use Rattle.psi_kinds.specs.declared.moves.Move.{Move}
+use Rattle.psi_kinds.specs.Kinds.{do_kind}
+use Rattle.psi_kinds.specs.Moves.{moved}
+use Rattle.psi_rate.specs.Rates.{total, least_power, event_of}
+use Rattle.psi_rate.specs.Doubling.{first_answer}
+use Rattle.psi_rate.specs.Outcomes.{outcome_within}
+use Rattle.psi_region.specs.Region.{step}
+use Rattle.psi_closed.specs.Closed.{total_states, all_arcs, held_states, closed_run}
+use Rattle.psi_network.specs.Network.{Network}
+use Rattle.psi_network.specs.declared.entries.Queue.{Queue}
+use Rattle.psi_network.specs.declared.entries.NamedEvent.{NamedEvent}
+use Rattle.psi_law.specs.Counting.{Words, sum_below, count_below, sum_pasts, count_pasts}
+use Rattle.psi_law.specs.Chains.{Chain, is_same, end_of, whole, weighted, flow_to, IsBalanced}
+use Rattle.psi_law.specs.Samples.{is_met_in, is_unmet, value_met, are_apart}
+use Rattle.psi_law.specs.Networks.{network_chain, network_sample, closed_chain, closed_sample}
+
+-- ---- weights that balance
+
+abbrev tail : List ℕ → List ℕ
+tail [] = []
+tail (n ∷ ns) = ns
+
+-- lists of values that are the same have the same value at each member
+same-map : {A : Type 0} (f g : A → ℕ) (xs : List A) (y : A) → map f xs ≡ map g xs → In y xs → f y ≡ g y
+same-map f g [] y same member = absurd member
+same-map f g (x ∷ xs) y same member = elim member [
+  | inl here ↦ ap f here ∙ (ap (λ (ns : List ℕ). slice_index ns 0) same ∙ ap g (sym here))
+  | inr there ↦ same-map f g xs y (ap (λ (ns : List ℕ). tail ns) same) there
+]
+
+-- so weights balance where two lists of numbers are the same
+balanced-by : (chain : Chain) (weight : List ℕ → ℕ) → map (flow_to chain weight) chain.states ≡ map (λ y. total chain.rates * weight y) chain.states → IsBalanced chain weight
+balanced-by chain weight same = record {
+  each = λ y member. same-map (flow_to chain weight) (λ z. total chain.rates * weight z) chain.states y same member;
+}
+
+abbrev queue : ℕ → Queue
+queue room = record { name = codes "a"; capacity = room; servers = 1 }
+
+abbrev event : ℕ → Kind → NamedEvent
+event rate kind = record { name = codes "e"; server = 1; rate = rate; kind = kind }
+
+-- a customer is served at a queue with these queues to go to
+abbrev served : ℕ → List ℕ → Full → Kind
+served q to full = Service (record { queue = q; k = 1 }) to full
+
+-- `first.toml` with this limit: one queue with room for two, which customers join at the rate 1 and leave at the rate 2
+abbrev first : ℕ → Network
+first limit = record { queues = queue 2 ∷ []; events = event 1 (Arrival (0 ∷ [])) ∷ event 2 (served 0 [] Lost) ∷ []; limit = limit; split = 256; rewards = [] }
+
+-- its states weigh 4, 2 and 1
+abbrev halves : List ℕ → ℕ
+halves x = slice_index (4 ∷ 2 ∷ 1 ∷ []) (slice_index x 0)
+
+first-balanced : IsBalanced (network_chain (first 18)) halves
+unfolding sum_below do_kind
+first-balanced = balanced-by (network_chain (first 18)) halves refl
+
+-- and not 4, 2 and 2
+abbrev wrong : List ℕ → ℕ
+wrong x = slice_index (4 ∷ 2 ∷ 2 ∷ []) (slice_index x 0)
+
+first-wrong : IsBalanced (network_chain (first 18)) wrong → ⊥
+unfolding sum_below do_kind
+first-wrong balanced = (let at : 8 ≡ 6 = balanced.each (1 ∷ []) (inr (inl refl)) in absurd (omega (arith, at)))
+
+-- two queues with room for two and one, which customers join at the rate 1 each, leave at the rates 2 and 4, and change at the rates 1 and 2 where the other has room:
+-- the weights are products of 4, 2, 1 and of 4, 1
+abbrev two : Network
+two = record {
+  queues = queue 2 ∷ queue 1 ∷ [];
+  events = event 1 (Arrival (0 ∷ [])) ∷ event 2 (served 0 [] Lost) ∷ event 1 (Arrival (1 ∷ [])) ∷ event 4 (served 1 [] Lost)
+      ∷ event 1 (served 0 (1 ∷ []) Stay) ∷ event 2 (served 1 (0 ∷ []) Stay) ∷ [];
+  limit = 18;
+  split = 256;
+  rewards = [];
+}
+
+abbrev products : List ℕ → ℕ
+products x = slice_index (4 ∷ 2 ∷ 1 ∷ []) (slice_index x 0) * slice_index (4 ∷ 1 ∷ []) (slice_index x 1)
+
+two-balanced : IsBalanced (network_chain two) products
+unfolding sum_below do_kind
+two-balanced = balanced-by (network_chain two) products refl
+
+-- two customers who go round two queues, from the first at the rate 1 and from the second at the rate 3: the states weigh 1, 3 and 9, by those in the first (Gordon and Newell 1967)
+abbrev round : List Move
+round = record { from = 0; k = 1; to = 1 } ∷ record { from = 1; k = 1; to = 0 } ∷ []
+
+abbrev threes : List ℕ → ℕ
+threes x = slice_index (1 ∷ 3 ∷ 9 ∷ []) (slice_index x 0)
+
+round-balanced : IsBalanced (closed_chain (2 ∷ 2 ∷ []) 2 round (1 ∷ 3 ∷ [])) threes
+unfolding sum_below moved total_states
+round-balanced = balanced-by (closed_chain (2 ∷ 2 ∷ []) 2 round (1 ∷ 3 ∷ [])) threes refl
+
+-- ---- words and pasts
+
+-- of the words below 4 one brings a customer, two serve one, and one is idle
+words-counted : map (λ e. count_below 4 (λ word. nat_eq (event_of (1 ∷ 2 ∷ []) word) e)) (0 ∷ 1 ∷ 2 ∷ []) ≡ 1 ∷ 2 ∷ 1 ∷ []
+unfolding sum_below event_of least_power
+words-counted = refl
+
+-- the pasts of one word that lead from each state to each
+abbrev between : List ℕ → List ℕ
+between x = map (λ y. count_pasts 4 1 (λ past. is_same (end_of (network_chain (first 18)) past 1 x) y)) (network_chain (first 18)).states
+
+between-counted : map between (network_chain (first 18)).states ≡ (3 ∷ 1 ∷ 0 ∷ []) ∷ (2 ∷ 1 ∷ 1 ∷ []) ∷ (0 ∷ 2 ∷ 2 ∷ []) ∷ []
+unfolding sum_below do_kind event_of least_power
+between-counted = refl
+
+-- the pasts of one, two and four words after which not all states have met
+apart-counted : map (λ n. count_pasts 4 n (are_apart (network_chain (first 18)) n)) (1 ∷ 2 ∷ 4 ∷ []) ≡ 4 ∷ 11 ∷ 69 ∷ []
+unfolding sum_below do_kind event_of least_power
+apart-counted = refl
+
+-- ---- samples
+
+-- how many pasts of n words give a sample that is met in each state of the list, and how many give none
+abbrev tally : (Words → Outcome) → ℕ → List (List ℕ) → List ℕ
+tally sample n states = count_pasts 4 n (λ past. is_unmet (sample past)) ∷ map (λ s. count_pasts 4 n (λ past. is_met_in s (sample past))) states
+
+two-words : tally (network_sample (first 1)) 2 (network_chain (first 1)).states ≡ 11 ∷ 4 ∷ 0 ∷ 1 ∷ []
+unfolding sum_below do_kind event_of least_power outcome_within first_answer step
+two-words = refl
+
+four-words : tally (network_sample (first 2)) 4 (network_chain (first 2)).states ≡ 69 ∷ 116 ∷ 42 ∷ 29 ∷ []
+unfolding sum_below do_kind event_of least_power outcome_within first_answer step
+four-words = refl
+
+-- the customers of these samples, 42 of one and 29 of two, beside a mean of 4 parts of 7
+four-sum : sum_pasts 4 4 (λ past. value_met (λ x. slice_index x 0) (network_sample (first 2) past)) ≡ 100
+unfolding sum_below do_kind event_of least_power outcome_within first_answer step
+four-sum = refl
+
+mean-weighed : (weighted (network_chain (first 2)) halves (λ x. slice_index x 0) ≡ 4) × (whole (network_chain (first 2)) halves ≡ 7)
+mean-weighed = (refl, refl)
+
+-- and of the closed network
+closed-words : tally (closed_sample (2 ∷ 2 ∷ []) 2 round (1 ∷ 3 ∷ []) 1) 2 (total_states (2 ∷ 2 ∷ []) 2) ≡ 6 ∷ 1 ∷ 0 ∷ 9 ∷ []
+unfolding sum_below moved total_states all_arcs held_states closed_run event_of least_power outcome_within first_answer
+closed-words = refl

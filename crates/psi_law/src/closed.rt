@@ -1,0 +1,55 @@
+//! The law of samples of a closed network, over the states of its total.
+
+ghost use Rattle.std.specs.Prelude.{◌≡◌, ◌^◌, ◌↔◌, length, All, IsSome};
+ghost use Rattle.psi_state.specs.declared.Outcome.{Outcome};
+ghost use Rattle.psi_kinds.specs.Moves.{move_of};
+ghost use Rattle.psi_rate.specs.Composition.{function_at};
+ghost use Rattle.psi_closed.specs.Diagram.{IsTotal};
+ghost use Rattle.psi_closed.specs.Planned.{AreMoves, IsClosedSample};
+ghost use Rattle.psi_closed.specs.Planned.{functions_of as moves_by_time};
+ghost use Rattle.psi_network.specs.Network.{caps_of, rates_of, functions_of};
+ghost use Rattle.psi_law.specs.Counting.{Words};
+ghost use Rattle.psi_law.specs.Networks.{closed_chain, closed_sample, network_total_chain, network_total_sample};
+ghost use Rattle.psi_law.specs.Statements.{BalanceStays, BalanceIsLaw, ApartFalls, BalanceIsOne, BalanceIsMean, LooksAtFirst};
+
+use psi_kinds::Move;
+use psi_network::Net;
+use psi_rate::Wheel;
+use psi_state::State;
+
+/// The law of the samples that `ClosedPlan::sample` answers, of what a closed plan is made of.
+///
+/// It is what `law_of_samples` says of a system, over the states that hold `total` customers in the place of all states.
+pub fn law_of_closed_samples(caps: State, moves: &[Move], wheel: &Wheel, limit: u8, total: u16)
+    requires fits { IsTotal caps total }
+    requires moves { AreMoves caps moves.now }
+    requires same_count { length moves.now ≡ length wheel.now }
+    ensures balance { BalanceStays (closed_chain caps total moves.now wheel.now) }
+    ensures law { BalanceIsLaw (closed_chain caps total moves.now wheel.now) (closed_sample caps total moves.now wheel.now limit) (2 ^ limit) }
+    ensures falls { ApartFalls (closed_chain caps total moves.now wheel.now) }
+    ensures one { BalanceIsOne (closed_chain caps total moves.now wheel.now) }
+    ensures mean { BalanceIsMean (closed_chain caps total moves.now wheel.now) (closed_sample caps total moves.now wheel.now limit) (2 ^ limit) }
+    ensures sample { (past : Words) (outcome : Outcome) → IsClosedSample caps total (moves_by_time caps moves.now wheel.now past) limit outcome
+        ↔ (outcome ≡ closed_sample caps total moves.now wheel.now limit past) }
+    ensures words { LooksAtFirst (closed_sample caps total moves.now wheel.now limit) (2 ^ limit) }
+{
+    // Called for its clause: the rates make a wheel.
+    let _events = wheel.events();
+}
+
+/// The same of the samples that the command `closed` prints of a network, each of whose events is a move.
+pub fn law_of_closed_network(net: &Net, total: u16)
+    requires fits { IsTotal (caps_of net.now) total }
+    requires moves { All (λ event. IsSome (move_of event.kind)) net.now.events }
+    ensures balance { BalanceStays (network_total_chain net.now total) }
+    ensures law { BalanceIsLaw (network_total_chain net.now total) (network_total_sample net.now total) (2 ^ net.now.limit) }
+    ensures falls { ApartFalls (network_total_chain net.now total) }
+    ensures one { BalanceIsOne (network_total_chain net.now total) }
+    ensures mean { BalanceIsMean (network_total_chain net.now total) (network_total_sample net.now total) (2 ^ net.now.limit) }
+    ensures sample { (past : Words) (outcome : Outcome) → IsClosedSample (caps_of net.now) total (function_at (functions_of net.now) (rates_of net.now) past) net.now.limit outcome
+        ↔ (outcome ≡ network_total_sample net.now total past) }
+    ensures words { LooksAtFirst (network_total_sample net.now total) (2 ^ net.now.limit) }
+{
+    // Called for its clause: the network is one that can be sampled.
+    let _queues = net.queues();
+}
