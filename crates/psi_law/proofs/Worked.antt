@@ -1,7 +1,8 @@
 -- The definitions on small inputs, worked out by hand and computed by the checker. The modulus of each network is 4, so pasts are
 -- counted of the words below 4.
-use Rattle.std.proofs.Common.{◌≡◌, ℕ, ◌*◌, List, [], ◌∷◌, map, slice_index, nat_eq, inl, inr, ap, sym, ◌∙◌, refl, arith}
+use Rattle.std.proofs.Common.{◌≡◌, ℕ, zero, suc, ◌<◌, ◌≤◌, ◌^◌, ◌*◌, List, [], ◌∷◌, map, slice_index, nat_eq, inl, inr, ap, sym, ◌∙◌, refl, arith}
 use Rattle.std.specs.Prelude.{codes}
+use Rattle.std.proofs.lemmas.List.Elements.{All-nil, All-cons}
 use Rattle.psi_state.specs.declared.Outcome.{Outcome}
 use Rattle.psi_state.specs.Members.{In}
 use Rattle.psi_route.specs.declared.Full.{Full}
@@ -11,18 +12,21 @@ use Rattle.psi_kinds.specs.declared.kinds.Kind.TheVariants.{Arrival, Service}
 use Rattle.psi_kinds.specs.declared.moves.Move.{Move}
 use Rattle.psi_kinds.specs.Kinds.{do_kind}
 use Rattle.psi_kinds.specs.Moves.{moved}
+use Rattle.psi_kinds.specs.Refusals.{refusal_of}
 use Rattle.psi_rate.specs.Rates.{total, least_power, event_of}
 use Rattle.psi_rate.specs.Doubling.{first_answer}
 use Rattle.psi_rate.specs.Outcomes.{outcome_within}
 use Rattle.psi_region.specs.Region.{step}
 use Rattle.psi_closed.specs.Closed.{total_states, all_arcs, held_states, closed_run}
 use Rattle.psi_network.specs.Network.{Network}
+use Rattle.psi_network.specs.Valid.{IsNetwork, IsQueue, IsAccepted}
 use Rattle.psi_network.specs.declared.entries.Queue.{Queue}
 use Rattle.psi_network.specs.declared.entries.NamedEvent.{NamedEvent}
 use Rattle.psi_law.specs.Counting.{Words, sum_below, count_below, sum_pasts, count_pasts}
 use Rattle.psi_law.specs.Chains.{Chain, is_same, end_of, whole, weighted, flow_to, IsBalanced}
-use Rattle.psi_law.specs.Samples.{is_met_in, is_unmet, value_met, are_apart}
+use Rattle.psi_law.specs.Samples.{HasLaw, is_met_in, is_unmet, value_met, are_apart}
 use Rattle.psi_law.specs.Networks.{network_chain, network_sample, closed_chain, closed_sample}
+use Rattle.psi_law.proofs.NetworkLemmas.{network-lawful}
 
 -- ---- weights that balance
 
@@ -65,6 +69,47 @@ halves x = slice_index (4 ∷ 2 ∷ 1 ∷ []) (slice_index x 0)
 first-balanced : IsBalanced (network_chain (first 18)) halves
 unfolding sum_below do_kind
 first-balanced = balanced-by (network_chain (first 18)) halves refl
+
+-- it is a network, whatever the limit is, so its samples have the law of these weights
+first-rate : (i : ℕ) → i < 2 → (1 ≤ slice_index (1 ∷ 2 ∷ []) i) × (slice_index (1 ∷ 2 ∷ []) i ≤ 2)
+first-rate zero small = (omega arith, omega arith)
+first-rate (suc zero) small = (omega arith, omega arith)
+first-rate (suc (suc i)) small = absurd (omega arith)
+
+first-queue : (i : ℕ) → i < 1 → slice_index (0 ∷ []) i ≡ 0
+first-queue zero small = refl
+first-queue (suc i) small = absurd (omega arith)
+
+first-kept : (limit : ℕ) → limit ≤ 22 → IsNetwork (first limit)
+unfolding refusal_of
+first-kept limit most = record {
+  queues = record {
+    some = omega arith;
+    few = omega arith;
+    each = All-cons IsQueue (queue 2) [] (record { some = omega arith; most = omega arith; served = omega arith; servers = omega arith; fits = omega arith }) (All-nil IsQueue);
+  };
+  rates = record {
+    some = omega arith;
+    few = omega arith;
+    least = λ i small. (first-rate i small).0;
+    most = λ i small. (let two = (first-rate i small).1 in omega arith);
+    bounded = omega arith;
+  };
+  kinds =
+      All-cons (λ e. IsAccepted (2 ∷ []) e.kind) (event 1 (Arrival (0 ∷ []))) (event 2 (served 0 [] Lost) ∷ [])
+      (record { named = λ i small. (let first = first-queue i small in omega arith); accepted = refl })
+      (All-cons (λ e. IsAccepted (2 ∷ []) e.kind) (event 2 (served 0 [] Lost)) []
+      (record { named = (record { queue = omega arith; least = omega arith; most = omega arith }, λ i small. absurd (omega arith)); accepted = refl })
+      (All-nil (λ e. IsAccepted (2 ∷ []) e.kind)));
+  limit = most;
+  some_split = omega arith;
+  most_split = omega arith;
+  few_rewards = omega arith;
+}
+
+first-law : (limit : ℕ) → limit ≤ 22 → HasLaw (network_sample (first limit)) (2 ^ limit) (network_chain (first limit)) halves
+unfolding sum_below do_kind
+first-law limit most = (network-lawful (first limit) (first-kept limit most)).law halves (balanced-by (network_chain (first limit)) halves refl)
 
 -- and not 4, 2 and 2
 abbrev wrong : List ℕ → ℕ
