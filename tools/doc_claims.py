@@ -352,7 +352,7 @@ def claim_tour(document, clone):
         document.hold(int(step) == number, f"the step {step} stands where {number} should")
     for claim in (
         claim_forward, claim_doubling, claim_certificate, claim_envelopes, claim_splitting,
-        claim_exact, claim_never, claim_closed,
+        claim_exact, claim_never, claim_closed, claim_law,
     ):
         claim(document, clone)
     help_call = "tools/psi-plot -h"
@@ -575,6 +575,40 @@ def claim_closed(document, clone):
         pairs = zip(means, (queue.mean for queue in report.queues))
         values = [f"{value:.3f}" for value in itertools.chain.from_iterable(pairs)]
         document.claim(f"| {total} | {' | '.join(values)} |")
+
+
+def claim_law(document, clone):
+    """9. Why the states come as often as they should."""
+    net = tomllib.loads(text_of(clone, "examples/first.toml"))
+    room, (rate, service) = net["queue"][0]["capacity"], [one["rate"] for one in net["event"]]
+    document.claim(
+        f"is a queue with {NUMBERS[room]} places, at which customers come at rate {rate} and are "
+        f"served at rate {service}."
+    )
+    empty, one, full = weights = [service ** (room - at) * rate**at for at in range(room + 1)]
+    document.claim(f"Give the states 0, 1 and {room} the weights {empty}, {one} and {full}.")
+    flow = rate * empty + service * full
+    document.hold(flow == (rate + service) * one, f"the weights {weights} don't balance")
+    document.claim(
+        f"To state 1 arrivals lead {rate} * {empty} from state 0, and services {service} * {full} "
+        f"from state {room}, together {flow}; and what leaves it is ({rate} + {service}) * {one}, "
+        "the same."
+    )
+    document.claim(
+        "and in the long run the states have "
+        f"{empty}, {one} and {full} parts of {sum(weights)}."
+    )
+    report = report_of(said(document, clone, "./psi report states.toml 0 0 65536"))
+    samples = report["samples", "-"]
+    document.claim(f"Now sample {samples:,} streams, with a reward for each state")
+    document.claim(f"Its part of {samples:,} | Samples |")
+    counts = [report["reward-sum", name] for name in ("empty", "one", "full")]
+    document.hold(sum(counts) == report["met", "-"] == samples, f"other samples: {counts}")
+    rows = [
+        (str(at), str(weight), f"{samples * weight / sum(weights):,.0f}", f"{count:,}")
+        for at, (weight, count) in enumerate(zip(weights, counts))
+    ]
+    document.claim_rows(f"| State | Weight | Its part of {samples:,} | Samples |", rows)
 
 
 CLAIMS = {"README.md": claim_readme, "docs/TOUR.md": claim_tour}

@@ -39,7 +39,7 @@ The gallery of networks; where a text says
 this folder is meant.
 .TP
 .I /usr/share/doc/psi-sampler
-README.md and docs, whose TOUR.md is a tour in eight steps.
+README.md and docs, whose TOUR.md is a tour in nine steps.
 """
 
 
