@@ -8,7 +8,7 @@ use Rattle.psi_rate.specs.Composition.{function_at, compose}
 use Rattle.psi_law.specs.Counting.{Words, sum_below, count_pasts}
 use Rattle.psi_law.specs.Wheel.{word_count}
 
--- the functions of events, their rates, and the states: the Markov chain in continuous time whose events come with these rates (its random mapping, Levin, Peres and Wilmer 2009)
+-- the functions of events, their rates, and the states: the Markov chain in continuous time whose events come with these rates, by a random mapping (Levin, Peres and Wilmer 2009)
 pub record Chain : Type 0 where
   pub functions : List (List ℕ → List ℕ)
   pub rates : List ℕ
@@ -48,7 +48,7 @@ module _ (chain : Chain) (weight : List ℕ → ℕ) where
   abbrev pub flow_to : List ℕ → ℕ
   flow_to y = sum_below (length chain.rates) (λ e. slice_index chain.rates e * weight_to (function_of chain e) y)
 
-  -- the weights balance: the equations of the stationary law of the chain
+  -- the weights balance: at each state, what the events lead to it is what they lead away; the equations of the stationary law (Levin, Peres and Wilmer 2009)
   pub record IsBalanced : Type 0 where
     pub each : (y : List ℕ) → In y chain.states → flow_to y ≡ total chain.rates * weight y
 

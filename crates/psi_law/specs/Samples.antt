@@ -43,12 +43,12 @@ module _ (sample : Words → Outcome) (n : ℕ) where
     pub least : (s : List ℕ) → In s chain.states → whole chain weight * met_in s ≤ weight s * word_count ^ n
     pub most : (s : List ℕ) → In s chain.states → weight s * word_count ^ n ≤ whole chain weight * (met_in s + unmet)
 
-  -- the mean of a value by the weights is that over the pasts, with a value between low and high for each past whose sample isn't met
+  -- the mean of a value by the weights is that over the pasts, with a value from low to high for each past whose sample isn't met
   pub record HasMean (chain : Chain) (weight value : List ℕ → ℕ) (low high : ℕ) : Type 0 where
     pub least : whole chain weight * (sum_met value + low * unmet) ≤ weighted chain weight value * word_count ^ n
     pub most : weighted chain weight value * word_count ^ n ≤ whole chain weight * (sum_met value + high * unmet)
 
--- whether the runs from all states of a chain, n steps before time zero, end in more than one
+-- whether the runs from all states of a chain, n steps before time zero, end in more than one: they haven't coalesced (Propp and Wilson 1996)
 abbrev pub are_apart : Chain → ℕ → Words → Bool
 are_apart chain n past = is_none (meeting_from (function_at chain.functions chain.rates past) chain.states n)
 

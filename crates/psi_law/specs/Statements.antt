@@ -12,17 +12,17 @@ module _ (chain : Chain) where
   abbrev pub BalanceStays : Type 0
   BalanceStays = (weight : List ℕ → ℕ) → IsBalanced chain weight → IsStationary chain weight
 
-  -- of n + k words at most the product of those of n and of k words leave states apart, so their part falls at least like a power
+  -- of the pasts of n + k words, at most the product of those of n and of k words leave states apart: their part falls at least like a power (Propp and Wilson 1996)
   abbrev pub ApartFalls : Type 0
   ApartFalls = (n k : ℕ) → apart chain (n + k) ≤ apart chain n * apart chain k
 
-  -- where some past of n words couples, weights that balance have the same parts
+  -- where some past of n words couples, weights that balance are one but for a factor
   abbrev pub BalanceIsOne : Type 0
   BalanceIsOne = (weight other : List ℕ → ℕ) (n : ℕ) → IsBalanced chain weight → IsBalanced chain other → apart chain n < word_count ^ n
       → (s : List ℕ) → In s chain.states → weight s * whole chain other ≡ other s * whole chain weight
 
   module _ (sample : Words → Outcome) (n : ℕ) where
-    -- the samples have the law of weights that balance
+    -- the samples have the law of weights that balance (Propp and Wilson 1996)
     abbrev pub BalanceIsLaw : Type 0
     BalanceIsLaw = (weight : List ℕ → ℕ) → IsBalanced chain weight → HasLaw sample n chain weight
 

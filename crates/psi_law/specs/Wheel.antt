@@ -11,7 +11,7 @@ word_count = 2 ^ 32
 abbrev pub words_for : List ℕ → ℕ → ℕ
 words_for rates e = count_below word_count (λ word. nat_eq (event_of rates word) e)
 
--- of the modulus, each event has its rate and idle the rest, and of all words they have the same parts
+-- of the modulus each event has its rate, and idle has the rest; of all words they have the same parts
 pub record IsExact (rates : List ℕ) : Type 0 where
   pub each : (e : ℕ) → e < length rates → words_for rates e * least_power (total rates) ≡ slice_index rates e * word_count
   pub idle : words_for rates (length rates) * least_power (total rates) ≡ (least_power (total rates) - total rates) * word_count
