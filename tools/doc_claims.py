@@ -9,9 +9,9 @@ import re
 import tomllib
 
 import mean_values
-from plotting.read_exact import read_exact
-from plotting.read_log import read_log
-from plotting.read_report import read_report
+from psi_tools.plotting.read_exact import read_exact
+from psi_tools.plotting.read_log import read_log
+from psi_tools.plotting.read_report import read_report
 
 # Commands that don't end with 0, but for those that print 'not coupled' or 'not constant'.
 STATUSES = {"./psi exact examples/central-server.toml 0 0 11 >central.txt": 1}

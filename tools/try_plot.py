@@ -28,11 +28,12 @@ import matplotlib.backends.backend_agg
 import matplotlib.legend
 import matplotlib.text
 
+import packaged  # noqa: F401
 from plot_inputs import EXACT, REPORT, SMALL_LOG, broken_inputs, exact_of, report_of, wide_log
-from plotting import draw_coupling, draw_exact, draw_report, style
-from plotting.read_exact import read_exact
-from plotting.read_log import names_of, read_log
-from plotting.read_report import read_report
+from psi_tools.plotting import draw_coupling, draw_exact, draw_report, style
+from psi_tools.plotting.read_exact import read_exact
+from psi_tools.plotting.read_log import names_of, read_log
+from psi_tools.plotting.read_report import read_report
 
 TOOLS = pathlib.Path(__file__).resolve().parent
 TOP = TOOLS.parent

@@ -3,7 +3,7 @@
 import matplotlib.patches
 import matplotlib.ticker
 
-from plotting import style
+from psi_tools.plotting import style
 
 # Each report has a colour, and a hatch and a mark for those who can't tell colours.
 COLOURS = (
@@ -175,10 +175,22 @@ def draw_spread(axes, k, spread, y, place):
     line.set_solid_capstyle("butt")
     (mark,) = axes.plot([place(spread.mean)], [y], MARKS[k], color=COLOURS[k], ms=5, mec="white")
     mark.set(markeredgewidth=0.5, zorder=4)
+    half = draw_interval(axes, k, spread, y, place)
     line.set_gid(f"spread-{k}-{spread.name}")
     mark.set_gid(f"mean-{k}-{spread.name}")
     ends = f"{style.whole(spread.least)} to {style.whole(spread.greatest)}"
-    put(axes, 1.015, y, f"{style.mean(spread.mean)} ({ends})", "left", 6.5)
+    put(axes, 1.015, y, f"{style.mean(spread.mean)}{half} ({ends})", "left", 6.5)
+
+
+def draw_interval(axes, k, spread, y, place):
+    """A box over the interval of the mean, where there is one, and half of it as text."""
+    if spread.interval is None:
+        return ""
+    low, high = spread.interval
+    (box,) = axes.plot([place(low), place(high)], [y, y], color=COLOURS[k], lw=5, alpha=0.45)
+    box.set_solid_capstyle("butt")
+    box.set_gid(f"interval-{k}-{spread.name}")
+    return f" ± {(high - low) / 2:.2g}"
 
 
 def put(axes, x, y, text, side, size, va="center"):

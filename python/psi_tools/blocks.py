@@ -1,4 +1,4 @@
-"""The blocks of streams that psi-many draws, and the folder in which finished ones are kept."""
+"""The blocks of streams that psi-many and psi-sweep draw, and the folder that keeps finished ones."""
 
 import collections
 import fcntl
@@ -7,21 +7,18 @@ import os
 import pathlib
 import re
 
+from psi_tools.networks import Network
+from psi_tools.told import Told
+
 MOST_BLOCKS = 1_048_576
+# So many blocks are made at least, while there are streams: as many values as an interval asks for.
+LEAST_BLOCKS = 20
 FILE = re.compile(r"([0-9]{7,})\.([0-9a-f]{16})\.csv")
 REPORT = re.compile(
     rb"item,name,value\nsamples,-,(\d+)\nmet,-,(\d+)\nuncoupled,-,(\d+)\n((?:horizon,\d+,\d+\n)*)"
     rb"((?:sum,[\w-]+,-?\d+\n(?:least,[\w-]+,-?\d+\ngreatest,[\w-]+,-?\d+\n)?)+"
     rb"(?:reward-sum,[\w-]+,-?\d+\n(?:reward-(?:least|greatest),[\w-]+,-?\d+\n){0,2})*)"
 )
-
-
-class Told(Exception):
-    """What ends the program: a line, and the exit status."""
-
-    def __init__(self, line, status=2):
-        super().__init__(line)
-        self.status = status
 
 
 # The streams of one call of `psi report`.
@@ -94,7 +91,10 @@ class Folder:
         self.read_bound()
         if size:
             wanted["block"] = size
-        for key, value in wanted.items():
+        for key in {**wanted, "closed": None, **wanted}:
+            value = wanted.get(key)
+            if value is None and self.bound.get(key) is None:
+                continue
             if str(value) != self.bound.get(key):
                 other = f"{key} {self.bound.get(key)}, not {value}"
                 raise Told(f"the blocks in {self.path} are of another call: {other}")
@@ -108,8 +108,15 @@ class Folder:
         try:
             keys = ("seed", "first", "count", "block")
             self.seed, self.first, self.count, self.size = (int(self.bound[key]) for key in keys)
+            self.total = int(self.bound["closed"]) if "closed" in self.bound else None
         except (KeyError, ValueError):
             raise Told(f"{self.path / 'bound'} isn't as psi-many wrote it") from None
+
+    def network(self):
+        """The network, as its copy says it."""
+        if not hasattr(self, "read"):
+            self.read = Network.read(self.net)
+        return self.read
 
     def all_blocks(self):
         return [self.block(number) for number in range(-(-self.count // self.size))]

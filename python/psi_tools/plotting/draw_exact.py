@@ -4,7 +4,7 @@ import textwrap
 
 import matplotlib.ticker
 
-from plotting import style
+from psi_tools.plotting import style
 
 LABEL_WIDTH = 48
 

@@ -3,7 +3,7 @@
 import dataclasses
 import re
 
-from plotting.refused import Refused, need
+from psi_tools.plotting.refused import Refused, need
 
 RECORD = re.compile(r"([a-z-]+),([A-Za-z0-9_-]{1,32}),(0|-?[1-9][0-9]{0,39})")
 
@@ -11,12 +11,13 @@ RECORD = re.compile(r"([a-z-]+),([A-Za-z0-9_-]{1,32}),(0|-?[1-9][0-9]{0,39})")
 @dataclasses.dataclass
 class Spread:
     """A queue or a reward: the mean over the samples that are met, and the extremes; none of them
-    where no sample is."""
+    where no sample is. The interval of the mean is there where batches tell it."""
 
     name: str
     mean: float | None
     least: int | None
     greatest: int | None
+    interval: tuple[float, float] | None = None
 
 
 @dataclasses.dataclass

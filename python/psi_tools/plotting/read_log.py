@@ -12,8 +12,8 @@ import enum
 import itertools
 import tomllib
 
-import check_log
-from plotting.refused import Refused, need
+from psi_tools import check_log
+from psi_tools.plotting.refused import Refused, need
 
 # How many times a picture shows side by side, over all its columns of queues, and how many shades
 # it has one above the other.

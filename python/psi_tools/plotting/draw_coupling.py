@@ -7,8 +7,8 @@ import matplotlib.patches
 import matplotlib.ticker
 import numpy
 
-from plotting import style
-from plotting.read_log import MOST_SHADES, Kind, columns_of
+from psi_tools.plotting import style
+from psi_tools.plotting.read_log import MOST_SHADES, Kind, columns_of
 
 COLOURS = {Kind.BOX: style.SKY, Kind.SET: style.BLUE, Kind.ONE: style.VERMILION}
 SAID = {

@@ -1,7 +1,9 @@
 """What is told of an input that can't be drawn."""
 
+from psi_tools.told import Told
 
-class Refused(Exception):
+
+class Refused(Told):
     """An input isn't what it should be; the text says why, in one line."""
 
 

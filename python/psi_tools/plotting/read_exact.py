@@ -3,7 +3,7 @@
 import dataclasses
 import re
 
-from plotting.refused import Refused, need
+from psi_tools.plotting.refused import Refused, need
 
 NUMBER = "[1-9][0-9]{0,4}"
 STATES, IMAGE = re.compile(f"states ({NUMBER})"), re.compile(f"image ({NUMBER}) ({NUMBER})")

@@ -1,0 +1,133 @@
+"""psi-plot: draws what psi prints, as pictures for a lecture or a page."""
+
+import importlib
+import os
+
+from psi_tools.batches import interval_or_none, read_folder
+from psi_tools.intervals import LEAST_BATCHES
+from psi_tools.plotting.read_exact import read_exact
+from psi_tools.plotting.read_log import names_of, read_log
+from psi_tools.plotting.read_report import Report, Spread, read_report
+from psi_tools.plotting.refused import Refused, need
+from psi_tools.words import Words, run, tell
+
+COMMAND = "psi-plot"
+# The most bytes that are read of a file: one more than a log may have.
+LONGEST, MOST_REPORTS, FORMATS = 33_554_433, 8, ("svg", "png", "pdf")
+ABOUT = """Draws what psi prints, as pictures for a lecture or a page.
+
+psi-plot coupling LOG [NET] -o FILE    a log of `psi sample NET SEED STREAM log`: where all states
+                                       may be, until one is left; NET is a network file, whose names
+                                       the queues get
+psi-plot report CSV.. -o FILE          reports of `psi report`, at most eight, side by side; of a
+                                       folder of psi-many the 95 % intervals of the means, too
+psi-plot exact TEXT -o FILE            what `psi exact` prints: how the image of all states shrinks
+
+The exit status is 0 where the picture is drawn; 2 where a word or an input isn't what it should be,
+as one line on standard error tells; 1 where the picture can't be drawn or written."""
+
+
+def reader():
+    """The reader of the words."""
+    words = Words(COMMAND, ABOUT)
+    words.add_argument(
+        "-o", "--out", metavar="FILE", default="",
+        help="the picture: SVG, PNG or PDF, by the ending of its name",
+    )
+    words.add_argument(
+        "-t", "--title", metavar="TITLE", default="", help="a title in place of the picture's own"
+    )
+    words.add_argument("what", nargs="?", metavar="WHAT", help="coupling, report or exact")
+    words.add_argument("files", nargs="*", metavar="FILE", help="what psi has printed")
+    return words
+
+
+def words_of(arguments):
+    """The words by their meaning."""
+    words = reader().parse_intermixed_args(arguments)
+    need(words.what in DRAWN, f"the first word is one of {', '.join(DRAWN)}")
+    need(words.files, f"{words.what} is told no file")
+    need(words.out.rpartition(".")[2].lower() in FORMATS, "-o names no .svg, .png or .pdf")
+    return words
+
+
+def read(reader_of, path):
+    """What is read of a file; a refusal names it."""
+    try:
+        with open(path, "rb") as file:
+            return reader_of(file.read(LONGEST))
+    except (OSError, ValueError) as fault:
+        said = getattr(fault, "strerror", None) or fault
+        raise Refused(f"{path}: can't be read: {said}") from None
+    except Refused as why:
+        raise Refused(f"{path}: {why}") from None
+
+
+def coupling(path, *net):
+    """The log, named by the network file if there is one."""
+    need(len(net) <= 1, "coupling is told one LOG, and one NET at most")
+    log = read(read_log, path)
+    for file in net:
+        log.names = read(lambda data: names_of(data, log), file)
+    return log
+
+
+def reports(*paths):
+    """The reports, each with the name of its file."""
+    need(len(paths) <= MOST_REPORTS, f"report is told more than {MOST_REPORTS} files")
+    return [(path, report_of(path)) for path in paths]
+
+
+def report_of(path):
+    """The report of a file, or of all blocks of a folder of psi-many, with intervals where there are
+    enough of them."""
+    if not os.path.isdir(path):
+        return read(read_report, path)
+    batches, wanted = read_folder(path)
+    need(len(batches.samples) == wanted, f"{path}: not all of its blocks are finished")
+    horizons = {}
+    for some in batches.horizons:
+        for horizon, count in some.items():
+            horizons[horizon] = horizons.get(horizon, 0) + count
+    has_intervals = wanted >= LEAST_BATCHES
+    spreads = {"": [], "reward-": []}
+    for row in batches.rows:
+        interval = interval_or_none(batches, row) if has_intervals else None
+        mean = batches.mean(row).mean
+        spreads[row.sort].append(Spread(row.name, mean, row.least, row.greatest, interval))
+    horizons = dict(sorted(horizons.items()))
+    return Report(sum(batches.samples), batches.uncoupled, horizons, *spreads.values())
+
+
+def exact(path, *others):
+    """The text of exact."""
+    need(not others, "exact is told more than one file")
+    return read(read_exact, path)
+
+
+# What reads the files of a command, and what draws it: matplotlib is wanted only for that.
+DRAWN = {"coupling": coupling, "report": reports, "exact": exact}
+
+
+def draw(words):
+    """Draws the picture."""
+    found = DRAWN[words.what](*words.files)
+    drawing = importlib.import_module(f"psi_tools.plotting.draw_{words.what}")
+    figure = getattr(drawing, f"draw_{words.what}")(found, words.title)
+    return drawing.style.saved(figure, words.out.rpartition(".")[2].lower())
+
+
+def work(arguments):
+    words = words_of(arguments)
+    picture = draw(words)
+    try:
+        with open(words.out, "wb") as file:
+            file.write(picture)
+    except OSError as fault:
+        tell(COMMAND, f"the picture can't be written: {fault.strerror or fault}")
+        return 1
+    return 0
+
+
+def main(arguments):
+    return run(COMMAND, work, arguments)

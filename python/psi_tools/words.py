@@ -1,0 +1,244 @@
+"""What all commands share: how words are read, what is told, and how far a work is.
+
+Each command ends with 0 where all is done, 2 where a word or an input isn't what it should be, 7
+where an answer can't be written, 8 where memory lacks, and 130 where it was stopped by Ctrl-C; each
+but 0 has one line on standard error. The status of psi itself is handed on where psi refuses.
+"""
+
+import argparse
+import os
+import re
+import sys
+import time
+
+from psi_tools import __version__
+from psi_tools.told import Told, printable
+
+GREATEST = 2**64 - 1
+NUMBER = re.compile("0|[1-9][0-9]*")
+# From how many seconds on a work tells on a terminal how far it is, and how often.
+QUIET, OFTEN = 2, 0.2
+USAGE, UNWRITTEN, NO_MEMORY, STOPPED = 2, 7, 8, 130
+
+
+class Words(argparse.ArgumentParser):
+    """The reader of a command's words, which tells by one line what is wrong."""
+
+    def __init__(self, command, about, **more):
+        form = argparse.RawDescriptionHelpFormatter
+        super().__init__(
+            prog=command, description=about, allow_abbrev=False, formatter_class=form, **more
+        )
+        version = f"{command} {__version__}"
+        self.add_argument("--version", action="version", version=version, help="print the version")
+
+    def error(self, message):
+        raise Told(f"{message}; `{self.prog} --help` tells the words", USAGE)
+
+
+def number(least, most):
+    """The type of a word that is a number from `least` to `most`, written as psi takes it."""
+
+    def read(word):
+        if not NUMBER.fullmatch(word) or len(word) > 20 or not least <= int(word) <= most:
+            raise argparse.ArgumentTypeError(f"a number from {least} to {most} is wanted")
+        return int(word)
+
+    return read
+
+
+def add_streams(words, count):
+    """The options that say which samples are drawn; `count` is how many where that isn't said."""
+    words.add_argument(
+        "--seed", metavar="SEED", type=number(0, GREATEST), default=0,
+        help="the seed of the words, 0 to 2^64 - 1; 0 where it isn't given",
+    )
+    words.add_argument(
+        "--first", metavar="STREAM", type=number(0, GREATEST), default=0,
+        help="the first stream, 0 to 2^64 - 1; 0 where it isn't given",
+    )
+    words.add_argument(
+        "--count", metavar="N", type=number(1, 2**36), default=count,
+        help=f"how many streams are drawn, from the first on; {count:,} where it isn't given",
+    )
+
+
+def add_program(words):
+    """The options that say which psi draws, and on how many processors."""
+    words.add_argument(
+        "--psi", metavar="PSI",
+        help="the built program; crates/psi/out/psi, or psi on the PATH, where it isn't given",
+    )
+    words.add_argument(
+        "--jobs", metavar="N", type=number(1, 1024),
+        help="how many processes draw at once; as many as there are processors where it isn't given",
+    )
+
+
+def add_form(words, forms=("text", "csv", "json")):
+    """The options that say in which form the answer is written, and where."""
+    words.add_argument(
+        "--format", choices=forms, default="text",
+        help="text for people, csv or json for programs; text where it isn't given",
+    )
+    words.add_argument(
+        "-o", "--out", metavar="FILE",
+        help="the file that the answer is written to; standard output where it isn't given",
+    )
+
+
+def add_picture(words):
+    """The options of a picture."""
+    words.add_argument(
+        "--picture", metavar="FILE", help="draw a picture, too: .svg, .png or .pdf by its name"
+    )
+
+
+def last_stream_is_one(words):
+    """Refuses streams beyond the last one."""
+    if words.first + words.count - 1 > GREATEST:
+        raise Told(f"the last stream would be above {GREATEST}")
+
+
+def look_at(path, option="-o"):
+    """Refuses a file that can't be written, before any work; it is left as it is."""
+    if path is None:
+        return
+    is_there = os.path.lexists(path)
+    try:
+        with open(path, "ab"):
+            pass
+        if not is_there:
+            os.remove(path)
+    except (OSError, ValueError) as fault:
+        said = getattr(fault, "strerror", None) or fault
+        raise Told(f"{option} {path} can't be written: {said}", UNWRITTEN) from None
+
+
+def look_at_picture(path, forms=("svg", "png", "pdf")):
+    """Refuses a picture whose form isn't known, or that can't be written, before any work."""
+    if path is not None and path.rpartition(".")[2].lower() not in forms:
+        raise Told("--picture names no .svg, .png or .pdf")
+    look_at(path, "--picture")
+
+
+def write(path, data):
+    """Writes the bytes of an answer to a file, whole or not at all under its name."""
+    try:
+        if os.path.lexists(path) and not os.path.isfile(path):
+            with open(path, "wb") as file:
+                file.write(data)
+            return
+        target = os.path.realpath(path)
+        part = os.path.join(os.path.dirname(target), f".{os.path.basename(target)}.{os.getpid()}")
+        try:
+            with open(part, "wb") as file:
+                file.write(data)
+            if os.path.exists(target):
+                os.chmod(part, os.stat(target).st_mode & 0o777)
+            os.replace(part, target)
+        except BaseException:
+            if os.path.exists(part):
+                os.remove(part)
+            raise
+    except OSError as fault:
+        raise Told(f"{path} can't be written: {fault.strerror or fault}", UNWRITTEN) from None
+
+
+def give(text, path=None):
+    """Writes an answer to standard output, or to a file."""
+    if path is not None:
+        write(path, text.encode())
+        return
+    try:
+        if sys.stdout is None:
+            raise OSError(0, "it is closed")
+        sys.stdout.buffer.write(text.encode())
+        sys.stdout.buffer.flush()
+    except (OSError, ValueError) as fault:
+        said = getattr(fault, "strerror", None) or fault
+        raise Told(f"standard output can't be written: {said}", UNWRITTEN) from None
+
+
+class Progress:
+    """Tells on a terminal how far a work is, from the second second on."""
+
+    def __init__(self, command, whole, what="samples"):
+        self.command, self.whole, self.what = command, whole, what
+        self.begun, self.last, self.has_told = time.monotonic(), 0.0, False
+        self.before = 0
+        self.is_shown = sys.stderr is not None and sys.stderr.isatty()
+
+    def show(self, done):
+        """Tells that so much is done, beside what was before this part."""
+        now, done = time.monotonic(), self.before + done
+        if not self.is_shown or now - self.begun < QUIET or now - self.last < OFTEN:
+            return
+        self.last, self.has_told = now, True
+        line = f"{self.command}: {done:,} of {self.whole:,} {self.what}, {clock(now - self.begun)}"
+        if 0 < done < self.whole:
+            line += f", {clock((now - self.begun) / done * (self.whole - done))} to go"
+        print(f"\r{line}\x1b[K", end="", file=sys.stderr, flush=True)
+
+    def end(self):
+        """Removes what was told."""
+        if self.has_told:
+            print("\r\x1b[K", end="", file=sys.stderr, flush=True)
+
+
+def clock(seconds):
+    """A time as hours, minutes and seconds."""
+    minutes, seconds = divmod(round(seconds), 60)
+    return f"{minutes // 60}:{minutes % 60:02}:{seconds:02}"
+
+
+def tell(command, why):
+    """One line on standard error, as far as it can be written."""
+    try:
+        print(f"{command}: {printable(why)}", file=sys.stderr, flush=True)
+    except (OSError, ValueError, AttributeError):
+        pass
+
+
+def run(command, work, arguments):
+    """The exit status of a command's work, whatever ends it: no fault is a traceback."""
+    try:
+        try:
+            status = work(arguments) or 0
+            if sys.stdout is not None:
+                sys.stdout.flush()
+        except SystemExit as ended:
+            status = ended.code or 0
+            if sys.stdout is not None:
+                sys.stdout.flush()
+        return status
+    except Told as told:
+        tell(command, told)
+        status = told.status
+    except KeyboardInterrupt:
+        tell(command, "stopped")
+        status = STOPPED
+    except MemoryError:
+        tell(command, "there isn't enough memory")
+        status = NO_MEMORY
+    except ModuleNotFoundError as fault:
+        tell(command, f"{fault}; tools/setup installs what it needs for /usr/bin/python3")
+        status = 1
+    except OSError as fault:
+        tell(command, f"{fault.filename or 'what was written'}: {fault.strerror or fault}")
+        status = UNWRITTEN
+    except RecursionError:
+        tell(command, "the input is nested too deep")
+        status = USAGE
+    silence()
+    return status
+
+
+def silence():
+    """What wasn't written to standard output is given up, so that nothing is said of it again."""
+    try:
+        nowhere = os.open(os.devnull, os.O_WRONLY)
+        if sys.stdout is not None:
+            os.dup2(nowhere, sys.stdout.fileno())
+    except (OSError, ValueError):
+        pass
