@@ -26,8 +26,8 @@ class Row:
 
 @dataclasses.dataclass
 class Batches:
-    """Reports of one network: of each how many samples it has, how many are met, and how many at each
-    horizon, in steps; and a row for each queue and reward."""
+    """Reports of one network: of each how many samples it has, how many are met, and how many at
+    each horizon, in steps; and a row for each queue and reward."""
 
     samples: list[int]
     met: list[int]

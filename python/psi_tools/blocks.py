@@ -1,4 +1,4 @@
-"""The blocks of streams that psi-many and psi-sweep draw, and the folder that keeps finished ones."""
+"""The blocks of streams that are drawn, and the folder in which finished ones are kept."""
 
 import collections
 import fcntl

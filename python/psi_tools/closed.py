@@ -16,8 +16,8 @@ SAMPLE = re.compile(rb"met (\d+)\nstate (\d+(?:,\d+)*)\n|not coupled within \d+\
 
 
 def samples_of(text):
-    """The samples in what psi closed printed of some streams: for each its horizon and its state, or
-    none where it isn't coupled; none at all where the text is anything else."""
+    """The samples in what psi closed printed of some streams: for each its horizon and its state,
+    or none where it isn't coupled; none at all where the text is anything else."""
     found, end = [], 0
     for sample in SAMPLE.finditer(text):
         if sample.start() != end:
@@ -39,7 +39,7 @@ def report_of_text(net, text, count):
 
 
 def report_of(net, found):
-    """The report of some samples, each a horizon and a state or none, as psi report would print it."""
+    """The report of some samples, each a horizon and a state or none, in psi report's form."""
     lines = [",".join(map(str, record)) + "\n" for record in records(net, found)]
     return "".join(["item,name,value\n", *lines]).encode()
 
@@ -67,7 +67,7 @@ def figures(sort, names, rows):
 
 
 def main(words):
-    """Prints the report of the streams 0 to COUNT - 1 of seed 0; the words are NET TOTAL COUNT [PSI]."""
+    """Prints the report of the first COUNT streams of seed 0; the words say NET TOTAL COUNT."""
     file, total, count = words[:3]
     program = words[3] if len(words) > 3 else built_program()
     texts = []

@@ -47,9 +47,8 @@ def mean_of_batches(sums, counts, level=LEVEL):
     """The mean of samples in batches, from the sum of each batch and how many samples it has.
 
     The batches may differ in size: with m the mean of all, the sum of n (m_i - m)^2 over k batches,
-    divided by k - 1, has the variance of one sample as its mean. Sums are whole numbers of any size,
-    so nothing is lost of them before the deviations are known.
-    """
+    divided by k - 1, has the variance of one sample as its mean. Sums are whole numbers of any
+    size, so nothing is lost of them before the deviations are known."""
     pairs = [(total, count) for total, count in zip(sums, counts) if count]
     whole, many = sum(total for total, _ in pairs), sum(count for _, count in pairs)
     if not pairs:
@@ -64,9 +63,9 @@ def mean_of_batches(sums, counts, level=LEVEL):
 
 
 def difference_of_batches(sums, others, counts, other_counts, level=LEVEL):
-    """The mean of the first samples less that of the others, where both have the same batches, which
-    were drawn by the same words: the differences of the batches are the values, so what both have in
-    common doesn't widen the interval (common random numbers)."""
+    """The mean of the first samples less that of the others, where both have the same batches,
+    which were drawn by the same words: the differences of the batches are the values, so what both
+    have in common doesn't widen the interval (common random numbers)."""
     pairs = [
         (one / n - other / m, min(n, m))
         for one, other, n, m in zip(sums, others, counts, other_counts) if n and m
@@ -84,8 +83,8 @@ def difference_of_batches(sums, others, counts, other_counts, level=LEVEL):
 
 def probability(count, many, unknown=0, level=LEVEL):
     """The ends of an interval of a probability: `count` of `many` independent samples have it, and
-    of `unknown` more of the many it isn't known (Clopper and Pearson 1934). It holds the probability
-    at least so often as the level says, whatever the unknown ones are."""
+    of `unknown` more of the many it isn't known (Clopper and Pearson 1934). It holds the
+    probability at least so often as the level says, whatever the unknown ones are."""
     tail = (1 - level) / 2
     low = scipy.special.betaincinv(count, many - count + 1, tail) if count else 0.0
     most = count + unknown

@@ -14,11 +14,11 @@ but 0 has a line on standard error.
 
 import os
 import pathlib
+import shlex
 import signal
 import subprocess
-import sys
 
-from psi_tools.blocks import LEAST_BLOCKS, MOST_BLOCKS, Folder, names_of, write_whole
+from psi_tools.blocks import LEAST_BLOCKS, MOST_BLOCKS, Folder, names_of
 from psi_tools.program import MOST_BYTES, built_program, found_on_path
 from psi_tools.told import Told
 from psi_tools.ways import ROUNDS, SHARE, SSH, Here, Hosts, Progress, Slurm, run_task
@@ -26,9 +26,10 @@ from psi_tools.words import GREATEST, Words, give, look_at, number, run
 
 COMMAND, MOST_STREAMS, MOST_TOTAL = "psi-many", 65_536, 256
 MERGED_AT_ONCE = 1_000
-ABOUT = """Prints the report of any number of streams, as psi report would if it took so many. The streams
-are cut in blocks, which are drawn side by side; finished blocks are kept in a folder, so the same
-call goes on where it was stopped. psi-means tells the means of such a folder with their intervals.
+ABOUT = """Prints the report of any number of streams, as psi report would if it took so many. The
+streams are cut in blocks, which are drawn side by side; finished blocks are kept in a folder, so
+the same call goes on where it was stopped. psi-means tells the means of such a folder with their
+intervals.
 
     psi-many desk.toml 0 0 1000000 --out desk.csv
     psi-many ring.toml 0 0 10000 --closed 6"""
@@ -158,7 +159,8 @@ def add_ways(words):
     ways.add_argument("--hosts", metavar="FILE", help="draw on the machines of this file, by ssh")
     ways.add_argument("--slurm", action="store_true", help="draw as a Slurm job array")
     words.add_argument(
-        "--ssh", metavar="COMMAND", default=SSH, help="how machines are reached; ssh, which asks nothing"
+        "--ssh", metavar="COMMAND", default=SSH,
+        help="how machines are reached; by ssh, which asks nothing, where it isn't given",
     )
     words.add_argument(
         "--sbatch", metavar="OPTIONS", default="", help="more options of sbatch, as one word"
@@ -168,6 +170,11 @@ def add_ways(words):
 def read_words(arguments):
     """The words by their meaning."""
     words = reader().parse_args(arguments)
+    for option in (words.ssh, words.sbatch):
+        try:
+            shlex.split(option)
+        except ValueError as fault:
+            raise Told(f"{option} isn't a command's words: {fault}") from None
     if words.first + words.count - 1 > GREATEST:
         raise Told(f"the last stream is above {GREATEST}")
     if words.count > MOST_BLOCKS * (words.block or MOST_STREAMS):
@@ -241,10 +248,7 @@ def work(arguments):
         signal.signal(ending, stop)
     look_at(words.out)
     text = report(words)
-    if words.out:
-        write_whole(pathlib.Path(words.out), text)
-    else:
-        give(text.decode())
+    give(text.decode(), words.out)
     return 0
 
 

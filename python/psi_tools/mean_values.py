@@ -23,8 +23,8 @@ from psi_tools.words import Words, give, number, run
 
 COMMAND, MOST_TOTAL = "mean_values", 256
 APART = "not every queue can be reached from every other"
-ABOUT = """Prints how many customers each queue of a closed network holds on average, by mean value analysis,
-and beside that the mean over samples with half its interval of some 95 %."""
+ABOUT = """Prints how many customers each queue of a closed network holds on average, by mean value
+analysis, and beside that the mean over samples with half its interval of some 95 %."""
 
 
 def rates_of(net, total):

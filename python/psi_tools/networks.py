@@ -78,7 +78,7 @@ class Network:
         return self
 
     def event(self, name, kind, rate, source=None, to=None, **keys):
-        """Adds an event: `source` stands for the key `from`, and all other keys have their names."""
+        """Adds an event: `source` stands for the key `from`, all other keys have their names."""
         found = {"kind": kind, "name": name, "rate": rate}
         found |= {"from": source} if source is not None else {}
         found |= {"to": to} if to is not None else {}

@@ -79,8 +79,8 @@ def reports(*paths):
 
 
 def report_of(path):
-    """The report of a file, or of all blocks of a folder of psi-many, with intervals where there are
-    enough of them."""
+    """The report of a file, or of all blocks of a folder of psi-many, with intervals where there
+    are enough of them."""
     if not os.path.isdir(path):
         return read(read_report, path)
     batches, wanted = read_folder(path)

@@ -12,6 +12,7 @@ from psi_tools.blocks import Folder, digest_of, write_whole
 from psi_tools.closed import report_of_text
 from psi_tools.program import found_on_path
 from psi_tools.told import Told
+from psi_tools.words import Pulse, clock, is_terminal
 
 # So many blocks for each processor, and so many tasks in Slurm, where the call doesn't say.
 SHARE, TASKS = 4, 100
@@ -24,8 +25,8 @@ SET_UP = """set -e; cd; umask 077; mkdir -p .psi-many/{digest}; cd .psi-many
 part=part.$(uname -n).$$; mkdir "$part"; tar -xf - -C "$part"
 mv -f "$part/net.toml" "$part/psi" {digest}/; rmdir "$part"
 {digest}/psi check {digest}/net.toml >/dev/null; nproc"""
-# What draws one block: {1} is its number, {2} its first stream, and {3} how many streams it has; of a
-# closed network, whose samples are drawn one by one, it is the last one.
+# What draws one block: {1} is its number, {2} its first stream, and {3} how many streams it has; of
+# a closed network, whose samples are drawn one by one, it is the last one.
 STEP = """printf 'block %s\\n' {{1}} && {psi} report net.toml {seed} {{2}} {{3}} \
 && printf 'whole %s\\n' {{1}}"""
 CLOSED_STEP = """printf 'block %s\\n' {{1}} && for stream in $(seq {{2}} {{3}}); do \
@@ -39,24 +40,20 @@ class Progress:
     def __init__(self, folder, streams):
         self.folder, self.before, self.streams = folder, streams, streams
         self.begun = self.told = time.monotonic()
-        self.redraws = sys.stderr.isatty()
+        self.redraws = is_terminal()
 
     def show(self, streams, at_once=False):
         self.streams = streams
         now, count = time.monotonic(), self.folder.count
         if not at_once and now - self.told < (0.2 if self.redraws else TELL):
             return
+        Pulse.end()
         self.told, drawn = now, streams - self.before
         line = f"psi-many: {streams} of {count} samples, {clock(now - self.begun)} so far"
         if drawn and streams < count:
             line += f", {clock((now - self.begun) / drawn * (count - streams))} to go"
         end = "\n" if at_once or not self.redraws else ""
         print(f"\r{line}\x1b[K" if self.redraws else line, end=end, file=sys.stderr, flush=True)
-
-
-def clock(seconds):
-    minutes, seconds = divmod(round(seconds), 60)
-    return f"{minutes // 60}:{minutes % 60:02}:{seconds:02}"
 
 
 def take(lines, finish):
@@ -179,7 +176,12 @@ class Hosts:
 
 def read_hosts(path):
     """The hosts of a file, one a line: how many blocks at once, or none, and the name."""
-    lines = (line.partition("#")[0].strip() for line in pathlib.Path(path).read_text().split("\n"))
+    try:
+        text = pathlib.Path(path).read_text()
+    except (OSError, ValueError) as fault:
+        said = getattr(fault, "strerror", None) or fault
+        raise Told(f"{path} can't be read: {said}") from None
+    lines = (line.partition("#")[0].strip() for line in text.split("\n"))
     found = [(line, HOST.fullmatch(line)) for line in lines if line]
     for line, host in found:
         if not host:

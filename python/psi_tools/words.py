@@ -9,6 +9,7 @@ import argparse
 import os
 import re
 import sys
+import threading
 import time
 
 from psi_tools import __version__
@@ -71,7 +72,8 @@ def add_program(words):
     )
     words.add_argument(
         "--jobs", metavar="N", type=number(1, 1024),
-        help="how many processes draw at once; as many as there are processors where it isn't given",
+        help="how many processes draw at once; as many as there are processors where it isn't "
+        "given",
     )
 
 
@@ -106,6 +108,11 @@ def look_at(path, option="-o"):
         return
     is_there = os.path.lexists(path)
     try:
+        if os.path.exists(path) and not os.path.isfile(path) and not os.path.isdir(path):
+            # To open a pipe and to close it again would tell its reader that all is over.
+            if not os.access(path, os.W_OK):
+                raise OSError(0, "Permission denied")
+            return
         with open(path, "ab"):
             pass
         if not is_there:
@@ -134,6 +141,8 @@ def write(path, data):
         try:
             with open(part, "wb") as file:
                 file.write(data)
+                file.flush()
+                os.fsync(file.fileno())
             if os.path.exists(target):
                 os.chmod(part, os.stat(target).st_mode & 0o777)
             os.replace(part, target)
@@ -160,6 +169,47 @@ def give(text, path=None):
         raise Told(f"standard output can't be written: {said}", UNWRITTEN) from None
 
 
+def is_terminal():
+    """Whether standard error is one, so that it can be told how far a work is."""
+    return sys.stderr is not None and sys.stderr.isatty()
+
+
+class Pulse:
+    """Tells on a terminal each second that a command is at work, from the second second on, until
+    something else tells how far it is."""
+
+    own = None
+
+    def __init__(self, command):
+        self.command, self.begun, self.is_over = command, time.monotonic(), threading.Event()
+        self.thread = threading.Thread(target=self.beat, daemon=True)
+
+    def beat(self):
+        """Tells until it is over."""
+        wait, has_told = QUIET, False
+        while not self.is_over.wait(wait):
+            line = f"{self.command}: at work, {clock(time.monotonic() - self.begun)}"
+            print(f"\r{line}\x1b[K", end="", file=sys.stderr, flush=True)
+            wait, has_told = 1, True
+        if has_told:
+            print("\r\x1b[K", end="", file=sys.stderr, flush=True)
+
+    @classmethod
+    def begin(cls, command):
+        """Begins to tell, where there is a terminal."""
+        if is_terminal():
+            cls.own = cls(command)
+            cls.own.thread.start()
+
+    @classmethod
+    def end(cls):
+        """Tells nothing more."""
+        if cls.own is not None:
+            cls.own.is_over.set()
+            cls.own.thread.join()
+            cls.own = None
+
+
 class Progress:
     """Tells on a terminal how far a work is, from the second second on."""
 
@@ -167,13 +217,14 @@ class Progress:
         self.command, self.whole, self.what = command, whole, what
         self.begun, self.last, self.has_told = time.monotonic(), 0.0, False
         self.before = 0
-        self.is_shown = sys.stderr is not None and sys.stderr.isatty()
+        self.is_shown = is_terminal()
 
     def show(self, done):
         """Tells that so much is done, beside what was before this part."""
         now, done = time.monotonic(), self.before + done
         if not self.is_shown or now - self.begun < QUIET or now - self.last < OFTEN:
             return
+        Pulse.end()
         self.last, self.has_told = now, True
         line = f"{self.command}: {done:,} of {self.whole:,} {self.what}, {clock(now - self.begun)}"
         if 0 < done < self.whole:
@@ -202,15 +253,16 @@ def tell(command, why):
 
 def run(command, work, arguments):
     """The exit status of a command's work, whatever ends it: no fault is a traceback."""
+    Pulse.begin(command)
     try:
         try:
             status = work(arguments) or 0
-            if sys.stdout is not None:
-                sys.stdout.flush()
         except SystemExit as ended:
             status = ended.code or 0
-            if sys.stdout is not None:
-                sys.stdout.flush()
+        finally:
+            Pulse.end()
+        if sys.stdout is not None:
+            sys.stdout.flush()
         return status
     except Told as told:
         tell(command, told)
@@ -227,9 +279,12 @@ def run(command, work, arguments):
     except OSError as fault:
         tell(command, f"{fault.filename or 'what was written'}: {fault.strerror or fault}")
         status = UNWRITTEN
-    except RecursionError:
-        tell(command, "the input is nested too deep")
-        status = USAGE
+    except Exception as fault:
+        # What nobody thought of is one line, too; the variable is for whoever mends it.
+        if "PSI_TRACEBACK" in os.environ:
+            raise
+        tell(command, f"a fault of the tool: {type(fault).__name__}: {fault}")
+        status = 1
     silence()
     return status
 

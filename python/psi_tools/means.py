@@ -1,0 +1,157 @@
+"""psi-means: the means of reports with their intervals, by reports as batches."""
+
+from psi_tools import tables
+from psi_tools.batches import REWARD, read_any
+from psi_tools.intervals import LEAST_BATCHES, figures
+from psi_tools.told import Told
+from psi_tools.words import Words, add_form, give, look_at, run
+
+COMMAND = "psi-means"
+ABOUT = """Prints the mean of every row of a report with its interval. Each report is a batch: their
+means are the values to which Student's t applies, so there are at least 20. Give 20 reports or more
+of one network over different streams, or the folder of one call of psi-many.
+
+    psi-many desk.toml 0 0 100000 --out desk.csv
+    psi-means desk.toml.0.0.100000.many
+
+Where streams weren't coupled this is said first: the means are of the others, and biased."""
+
+
+def words_of(arguments):
+    """The words by their meaning."""
+    words = reader().parse_args(arguments)
+    if not 50 <= words.level <= 99.99:
+        raise Told("--level is from 50 to 99.99")
+    return words
+
+
+def reader():
+    """The reader of the words."""
+    words = Words(COMMAND, ABOUT)
+    words.add_argument(
+        "reports", metavar="REPORT", nargs="+",
+        help="reports of psi report, at least 20, or one folder of psi-many",
+    )
+    words.add_argument(
+        "--level", metavar="PERCENT", type=float, default=95.0,
+        help="how often an interval holds its mean, in per cent; 95 where it isn't given",
+    )
+    add_form(words)
+    return words
+
+
+def notes_of(batches, wanted):
+    """What has to be known before a mean is read, each as one sentence."""
+    samples, lost, notes = sum(batches.samples), batches.uncoupled, []
+    if lost:
+        notes.append(
+            f"NOT COUPLED: {lost:,} of {samples:,} streams; the means are of the others, and biased"
+        )
+    if len(batches.samples) < wanted:
+        notes.append(
+            f"NOT WHOLE: {len(batches.samples)} of {wanted} blocks are finished; those that come "
+            "first may not be typical; the same call of psi-many goes on"
+        )
+    return notes
+
+
+def records_of(batches, level):
+    """The rows, each with its item, its name, its mean, and the ends of its interval."""
+    horizons = sorted({horizon for some in batches.horizons for horizon in some})
+    shares = [("uncoupled", "-", [n - m for n, m in zip(batches.samples, batches.met)])]
+    for horizon in horizons:
+        counts = [some.get(horizon, 0) for some in batches.horizons]
+        shares.append(("horizon", str(horizon), counts))
+    for item, name, counts in shares:
+        yield record(item, name, batches.share(counts, level), None, None)
+    for row in batches.rows:
+        mean = batches.mean(row, level)
+        yield record(f"{row.sort}mean", row.name, mean, row.least, row.greatest)
+
+
+def record(item, name, mean, least, greatest):
+    """One row of the answer."""
+    ends = {"mean": mean.mean, "half": mean.half, "low": mean.low, "high": mean.high}
+    return {"item": item, "name": name, **ends, "least": least, "greatest": greatest}
+
+
+def text_of(batches, records, notes, level):
+    """The answer for people."""
+    samples, count = sum(batches.samples), len(batches.samples)
+    state = "all coupled" if not batches.uncoupled else f"{sum(batches.met):,} of them coupled"
+    lines = [*notes, f"{samples:,} samples in {count} batches, {state}; intervals of {level:g} %"]
+    sorts = {"mean": "queue", f"{REWARD}mean": "reward"}
+    rows = [("", "", "mean", "", "from", "to", "least", "greatest")]
+    for each in records:
+        half, mean = each["half"], each["mean"]
+        if each["item"] not in sorts:
+            continue
+        ends = [figures(each[end], half) if half is not None else "-" for end in ("low", "high")]
+        half = "-" if half is None else "± " + figures(half, half)
+        extremes = ["-" if each[end] is None else each[end] for end in ("least", "greatest")]
+        mean = figures(mean, each["half"])
+        rows.append((sorts[each["item"]], each["name"], mean, half, *ends, *extremes))
+    lines.append(tables.aligned(rows, right=(2, 4, 5, 6, 7)).rstrip("\n"))
+    lines.append("share of the samples that are met at a horizon, or not coupled")
+    shares = [("met at", each["name"], share_of(each)) for each in records if is_horizon(each)]
+    if batches.uncoupled:
+        shares.append(("not coupled", "", share_of(records[0])))
+    lines.append(tables.aligned(shares, right=(1,)).rstrip("\n"))
+    lines += remarks(batches)
+    return "".join(f"{line}\n" for line in lines)
+
+
+def is_horizon(each):
+    return each["item"] == "horizon"
+
+
+def share_of(each):
+    """The share of a row as text."""
+    half = each["half"]
+    return figures(each["mean"], half) + (f" ± {figures(half, half)}" if half else "")
+
+
+def remarks(batches):
+    """What an interval of no width means."""
+    rows = [row for row in batches.rows if row.least is not None]
+    alike = [row.name for row in rows if row.least == row.greatest]
+    if not alike:
+        return []
+    return [f"all samples have the same value of {', '.join(alike)}: an interval of no width there"
+            " says only that others are rare"]
+
+
+def answer(words):
+    """The text of the answer."""
+    batches, wanted = read_any(words.reports)
+    count = len(batches.samples)
+    if count < LEAST_BATCHES:
+        raise Told(
+            f"there are {count} batches, and {LEAST_BATCHES} are wanted: draw smaller ones, as by "
+            f"psi-many .. --block N"
+        )
+    level = words.level / 100
+    notes, records = notes_of(batches, wanted), [*records_of(batches, level)]
+    if words.format == "csv":
+        return tables.as_csv(records), notes
+    if words.format == "json":
+        heads = {"samples": sum(batches.samples), "met": sum(batches.met), "batches": count}
+        return tables.as_json({**heads, "level": level, "notes": notes, "rows": records}), notes
+    return text_of(batches, records, notes, words.level), []
+
+
+def work(arguments):
+    words = words_of(arguments)
+    look_at(words.out)
+    text, notes = answer(words)
+    give(text, words.out)
+    if notes:
+        raise Told("; ".join(notes), 0)
+    return 0
+
+
+def main(arguments):
+    return run(COMMAND, work, arguments)
+
+
+

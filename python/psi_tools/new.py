@@ -1,0 +1,207 @@
+"""psi-new: a network file from a few words."""
+
+import argparse
+import re
+import textwrap
+from fractions import Fraction
+
+from psi_tools import models
+from psi_tools.program import Psi
+from psi_tools.told import Told
+from psi_tools.words import Words, give, look_at, number, run, tell
+
+COMMAND = "psi-new"
+ABOUT = """Writes a network file from a few words. Rates may be whole numbers, have places behind a
+point, or be fractions such as 1/3: they are made whole by a common factor, and how far they are off
+by that, if at all, is told and stands in the file's comment. Lists have commas between.
+
+    psi-new mmck --arrival 190 --service 1 --servers 200 --places 260 -o calls.toml
+    psi-new line --arrival 0.8 --service 1,1.2,1 --places 4 -o line.toml
+
+`psi-new KIND --help` tells the options of a kind."""
+RATE = re.compile(r"\d{1,9}(?:\.\d{1,9})?(?:/[1-9]\d{0,8})?|\.\d{1,9}")
+WIDTH = 98
+
+
+class Rate(Fraction):
+    """A rate, as it was written."""
+
+    def __new__(cls, word):
+        made = super().__new__(cls, word)
+        made.word = word
+        return made
+
+    def __str__(self):
+        return self.word
+
+
+def rate(word):
+    """The rate that a word is: above 0."""
+    if not RATE.fullmatch(word) or "." in word and "/" in word or Rate(word) <= 0:
+        raise argparse.ArgumentTypeError("a number above 0 is wanted, as 4, 0.8 or 1/3")
+    return Rate(word)
+
+
+def share(word):
+    """The probability that a word is: between 0 and 1."""
+    value = rate(word)
+    if value >= 1:
+        raise argparse.ArgumentTypeError("a probability between 0 and 1 is wanted")
+    return value
+
+
+def some(read):
+    """The type of a list of words with commas between."""
+
+    def read_all(word):
+        values = [read(part) for part in word.split(",")]
+        if len(values) > 32:
+            raise argparse.ArgumentTypeError("there are more than 32 values")
+        return values
+
+    return read_all
+
+
+PLACES = number(1, 65_535)
+# Of each option its type and what it says.
+OPTIONS = {
+    "arrival": (rate, "R", "the rate at which customers come"),
+    "arrivals": (some(rate), "R,R", "the rates at which the classes come; one stands for both"),
+    "service": (rate, "R", "the rate at which one server serves"),
+    "services": (some(rate), "R,..", "the rates of the queues' servers"),
+    "servers": (number(1, 1_023), "N", "how many servers there are"),
+    "few": (number(1, 64), "N", "how many servers there are, at most 64"),
+    "servers-each": (some(number(1, 64)), "N,..", "the servers of each queue; one stands for all"),
+    "lines": (some(number(1, 64)), "N,..", "the lines of each group"),
+    "places": (PLACES, "N", "how many customers there is room for, those in service too"),
+    "places-each": (some(PLACES), "N,..", "the places of each queue; one stands for all"),
+    "patience": (rate, "R", "the rate at which each customer who waits gives up"),
+    "size": (number(2, 65_535), "N", "how many come together"),
+    "customers": (number(1, 256), "N", "how many customers go round"),
+    "break": (rate, "R", "the rate at which the machine breaks down"),
+    "repair": (rate, "R", "the rate at which it is repaired"),
+    "phases": (number(2, 100), "N", "how many phases a service has"),
+    "quick": (share, "P", "the probability of a quick service"),
+    "again": (share, "P", "the probability that a part goes back"),
+}
+# What an option is called on the command line, where it has another type than its name says.
+CALLED = {
+    "arrivals": "arrival", "services": "service", "few": "servers", "servers-each": "servers",
+    "lines": "servers", "places-each": "places",
+}
+KINDS = {
+    "mm1k": (models.single_server, ("arrival", "service", "places")),
+    "mmck": (models.several_servers, ("arrival", "service", "servers", "places")),
+    "erlang-loss": (models.erlang_loss, ("arrival", "service", "servers")),
+    "abandonment": (
+        models.abandonment, ("arrival", "service", "servers", "places", "patience")
+    ),
+    "batch": (models.batches, ("arrival", "size", "service", "few", "places")),
+    "line": (models.line, ("arrival", "services", "places-each", "servers-each?", "lost!")),
+    "overflow": (models.overflow, ("arrival", "service", "lines")),
+    "shortest-queue": (models.shortest_queue, ("arrival", "services", "places")),
+    "closed": (models.closed, ("services", "customers")),
+    "breakdowns": (models.breakdowns, ("arrival", "service", "places", "break", "repair")),
+    "priority": (models.priority, ("arrivals", "services", "places-each")),
+    "fork-join": (models.fork_join, ("arrival", "services", "places-each")),
+    "erlang-service": (models.erlang_service, ("arrival", "service", "phases", "places")),
+    "hyperexponential": (models.hyperexponential, ("arrival", "services", "quick", "places")),
+    "rework": (models.rework, ("arrival", "services", "again", "places-each")),
+}
+
+
+def reader():
+    """The reader of the words, with one of each kind below it."""
+    words = Words(COMMAND, ABOUT)
+    kinds = words.add_subparsers(
+        metavar="KIND", dest="kind", parser_class=Kind, help="what is modelled:"
+    )
+    for name, (model, options) in KINDS.items():
+        kind = kinds.add_parser(name, help=model.__doc__)
+        for option in options:
+            add(kind, option)
+        kind.add_argument(
+            "-o", "--out", metavar="FILE",
+            help="the file that is written; standard output where it isn't given",
+        )
+        kind.add_argument(
+            "--psi", metavar="PSI", help="the built program, which has to take the file"
+        )
+    return words
+
+
+class Kind(Words):
+    """The reader of the words behind a kind."""
+
+    def __init__(self, **keys):
+        command = keys.pop("prog")
+        super().__init__(command, keys.pop("description", None), **keys)
+
+
+def add(kind, option):
+    """Adds an option to a kind; one with a question mark may be absent, and one with an exclamation
+    mark has no value."""
+    if option.endswith("!"):
+        kind.add_argument(
+            f"--{option[:-1]}", action="store_true",
+            help="who finds the next queue full is lost; without it it stays (blocking)",
+        )
+        return
+    name = option.removesuffix("?")
+    read, form, said = OPTIONS[name]
+    keys = {"dest": "breaks"} if name == "break" else {}
+    is_wanted = name == option
+    kind.add_argument(
+        f"--{CALLED.get(name, name)}", type=read, metavar=form, required=is_wanted,
+        help=said + ("" if is_wanted else "; one where it isn't given"), **keys,
+    )
+
+
+def comment_of(made, factor, off):
+    """The comment of the file."""
+    text = made.comment
+    if factor != 1:
+        is_short = factor.denominator < 1000 and factor < 10**9
+        shown = str(factor) if is_short else f"{float(factor):.6g}"
+        text += f" In the file all rates are multiplied by {shown}."
+    if off:
+        text += f" As they are rounded then, a rate is off by at most {float(off):.1e} of itself."
+    return "".join(f"# {line}\n" for line in textwrap.wrap(text, WIDTH))
+
+
+def text_of(words):
+    """The text of the file, and by how much a rate is off at most."""
+    made = KINDS[words.kind][0](words)
+    factor, off = models.made_whole(made.net)
+    return comment_of(made, factor, off) + made.net.toml(), off
+
+
+def is_taken(words, text):
+    """Refuses a network that psi doesn't take; where there is no psi it isn't asked."""
+    try:
+        psi = Psi(words.psi)
+    except Told:
+        if words.psi:
+            raise
+        tell(COMMAND, "there is no psi that looks at the file; --psi says where it is")
+        return
+    answer = psi.call("check", text.encode())
+    if answer.status:
+        raise Told(f"psi doesn't take it: {answer.line.removeprefix('psi: ')}", answer.status)
+
+
+def work(arguments):
+    words = reader().parse_args(arguments)
+    if words.kind is None:
+        raise Told(f"a kind is wanted: {', '.join(KINDS)}; `psi-new --help` tells more")
+    look_at(words.out)
+    text, off = text_of(words)
+    is_taken(words, text)
+    give(text, words.out)
+    if off:
+        tell(COMMAND, f"the rates are rounded: one is off by at most {float(off):.1e} of itself")
+    return 0
+
+
+def main(arguments):
+    return run(COMMAND, work, arguments)

@@ -1,0 +1,237 @@
+"""psi-why: why samples of a network may not couple, or only far back."""
+
+import re
+import subprocess
+import time
+
+from psi_tools import tables
+from psi_tools.batches import read_report
+from psi_tools.moves import Moves, loads_of
+from psi_tools.networks import checked
+from psi_tools.program import Psi
+from psi_tools.told import Told
+from psi_tools.words import GREATEST, Words, add_form, give, look_at, number, run
+
+COMMAND, STREAMS, SECONDS = "psi-why", 20, 10
+ABOUT = """Tells what may keep samples of a network from coupling, and how far back they have to
+begin:
+
+- sums of customers that no event changes, so states with other sums never meet;
+- numbers of a queue that can't be left, and queues that only fill or only empty;
+- events that aren't monotone, where boxes may stay wide;
+- the load of each queue: in balance the past has to be long;
+- at which horizons some streams are met, from a short limit on to longer ones, as long as it takes.
+
+    psi-why desk.toml
+
+What it says of sums and numbers that can't be left holds for certain, and the status is 1 then: no
+stream couples. All else is what helps to see why."""
+BALANCE = 0.9, 1.1
+
+
+def reader():
+    """The reader of the words."""
+    words = Words(COMMAND, ABOUT)
+    words.add_argument("net", metavar="NET", help="a network file")
+    words.add_argument(
+        "--seed", metavar="SEED", type=number(0, GREATEST), default=0,
+        help="the seed of the streams that are tried; 0 where it isn't given",
+    )
+    words.add_argument(
+        "--count", metavar="N", type=number(1, 65_536), default=STREAMS,
+        help=f"how many streams are tried, from 0 on; {STREAMS} where it isn't given",
+    )
+    words.add_argument(
+        "--seconds", metavar="N", type=number(1, 86_400), default=SECONDS,
+        help=f"after how many seconds no longer limit is tried; {SECONDS} where it isn't given",
+    )
+    words.add_argument(
+        "--psi", metavar="PSI",
+        help="the built program; crates/psi/out/psi, or psi on the PATH, where it isn't given",
+    )
+    add_form(words, ("text", "json"))
+    return words
+
+
+def sum_of(net, weights):
+    """A sum of customers in words."""
+    parts = []
+    for weight, name in zip(weights, net.queues):
+        if not weight:
+            continue
+        sign = "- " if weight < 0 else "+ "
+        parts.append(sign + (f"{abs(weight)} " if abs(weight) != 1 else "") + name)
+    return " ".join(parts).removeprefix("+ ")
+
+
+def never_met(net, moves):
+    """What keeps two states apart for ever, each as one sentence."""
+    kept = moves.kept_sums()
+    found = [f"no event changes the sum {sum_of(net, weights)}: states with other sums never meet"
+             for weights in kept]
+    alone = {weights.index(1) for weights in kept if sum(map(abs, weights)) == 1}
+    for place, name in enumerate(net.queues):
+        traps = moves.traps(place)
+        if len(traps) > 1 and place not in alone:
+            sets = " and ".join(numbers_of(*trap) for trap in traps[:3]) + " .." * (len(traps) > 3)
+            found.append(
+                f"{name} has {len(traps)} sets of numbers that no event leaves, {sets}: states in "
+                "different ones never meet"
+            )
+    return found
+
+
+def numbers_of(least, greatest, many):
+    """A set of numbers in words."""
+    if many == 1:
+        return str(least)
+    return f"{least} to {greatest}" + (f" ({many} of them)" if many < greatest - least + 1 else "")
+
+
+def one_sided(net, moves):
+    """The queues that only fill, or only empty."""
+    for place, name in enumerate(net.queues):
+        pairs = moves.steps(place)
+        rises = any((end > begin).any() for begin, end in pairs)
+        falls = any((end < begin).any() for begin, end in pairs)
+        if rises and not falls:
+            yield f"no event takes a customer from {name}: it only fills"
+        if falls and not rises:
+            yield f"no event brings a customer to {name}: it only empties"
+        traps = moves.traps(place)
+        if rises and falls and len(traps) == 1 and traps[0][2] == 1:
+            yield f"{name} can't leave {traps[0][0]} once it is there"
+
+
+def upset_of(check):
+    """The events that aren't monotone, each with states that show it, by what `check` prints."""
+    found = {}
+    for line in check.splitlines():
+        if words := re.fullmatch(r"event (\S+) (\d+) \d+ upset (\S+) (\S+)", line):
+            found.setdefault(words[1], (words[3], words[4]))
+    return found
+
+
+def heads_of(check):
+    """The numbers that `check` prints at its end."""
+    return {key: int(value) for key, value in re.findall(r"^(\w+) (\d+)$", check, re.M)}
+
+
+def horizons_of(psi, net, words, limit):
+    """Reports of a few streams under ever longer limits, from 2^6 steps on, until all are met, the
+    file's limit is reached or the time is over: pairs of a limit and a report."""
+    until, found = time.monotonic() + words.seconds, []
+    for power in dict.fromkeys([*range(min(6, limit), limit, 2), limit]):
+        tried = net.copy()
+        tried.heads["limit"], tried.table["reward"] = power, []
+        left = until - time.monotonic()
+        if left <= 0:
+            break
+        call = [psi.path, "report", "/dev/stdin", str(words.seed), "0", str(words.count)]
+        try:
+            done = subprocess.run(call, input=tried.data, capture_output=True, timeout=left)
+        except subprocess.TimeoutExpired:
+            break
+        if done.returncode:
+            said = done.stderr.decode(errors="replace").strip().removeprefix("psi: ")
+            raise Told(said or f"psi ended with {done.returncode}", done.returncode)
+        found.append((power, read_report(done.stdout, "what psi printed")))
+        if found[-1][1].met == words.count:
+            break
+    return found
+
+
+def loads_told(net):
+    """The load of each queue as a row: its name, the rates in and out, and their quotient; there
+    are none where nobody comes from outside."""
+    if not any(rate for rate, _ in loads_of(net)):
+        return []
+    rows = []
+    for name, (rate, served) in zip(net.queues, loads_of(net)):
+        load = rate / served if served else None
+        rows.append({"queue": name, "in": rate, "out": served, "load": load})
+    return rows
+
+
+def advice(found, kept, upset, heads, limit, words, net):
+    """What may help, each as one sentence."""
+    if kept and all(map(is_move, net.table["event"])):
+        yield "the network is closed: psi closed is told how many customers there are"
+    if kept:
+        return
+    tried = found[-1] if found else None
+    if tried and tried[1].met == words.count:
+        yield f"nothing: all {words.count} streams are met"
+        return
+    if tried is None or tried[0] < limit:
+        yield "more time for this tool (--seconds), since the file's limit wasn't reached"
+    elif limit < 22:
+        yield f"a greater limit: 20, or 22 in version 2; the file's is {limit}"
+    if upset and heads["split"] < 4096:
+        yield f"a greater split, to 4,096; the file's is {heads['split']}"
+    if upset:
+        yield f"another model of what isn't monotone: {', '.join(upset)}"
+    yield "smaller capacities, where a full queue is rare"
+
+
+def is_move(event):
+    """Whether an event moves a customer from one queue to another, or does nothing."""
+    is_one = isinstance(event.get("to"), list) and len(event["to"]) == 1
+    return event["kind"] == "service" and is_one and event.get("full") == "stay"
+
+
+def text_of(words, told):
+    """The answer for people."""
+    lines = [f"NEVER COUPLES: {line}" for line in told["never"]]
+    lines += told["one_sided"]
+    for name, (low, high) in told["upset"].items():
+        lines.append(f"{name} isn't monotone: see what it makes of {low} and of {high}")
+    lines += [] if told["upset"] else ["all events are monotone"]
+    rows = [("queue", "rate in", "rate out", "load", "")] if told["loads"] else []
+    for row in told["loads"]:
+        load = row["load"]
+        remark = "nobody is served" if load is None else ""
+        if load is not None and BALANCE[0] <= load <= BALANCE[1]:
+            remark = "in balance: twice the places, four times the past"
+        shown = "-" if load is None else f"{load:.3f}"
+        rows.append((row["queue"], f"{row['in']:g}", f"{row['out']:g}", shown, remark))
+    lines += tables.aligned(rows, right=(1, 2, 3)).splitlines()
+    for power, met, shares in told["horizons"]:
+        of = ", ".join(f"{count} at {horizon}" for horizon, count in shares)
+        line = f"limit {power}: {met} of {words.count} streams are met"
+        lines.append(line + (f" ({of})" if of else ""))
+    if told["stopped"]:
+        limit = told["limit"]
+        lines.append(f"longer limits, up to the file's {limit}, take more time than was given")
+    lines += [f"what may help: {line}" for line in told["advice"]]
+    return "".join(f"{line}\n" for line in lines)
+
+
+def told_of(psi, words):
+    """All that is told, by what it is."""
+    net = checked(psi, words.net)
+    check = psi.ask("check", net.data).out
+    heads, upset = heads_of(check), upset_of(check)
+    moves = Moves(net)
+    never = never_met(net, moves)
+    found = [] if never else horizons_of(psi, net, words, heads["limit"])
+    return {
+        "never": never, "one_sided": [*one_sided(net, moves)], "upset": upset,
+        "loads": loads_told(net), "limit": heads["limit"],
+        "horizons": [(power, report.met, report.horizons) for power, report in found],
+        "stopped": not never and (not found or found[-1][0] < heads["limit"]
+                                  and found[-1][1].met < words.count),
+        "advice": [*advice(found, never, upset, heads, heads["limit"], words, net)],
+    }
+
+
+def work(arguments):
+    words = reader().parse_args(arguments)
+    look_at(words.out)
+    told = told_of(Psi(words.psi), words)
+    give(tables.as_json(told) if words.format == "json" else text_of(words, told), words.out)
+    return 1 if told["never"] else 0
+
+
+def main(arguments):
+    return run(COMMAND, work, arguments)

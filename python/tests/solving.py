@@ -1,0 +1,45 @@
+"""The stationary law of a small network, solved from its events as the plain program has them."""
+
+import itertools
+
+import numpy
+import scipy.sparse
+import scipy.sparse.linalg
+
+from plain_network import Network
+
+
+def law_of(net, total=None):
+    """The states, of a total where one is given, and the probability of each."""
+    plain = Network({**net.heads, **net.table})
+    states = [*itertools.product(*(range(cap + 1) for cap in plain.caps))]
+    states = [x for x in states if total is None or sum(x) == total]
+    place = {x: k for k, x in enumerate(states)}
+    rows, columns, rates = [], [], []
+    for x in states:
+        for event in plain.events:
+            y = event.after(x)
+            if y != x:
+                rows += [place[y], place[x]]
+                columns += [place[x], place[x]]
+                rates += [event.rate, -event.rate]
+    count = len(states)
+    matrix = scipy.sparse.coo_matrix((rates, (rows, columns)), (count, count)).tolil()
+    matrix[0] = numpy.ones(count)
+    wanted = numpy.zeros(count)
+    wanted[0] = 1
+    found = scipy.sparse.linalg.spsolve(matrix.tocsc(), wanted)
+    assert found.min() > -1e-9
+    return states, found
+
+
+def means_of(net, total=None):
+    """The mean of each queue, and of each reward, by their names in two dicts."""
+    plain = Network({**net.heads, **net.table})
+    states, law = law_of(net, total)
+    queues = dict(zip(net.queues, numpy.array(states).T @ law))
+
+    def mean(reward):
+        return sum(p * reward.value(x) for x, p in zip(states, law))
+
+    return queues, {reward.name: mean(reward) for reward in plain.rewards}

@@ -1,0 +1,55 @@
+"""docs/TOOLS.md and docs/MANY.md: what they show is what the tools print."""
+
+import re
+import subprocess
+
+import pytest
+from conftest import SECONDS, TOP
+
+BLOCK = re.compile(r"^```(\w*)\n(.*?)^```\n", re.M | re.S)
+
+
+def shown(name):
+    """The runs that a document shows: the files before it, the commands, and the text, or none
+    where it shows none."""
+    text = (TOP / "docs" / name).read_text()
+    blocks, files = [*BLOCK.finditer(text)], {}
+    for block, following in zip(blocks, [*blocks[1:], None]):
+        if block[1] == "toml":
+            files = {"desk.toml": block[2]}
+        elif block[2].startswith("tools/psi-") and name == "TOOLS.md":
+            between = text[block.end() : following.start()] if following else ""
+            prints = re.match(r"\s*prints\b[^.]*$", between)
+            yield dict(files), block[2], following[2] if prints else None
+
+
+RUNS = [*shown("TOOLS.md")]
+
+
+def test_there_are_runs():
+    assert len([text for *_, text in RUNS if text is not None]) == 5
+    assert all(text != "" for *_, text in RUNS)
+
+
+@pytest.mark.parametrize("files, commands, text", RUNS, ids=[run[1].split()[0] for run in RUNS])
+def test_a_run_of_the_document(environment, tmp_path, files, commands, text):
+    for name in ("tools", "examples"):
+        (tmp_path / name).symlink_to(TOP / name)
+    for name, data in files.items():
+        (tmp_path / name).write_text(data)
+    done = subprocess.run(
+        ["sh", "-c", commands], cwd=tmp_path, capture_output=True, text=True, timeout=SECONDS,
+        env=environment,
+    )
+    assert done.returncode in (0, 3), done.stderr
+    if text is not None:
+        assert done.stdout == text
+
+
+def test_the_options_of_psi_many_are_those_that_it_has():
+    from psi_tools.completion import options_of
+    from psi_tools.many import reader
+
+    table = set(re.findall(r"^\| `(--\w+)", (TOP / "docs/MANY.md").read_text(), re.M))
+    known = {names[-1] for names, *_ in options_of(reader())}
+    assert table == known - {"--help", "--version"}

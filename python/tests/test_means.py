@@ -1,0 +1,83 @@
+"""psi-means: means and intervals of reports, and what is refused."""
+
+import json
+
+import pytest
+from conftest import TOP
+
+NET = TOP / "examples/breakdowns.toml"
+
+
+@pytest.fixture
+def folder(tool):
+    status, _, error = tool("psi-many", NET, 5, 100, 2_000, "--jobs", 2, "--folder", "kept")
+    assert status == 0, error
+    return "kept"
+
+
+def test_a_folder_of_psi_many(tool, tmp_path, folder):
+    blocks = sorted((tmp_path / folder / "blocks").iterdir())
+    assert len(blocks) >= 20
+    by_folder = tool("psi-means", folder, "--format", "csv")
+    by_files = tool("psi-means", *blocks, "--format", "csv")
+    assert by_folder == by_files
+    assert by_folder[0] == 0
+    report = tool("psi-many", NET, 5, 100, 2_000, "--folder", folder)[1]
+    rows = {tuple(line.split(",")[:2]): int(line.split(",")[2]) for line in report.splitlines()[1:]}
+    for line in by_folder[1].splitlines()[1:]:
+        item, name, mean, half, low, high, least, greatest = line.split(",")
+        if item == "mean":
+            assert float(mean) == rows["sum", name] / 2_000
+            assert (int(least), int(greatest)) == (rows["least", name], rows["greatest", name])
+        assert float(low) == pytest.approx(float(mean) - float(half), abs=1e-12)
+
+
+def test_text_and_json(tool, folder):
+    status, out, error = tool("psi-means", folder)
+    assert (status, error) == (0, "")
+    assert out.startswith("2,000 samples in ")
+    told = json.loads(tool("psi-means", folder, "--format", "json")[1])
+    assert [row["name"] for row in told["rows"] if row["item"] == "mean"] == ["jobs", "broken"]
+
+
+def test_a_wider_level_is_wider(tool, folder):
+    rows = [
+        json.loads(tool("psi-means", folder, "--format", "json", "--level", level)[1])["rows"]
+        for level in (90, 99)
+    ]
+    for narrow, wide in zip(*rows):
+        assert narrow["half"] <= wide["half"]
+
+
+def test_too_few_batches(tool, tmp_path, folder):
+    blocks = sorted((tmp_path / folder / "blocks").iterdir())
+    status, out, error = tool("psi-means", *blocks[:19])
+    assert (status, out) == (2, "")
+    assert error.startswith("psi-means: there are 19 batches, and 20 are wanted")
+
+
+def test_blocks_that_are_changed_or_of_another_network(tool, tmp_path, folder):
+    blocks = sorted((tmp_path / folder / "blocks").iterdir())
+    other = tmp_path / "other.csv"
+    other.write_text(blocks[0].read_text().replace("jobs", "jabs"))
+    status, _, error = tool("psi-means", *blocks, other)
+    assert status == 2 and "different networks" in error
+    blocks[3].write_text(blocks[3].read_text().replace("\n", "\r\n"))
+    status, _, error = tool("psi-means", folder)
+    assert status == 2 and "isn't as it was written" in error
+    blocks[3].unlink()
+    status, out, _ = tool("psi-means", folder)
+    assert (status, out.split(":")[0]) == (0, "NOT WHOLE") or status == 2
+
+
+def test_what_is_not_coupled_comes_first(tool, tmp_path):
+    tool("psi-many", TOP / "examples/short-past.toml", 0, 0, 1_000, "--folder", "short")
+    status, out, _ = tool("psi-means", "short")
+    assert status == 0
+    assert out.startswith("NOT COUPLED: 585 of 1,000 streams; ")
+
+
+def test_a_picture_with_intervals(tool, tmp_path, folder):
+    status, _, error = tool("psi-plot", "report", folder, "-o", "means.svg")
+    assert (status, error) == (0, "")
+    assert 'id="interval-0-jobs"' in (tmp_path / "means.svg").read_text()

@@ -1,0 +1,129 @@
+"""psi-new: each kind is a file that psi takes, and means what it says."""
+
+import re
+from fractions import Fraction
+
+import pytest
+from solving import means_of
+
+from psi_tools.models import made_whole
+from psi_tools.networks import Network
+from psi_tools.new import KINDS
+
+KIND_WORDS = {
+    "mm1k": "--arrival 0.8 --service 1 --places 10",
+    "mmck": "--arrival 5 --service 2 --servers 3 --places 10",
+    "erlang-loss": "--arrival 7.5 --service 1 --servers 12",
+    "abandonment": "--arrival 5 --service 2 --servers 2 --places 12 --patience 0.5",
+    "batch": "--arrival 1 --size 3 --service 2 --servers 2 --places 9",
+    "line": "--arrival 0.8 --service 1,1.2,1 --places 4",
+    "overflow": "--arrival 6 --service 1 --servers 5,3",
+    "shortest-queue": "--arrival 1.5 --service 1,1 --places 4",
+    "closed": "--service 3,2,1 --customers 4",
+    "breakdowns": "--arrival 2 --service 3 --places 8 --break 0.1 --repair 1/2",
+    "priority": "--arrival 1,0.5 --service 3,2 --places 6",
+    "fork-join": "--arrival 1 --service 1.5,2 --places 5",
+    "erlang-service": "--arrival 0.7 --service 1 --phases 3 --places 8",
+    "hyperexponential": "--arrival 0.6 --service 3,0.5 --quick 0.8 --places 8",
+    "rework": "--arrival 0.5 --service 1,2 --again 0.25 --places 6,4",
+}
+
+
+def made(tool, tmp_path, kind, words):
+    status, out, error = tool("psi-new", kind, *words.split(), "-o", "net.toml")
+    assert (status, out, error) == (0, "", "")
+    return Network.read(tmp_path / "net.toml")
+
+
+def test_each_kind_is_tried():
+    assert {*KIND_WORDS} == {*KINDS}
+
+
+@pytest.mark.parametrize("kind", KIND_WORDS)
+def test_a_kind_is_a_network_that_couples(tool, tmp_path, psi, kind):
+    net = made(tool, tmp_path, kind, KIND_WORDS[kind])
+    assert (tmp_path / "net.toml").read_text().startswith("# ")
+    if kind == "closed":
+        assert psi.closed(net, 4, count=20).sum(axis=1).tolist() == [4] * 20
+        return
+    report = psi.report(net, 0, 0, 50)
+    assert int(report["value"][1]) == 50
+
+
+def erlang_b(load, lines):
+    """Erlang's formula B, by its recursion."""
+    blocked = 1.0
+    for line in range(1, lines + 1):
+        blocked = load * blocked / (line + load * blocked)
+    return blocked
+
+
+def test_erlangs_formula(tool, tmp_path):
+    net = made(tool, tmp_path, "erlang-loss", KIND_WORDS["erlang-loss"])
+    assert means_of(net)[1]["lost"] == pytest.approx(erlang_b(7.5, 12))
+
+
+def test_more_than_64_servers_are_the_same_queue(tool, tmp_path):
+    net = made(tool, tmp_path, "erlang-loss", "--arrival 95 --service 1 --servers 100")
+    assert net.version() == 2
+    assert means_of(net)[1]["lost"] == pytest.approx(erlang_b(95, 100))
+
+
+def test_the_mean_of_a_single_server(tool, tmp_path):
+    net = made(tool, tmp_path, "mm1k", KIND_WORDS["mm1k"])
+    weights = [0.8**n for n in range(11)]
+    wanted = sum(n * w for n, w in enumerate(weights)) / sum(weights)
+    assert means_of(net)[0]["desk"] == pytest.approx(wanted)
+
+
+@pytest.mark.parametrize("kind", ["mm1k", "mmck", "abandonment", "erlang-loss", "closed"])
+def test_the_formula_in_the_comment_is_what_is_solved(tool, tmp_path, kind):
+    net = made(tool, tmp_path, kind, KIND_WORDS[kind])
+    comment = " ".join((tmp_path / "net.toml").read_text().split("version")[0].split("\n# "))
+    if kind == "closed":
+        told = re.search(r"They are (\S+), (\S+) and (\S+)\.\s", comment).groups()
+        assert [*map(float, told)] == pytest.approx([*means_of(net, 4)[0].values()], rel=1e-5)
+        return
+    mean, full = re.search(r"birth and death (\S+) are .* for (\S+) of the time", comment).groups()
+    queues, rewards = means_of(net)
+    assert float(mean) == pytest.approx(*queues.values(), rel=1e-5)
+    assert float(full) == pytest.approx(rewards.get("full", rewards.get("lost")), rel=1e-5)
+
+
+def test_phases_have_the_mean_of_pollaczek_and_khinchine(tool, tmp_path):
+    # With room enough the mean number is rho + rho^2 (1 + c^2) / (2 (1 - rho)).
+    for kind, words, rho, scv in (
+        ("erlang-service", "--arrival 0.3 --service 1 --phases 3 --places 60", 0.3, 1 / 3),
+        ("hyperexponential", "--arrival 0.3 --service 2,0.5 --quick 0.75 --places 60",
+         0.3 * (0.75 / 2 + 0.25 / 0.5), None),
+    ):
+        if scv is None:
+            first, second = 0.75 / 2 + 0.25 / 0.5, 2 * (0.75 / 4 + 0.25 / 0.25)
+            scv = second / first**2 - 1
+        net = made(tool, tmp_path, kind, words)
+        wanted = rho + rho**2 * (1 + scv) / (2 * (1 - rho))
+        assert means_of(net)[0]["jobs"] == pytest.approx(wanted, rel=1e-6)
+
+
+def test_rates_are_exact_where_there_is_room():
+    net = Network().queue("a", 1).event("in", "arrival", Fraction("0.8"), to=["a"])
+    net.event("out", "service", Fraction(1, 3), source="a")
+    assert made_whole(net) == (15, 0)
+    assert [event["rate"] for event in net.table["event"]] == [12, 5]
+
+
+def test_rates_are_rounded_where_there_is_none(tool):
+    words = "--arrival 0.123456789 --service 1/999999937 --places 3"
+    status, out, error = tool("psi-new", "mm1k", *words.split())
+    assert status == 0
+    assert "a rate is off by at most" in out.replace("\n# ", " ")
+    assert error.startswith("psi-new: the rates are rounded: ")
+
+
+@pytest.mark.parametrize("words", ["", "mm1k", "mm2k", "mm1k --arrival 0 --service 1 --places 2",
+                                   "mm1k --arrival 1 --service 1 --places 65536",
+                                   "mmck --arrival 1 --service 1 --servers 5 --places 4"])
+def test_words_that_are_not_right(tool, words):
+    status, out, error = tool("psi-new", *words.split())
+    assert (status, out) == (2, "")
+    assert error.startswith("psi-new: ") and error.count("\n") == 1

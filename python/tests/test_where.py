@@ -1,0 +1,88 @@
+"""psi-where: the line of each faulty file, and the guide's sentences."""
+
+import re
+
+import case_files
+import pytest
+from conftest import TOP
+
+from psi_tools.refusals import SENTENCES
+from psi_tools.where import REFUSED, found_in
+
+HEAD = 'version = 2\n[[queue]]\nname = "a"\ncapacity = 3\n[[queue]]\nname = "b"\ncapacity = 5\n'
+EVENT = '[[event]]\nname = "in"\nkind = "arrival"\nrate = 1\n'
+# The text, and the line that is refused.
+FAULTY = {
+    "unknown queue": (HEAD + EVENT + 'to = [\n  "a",\n  "c",\n]\n', 14),
+    "repeated": (HEAD + EVENT + 'to = [\n  "a",\n  "b",\n  "a",\n]\n', 15),
+    "misspelt key": (HEAD + EVENT + 'two = ["a"]\n', 12),
+    "missing key": (HEAD + EVENT, 8),
+    "same name": (HEAD + EVENT + 'to = ["a"]\n' + EVENT + 'to = ["b"]\n', 14),
+    "late key": (HEAD + EVENT + 'to = ["a"]\nlimit = 20\n', 13),
+    "capacity": (HEAD.replace("capacity = 5", "capacity = 0") + EVENT + 'to = ["a"]\n', 7),
+    "syntax": (HEAD + EVENT + 'to = ["a"\n[[event]]\n', 13),
+    "no quotes": (HEAD.replace('"b"', "b") + EVENT + 'to = ["a"]\n', 6),
+    "part": (
+        HEAD + '[[event]]\nname = "g"\nkind = "guarded"\nrate = 1\n[[event.part]]\nqueue = "a"\n'
+        '[[event.part]]\nqueue = "b"\nleast = 6\n', 16,
+    ),
+    "guard": (
+        HEAD + '[[event]]\nname = "g"\nkind = "guarded"\nrate = 1\npart = [\n  { queue = "a" },\n'
+        '  { queue = "b", least = 4,\n    most = 2 },\n]\n', 14,
+    ),
+    "row": (
+        HEAD + '[[event]]\nname = "j"\nkind = "index"\nrate = 1\nto = ["a", "b"]\ntable = [\n'
+        "  [0, 1, 2],\n  [0, 1, 2],\n]\n", 15,
+    ),
+    "no events": ("version = 1\n[[queue]]\nname = 'a'\ncapacity = 1\n", 1),
+}
+
+
+@pytest.mark.parametrize("name", FAULTY)
+def test_the_line_of_a_fault(tool, tmp_path, name):
+    text, line = FAULTY[name]
+    (tmp_path / "net.toml").write_text(text)
+    status, out, error = tool("psi-where", "net.toml")
+    assert (status, error) == (3, "")
+    place, _, shown = out.splitlines()[0].partition(": ")
+    assert place == f"net.toml:{line}"
+    assert shown == text.splitlines()[line - 1].strip()
+    assert out.splitlines()[-1] in SENTENCES.values()
+
+
+def test_a_network_that_is_taken(tool):
+    status, out, _ = tool("psi-where", TOP / "examples/first.toml")
+    assert status == 0
+    assert out.endswith("first.toml: psi takes it\n")
+
+
+def test_the_sentences_are_the_guides():
+    guide = (TOP / "docs/FORMATS.md").read_text()
+    items = re.findall(r"^- \*\*\d+ `(\w+)`\*\*: (.*?)(?=^- \*\*|^\(17)", guide, re.M | re.S)
+    found = {name: " ".join(text.split()) for name, text in items}
+    assert {name: text[:1].lower() + text[1:] for name, text in SENTENCES.items()} == {
+        name: text[:1].lower() + text[1:] for name, text in found.items()
+    }
+
+
+def faulty_cases():
+    """The bytes of each network that the cases refuse, and psi's line on it."""
+    for file in sorted(case_files.DATA.glob("*.cases")):
+        for case in case_files.cases(file.name):
+            said = case.err.decode().strip()
+            # Where standard error takes no more, a case has a front of the line.
+            if REFUSED.fullmatch(said) and case.words[1] in case.files:
+                yield case.files[case.words[1]], said
+
+
+def test_every_faulty_file_of_the_cases_has_its_line():
+    many, without = 0, []
+    for data, line in faulty_cases():
+        found = found_in(data, line)
+        many += 1
+        if found["line"] is None:
+            without.append(line)
+        else:
+            assert 1 <= found["line"] <= data.count(b"\n") + 1
+    assert many > 40
+    assert without == []

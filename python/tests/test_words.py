@@ -1,0 +1,135 @@
+"""No word, file or full disk ends in a traceback: one line, and the right status."""
+
+import pathlib
+import re
+import subprocess
+
+import pytest
+from conftest import SECONDS, TOP
+
+from psi_tools.commands import NAMES
+from psi_tools.completion import SHELLS, completion
+
+NET = TOP / "examples/first.toml"
+# Of each command words that are right, with a place for a file.
+RIGHT = {
+    "many": ["{}", "0", "0", "20"], "plot": ["report", "{}", "-o", "p.svg"], "means": ["{}"],
+    "law": ["{}", "desk", "--count", "20"], "sweep": ["{}", "desk.capacity=2,3", "--count", "20"],
+    "where": ["{}"], "why": ["{}"],
+}
+
+
+def is_one_line(name, error):
+    return re.fullmatch(rf"psi-{name}: [^\n]+\n", error) is not None
+
+
+def files(room):
+    """Files that are no network and no report, each with what it has."""
+    found = {
+        "empty": b"", "binary": bytes(range(256)) * 40, "text": b"hello\n",
+        "long": b"#" * 2**20 + b"\n", "nul": b"version = 1\0", "toml": b"queue = 5\n",
+        "latin": "version = 1 # é".encode("latin-1"), "odd": b"[[queue]]\nqueue = [[[[[\n",
+        "csv": b"item,name,value\n", "deep": b"a = " + b"[" * 5_000,
+    }
+    for name, data in found.items():
+        (room / name).write_bytes(data)
+    (room / "folder").mkdir()
+    (room / "loop").symlink_to("loop")
+    return [*found, "folder", "loop", "absent", "a" * 5_000, "with\nline", "folder/", "\udce9"]
+
+
+@pytest.mark.parametrize("name", RIGHT)
+def test_files_that_are_not_what_they_should_be(tool, tmp_path, name):
+    for file in files(tmp_path):
+        words = [word.format(file) for word in RIGHT[name]]
+        status, out, error = tool(f"psi-{name}", *words)
+        if name == "where" and status == 3:
+            assert (error, out.count("\n")) == ("", 3), (file, out, error)
+            continue
+        assert status in (2, 3, 6), (file, status, error)
+        assert out == "" and is_one_line(name, error), (file, out, error)
+
+
+@pytest.mark.parametrize("name", NAMES)
+def test_words_that_are_not_right(tool, name):
+    for words in (
+        [], ["--no-such-option"], ["--seed"], ["a"] * 9, ["", ""], ["-"], ["--count", "x", "y"],
+    ):
+        status, out, error = tool(f"psi-{name}", *words)
+        assert status in (2, 6), (words, status)
+        assert out == "" and is_one_line(name, error), (words, error)
+
+
+@pytest.mark.parametrize("name", NAMES)
+def test_help_and_version(tool, name):
+    status, out, error = tool(f"psi-{name}", "--help")
+    assert (status, error) == (0, "")
+    assert out.startswith(f"usage: psi-{name} ") and "--version" in out
+    assert tool(f"psi-{name}", "--version") == (0, f"psi-{name} 0.1.0\n", "")
+
+
+def test_each_option_says_what_it_does():
+    import importlib
+
+    from psi_tools.completion import kinds_of, options_of
+
+    for name in NAMES:
+        reader = importlib.import_module(f"psi_tools.{name}").reader()
+        for each in (reader, *(below for below, _ in kinds_of(reader).values())):
+            for options, _, _, said in options_of(each):
+                assert len(said) > 10, (name, options)
+
+
+@pytest.mark.parametrize("name", [*RIGHT, "new"])
+def test_a_full_disk(environment, tmp_path, name):
+    words = [word.format(NET) for word in RIGHT.get(name, [])]
+    words = {
+        "new": ["mm1k", "--arrival", "1", "--service", "2", "--places", "3"],
+        "plot": ["--help"], "means": ["--help"],
+    }.get(name, words)
+    with open("/dev/full", "wb") as full:
+        done = subprocess.run(
+            [TOP / f"tools/psi-{name}", *words], stdout=full, stderr=subprocess.PIPE, text=True,
+            cwd=tmp_path, timeout=SECONDS, env=environment,
+        )
+    lines = done.stderr.splitlines()
+    assert done.returncode == 7, done.stderr
+    assert "No space left on device" in lines[-1] and "Traceback" not in done.stderr
+
+
+@pytest.mark.parametrize("name", ["many", "law", "sweep", "where", "why", "new", "means"])
+def test_where_it_is_written_is_looked_at_first(tool, tmp_path, name):
+    words = [word.format(NET) for word in RIGHT.get(name, [])]
+    if name == "new":
+        words = ["mm1k", "--arrival", "1", "--service", "2", "--places", "3"]
+    status, out, error = tool(f"psi-{name}", *words, "-o", "absent/file")
+    assert (status, out) == (7, "") and is_one_line(name, error)
+    assert [*pathlib.Path(tmp_path).iterdir()] == []
+
+
+@pytest.mark.parametrize("shell", SHELLS)
+@pytest.mark.parametrize("name", NAMES)
+def test_completion_is_of_its_shell(tmp_path, shell, name):
+    text = completion(shell, name)
+    assert "--help" in text or "-l help" in text
+    (tmp_path / "completion").write_text(text)
+    try:
+        done = subprocess.run([shell, "-n", tmp_path / "completion"], capture_output=True)
+    except FileNotFoundError:
+        pytest.skip(f"{shell} isn't installed")
+    assert (done.returncode, done.stderr) == (0, b"")
+
+
+def test_completion_in_bash(tmp_path):
+    (tmp_path / "completion").write_text(completion("bash", "law"))
+    for words, wanted in (
+        (
+            ["psi-law", str(TOP / "examples/breakdowns.toml"), ""],
+            ["jobs", "broken", "cost", "full"],
+        ),
+        (["psi-law", "--se"], ["--seed"]), (["psi-law", "--format", "j"], ["json"]),
+    ):
+        script = f". ./completion\nCOMP_WORDS=({' '.join(repr(word) for word in words)})\n"
+        script += f'COMP_CWORD={len(words) - 1}\n_psi_law && echo "${{COMPREPLY[@]}}"'
+        done = subprocess.run(["bash", "-c", script], cwd=tmp_path, capture_output=True, text=True)
+        assert done.stdout.split() == wanted, done.stderr
