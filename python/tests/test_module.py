@@ -1,0 +1,90 @@
+"""The module psi: what it gives is what the program prints."""
+
+import subprocess
+import tomllib
+import warnings
+
+import pytest
+from conftest import TOP
+
+EXAMPLES = TOP / "examples"
+
+
+def said(program, *words):
+    return subprocess.run([program, *map(str, words)], capture_output=True, text=True).stdout
+
+
+def test_the_version_is_that_of_the_citation(psi):
+    citation = (TOP / "CITATION.cff").read_text()
+    assert f'\nversion: "{psi.__version__}"\n' in citation
+    project = tomllib.loads((TOP / "python/pyproject.toml").read_text())
+    assert project["tool"]["setuptools"]["dynamic"]["version"]["attr"] == "psi_tools.__version__"
+
+
+def test_a_report_is_the_programs(psi, program):
+    for name in ("tandem-blocking", "breakdowns"):
+        file = EXAMPLES / f"{name}.toml"
+        table = psi.report(file, 3, 5, 200)
+        lines = [f"{item},{name},{value}" for item, name, value in table.itertuples(index=False)]
+        text = "\n".join(["item,name,value", *lines, ""])
+        assert text == said(program, "report", file, 3, 5, 200)
+
+
+def test_a_network_built_in_python_is_that_of_its_file(psi, program, tmp_path):
+    net = psi.Network(limit=12).queue("desk", 10)
+    net.event("come", "arrival", 4, to=["desk"]).event("serve", "service", 5, source="desk")
+    net.write(tmp_path / "net.toml")
+    assert psi.check(net) == said(program, "check", tmp_path / "net.toml")
+    assert "limit 12" in psi.check(net)
+
+
+def test_samples_are_the_programs(psi, program):
+    file = EXAMPLES / "tandem-blocking.toml"
+    states = psi.samples(file, 1, 7, 20)
+    assert states.shape == (20, 3)
+    for stream, state in enumerate(states.tolist(), 7):
+        wanted = f"state {','.join(map(str, state))}\n"
+        assert said(program, "sample", file, 1, stream).endswith(wanted)
+
+
+def test_streams_that_are_not_coupled(psi):
+    file = EXAMPLES / "short-past.toml"
+    with pytest.raises(psi.NotCoupled):
+        psi.samples(file, 0, 0, 100)
+    states = psi.samples(file, 0, 0, 100, keep=True)
+    assert 0 < (states == -1).sum() < 100
+    with pytest.warns(psi.Uncoupled):
+        psi.report(file, 0, 0, 100)
+    with warnings.catch_warnings():
+        warnings.simplefilter("error")
+        psi.report(EXAMPLES / "first.toml", 0, 0, 100)
+
+
+def test_a_log_certifies_its_state(psi, program):
+    file = EXAMPLES / "tandem-blocking.toml"
+    log = psi.log(file, 0, 0)
+    assert log == said(program, "sample", file, 0, 0, "log")
+    assert psi.replay(file, log) == (64, (3, 2, 1))
+    with pytest.raises(psi.Refused) as refused:
+        psi.replay(file, log.replace("end 3,2,1", "end 3,2,2"))
+    assert str(refused.value) == "log rejected 8 WrongState line 71"
+    assert len(psi.draw_log(log, file).axes) == 5
+
+
+def test_other_commands(psi):
+    assert psi.couple(EXAMPLES / "tandem-blocking.toml", 0, 0) == (39, (3, 2, 1))
+    assert psi.reward(EXAMPLES / "shortest-queue.toml", 0, 0, "longest") == (128, 2)
+    assert psi.exact(EXAMPLES / "longest-queue.toml", 0, 0, 11).region == 1586
+    states = psi.closed(EXAMPLES / "central-server.toml", 6, count=2)
+    assert states.tolist() == [[0, 1, 5], [2, 0, 4]]
+
+
+def test_what_psi_refuses_is_told_by_its_line(psi):
+    net = psi.Network().queue("a", 0)
+    with pytest.raises(psi.Refused) as refused:
+        psi.check(net)
+    assert (refused.value.status, str(refused.value)) == (
+        3, "network refused 6 OutOfRange queue 1 capacity"
+    )
+    with pytest.raises(psi.Told):
+        psi.check("absent.toml")
