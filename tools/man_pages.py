@@ -1,10 +1,11 @@
 #!/usr/bin/python3
 """man_pages.py FOLDER [DATE]
 
-Makes the man pages psi(1), psi-many(1) and psi-file(5) of README.md, docs/FORMATS.md and
-docs/MANY.md, and writes them to a folder; DATE stands at their feet. A page says what these say,
-word by word: the part of README on the use, and each part of FORMATS in one of the two pages. In
-the commands `./psi` is `psi`, and the tools have no folder.
+Makes the man pages psi(1), psi-many(1), psi-file(5) and those of the tools of README.md,
+docs/FORMATS.md, docs/MANY.md and docs/TOOLS.md, and writes them to a folder; DATE stands at their
+feet. A page says what these say, word by word: the part of README on the use, each part of FORMATS
+in one of the two pages, and each part of TOOLS in its own. In the commands `./psi` is `psi`, and the
+tools have no folder.
 
 The form is that of groff's man macros, with tables by tbl. Of Markdown it knows what the three
 documents have: headings, paragraphs, lists in lists, tables, quotes, blocks of code, and in a text
@@ -30,6 +31,12 @@ PAGES = {
     "psi.1": ("PSI", "perfect samples of finite queueing networks"),
     "psi-many.1": ("PSI-MANY", "reports of many streams, on many processors and machines"),
     "psi-file.5": ("PSI-FILE", "network files, reports and certificates of psi(1)"),
+    "psi-means.1": ("PSI-MEANS", "means of reports with their intervals"),
+    "psi-law.1": ("PSI-LAW", "the law of a number of customers or of a reward"),
+    "psi-sweep.1": ("PSI-SWEEP", "designs of one network, and their differences"),
+    "psi-where.1": ("PSI-WHERE", "the line of a network file that psi refuses"),
+    "psi-why.1": ("PSI-WHY", "why samples of a network may not couple"),
+    "psi-new.1": ("PSI-NEW", "a network file from a few words"),
 }
 FILES = """.SH FILES
 .TP
@@ -226,6 +233,11 @@ def pages(top, date):
     yield "psi-file.5", page("psi-file.5", date, joined(others))
     call = re.search(r"^`tools/(psi-many [^`]*)`", many, re.M)[1]
     yield "psi-many.1", page("psi-many.1", date, many.partition("\n")[2], [call])
+    tools = sections_of((top / "docs/TOOLS.md").read_text())
+    for name in (name for name in PAGES if name.partition(".")[0] in tools):
+        body = tools[name.partition(".")[0]]
+        calls = re.findall(r"^`tools/(psi-[^`]*)`", body, re.M)
+        yield name, page(name, date, body, calls)
 
 
 def main():

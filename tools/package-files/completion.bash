@@ -30,32 +30,4 @@ _psi() {
     esac
 }
 
-_psi_many() {
-    local word=${COMP_WORDS[COMP_CWORD]} before=${COMP_WORDS[COMP_CWORD - 1]}
-    COMPREPLY=()
-    case $before in
-    --out | --folder | --psi | --hosts | --merge) _psi_files '*' "$word" ;;
-    *)
-        if [ "$COMP_CWORD" -eq 1 ]; then
-            _psi_files toml "$word"
-        else
-            COMPREPLY=($(compgen -W "--out --folder --psi --block --jobs --hosts --ssh --slurm \
-                --sbatch --merge" -- "$word"))
-        fi
-        ;;
-    esac
-}
-
-_psi_plot() {
-    local word=${COMP_WORDS[COMP_CWORD]}
-    COMPREPLY=()
-    if [ "$COMP_CWORD" -eq 1 ]; then
-        COMPREPLY=($(compgen -W "coupling report exact" -- "$word"))
-    else
-        _psi_files '*' "$word"
-    fi
-}
-
 complete -F _psi psi
-complete -F _psi_many psi-many
-complete -F _psi_plot psi-plot
