@@ -13,6 +13,7 @@ mod ValueLemmas
 mod NumeralLemmas
 mod PieceLemmas
 mod PieceTurns
+mod CutLemmas
 mod LineWords
 mod MovedLemmas
 pub mod ToldLemmas

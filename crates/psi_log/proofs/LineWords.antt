@@ -1,15 +1,16 @@
 -- The words of a line, read one after another up to its line feed, as a loop does.
-use Rattle.std.specs.Prelude.{◌≡◌, ℕ, ◌+◌, ◌-◌, ◌<◌, ◌≤◌, List, [], ◌∷◌, ◌++◌, length, map, take, drop, Bool, true, false, not, nat_le, cond, Some, None, Ok, Err, refl}
+use Rattle.std.specs.Prelude.{◌≡◌, ℕ, ◌+◌, ◌-◌, ◌<◌, ◌≤◌, List, [], ◌∷◌, ◌++◌, length, take, drop, Bool, true, false, not, nat_le, cond, Some, None, Ok, Err, refl}
 use Rattle.std.specs.List.{position, position_or_len, before_first, after_first}
 use Rattle.std.proofs.Common.{get_or, ap, sym, ◌∙◌, arith, append_assoc, inl, inr}
 use Rattle.std.proofs.lemmas.Bool.{eq-eqb, leb-true, leb-false, lt-ltb, le-ltb, cases_eq}
-use Rattle.std.proofs.lemmas.List.{take_all, take-take, drop-take, drop-drop, get_or-drop, get_or-take, length-take-le, length-drop, map-append}
+use Rattle.std.proofs.lemmas.List.{take_all, take-take, drop-take, drop-drop, get_or-drop, get_or-take, length-take-le, length-take, length-drop}
 use Rattle.std.proofs.lemmas.List.Elements.{All-from_get_or}
 use Rattle.std.proofs.lemmas.List.Splits.{slice_split_none, slice_split_first}
 use Rattle.std.proofs.lemmas.List.Sums.{prefix_len-le-length, position_or_len_is, fails_before_first, passes_at_first}
 use Rattle.psi_log.specs.Refusal.{refused}
 use Rattle.psi_log.specs.Words.{is_feed, is_space, cut_at, line_of, words_of}
 use Rattle.psi_log.specs.declared.refusals.Cause.TheVariants.{Truncated}
+use Rattle.psi_log.proofs.CutLemmas.{take_onto}
 
 -- no line feed so far, and the words in front of the one that begins at a place
 pub record AreWords (text : List ℕ) (at first : ℕ) (front : List (List ℕ)) : Type 0 where
@@ -124,9 +125,41 @@ words_end n text at first words are past =
     ap (λ (t : Bool). cond t (Some (position_or_len is_feed text)) None) (le-ltb (position_or_len is_feed text) (length text) (omega arith)) in
     ap (cut_at n text) none
 
--- a word that is put behind the others
-pub word_pushed : {V : Type 0} (view : V → List ℕ) (vs more : List V) (v : V) → more ≡ vs ++ v ∷ [] → map view more ≡ map view vs ++ view v ∷ []
-word_pushed view vs more v is = ap (map view) is ∙ map-append view vs (v ∷ [])
+-- of the words in front of the one that begins at a place the first 4,101
+pub record AreKept (text : List ℕ) (at first : ℕ) (front : List (List ℕ)) : Type 0 where
+  pub words : List (List ℕ)
+  pub are : AreWords text at first words
+  pub cut : front ≡ take 4101 words
+
+pub kept_none : (text : List ℕ) → AreKept text 0 0 []
+kept_none text = record { words = []; are = words_none text; cut = refl }
+
+pub kept_few : (text : List ℕ) (at first : ℕ) (front : List (List ℕ)) → AreKept text at first front → length front ≤ 4101
+kept_few text at first front kept = omega (arith, ap length kept.cut, length-take 4101 kept.words)
+
+pub kept_byte : (text : List ℕ) (at first : ℕ) (front : List (List ℕ)) → AreKept text at first front → at < length text → is_feed (get_or text at 0) ≡ false
+    → is_space (get_or text at 0) ≡ false → AreKept text (at + 1) first front
+kept_byte text at first front kept small other plain = record { words = kept.words; are = words_byte text at first kept.words kept.are small other plain; cut = kept.cut }
+
+-- the front with one word more
+front_next : (front more words : List (List ℕ)) (word : List ℕ) → front ≡ take 4101 words → more ≡ take 4101 (front ++ word ∷ []) → more ≡ take 4101 (words ++ word ∷ [])
+front_next front more words word is then = then ∙ ap (λ (ws : List (List ℕ)). take 4101 (ws ++ word ∷ [])) is ∙ take_onto 4101 words (word ∷ [])
+
+pub kept_space : (text : List ℕ) (at first : ℕ) (front more : List (List ℕ)) (word : List ℕ) → AreKept text at first front → at < length text
+    → is_feed (get_or text at 0) ≡ false → is_space (get_or text at 0) ≡ true → word ≡ take (at - first) (drop first text) → more ≡ take 4101 (front ++ word ∷ [])
+    → AreKept text (at + 1) (at + 1) more
+kept_space text at first front more word kept small other space is then = record {
+  words = kept.words ++ word ∷ [];
+  are = words_space text at first kept.words (kept.words ++ word ∷ []) word kept.are small other space is refl;
+  cut = front_next front more kept.words word kept.cut then;
+}
+
+pub kept_feed : (n : ℕ) (text : List ℕ) (at first : ℕ) (front more : List (List ℕ)) (word : List ℕ) → AreKept text at first front → at < length text
+    → get_or text at 0 ≡ 10 → word ≡ take (at - first) (drop first text) → more ≡ take 4101 (front ++ word ∷ [])
+    → (line_of n text ≡ Ok (before_first is_feed text, drop (at + 1) text)) × (more ≡ take 4101 (words_of (before_first is_feed text)))
+kept_feed n text at first front more word kept small feed is then =
+    let whole = words_feed n text at first kept.words (kept.words ++ word ∷ []) word kept.are small feed is refl in
+    (whole.0, front_next front more kept.words word kept.cut then ∙ ap (take 4101) whole.1)
 
 -- what follows a place
 pub rest_of : (text : List ℕ) (at : ℕ) → take (length text - at) (drop at text) ≡ drop at text

@@ -19,7 +19,7 @@ pub(crate) fn greatest_horizon(version: u8) -> u32
 }
 
 // The number from `least` to `most` that a line names, and what follows the line.
-#[tactic(auto, unfolding(crate::specs::Reading::named_line))]
+#[tactic(auto, unfolding(crate::specs::Reading::named_line), using(crate::proofs::CutLemmas::named_cut))]
 fn named_line<'t>(
     line: u32,
     name: &[u8],

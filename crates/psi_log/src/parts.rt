@@ -70,7 +70,7 @@ fn read_end(line: u32, queues: u8, words: &[&[u8]]) -> Result<State, LogError>
 }
 
 // The parts of the log behind its header. The vector holds the words of one line after another.
-#[tactic(auto, unfolding(crate::specs::Reading::after_header), using(crate::proofs::StepLemmas::region_kept))]
+#[tactic(auto, unfolding(crate::specs::Reading::after_header), using(crate::proofs::StepLemmas::region_kept, crate::proofs::CutLemmas::begin_cut, crate::proofs::CutLemmas::end_cut))]
 fn parts_of<'t>(
     alloc: Global,
     header: Header,

@@ -1,6 +1,6 @@
 //! The lines of a text, the words of a line, and the number of pieces of a word.
 
-ghost use Rattle.std.specs.Prelude.{◌≡◌, ◌+◌, ◌≤◌, length, map, Ok, IfOk, IfErr, OnOk, codes};
+ghost use Rattle.std.specs.Prelude.{◌≡◌, ◌∷◌, [], ◌++◌, ◌+◌, ◌≤◌, length, map, take, vec_len, Ok, IfOk, IfErr, OnOk, codes};
 ghost use Rattle.std.specs.List.{position, before_first, count_by};
 ghost use Rattle.std.specs.Str.{bytes_eq};
 ghost use Rattle.psi_log.specs.Refusal.{Gives, IsLogError};
@@ -8,6 +8,10 @@ ghost use Rattle.psi_log.specs.Words.{is_feed, is_comma, line_of, words_of, has_
 
 use crate::numbers::number_in;
 use crate::refusals::{Cause, LogError};
+use std::alloc::AllocError;
+
+// One word more than a line may have: that of a step with a set has `step`, two numbers, `set`, and 4,096 states.
+const MANY: usize = 4_101;
 
 // The place of the first line feed.
 fn feed_at(text: &[u8]) -> Option<usize>
@@ -35,8 +39,20 @@ pub(crate) fn line_of(line: u32, text: &[u8]) -> Result<(&[u8], &[u8]), LogError
     }
 }
 
+// Puts a word behind others, where they aren't 4,101 yet.
+fn keep<'t>(words: &mut Vec<&'t [u8]>, word: &'t [u8]) -> Result<(), AllocError>
+    requires { vec_len words.old ≤ 4101 }
+    ensures { OnOk result (map (λ word. word.now) words.new.items ≡ take 4101 (map (λ word. word.now) words.old.items ++ word.now ∷ [])) }
+{
+    if words.len() < MANY {
+        words.push(word)?;
+    }
+    Ok(())
+}
+
 /// The words of the line that begins a text, in place of those that the vector holds, and what follows the
-/// line feed: two words are parted by each space. The vector's memory stays from line to line.
+/// line feed: two words are parted by each space. Of more than 4,101 words, which no line may have, the first 4,101
+/// are kept. The vector's memory stays from line to line.
 ///
 /// # Errors
 ///
@@ -47,18 +63,18 @@ pub(crate) fn read_words<'t>(
     words: &mut Vec<&'t [u8]>,
 ) -> Result<&'t [u8], LogError>
     ensures line { IfOk result (λ rest. line_of line text.now ≡ Ok (before_first is_feed text.now, rest.now)) }
-    ensures words { OnOk result (map (λ word. word.now) words.new.items ≡ words_of (before_first is_feed text.now)) }
+    ensures words { OnOk result (map (λ word. word.now) words.new.items ≡ take 4101 (words_of (before_first is_feed text.now))) }
     ensures refused { IfErr result (λ error. IsLogError error (line_of line text.now)) }
 {
     words.clear();
     let mut first = 0;
     for (at, byte) in text.iter().enumerate() {
         if *byte == b'\n' {
-            words.push(&text[first..at])?;
+            keep(words, &text[first..at])?;
             return Ok(&text[at + 1..]);
         }
         if *byte == b' ' {
-            words.push(&text[first..at])?;
+            keep(words, &text[first..at])?;
             first = at + 1;
         }
     }
