@@ -28,7 +28,7 @@ use Rattle.psi_replay.specs.Verdict.{rejected, states_of, has, covers, is_within
 use Rattle.psi_replay.specs.declared.causes.Cause.TheVariants.{Header, StepNumber, WrongEvent, OutsideBox, NotCovered, SplitTooLarge, NotSingle, WrongState}
 use Rattle.psi_replay.proofs.ListLemmas.{all_from, has-from_In}
 use Rattle.psi_record.specs.Recorded.{region_of, entry_after, recorded, log_of}
-use Rattle.psi_record.specs.Accepted.{IsAccepted}
+use Rattle.psi_record.specs.Accepted.{IsAccepted, LogsAreAccepted}
 use Rattle.psi_record.proofs.WalkingLemmas.{region_of-set}
 use Rattle.psi_record.proofs.RegionLemmas.{IsKept, kept-start, kept-step, kept-after, splits-few, region_of-plain, states_of-region, state-below, region_of-region}
 
@@ -196,6 +196,20 @@ module _ (caps : List ℕ) (limit : ℕ) (events : ℕ → ℕ) (f : ℕ → Lis
             subst (λ (d : Entry). IsEntry h d) (sym found.2) own);
         final = subst (λ (q : ℕ). IsState q state) (sym queues) (state-below caps state valid (ending-within split caps f t state closed ends));
       }
+
+-- so it is accepted
+pub logs-accepted : LogsAreAccepted
+unfolding recorded
+logs-accepted split f caps events limit h state runs head ends =
+    let range : greatest_horizon h.version ≡ 4194304 = ap (λ v. greatest_horizon v) head.version in
+    let most = head.header.most in
+    let few : h.horizon ≤ 4194304 = omega arith in
+    let kept = recorded-judged caps limit events f split h state runs.most runs.closed head.queues head.horizon ends in
+    record {
+      log = recorded-log caps limit events f split h state runs.valid runs.most runs.closed runs.numbered head.version head.queues head.header.seed head.header.stream head.header.least few ends;
+      kept = kept;
+      verdict = ap (λ (r : Result (Unit {0}) Refusal). verdict_of (recorded split f caps events h state) r) kept;
+    }
 
 -- the log of a network's run
 pub events-few : {E : Type 0} (system : Parts E) (words : ℕ → ℕ) (t : ℕ) → length system.rates ≤ 1024 → event_numbers system words t ≤ 1024

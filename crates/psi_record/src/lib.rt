@@ -4,10 +4,12 @@
 #![tactic(auto)]
 
 mod block;
+mod laws;
 mod recorded;
 mod steps;
 mod writing;
 
 pub use block::{Block, OutOfMemory};
+pub use laws::logs_are_accepted;
 pub use recorded::recorded_end;
 pub use writing::{log_fits, write_log};

@@ -1,13 +1,9 @@
 //! A log, measured and written.
 
-ghost use Rattle.std.specs.Prelude.{◌≡◌, ℕ, ◌^◌, ◌++◌, suc, ◌+◌, ◌-◌, ◌*◌, ◌<◌, ◌≤◌, ◌↔◌, Some, [], length, slice_index, IsTrue, IsSome, IfSome, IsOk, OnOk, OnErr, MatchOption};
+ghost use Rattle.std.specs.Prelude.{◌≡◌, ℕ, ◌^◌, ◌++◌, suc, ◌+◌, ◌-◌, ◌*◌, ◌<◌, ◌≤◌, ◌↔◌, [], length, slice_index, IsTrue, IsSome, IfSome, IsOk, OnOk, OnErr, MatchOption};
 ghost use Rattle.psi_io.specs.Counts.{Rose};
 ghost use Rattle.psi_io.specs.Sink.{appended, GrewByPrefix};
-ghost use Rattle.psi_rate.specs.Composition.{system_functions};
-ghost use Rattle.psi_horizon.specs.Runs.{ending_at};
 ghost use Rattle.psi_record.specs.Recorded.{log_of};
-ghost use Rattle.psi_replay.specs.Verdict.{event_numbers};
-ghost use Rattle.psi_record.specs.Accepted.{IsAccepted};
 ghost use Rattle.psi_record.specs.Sending.{Sends};
 ghost use Rattle.psi_record.specs.Walking.{IsRoomy, IsToldAfter, IsAmpleAfter};
 ghost use Rattle.psi_lines.specs.Text.{log_text};
@@ -33,12 +29,8 @@ const MANY: usize = 8_192;
 /// The run is that of the plan's network and words, from the header's horizon, 1 to 2 to the power `limit`
 /// steps before time zero; the header tells version 2. The run is done at most once, and the lengths of its
 /// lines are added up until those that are left surely fit; no line is kept. The plan's network and its past's
-/// words stay as they were. The call takes no memory.
-///
-/// Where the run ends with this state alone, and the header has as many queues as the network, the log is one
-/// that a checker accepts, with the horizon and the state: each of its regions holds what the step's event
-/// makes of the one before (Bušić, Gaujal and Vincent 2008), and the last one is the state alone (coupling from
-/// the past, Propp and Wilson 1996).
+/// words stay as they were. The call takes no memory. What a checker says of the log is told at
+/// [`logs_are_accepted`](crate::logs_are_accepted).
 pub fn log_fits<E: EventLaw, P: Past + Drop>(
     plan: &mut Plan<'_, E, P>,
     header: &Header,
@@ -51,16 +43,7 @@ pub fn log_fits<E: EventLaw, P: Past + Drop>(
     ensures fits { IsTrue result ↔ (length (log_text (log_of E.function plan.old.system (P.words plan.old.past) header.now state.now)) ≤ 33554432) }
     ensures system { plan.new.system ≡ plan.old.system }
     ensures words { P.words plan.new.past ≡ P.words plan.old.past }
-    // Where the run ends with this state, the log is one that its checker accepts.
-    ensures accepted { let f = system_functions E.function plan.old.system (P.words plan.old.past) in
-        header.now.queues ≡ length plan.old.system.caps → ending_at plan.old.system.split f plan.old.system.caps header.now.horizon ≡ Some state.now
-        → IsAccepted plan.old.system.caps plan.old.system.limit (event_numbers plan.old.system (P.words plan.old.past)) f
-        (log_of E.function plan.old.system (P.words plan.old.past) header.now state.now) }
 {
-    // Called for its clause: the system's parts fit each other.
-    let _limit = plan.limit();
-    // Read for their ranges.
-    let (_seed, _stream) = (header.seed, header.stream);
     room_left(plan, header, state, line).is_some()
 }
 
@@ -186,7 +169,7 @@ fn is_ample<E: EventLaw, P: Past + Drop>(
 /// steps before time zero; the header tells version 2. It is done once, and the lines of some steps at a time are
 /// put into the block; a block goes to the sink when it is full, and the last one at the end. What waited in the
 /// block before is let go. The plan's network and its past's words stay as they were. The call takes no
-/// memory. What a checker says of the log is told at [`log_fits`].
+/// memory. What a checker says of the log is told at [`logs_are_accepted`](crate::logs_are_accepted).
 ///
 /// # Errors
 ///
@@ -217,16 +200,7 @@ pub fn write_log<E: EventLaw, P: Past + Drop, O: Sink>(
         (n : ℕ) → O.takes out.old n → OnOk result (O.takes out.new (n - length text)) }
     ensures system { plan.new.system ≡ plan.old.system }
     ensures words { P.words plan.new.past ≡ P.words plan.old.past }
-    // Where the run ends with this state, the log is one that its checker accepts.
-    ensures accepted { let f = system_functions E.function plan.old.system (P.words plan.old.past) in
-        header.now.queues ≡ length plan.old.system.caps → ending_at plan.old.system.split f plan.old.system.caps header.now.horizon ≡ Some state.now
-        → IsAccepted plan.old.system.caps plan.old.system.limit (event_numbers plan.old.system (P.words plan.old.past)) f
-        (log_of E.function plan.old.system (P.words plan.old.past) header.now state.now) }
 {
-    // Called for its clause: the system's parts fit each other.
-    let _limit = plan.limit();
-    // Read for their ranges.
-    let (_seed, _stream) = (header.seed, header.stream);
     write_lines(plan, header, state, line, block, out)
 }
 

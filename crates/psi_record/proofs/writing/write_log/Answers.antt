@@ -1,7 +1,5 @@
 -- Answers in the proof of `write_log`.
-use Rattle.std.proofs.Common.{◌<◌, ◌^◌, rules}
 use Rattle.psi_record.proofs.SendingLemmas.{sends-whole, sends-prefix, sends-failed, sends-counts, sends-taken, sends-spared, sends-takes_on}
-use Rattle.psi_record.proofs.AcceptedLemmas.{log-accepted}
 use Rattle.psi_record.proofs.writing.write_log.Goals as goal
 
 pub returns-clause-whole : goal.returns-clause-whole
@@ -24,12 +22,3 @@ returns-clause-spared g c = sends-spared _ _ _ _ c.write_lines.ensures.sent
 
 pub returns-clause-takes_on : goal.returns-clause-takes_on
 returns-clause-takes_on g c = sends-takes_on _ _ _ _ c.write_lines.ensures.sent
-
-pub returns-clause-accepted : goal.returns-clause-accepted
-returns-clause-accepted g c = λ queues ends.
-    let h = c.args.header.now in
-    let plan = c.args.plan.now in
-    let seed : h.seed < 2 ^ 64 = search rules in
-    let stream : h.stream < 2 ^ 64 = search rules in
-    log-accepted g.E.EventLaw.capacities g.E.EventLaw.function plan.system (g.P.Past.words plan.past) h c.args.state.now g.met.E.EventLaw.closed c.limit-limit.ensures.fit
-    c.requires.version queues seed stream c.requires.some c.requires.most ends
