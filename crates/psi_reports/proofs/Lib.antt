@@ -31,3 +31,8 @@ mod FigureReach
 pub mod SampleLaws
 pub mod SoundLaws
 pub mod ReachedLaws
+mod FieldLemmas
+mod WrongLines
+pub mod WrongLaws
+pub mod NetworkLaws
+pub mod StandLaws

@@ -42,12 +42,12 @@ no-first None k is = refl
 no-first (Some j) None is = is
 no-first (Some j) (Some k) is = absurd cc
 
-no-line : (first : ℕ) (k : Option ℕ) → figures_line first k ≡ None → k ≡ None
-no-line first None is = refl
-no-line first (Some k) is = absurd cc
+no-line : (c : Contents) (k : Option ℕ) → figures_line c k ≡ None → k ≡ None
+no-line c None is = refl
+no-line c (Some k) is = absurd cc
 
 no-rows-line : (c : Contents) (k : Option ℕ) → rows_line c k ≡ None → (k ≡ None) × (figures_flaw c.met c.figures ≡ None)
-no-rows-line c None is = (refl, no-first (figures_flaw c.met c.figures) (varying_reward c.figures) (no-line (5 + length c.horizons) (first_flaw c.met c.figures) is))
+no-rows-line c None is = (refl, no-first (figures_flaw c.met c.figures) (varying_reward c.figures) (no-line c (first_flaw c.met c.figures) is))
 no-rows-line c (Some k) is = absurd cc
 
 right : (c : Contents) → flaw_of c ≡ None → IsRight c

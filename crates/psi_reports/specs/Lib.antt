@@ -10,3 +10,4 @@ pub mod Counts
 pub mod Sound
 pub mod Merging
 pub mod Reached
+pub mod Lines

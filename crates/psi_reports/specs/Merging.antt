@@ -14,7 +14,7 @@ use Rattle.psi_reports.specs.declared.error.MergeError.{MergeError}
 use Rattle.psi_reports.specs.declared.error.MergeError.TheVariants.{OtherNetwork, TooLarge, OutOfMemory}
 use Rattle.psi_reports.specs.Contents.{Contents}
 use Rattle.psi_reports.specs.Counts.{joined_counts}
-use Rattle.psi_reports.specs.Sound.{is_sum, is_alike, line_at, figures_line}
+use Rattle.psi_reports.specs.Sound.{is_sum, is_alike, figure_line, figures_line}
 use Rattle.psi_reports.specs.Outcomes.{contents_of}
 use Rattle.psi_reports.specs.Small.{AreSamples}
 use Rattle.psi_reports.specs.Samples.{AreOf}
@@ -32,7 +32,7 @@ difference k (f ∷ fs) (g ∷ gs) = if is_alike f g then difference (k + 1) fs 
 
 -- the line of a report's k-th sum: behind four rows and those of the horizons; the extremes follow each sum where any sample is met
 abbrev pub line_of_sum : Contents → ℕ → ℕ
-line_of_sum c k = line_at ((5 + length c.horizons) + (if c.met == 0 then k else 3 * k))
+line_of_sum c k = figure_line c (if c.met == 0 then k else 3 * k)
 
 -- what an item's two values come to together
 abbrev pub joined_value : Item → ℤ → ℤ → ℤ
@@ -82,7 +82,7 @@ large_figure k (f ∷ fs) = if is_value f.value then large_figure (k + 1) fs els
 unfoldable pub too_large : Contents → Contents → Option ℕ
 too_large b c =
     if is_count c.samples then
-    if is_count c.met && counts_fit c.horizons then figures_line (5 + length b.horizons) (large_figure 0 c.figures) else Some 3
+    if is_count c.met && counts_fit c.horizons then figures_line b (large_figure 0 c.figures) else Some 3
     else Some 2
 
 -- the report of both, unless a number is too large

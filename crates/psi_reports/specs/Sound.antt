@@ -221,15 +221,23 @@ first_flaw n figures = first_of (figures_flaw n figures) (varying_reward figures
 abbrev pub line_at : ℕ → ℕ
 line_at n = min n (2 ^ 64 - 1)
 
--- the line of a figure
-abbrev pub figures_line : ℕ → Option ℕ → Option ℕ
-figures_line first None = None
-figures_line first (Some k) = Some (line_at (first + k))
+-- the line of the k-th horizon, k from 0: behind the heading and three numbers of samples
+abbrev pub horizon_line : ℕ → ℕ
+horizon_line k = line_at (5 + k)
+
+-- the line of the k-th figure, k from 0: behind the horizons
+abbrev pub figure_line : Contents → ℕ → ℕ
+figure_line c k = line_at (5 + length c.horizons + k)
+
+-- the line of a figure, where there is one
+abbrev pub figures_line : Contents → Option ℕ → Option ℕ
+figures_line c None = None
+figures_line c (Some k) = Some (figure_line c k)
 
 -- the line of a horizon; else that of a figure
 abbrev pub rows_line : Contents → Option ℕ → Option ℕ
-rows_line c (Some k) = Some (line_at (5 + k))
-rows_line c None = figures_line (5 + length c.horizons) (first_flaw c.met c.figures)
+rows_line c (Some k) = Some (horizon_line k)
+rows_line c None = figures_line c (first_flaw c.met c.figures)
 
 -- the first line of a report that no report of samples has there; none where there is no such line
 unfoldable pub flaw_of : Contents → Option ℕ

@@ -7,6 +7,7 @@ ghost use Rattle.psi_reports.specs.Samples.{SamplesAreRead};
 ghost use Rattle.psi_reports.specs.Merging.{ReportsAreMerged, SamplesAreMerged};
 ghost use Rattle.psi_reports.specs.Sound.{ReportIsSound, SumsAreReached};
 ghost use Rattle.psi_reports.specs.Reached.{QueueReportsAreReached};
+ghost use Rattle.psi_reports.specs.Lines.{RowsStandOnLines, WrongLinesAreNone, NetworksAreTold, OtherLinesAreNone};
 
 /// The report of samples of a network is the text of what it tells.
 pub fn report_is_text()
@@ -51,4 +52,28 @@ pub fn sums_are_reached()
 /// are a network that a file may describe and samples of it whose report it is.
 pub fn queue_reports_are_reached()
     ensures { QueueReportsAreReached }
+{}
+
+/// The lines that are told of horizons, figures and sums are those on which their rows stand.
+pub fn rows_stand_on_lines()
+    ensures { RowsStandOnLines }
+{}
+
+/// The line that [`Report::flaw`](crate::Report::flaw) answers is wrong whatever stands behind it: no samples of a
+/// network that a file may describe have a report with the lines up to it, and where it has a sum, with two more, which
+/// may have its extremes.
+pub fn wrong_lines_are_none()
+    ensures { WrongLinesAreNone }
+{}
+
+/// [`Report::merged`](crate::Report::merged) answers `OtherNetwork` exactly where two reports don't show the same queues
+/// and the same rewards, each by its name and in the same order; so it merges only reports that do.
+pub fn networks_are_told()
+    ensures { NetworksAreTold }
+{}
+
+/// The line of `OtherNetwork` is of another network whatever stands behind it: where the first report is of samples of a
+/// network, no samples of this network have a report with the second one's lines up to it.
+pub fn other_lines_are_none()
+    ensures { OtherLinesAreNone }
 {}
