@@ -1,20 +1,20 @@
 -- The log of a run of a network, which the network accepts.
-use Rattle.std.specs.Prelude.{IfSome, None, ◌≡◌, ℕ, zero, suc, ◌-◌, ◌%◌, ◌^◌, ◌<◌, ◌≤◌, List, ◌∷◌, length, map, Option, Some, Result, Ok, refl}
-use Rattle.std.proofs.Common.{ap, sym, ◌∙◌, arith}
+use Rattle.std.specs.Prelude.{◌≡◌, ℕ, zero, suc, ◌-◌, ◌%◌, ◌^◌, ◌<◌, ◌≤◌, List, ◌∷◌, length, map, Some, Result, Ok, refl}
+use Rattle.std.proofs.Common.{ap, ◌∙◌, arith}
 use Rattle.psi_state.specs.State.{numbers_from}
 use Rattle.psi_past.specs.SeedWord.{seed_word}
 use Rattle.psi_rate.specs.Rates.{total, least_power, event_of}
-use Rattle.psi_rate.specs.Composition.{Parts, Functions, AreClosed, function_at, system_functions}
+use Rattle.psi_rate.specs.Composition.{Parts, Functions, AreClosed, function_at}
 use Rattle.psi_rate.proofs.RatesLemmas.{event_at-below}
 use Rattle.psi_rate.proofs.PowersLemmas.{pow-order}
 use Rattle.psi_region.specs.Region.{Area, start, step, IsArea}
 use Rattle.psi_region.proofs.RegionLemmas.{start-area, step-area}
 use Rattle.psi_horizon.specs.Runs.{region_after, ending_at}
 use Rattle.psi_horizon.specs.Agreeing.{Agree}
-use Rattle.psi_horizon.proofs.AgreeingLemmas.{step-agree, ending_at-agree}
+use Rattle.psi_horizon.proofs.AgreeingLemmas.{step-agree}
 use Rattle.psi_lines.specs.declared.header.Header.{Header}
-use Rattle.psi_lines.specs.Log.{Entry, Certificate, IsHeader, IsLog}
-use Rattle.psi_lines.specs.Text.{log_text, IsLogOf}
+use Rattle.psi_lines.specs.Log.{Entry, Certificate, IsLog}
+use Rattle.psi_lines.specs.Text.{IsLogOf}
 use Rattle.psi_log.specs.Refusal.{Refusal}
 use Rattle.psi_log.proofs.ReadLaws.{read_again}
 use Rattle.psi_record.specs.Recorded.{region_of, entry_after, recorded, header_of, log_of}
@@ -30,7 +30,7 @@ use Rattle.psi_run.specs.Replay.{events_by_time, judgement}
 use Rattle.psi_texts.specs.Texts.{accepted_text}
 use Rattle.psi_run.specs.Certify.{certificate}
 use Rattle.psi_run.specs.Reply.{text_reply, verdict_reply, judged_log, replay_reply}
-use Rattle.psi_run.proofs.Sampling.{functions_by_time-closed, functions-alike, of_network}
+use Rattle.psi_run.proofs.Sampling.{functions_by_time-closed, functions-alike}
 
 -- ---- functions that agree on the states within the capacities
 
@@ -72,15 +72,6 @@ log-by function system n seed stream horizon state kept of =
     ap (λ k. At k system.caps system.rates) of.split ∙ ap (λ cs. At n.split cs system.rates) of.caps ∙ ap (λ rs. At n.split (caps_of n) rs) of.rates
     ∙ recorded-agree n.split (caps_of n) (function_at fs (rates_of n) words) (functions_by_time n seed stream) alike.0 alike.1 (λ t. event_of (rates_of n) (words (t - 1))) h state
 
--- and it ends as the network's does
-ends-by : {E : Type 0} (function : E → List ℕ → List ℕ) (system : Parts E) (n : Network) (seed stream horizon : ℕ) (state : List ℕ) → IsNetwork n → IsSystemOf function n system
-    → ending_at system.split (system_functions function system (seed_word seed stream)) system.caps horizon ≡ Some state
-    → ending_at n.split (functions_by_time n seed stream) (caps_of n) horizon ≡ Some state
-ends-by function system n seed stream horizon state kept of ends =
-    let alike = functions-alike n seed stream (map function system.events) kept of.functions in
-    sym (ending_at-agree n.split (caps_of n) (function_at (map function system.events) (rates_of n) (seed_word seed stream)) (functions_by_time n seed stream) alike.0 alike.1 horizon)
-    ∙ of_network function system n seed stream (λ k f cs l. ending_at k f cs horizon ≡ Some state) of ends
-
 -- ---- the log of a run that ends with one state is one, and it breaks no rule of the network
 
 module _ (n : Network) (seed stream : ℕ) (kept : IsNetwork n) (small : seed < 2 ^ 64) (less : stream < 2 ^ 64) (horizon : ℕ) (state : List ℕ)
@@ -120,31 +111,3 @@ module _ (n : Network) (seed stream : ℕ) (kept : IsNetwork n) (small : seed < 
   -- so a replay of its text tells the horizon and the state
   pub certificate_replayed : (text : List ℕ) → IsLogOf text (certificate n seed stream horizon state) → replay_reply n text ≡ text_reply status.Done (accepted_text horizon state)
   certificate_replayed text is = ap (judged_log n) (read_again text (certificate n seed stream horizon state) is) ∙ certificate-answered
-
--- a text that is the log of the run of a system that is the network's, under the words of its own header, is accepted with the horizon and the state
-module _ {E : Type 0} (function : E → List ℕ → List ℕ) (system : Parts E) (n : Network) (h : Header) (text : List ℕ) (kept : IsNetwork n) (of : IsSystemOf function n system)
-    (header : IsHeader h) (version : h.version ≡ 2) (queues : h.queues ≡ length (caps_of n)) (within : h.horizon ≤ 2 ^ n.limit) (few : length text ≤ 33554432) where
-  own-header : h ≡ header_of (caps_of n) h.seed h.stream h.horizon
-  own-header = ap (λ v. head v h.queues) version ∙ ap (λ q. head 2 q) queues
-    where
-      head : ℕ → ℕ → Header
-      head v q = record { version = v; queues = q; seed = h.seed; stream = h.stream; horizon = h.horizon }
-
-  own-replayed : (state : List ℕ) → ending_at system.split (system_functions function system (seed_word h.seed h.stream)) system.caps h.horizon ≡ Some state
-      → text ≡ log_text (log_of function system (seed_word h.seed h.stream) h state) → replay_reply n text ≡ text_reply status.Done (accepted_text h.horizon state)
-  own-replayed state ends is =
-      let written : text ≡ log_text (certificate n h.seed h.stream h.horizon state) =
-      is ∙ ap (λ (c : Certificate). log_text c) (ap (λ (k : Header). log_of function system (seed_word h.seed h.stream) k state) own-header
-      ∙ log-by function system n h.seed h.stream h.horizon state kept of) in
-      let own : ending_at n.split (functions_by_time n h.seed h.stream) (caps_of n) h.horizon ≡ Some state =
-      ends-by function system n h.seed h.stream h.horizon state kept of ends in
-      let log = certificate_log n h.seed h.stream kept header.seed header.stream h.horizon state own header.least within in
-      certificate_replayed n h.seed h.stream kept header.seed header.stream h.horizon state own header.least within text (record { log = log; text = written; few = few })
-
-  -- so it is with what is told of the text
-  pub own_told : (told : Option (ℕ × List ℕ)) → IfSome told (λ end. end.0 ≡ h.horizon)
-      → IfSome told (λ end. ending_at system.split (system_functions function system (seed_word h.seed h.stream)) system.caps h.horizon ≡ Some end.1)
-      → IfSome told (λ end. text ≡ log_text (log_of function system (seed_word h.seed h.stream) h end.1))
-      → IfSome told (λ end. replay_reply n text ≡ text_reply status.Done (accepted_text end.0 end.1))
-  own_told None horizon ends is = tt
-  own_told (Some end) horizon ends is = own-replayed end.1 ends is ∙ ap (λ t. text_reply status.Done (accepted_text t end.1)) (sym horizon)
