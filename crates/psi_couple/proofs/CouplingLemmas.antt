@@ -15,7 +15,7 @@ use Rattle.psi_horizon.proofs.RunsLemmas.{met-later}
 use Rattle.psi_couple.proofs.OptionLemmas.{none-without}
 use Rattle.psi_couple.specs.declared.answers.Coupled.{Coupled}
 use Rattle.psi_couple.specs.declared.answers.Coupled.TheVariants.{At, NotAt}
-use Rattle.psi_couple.specs.Coupling.{coupled_of, coupled_within, IsCoupled}
+use Rattle.psi_couple.specs.Coupling.{coupled_of, coupled_within, IsCoupled, DecidesCoupled}
 
 -- a run that ends with one state makes each longer run end with it
 pub ending-later : (split : ℕ) (caps : List ℕ) (f : ℕ → List ℕ → List ℕ) (t later : ℕ) (s : List ℕ) → AreClosed caps f → t ≤ later
@@ -88,3 +88,14 @@ coupled_within-only run limit (NotAt l) is = ap (λ n. NotAt n) is.0 ∙ coupled
 pub none_below-not_met : (split : ℕ) (caps : List ℕ) (f : ℕ → List ℕ → List ℕ) (limit l : ℕ) → DecidesRuns split f caps limit (NotMet l)
     → HasNoneBelow (ending_at split f caps) (suc (2 ^ limit))
 none_below-not_met split caps f limit l decides = record { each = λ k some small. decides k (omega arith) }
+
+-- what a coupling says of the runs of all horizons
+pub coupled-decides : (split : ℕ) (caps : List ℕ) (f : ℕ → List ℕ → List ℕ) (limit : ℕ) (c : Coupled) → AreClosed caps f
+    → IsCoupled (ending_at split f caps) limit c → DecidesCoupled split f caps limit c
+coupled-decides split caps f limit (At t s) closed is = λ later order. met-later split caps f t later s closed order is.answer
+coupled-decides split caps f limit (NotAt l) closed is = λ t order.
+    none-without (ending_at split f caps t) (λ s met.
+    (let found : ending_at split f caps (2 ^ limit) ≡ Some s = ending-later split caps f t (2 ^ limit) s closed order met in
+    let some : 1 ≤ 2 ^ limit = pow-order 0 limit (omega arith) in
+    let none : ending_at split f caps (2 ^ limit) ≡ None = is.1.each (2 ^ limit) some (omega arith) in
+    absurd cc))

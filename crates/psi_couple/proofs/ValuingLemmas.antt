@@ -1,5 +1,5 @@
 -- The one value of the states of a list, and of those of a box whose least and greatest value are equal.
-use Rattle.std.specs.Prelude.{◌≡◌, ℕ, zero, suc, ◌+◌, ◌-◌, ◌<◌, ℤ, ◌≤ℤ◌, List, [], ◌∷◌, length, map, Bool, true, false, ◌&&◌, Option, Some, None, if◌then◌else◌, slice_index_or, refl}
+use Rattle.std.specs.Prelude.{◌≡◌, ℕ, zero, suc, ◌+◌, ◌-◌, ◌^◌, ◌<◌, ◌≤◌, ℤ, ◌≤ℤ◌, List, [], ◌∷◌, length, map, Bool, true, false, ◌&&◌, Option, Some, None, if◌then◌else◌, slice_index_or, refl}
 use Rattle.std.specs.List.{list_all}
 use Rattle.std.specs.Ordering.{int_eq}
 use Rattle.std.proofs.Common.{inl, inr, ap, sym, ◌∙◌, subst, arith}
@@ -13,11 +13,11 @@ use Rattle.psi_rate.specs.Composition.{compose, AreClosed}
 use Rattle.psi_rate.specs.Doubling.{HasNone, IsFirst}
 use Rattle.psi_rate.proofs.DoublingLemmas.{first_answer-found, first_answer-none}
 use Rattle.psi_horizon.specs.Runs.{region_at}
-use Rattle.psi_horizon.proofs.RunsLemmas.{run-among, run-has}
+use Rattle.psi_horizon.proofs.RunsLemmas.{run-area, run-among, run-has}
 use Rattle.psi_couple.proofs.OptionLemmas.{none-without}
 use Rattle.psi_couple.specs.declared.answers.Valued.{Valued}
 use Rattle.psi_couple.specs.declared.answers.Valued.TheVariants.{At, NotAt}
-use Rattle.psi_couple.specs.Valuing.{common_value, value_at, valued_of, valued_within, IsValued, IsValueReached}
+use Rattle.psi_couple.specs.Valuing.{common_value, value_at, valued_of, valued_within, IsValued, IsValueReached, DecidesValues}
 
 abbrev is_value : (List ℕ → ℤ) → ℤ → List ℕ → Bool
 is_value value v x = int_eq (value x) v
@@ -136,3 +136,23 @@ value-reached value split caps f t v closed is = record {
       (run-among split caps f t (earlier - t) (compose f earlier x) closed
       (subst (λ n. In (compose f earlier x) (region_at split f caps n).states) e own)));
 }
+
+-- a run whose states have one value makes the states of each longer run have it
+value-later : (value : List ℕ → ℤ) (split : ℕ) (caps : List ℕ) (f : ℕ → List ℕ → List ℕ) (t later : ℕ) (v : ℤ) → AreClosed caps f → t ≤ later
+    → value_at value split f caps t ≡ Some v → value_at value split f caps later ≡ Some v
+value-later value split caps f t later v closed order is =
+    let e : (later - t) + t ≡ later = omega arith in
+    let area = run-area split caps f later closed in
+    common_value-same value v (region_at split f caps later).states area.some.0 area.some.1
+    (λ y member. common_value-each value v (region_at split f caps t).states y is
+    (run-among split caps f t (later - t) y closed (subst (λ n. In y (region_at split f caps n).states) (sym e) member)))
+
+-- what a value says of the runs of all horizons
+pub valued-decides : (value : List ℕ → ℤ) (split : ℕ) (caps : List ℕ) (f : ℕ → List ℕ → List ℕ) (limit : ℕ) (o : Valued) → AreClosed caps f
+    → IsValued (value_at value split f caps) limit o → DecidesValues value split f caps limit o
+valued-decides value split caps f limit (At t v) closed is = λ later order. value-later value split caps f t later v closed order is.answer
+valued-decides value split caps f limit (NotAt l) closed is = λ t order.
+    none-without (value_at value split f caps t) (λ v found.
+    (let longer : value_at value split f caps (2 ^ limit) ≡ Some v = value-later value split caps f t (2 ^ limit) v closed order found in
+    let none : value_at value split f caps (2 ^ limit) ≡ None = is.1.each limit (omega arith) in
+    absurd cc))

@@ -1,9 +1,11 @@
 -- The least coupling: the least horizon of any length at which a run has an answer (coupling from the past, Propp and
 -- Wilson 1996).
 use Rattle.std.specs.Prelude.{◌≡◌, ℕ, suc, ◌^◌, List, Option, Some, None}
+use Rattle.psi_state.specs.declared.Outcome.TheVariants.{Met, NotMet}
 use Rattle.psi_state.specs.State.{IsBelow}
 use Rattle.psi_rate.specs.Composition.{Functions, IsReached}
 use Rattle.psi_rate.specs.Least.{least_answer, HasNoneBelow, IsLeast}
+use Rattle.psi_horizon.specs.Runs.{DecidesRuns}
 use Rattle.psi_couple.specs.declared.answers.Coupled.{Coupled}
 use Rattle.psi_couple.specs.declared.answers.Coupled.TheVariants.{At, NotAt}
 
@@ -25,6 +27,11 @@ IsCoupled run limit (NotAt l) = (l ≡ limit) × HasNoneBelow run (suc (2 ^ limi
 abbrev pub ReachesCoupled : Functions → List ℕ → Coupled → Type 0
 ReachesCoupled f caps (At t s) = IsReached f caps t s
 ReachesCoupled f caps (NotAt l) = Unit {0}
+
+-- and each run from its horizon on ends with its state alone; where there is none, no run of a horizon up to 2^limit ends with one state
+abbrev pub DecidesCoupled : ℕ → Functions → List ℕ → ℕ → Coupled → Type 0
+DecidesCoupled split f caps limit (At t s) = DecidesRuns split f caps limit (Met t s)
+DecidesCoupled split f caps limit (NotAt l) = DecidesRuns split f caps limit (NotMet l)
 
 -- and its state is within the capacities
 abbrev pub CouplesWithin : List ℕ → Coupled → Type 0

@@ -1,6 +1,6 @@
 -- One value before one state: the first horizon, by doubling (Propp and Wilson 1996), at which all states with which a run
 -- ends have one value.
-use Rattle.std.specs.Prelude.{◌≡◌, ℕ, suc, ℤ, ◌≤◌, List, [], ◌∷◌, Option, Some, None, if◌then◌else◌}
+use Rattle.std.specs.Prelude.{◌≡◌, ℕ, suc, ℤ, ◌^◌, ◌≤◌, List, [], ◌∷◌, Option, Some, None, if◌then◌else◌}
 use Rattle.std.specs.List.{list_all}
 use Rattle.std.specs.Ordering.{int_eq}
 use Rattle.psi_state.specs.State.{IsBelow}
@@ -41,3 +41,8 @@ pub record IsValueReached (value : List ℕ → ℤ) (f : Functions) (caps : Lis
 abbrev pub ReachesValued : (List ℕ → ℤ) → Functions → List ℕ → Valued → Type 0
 ReachesValued value f caps (At t v) = IsValueReached value f caps t v
 ReachesValued value f caps (NotAt l) = Unit {0}
+
+-- and all states with which each run from its horizon on ends have it; where there is none, the states of no run of a horizon up to 2^limit, a power of two or not, have one value
+abbrev pub DecidesValues : (List ℕ → ℤ) → ℕ → Functions → List ℕ → ℕ → Valued → Type 0
+DecidesValues value split f caps limit (At t v) = (later : ℕ) → t ≤ later → value_at value split f caps later ≡ Some v
+DecidesValues value split f caps limit (NotAt l) = (t : ℕ) → t ≤ 2 ^ limit → value_at value split f caps t ≡ None

@@ -5,7 +5,7 @@ ghost use Rattle.psi_rate.specs.Composition.{system_functions};
 ghost use Rattle.psi_rate.specs.Least.{HasNoneBelow, IsLeast};
 ghost use Rattle.psi_horizon.specs.Runs.{ending_at};
 ghost use Rattle.psi_horizon.specs.Planned.{IsOver};
-ghost use Rattle.psi_couple.specs.Coupling.{coupled_within, IsCoupled, ReachesCoupled, CouplesWithin};
+ghost use Rattle.psi_couple.specs.Coupling.{coupled_within, IsCoupled, ReachesCoupled, DecidesCoupled, CouplesWithin};
 
 use crate::answers::Coupled;
 use psi_event::EventLaw;
@@ -15,8 +15,8 @@ use psi_state::{Outcome, State};
 
 /// The least horizon from 1 to 2 to the power `limit` whose region run ends with one state, with that
 /// state, which is within the capacities. Every state that starts there or earlier is in it at time zero
-/// (Propp and Wilson 1996). `NotAt` comes exactly where no such run ends with one state, and tells the
-/// system's limit.
+/// (Propp and Wilson 1996), and every longer run ends with it alone. `NotAt` comes exactly where no such run
+/// ends with one state, and tells the system's limit.
 ///
 /// The sample finds the first power of two whose run ends with one state. A longer run's region is within
 /// a shorter run's, so once a run ends with one state each longer run ends with it too, and the least
@@ -31,6 +31,8 @@ pub fn least_horizon<E: EventLaw, P: Past + Drop>(plan: &mut Plan<'_, E, P>) -> 
     ensures least { let f = system_functions E.function plan.old.system (P.words plan.old.past) in
         IsCoupled (ending_at plan.old.system.split f plan.old.system.caps) plan.old.system.limit result }
     ensures reached { ReachesCoupled (system_functions E.function plan.old.system (P.words plan.old.past)) plan.old.system.caps result }
+    ensures later { let f = system_functions E.function plan.old.system (P.words plan.old.past) in
+        DecidesCoupled plan.old.system.split f plan.old.system.caps plan.old.system.limit result }
     ensures within { CouplesWithin plan.old.system.caps result }
     ensures system { plan.new.system ≡ plan.old.system }
     ensures words { P.words plan.new.past ≡ P.words plan.old.past }

@@ -7,7 +7,7 @@ ghost use Rattle.psi_rate.specs.Composition.{system_functions};
 ghost use Rattle.psi_reward.specs.Rewards.{reward_caps, reward_kind};
 ghost use Rattle.psi_reward.specs.Worth.{worth_of};
 ghost use Rattle.psi_horizon.specs.Planned.{IsOver};
-ghost use Rattle.psi_couple.specs.Valuing.{common_value, value_at, valued_within, IsValued, ReachesValued};
+ghost use Rattle.psi_couple.specs.Valuing.{common_value, value_at, valued_within, IsValued, ReachesValued, DecidesValues};
 
 use crate::answers::Valued;
 use crate::running::run_whole;
@@ -19,8 +19,9 @@ use psi_state::{Bounds, State};
 
 /// The least horizon among 1, 2, 4, .., 2 to the power `limit` at which all states with which the region
 /// run ends have one value of the reward, with that value, in the reward's unit. Every state within the
-/// capacities that starts there or earlier has it at time zero, though these states need not have met.
-/// `NotAt` comes exactly where there is no such horizon, and tells the system's limit.
+/// capacities that starts there or earlier has it at time zero, though these states need not have met, and
+/// every longer run ends with states of this value. `NotAt` comes exactly where there is no such horizon, and
+/// tells the system's limit; then the states of no run of up to so many steps have one value.
 ///
 /// The reward is one of the system's capacities.
 ///
@@ -40,6 +41,8 @@ pub fn value_horizon<E: EventLaw, P: Past + Drop>(
         IsValued (value_at (worth_of (reward_kind reward.now)) plan.old.system.split f plan.old.system.caps) plan.old.system.limit result }
     ensures reached { let f = system_functions E.function plan.old.system (P.words plan.old.past) in
         ReachesValued (worth_of (reward_kind reward.now)) f plan.old.system.caps result }
+    ensures later { let f = system_functions E.function plan.old.system (P.words plan.old.past) in
+        DecidesValues (worth_of (reward_kind reward.now)) plan.old.system.split f plan.old.system.caps plan.old.system.limit result }
     ensures system { plan.new.system ≡ plan.old.system }
     ensures words { P.words plan.new.past ≡ P.words plan.old.past }
     ensures over { IsOver plan.new.run }

@@ -5,9 +5,9 @@ use Rattle.psi_rate.specs.Least.{HasNoneBelow, IsLeast}
 use Rattle.psi_rate.proofs.FunctionsLemmas.{functions-closed}
 use Rattle.psi_horizon.specs.Runs.{ending_at}
 use Rattle.psi_horizon.proofs.RunsLemmas.{ending-reached}
-use Rattle.psi_couple.specs.declared.answers.Coupled.TheVariants.{NotAt}
+use Rattle.psi_couple.specs.declared.answers.Coupled.TheVariants.{At, NotAt}
 use Rattle.psi_couple.proofs.PlansLemmas.{same-both}
-use Rattle.psi_couple.proofs.CouplingLemmas.{first-within, none_below-half, none_below-not_met, coupled_within-at, coupled_within-only}
+use Rattle.psi_couple.proofs.CouplingLemmas.{first-within, none_below-half, none_below-not_met, coupled_within-at, coupled_within-only, coupled-decides}
 use Rattle.psi_couple.proofs.least.least_horizon.Goals as goal
 
 pub least_up_to-requires-clause-most : goal.least_up_to-requires-clause-most
@@ -48,6 +48,17 @@ returns-in-Met-clause-reached g c =
     let closed = functions-closed g.E.EventLaw.capacities g.E.EventLaw.function system words g.met.E.EventLaw.closed c.limit-limit.ensures.fit.same_caps in
     let least = returns-in-Met-clause-least g c in
     ending-reached system.split system.caps (system_functions g.E.EventLaw.function system words) c.least_up_to.result c.in-Met.state closed least.answer
+
+pub returns-in-Met-clause-later : goal.returns-in-Met-clause-later
+returns-in-Met-clause-later g c =
+    let system = c.args.plan.now.system in
+    let words = g.P.Past.words c.args.plan.now.past in
+    let closed = functions-closed g.E.EventLaw.capacities g.E.EventLaw.function system words g.met.E.EventLaw.closed c.limit-limit.ensures.fit.same_caps in
+    coupled-decides system.split system.caps (system_functions g.E.EventLaw.function system words) system.limit (At c.least_up_to.result c.in-Met.state) closed
+    (returns-in-Met-clause-least g c)
+
+pub returns-in-NotMet-clause-later : goal.returns-in-NotMet-clause-later
+returns-in-NotMet-clause-later g c = c.in-NotMet.ensures.sample.later
 
 pub returns-in-NotMet-clause-answer : goal.returns-in-NotMet-clause-answer
 returns-in-NotMet-clause-answer g c =

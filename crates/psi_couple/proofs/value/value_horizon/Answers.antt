@@ -7,9 +7,9 @@ use Rattle.psi_rate.specs.Composition.{Parts, system_functions}
 use Rattle.psi_rate.specs.Doubling.{HasNone, IsFirst}
 use Rattle.psi_rate.proofs.DoublingLemmas.{shift-room, first-found}
 use Rattle.psi_rate.proofs.FunctionsLemmas.{functions-closed}
-use Rattle.psi_couple.specs.declared.answers.Valued.TheVariants.{NotAt}
+use Rattle.psi_couple.specs.declared.answers.Valued.TheVariants.{At, NotAt}
 use Rattle.psi_couple.specs.Valuing.{value_at}
-use Rattle.psi_couple.proofs.ValuingLemmas.{valued_within-at, valued_within-only, value-reached}
+use Rattle.psi_couple.proofs.ValuingLemmas.{valued_within-at, valued_within-only, value-reached, valued-decides}
 use Rattle.psi_couple.proofs.value.value_horizon.Goals as goal
 use mir.Syntax.{w64}
 use mir.Val.{SFits, of_z, to_z}
@@ -54,6 +54,15 @@ returns-in-Some-clause-reached g c =
     value-reached value system.split system.caps (system_functions g.E.EventLaw.function system words) (1 * 2 ^ c.loop-exponent.exponent % 4294967296) (to_z w64 (of_z w64 c.in-Some.value)) closed
     first.answer
 
+pub returns-in-Some-clause-later : goal.returns-in-Some-clause-later
+returns-in-Some-clause-later g c =
+    let system = c.args.plan.now.system in
+    let words = g.P.Past.words c.args.plan.now.past in
+    let value = worth_of (reward_kind c.args.reward.now) in
+    let closed = functions-closed g.E.EventLaw.capacities g.E.EventLaw.function system words g.met.E.EventLaw.closed c.limit-limit.ensures.fit.same_caps in
+    valued-decides value system.split system.caps (system_functions g.E.EventLaw.function system words) system.limit
+    (At (1 * 2 ^ c.loop-exponent.exponent % 4294967296) (to_z w64 (of_z w64 c.in-Some.value))) closed (returns-in-Some-clause-first g c)
+
 pub returns-clause-first : goal.returns-clause-first
 returns-clause-first g c =
     let system = c.args.plan.now.system in
@@ -69,3 +78,12 @@ returns-clause-answer g c =
     let value = worth_of (reward_kind c.args.reward.now) in
     let f = system_functions g.E.EventLaw.function system (g.P.Past.words c.args.plan.now.past) in
     valued_within-only (value_at value system.split f system.caps) system.limit (NotAt c.limit-limit.result) (returns-clause-first g c)
+
+pub returns-clause-later : goal.returns-clause-later
+returns-clause-later g c =
+    let system = c.args.plan.now.system in
+    let words = g.P.Past.words c.args.plan.now.past in
+    let value = worth_of (reward_kind c.args.reward.now) in
+    let closed = functions-closed g.E.EventLaw.capacities g.E.EventLaw.function system words g.met.E.EventLaw.closed c.limit-limit.ensures.fit.same_caps in
+    valued-decides value system.split system.caps (system_functions g.E.EventLaw.function system words) system.limit (NotAt c.limit-limit.result) closed
+    (returns-clause-first g c)
