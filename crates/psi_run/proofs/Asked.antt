@@ -2,22 +2,18 @@
 use Rattle.std.specs.Prelude.{ℕ, ◌≤◌, List, Option, Ok}
 use Rattle.std.proofs.Common.{arith}
 use Rattle.psi_io.specs.Counts.{Rose}
-use Rattle.psi_run.specs.declared.ending.Ending.{Ending as Ended}
+use Rattle.psi_reply.specs.declared.ending.Ending.{Ending as Ended}
 use Rattle.psi_command.specs.declared.words.Question.{Question}
 use Rattle.psi_command.specs.declared.words.Question.TheVariants.{Sample, Check, Report, Couple, Reward, Exact, Closed, Replay}
 use Rattle.psi_command.specs.Command.{Command, sample, check, report, couple, reward, exact, closed, replay}
 use Rattle.psi_command.specs.Request.{asked}
 use Rattle.psi_run.specs.Seen.{ShelfSeen}
-use Rattle.psi_run.specs.Ending.{Ending, replied, unread, no_memory, IsEnding}
-use Rattle.psi_run.specs.Ended.{ending_of, IsNoNet}
+use Rattle.psi_reply.specs.Ending.{Ending, replied, unread, no_memory}
+use Rattle.psi_run.specs.Ending.{IsEnding}
+use Rattle.psi_reply.specs.Ended.{ending_of}
+use Rattle.psi_run.specs.Files.{IsNoNet}
 use Rattle.psi_run.proofs.Endings.{no_net}
-use Rattle.psi_run.proofs.Sampling.{sample_about}
-use Rattle.psi_run.proofs.Checking.{check_about}
-use Rattle.psi_run.proofs.Reporting.{report_about}
-use Rattle.psi_run.proofs.Coupling.{couple_about, reward_about}
-use Rattle.psi_run.proofs.Surveying.{exact_about}
-use Rattle.psi_run.proofs.Closing.{closed_about}
-use Rattle.psi_run.proofs.Replaying.{replay_about}
+use Rattle.psi_run.proofs.Abouts.{sample_about, check_about, report_about, couple_about, reward_about, exact_about, closed_about, replay_about}
 
 -- the work for a question where no network was had
 pub asked_none : (shelf : ShelfSeen) (name : List ℕ) (question : Question) (ended : Ended) → IsNoNet shelf name ended → IsEnding shelf (Ok (asked name question)) (ending_of ended)

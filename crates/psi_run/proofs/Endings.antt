@@ -1,49 +1,41 @@
 -- How the work of a call ends, from what was read.
-use Rattle.std.specs.Prelude.{◌≡◌, ℕ, zero, ◌+◌, Contains, List, ◌∷◌, take, length, Bool, true, false, nat_le, codes, if◌then◌else◌, Option, Some, None, option_map, option_and_then, Result, Ok, Err, IfSome, refl}
-use Rattle.std.proofs.Common.{sym, ap, ◌∙◌, subst, arith}
-use Rattle.psi_network.specs.Network.{Network, caps_of}
-use Rattle.psi_arcs.specs.Walks.{customers}
-use Rattle.psi_exact.specs.declared.answers.Meeting.{Meeting}
-use Rattle.psi_exact.specs.declared.answers.Meeting.TheVariants.{Constant, NotConstant}
-use Rattle.psi_net.specs.Reading.{network_of}
+use Rattle.psi_reply.proofs.Replies.{outcome_replied, coupling_replied, value_replied, survey_replied, closed_replied, refused_replied, certify_replied, judged_replied}
+use Rattle.std.specs.Prelude.{◌≡◌, ℕ, zero, List, ◌∷◌, Option, Ok, refl, ◌+◌, Contains, take, Some, None, option_map, option_and_then, Result, Err, IfSome}
+use Rattle.std.proofs.Common.{ap, sym, subst, arith, ◌∙◌}
+use Rattle.psi_network.specs.Network.{Network}
+use Rattle.psi_network.specs.Valid.{IsNetwork}
+use Rattle.psi_net.specs.Reading.{file_text, text_network, network_of}
+use Rattle.psi_document.proofs.ReadingLemmas.{bind_ok}
+use Rattle.psi_net.proofs.NetworkLemmas.{network_kept}
+use Rattle.psi_io.specs.Sink.{appended}
+use Rattle.psi_command.specs.Command.{sample, net_file, Command, check, report, trial, couple, reward, exact, closed, certify, replay, File}
+use Rattle.psi_reply.specs.Sample.{sampled}
+use Rattle.psi_run.specs.Reply.{reply_to, reply_of, judged_reply}
+use Rattle.psi_reply.specs.Reply.{IsReply, Reply, replay_reply, usage_reply, refused_reply}
 use Rattle.psi_document.specs.declared.refusals.NetRefusal.{NetRefusal}
 use Rattle.psi_net.proofs.FrontLemmas.{network_of-take}
-use Rattle.psi_io.specs.Sink.{appended}
 use Rattle.psi_command.specs.declared.status.Status.{Status}
 use Rattle.psi_command.specs.declared.status.Status.TheVariants as status
-use Rattle.psi_run.specs.declared.ending.Ending.{Ending as Ended}
-use Rattle.psi_run.specs.declared.ending.Ending.TheVariants.{Printed, Usage, NetRefused, LogRefused, LogRejected, LogTooLong, UnknownReward, TooManyStates, NotClosed, NoSuchTotal, NetUnread, LogUnread, OutOfMemory}
-use Rattle.psi_state.specs.declared.Outcome.{Outcome}
-use Rattle.psi_state.specs.declared.Outcome.TheVariants.{Met, NotMet}
-use Rattle.psi_lines.specs.Log.{Certificate}
-use Rattle.psi_lines.specs.Text.{log_text}
-use Rattle.psi_log.specs.Refusal.{Refusal}
+use Rattle.psi_reply.specs.declared.ending.Ending.{Ending as Ended}
+use Rattle.psi_reply.specs.declared.ending.Ending.TheVariants.{Printed, Usage, NetRefused, LogRefused, LogRejected, LogTooLong, UnknownReward, TooManyStates, NotClosed, NoSuchTotal, NetUnread, LogUnread, OutOfMemory}
 use Rattle.psi_log.specs.Reading.{read}
-use Rattle.psi_replay.specs.declared.answers.Verdict.{Verdict}
-use Rattle.psi_replay.specs.declared.answers.Verdict.TheVariants.{Accepted, Rejected}
-use Rattle.psi_replay.specs.Verdict.{verdict_of}
-use Rattle.psi_command.specs.Command.{Command, sample, check, report, trial, couple, reward, exact, closed, certify, replay, File, net_file}
 use Rattle.psi_network.specs.Generated.{generated_network}
-use Rattle.psi_texts.specs.Texts.{outcome_text}
-use Rattle.psi_reward.specs.declared.kinds.RewardKind.{RewardKind}
-use Rattle.psi_couple.specs.declared.answers.Coupled.{Coupled}
-use Rattle.psi_couple.specs.declared.answers.Valued.{Valued}
-use Rattle.psi_couple.specs.declared.answers.Coupled.TheVariants as coupled
-use Rattle.psi_couple.specs.declared.answers.Valued.TheVariants as valued
-use Rattle.psi_run.specs.Couple.{coupling, coupling_status}
-use Rattle.psi_texts.specs.Couplings.{coupling_text}
-use Rattle.psi_run.specs.Reward.{kind_named, valuation, value_status}
-use Rattle.psi_texts.specs.Values.{value_text}
-use Rattle.psi_run.specs.Exact.{state_count, meeting, meeting_status, exact_text}
-use Rattle.psi_run.specs.Closed.{first_other, closed_sampled}
-use Rattle.psi_run.specs.Certify.{certificate}
-use Rattle.psi_run.specs.Replay.{judgement}
+use Rattle.psi_reply.specs.Couple.{coupling}
+use Rattle.psi_reply.specs.Reward.{kind_named}
+use Rattle.psi_reply.specs.Closed.{first_other}
 use Rattle.psi_run.specs.Means.{OfNetwork, Means}
-use Rattle.psi_run.specs.Sample.{sampled, outcome_status}
-use Rattle.psi_run.specs.Reply.{Reply, text_reply, line_reply, value_reply, survey_reply, outcome_reply, closed_reply, log_reply, certify_reply, verdict_reply, judged_log, replay_reply, usage_reply, refused_reply, reply_of, judged_reply, reply_to, IsReply}
 use Rattle.psi_run.specs.Seen.{ShelfSeen, IsRead, IsMissed}
-use Rattle.psi_run.specs.Ending.{Ending, replied, unread, no_memory, MayReply, EndsWith, HasReplied, IsMeant, IsEnding}
-use Rattle.psi_run.specs.Ended.{ending_of, IsNetAt, IsNoNet}
+use Rattle.psi_reply.specs.Ending.{Ending, replied, unread, no_memory, EndsWith, HasReplied}
+use Rattle.psi_run.specs.Ending.{MayReply, IsMeant, IsEnding}
+use Rattle.psi_reply.specs.Ended.{ending_of}
+use Rattle.psi_run.specs.Files.{IsNetAt, IsNoNet}
+
+-- a network that is accepted can be sampled
+pub accepted_kept : (bytes : List ℕ) (n : Network) → network_of bytes ≡ Ok n → IsNetwork n
+unfolding network_of
+accepted_kept bytes n is =
+    let text = bind_ok (file_text bytes) text_network n is in
+    network_kept text.0 n text.2
 
 -- what the front of a file is judged to be, the file is
 pub judged_whole : (most : ℕ) → most ≡ 1048576 → (told : Option (List ℕ)) (read : List ℕ) (judged : Result Network NetRefusal)
@@ -68,90 +60,22 @@ first_read file files = (zero, omega arith, refl)
 pub second_read : (first file : File) (files : List File) → Contains (first ∷ file ∷ files) file
 second_read first file files = (1, omega arith, refl)
 
--- a text for out alone is a reply of a command, and so is a line on a network that is refused
-text-reply : (command : Command) (outcome : Outcome) → IsReply command (text_reply (outcome_status outcome) (outcome_text outcome))
-text-reply command (Met horizon state) = record { status = tt; printed = λ k. refl; reported = λ k. absurd k }
-text-reply command (NotMet limit) = record { status = tt; printed = λ k. refl; reported = λ k. absurd k }
-
-coupling-reply : (command : Command) (c : Coupled) → IsReply command (text_reply (coupling_status c) (coupling_text c))
-coupling-reply command (coupled.At horizon state) = record { status = tt; printed = λ k. refl; reported = λ k. absurd k }
-coupling-reply command (coupled.NotAt limit) = record { status = tt; printed = λ k. refl; reported = λ k. absurd k }
-
-valued-reply : (command : Command) (v : Valued) → IsReply command (text_reply (value_status v) (value_text v))
-valued-reply command (valued.At horizon value) = record { status = tt; printed = λ k. refl; reported = λ k. absurd k }
-valued-reply command (valued.NotAt limit) = record { status = tt; printed = λ k. refl; reported = λ k. absurd k }
-
--- and a line on a reward that there isn't
-value-reply : (file : List ℕ) (seed stream : ℕ) (name : List ℕ) (net : Network) (kind : Option RewardKind)
-    → IsReply (reward file seed stream name) (value_reply net seed stream kind)
-value-reply file seed stream name net None = record { status = tt; printed = λ k. absurd k; reported = λ k. refl }
-value-reply file seed stream name net (Some kind) = valued-reply (reward file seed stream name) (valuation net seed stream kind)
-
--- what is told of the composed map, or a line on too many states, is a reply of the command that asks for it
-survey-reply : (file : List ℕ) (seed stream h : ℕ) (net : Network) → IsReply (exact file seed stream h) (survey_reply net seed stream h)
-survey-reply file seed stream h net = chosen (meeting net seed stream h) (exact_text net seed stream h) (nat_le (state_count net) 65536)
-  where
-    chosen : (met : Meeting) (text : List ℕ) (few : Bool)
-        → IsReply (exact file seed stream h) (if few then text_reply (meeting_status met) text else line_reply status.TooManyStates (codes "psi: too many states\n"))
-    chosen (Constant horizon state) text true = record { status = tt; printed = λ k. refl; reported = λ k. absurd k }
-    chosen (NotConstant exponent) text true = record { status = tt; printed = λ k. refl; reported = λ k. absurd k }
-    chosen met text false = record { status = tt; printed = λ k. absurd k; reported = λ k. refl }
-
--- a sample, or a line on an event that is no move or on too many customers, is a reply of the command that asks for a closed network
-closed-reply : (file : List ℕ) (seed stream total : ℕ) (net : Network) (other : Option ℕ)
-    → IsReply (closed file seed stream total) (closed_reply net seed stream total other)
-closed-reply file seed stream total net (Some event) = record { status = tt; printed = λ k. absurd k; reported = λ k. refl }
-closed-reply file seed stream total net None = chosen (closed_sampled net seed stream total) (nat_le total (customers (caps_of net)))
-  where
-    chosen : (outcome : Outcome) (fits : Bool)
-        → IsReply (closed file seed stream total) (if fits then outcome_reply outcome else line_reply status.NoSuchTotal (codes "psi: no state with this total\n"))
-    chosen outcome true = text-reply (closed file seed stream total) outcome
-    chosen outcome false = record { status = tt; printed = λ k. absurd k; reported = λ k. refl }
-
-refused-reply : (command : Command) (refusal : NetRefusal) → IsReply command (refused_reply refusal)
-refused-reply command refusal = record { status = tt; printed = λ k. absurd k; reported = λ k. refl }
-
--- the log of a sample, or a line on one that is too long, is a reply of the command that asks for it
-certify-reply : (file : List ℕ) (seed stream : ℕ) (net : Network) (outcome : Outcome) → IsReply (certify file seed stream) (certify_reply net seed stream outcome)
-certify-reply file seed stream net (Met horizon state) = logged (log_text (certificate net seed stream horizon state))
-  where
-    chosen : (text : List ℕ) (fits : Bool)
-        → IsReply (certify file seed stream) (if fits then text_reply status.Done text else line_reply status.LogTooLong (codes "psi: log too long\n"))
-    chosen text true = record { status = tt; printed = λ k. refl; reported = λ k. absurd k }
-    chosen text false = record { status = tt; printed = λ k. absurd k; reported = λ k. refl }
-
-    logged : (text : List ℕ) → IsReply (certify file seed stream) (log_reply text)
-    logged text = chosen text (nat_le (length text) 33554432)
-certify-reply file seed stream net (NotMet limit) = record { status = tt; printed = λ k. refl; reported = λ k. absurd k }
-
--- a verdict, or a line on a text that is no log, is a reply of a replay
-pub verdict_replied : (file log : List ℕ) (verdict : Verdict) → IsReply (replay file log) (verdict_reply verdict)
-verdict_replied file log (Accepted horizon state) = record { status = tt; printed = λ k. refl; reported = λ k. absurd k }
-verdict_replied file log (Rejected line cause) = record { status = tt; printed = λ k. absurd k; reported = λ k. refl }
-
-pub line_replied : (file log line : List ℕ) → IsReply (replay file log) (line_reply status.LogRefused line)
-line_replied file log line = record { status = tt; printed = λ k. absurd k; reported = λ k. refl }
-
-judged-replied : (file log : List ℕ) (net : Network) (judged : Result Certificate Refusal) → IsReply (replay file log) (judged_log net judged)
-judged-replied file log net (Ok c) = verdict_replied file log (verdict_of c (judgement net c))
-judged-replied file log net (Err refusal) = record { status = tt; printed = λ k. absurd k; reported = λ k. refl }
-
 -- whatever the network is, its reply is one that the command can have
 reply-of : (command : Command) (told : List ℕ → Option (List ℕ)) (net : Network) → IfSome (reply_of command told net) (IsReply command)
-reply-of (sample name seed stream) told net = text-reply (sample name seed stream) (sampled net seed stream)
+reply-of (sample name seed stream) told net = outcome_replied (sample name seed stream) (sampled net seed stream)
 reply-of (check name) told net = record { status = tt; printed = λ k. refl; reported = λ k. absurd k }
 reply-of (report name seed first count) told net = record { status = tt; printed = λ k. refl; reported = λ k. absurd k }
-reply-of (couple file seed stream) told net = coupling-reply (couple file seed stream) (coupling net seed stream)
-reply-of (reward file seed stream name) told net = value-reply file seed stream name net (kind_named name net.rewards)
-reply-of (exact file seed stream h) told net = survey-reply file seed stream h net
-reply-of (closed file seed stream total) told net = closed-reply file seed stream total net (first_other net)
+reply-of (couple file seed stream) told net = coupling_replied (couple file seed stream) (coupling net seed stream)
+reply-of (reward file seed stream name) told net = value_replied file seed stream name net (kind_named name net.rewards)
+reply-of (exact file seed stream h) told net = survey_replied file seed stream h net
+reply-of (closed file seed stream total) told net = closed_replied file seed stream total net (first_other net)
 reply-of (trial number) told net = record { status = tt; printed = λ k. refl; reported = λ k. absurd k }
-reply-of (certify file seed stream) told net = certify-reply file seed stream net (sampled net seed stream)
+reply-of (certify file seed stream) told net = certify_replied file seed stream net (sampled net seed stream)
 reply-of (replay file log) told net = mapped (told log)
   where
     mapped : (bytes : Option (List ℕ)) → IfSome (option_map (replay_reply net) bytes) (IsReply (replay file log))
     mapped None = tt
-    mapped (Some bytes) = judged-replied file log net (read bytes)
+    mapped (Some bytes) = judged_replied file log net (read bytes)
 
 -- the reply to what the file is judged to be is the reply to the file
 reply-judged : (told : Option (List ℕ)) (reply : Network → Option Reply) (judged : Result Network NetRefusal) (ending : Ending)
@@ -185,7 +109,7 @@ module _ (command : Command) (name : List ℕ) (Has : Network → Option (List �
   no_net (LogUnread own) about none = absurd none
   no_net (NetRefused refusal) about none = record {
     reply = judged-reply (Err refusal) (replied (refused_reply refusal)) about none refl;
-    cause = refused-reply command refusal;
+    cause = refused_replied command refusal;
     means = λ before after grew. about.means before after status.NetRefused
         (λ bytes net there accepted. (let refused : network_of bytes ≡ Err refusal = subst (λ told. IfSome told (λ b. network_of b ≡ Err refusal)) there none in absurd cc));
   }
@@ -200,7 +124,7 @@ module _ (command : Command) (name : List ℕ) (Has : Network → Option (List �
   -- the work on the network that was had, which ended with a reply
   pub replied_on : (net : Network) (given : Reply) → IsAbout shelf.told command name Has → IsNetAt shelf.told name net
       → IfSome (reply_of command shelf.told net) (λ reply. given ≡ reply) → IsReply command given
-      → ((bytes : List ℕ) → network_of bytes ≡ Ok net → (before after : Option (List ℕ)) → after ≡ appended before given.out → Has net before after given.status)
+      → (IsNetwork net → (before after : Option (List ℕ)) → after ≡ appended before given.out → Has net before after given.status)
       → IsEnding shelf (Ok command) (replied given)
   replied_on net given about at is kind holds = record {
     reply = judged-reply (Ok net) (replied given) about at is;
@@ -209,14 +133,13 @@ module _ (command : Command) (name : List ℕ) (Has : Network → Option (List �
         (λ bytes other there accepted.
         (let judged : network_of bytes ≡ Ok net = subst (λ told. IfSome told (λ b. network_of b ≡ Ok net)) there at in
         let one : net ≡ other = cc in
-        subst (λ n. Has n before after given.status) one (holds bytes judged before after grew)));
+        subst (λ n. Has n before after given.status) one (holds (accepted_kept bytes net judged) before after grew)));
   }
 
   -- or ended with this reply unless memory ran out
   pub on_net : (net : Network) (ending : Ending) (reply : Reply) → reply_of command shelf.told net ≡ Some reply → IsAbout shelf.told command name Has
       → IsNetAt shelf.told name net → EndsWith ending reply
-      → (HasReplied ending → (bytes : List ℕ) → network_of bytes ≡ Ok net → (before after : Option (List ℕ))
-      → after ≡ appended before reply.out → Has net before after reply.status)
+      → (HasReplied ending → IsNetwork net → (before after : Option (List ℕ)) → after ≡ appended before reply.out → Has net before after reply.status)
       → IsEnding shelf (Ok command) ending
   on_net net (replied given) reply is about at ends holds =
       subst (λ r. IsEnding shelf (Ok command) (replied r)) (sym ends)

@@ -8,11 +8,13 @@ use Rattle.psi_command.specs.declared.status.Status.TheVariants as status
 use Rattle.psi_command.specs.Status.{IsReplied}
 use Rattle.psi_command.specs.Command.{Command, sample}
 use Rattle.psi_command.specs.Words.{command_of}
-use Rattle.psi_run.specs.Sample.{IsSampled}
-use Rattle.psi_run.specs.Reply.{Reply, reply_to}
+use Rattle.psi_reply.specs.Sample.{IsSampled}
+use Rattle.psi_reply.specs.Reply.{Reply}
+use Rattle.psi_run.specs.Reply.{reply_to}
 use Rattle.psi_run.specs.Means.{Means}
 use Rattle.psi_run.specs.Seen.{SinkSeen, HasFailed, IsUnread}
-use Rattle.psi_run.specs.Ending.{Ending, ending_reply, IsEnding}
+use Rattle.psi_reply.specs.Ending.{Ending, ending_reply}
+use Rattle.psi_run.specs.Ending.{IsEnding}
 use Rattle.psi_run.specs.Spared.{AreGiven, IsTaken, AreTaken, HasRead}
 use Rattle.psi_run.specs.Written.{IsWhole, IsCut}
 use Rattle.psi_run.specs.Finished.{IsFinished}

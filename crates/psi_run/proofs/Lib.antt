@@ -1,13 +1,6 @@
 -- The lemmas of this crate.
 pub mod Endings
-pub mod Sampling
-pub mod Checking
-pub mod Reporting
-pub mod Coupling
-pub mod Surveying
-pub mod Closing
-pub mod Judging
-pub mod Certificates
+pub mod Abouts
 pub mod Replaying
 pub mod Asked
 pub mod Finishing
@@ -15,5 +8,3 @@ pub mod Certifying
 pub mod Written
 pub mod Running
 pub mod Sparing
-pub mod Entries
-pub mod Marks

@@ -1,32 +1,32 @@
 -- The verdict on a log, from the bytes of its file.
-use Rattle.std.specs.Prelude.{◌≡◌, ℕ, ◌+◌, ◌<◌, List, [], ◌∷◌, length, take, Option, Some, None, option_map, Result, Ok, Err, IsOk, IsErr, IfSome, refl}
+use Rattle.std.specs.Prelude.{◌≡◌, ℕ, ◌+◌, ◌<◌, List, [], length, take, Option, Some, None, option_map, Result, Ok, Err, IsOk, IfSome, refl}
 use Rattle.std.proofs.Common.{inl, inr, ap, sym, ◌∙◌, subst, arith}
 use Rattle.std.proofs.lemmas.Bool.{cases_lt, lt-leb}
 use Rattle.std.proofs.lemmas.List.{take_all, length-take-le}
-use Rattle.psi_io.specs.Sink.{appended}
-use Rattle.psi_io.proofs.SinkLemmas.{appended-nothing}
 use Rattle.psi_lines.specs.Log.{Certificate}
 use Rattle.psi_log.specs.Refusal.{Refusal, refused}
 use Rattle.psi_log.specs.declared.refusals.Cause.TheVariants.{TooLong}
 use Rattle.psi_log.specs.Reading.{read}
-use Rattle.psi_log.proofs.ReadLaws.{read_found}
 use Rattle.psi_replay.specs.Verdict.{verdict_of}
 use Rattle.psi_network.specs.Network.{Network}
-use Rattle.psi_network.specs.Valid.{IsNetwork}
 use Rattle.psi_net.specs.Reading.{network_of}
 use Rattle.psi_command.specs.declared.status.Status.TheVariants as status
-use Rattle.psi_run.specs.declared.ending.Ending.{Ending as Ended}
-use Rattle.psi_run.specs.declared.ending.Ending.TheVariants.{Printed, Usage, NetRefused, LogRefused, LogRejected, LogTooLong, UnknownReward, TooManyStates, NotClosed, NoSuchTotal, NetUnread, LogUnread, OutOfMemory}
+use Rattle.psi_reply.specs.declared.ending.Ending.{Ending as Ended}
+use Rattle.psi_reply.specs.declared.ending.Ending.TheVariants.{Printed, Usage, NetRefused, LogRefused, LogRejected, LogTooLong, UnknownReward, TooManyStates, NotClosed, NoSuchTotal, NetUnread, LogUnread, OutOfMemory}
 use Rattle.psi_command.specs.Command.{replay, net_file, log_file}
 use Rattle.psi_texts.specs.Lines.{log_refused_line}
-use Rattle.psi_run.specs.Replay.{judgement, IsReplayed}
-use Rattle.psi_run.specs.Reply.{line_reply, verdict_reply, judged_log, replay_reply, reply_to}
+use Rattle.psi_reply.specs.Replay.{judgement}
+use Rattle.psi_reply.specs.Reply.{line_reply, verdict_reply, judged_log, replay_reply}
+use Rattle.psi_run.specs.Reply.{reply_to}
 use Rattle.psi_run.specs.Seen.{ShelfSeen, IsMissed}
-use Rattle.psi_run.specs.Ending.{Ending, replied, unread, no_memory, EndsWith, IsEnding}
-use Rattle.psi_run.specs.Ended.{ending_of, IsNetAt, IsTextAt, IsNoText}
-use Rattle.psi_run.proofs.Endings.{IsAbout, first_read, second_read, verdict_replied, line_replied, of_any, replied_on}
-use Rattle.psi_run.proofs.Sampling.{accepted_kept}
-use Rattle.psi_run.proofs.Judging.{judged_certifies}
+use Rattle.psi_reply.specs.Ending.{Ending, replied, unread, no_memory, EndsWith}
+use Rattle.psi_run.specs.Ending.{IsEnding}
+use Rattle.psi_reply.specs.Ended.{ending_of}
+use Rattle.psi_run.specs.Files.{IsNetAt, IsTextAt, IsNoText}
+use Rattle.psi_run.proofs.Endings.{second_read, of_any, replied_on}
+use Rattle.psi_reply.proofs.Replies.{verdict_replied, line_replied}
+use Rattle.psi_reply.proofs.Replaying.{verdict_told, refusal_told}
+use Rattle.psi_run.proofs.Abouts.{replay_about}
 
 -- ---- a log is read from its first 33,554,433 bytes
 
@@ -51,36 +51,7 @@ read_whole most is (Some bytes) front cut =
     let count : most + 1 ≡ 33554433 = omega arith in
     read-take bytes ∙ sym (ap read (cut ∙ ap (λ n. take n bytes) count))
 
--- ---- what is told of a log
-
--- what is told of a log that was read and judged so is the network's verdict
-verdict-told : (net : Network) (bytes : List ℕ) (c : Certificate) (judged : Result (Unit {0}) Refusal) → IsNetwork net → read bytes ≡ Ok c → judgement net c ≡ judged
-    → (before after : Option (List ℕ)) → after ≡ appended before (verdict_reply (verdict_of c judged)).out
-    → IsReplayed before after (verdict_reply (verdict_of c judged)).status net bytes
-verdict-told net bytes c (Ok kept) network reads judges before after grew =
-    let is = read_found bytes c reads in
-    inl (record { log = c; is = is; certifies = judged_certifies net c network is.log judges; status = refl; text = grew })
-verdict-told net bytes c (Err refusal) network reads judges before after grew =
-    inr (record {
-      cause = inr (record { log = c; is = read_found bytes c reads; broken = subst (λ (j : Result (Unit {0}) Refusal). IsErr j) (sym judges) refl });
-      status = refl;
-      text = grew ∙ appended-nothing before;
-    })
-
--- and so it is with a text that is no log
-refusal-told : (net : Network) (bytes : List ℕ) (refusal : Refusal) → read bytes ≡ Err refusal → (before after : Option (List ℕ)) → after ≡ appended before []
-    → IsReplayed before after status.LogRefused net bytes
-refusal-told net bytes refusal reads before after grew = inr (record {
-  cause = inl (subst (λ (r : Result Certificate Refusal). IsErr r) (sym reads) refl);
-  status = refl;
-  text = grew ∙ appended-nothing before;
-})
-
--- a replay is about one network
-pub replay_about : (told : List ℕ → Option (List ℕ)) (name log : List ℕ)
-    → IsAbout told (replay name log) name (λ net before after result. (bytes : List ℕ) → told log ≡ Some bytes → IsReplayed before after result net bytes)
-unfolding reply_to
-replay_about told name log = record { reads = first_read (net_file name) (log_file log ∷ []); reply = refl; means = λ before after result has. has }
+-- ---- what is told of a log file
 
 -- what the front of a log file was judged to be, the file is, where the shelf tells it
 one-log : (told : List ℕ → Option (List ℕ)) (log bytes : List ℕ) (answer : Result Certificate Refusal) → IfSome (told log) (λ b. read b ≡ answer) → told log ≡ Some bytes → read bytes ≡ answer
@@ -128,13 +99,12 @@ module _ (shelf : ShelfSeen) (name log : List ℕ) (net : Network) where
       subst (λ r. IsEnding shelf (Ok (replay name log)) (replied r)) (sym ends)
       (replied_on (replay name log) name _ shelf net (verdict_reply (verdict_of c (judgement net c))) (replay_about shelf.told name log) at
       (log-replied net (shelf.told log) (Ok c) is) (verdict_replied name log (verdict_of c (judgement net c)))
-      (λ own accepted before after grew bytes there.
-      verdict-told net bytes c (judgement net c) (accepted_kept own net accepted) (one-log shelf.told log bytes (Ok c) is there) refl before after grew))
+      (λ kept before after grew bytes there. verdict_told net bytes c (judgement net c) kept (one-log shelf.told log bytes (Ok c) is there) refl before after grew))
   on-answer (Err refusal) (replied given) at is ends =
       subst (λ r. IsEnding shelf (Ok (replay name log)) (replied r)) (sym ends)
       (replied_on (replay name log) name _ shelf net (line_reply status.LogRefused (log_refused_line refusal.line refusal.cause)) (replay_about shelf.told name log) at
       (log-replied net (shelf.told log) (Err refusal) is) (line_replied name log (log_refused_line refusal.line refusal.cause))
-      (λ _ accepted before after grew bytes there. refusal-told net bytes refusal (one-log shelf.told log bytes (Err refusal) is there) before after grew))
+      (λ kept before after grew bytes there. refusal_told net bytes refusal (one-log shelf.told log bytes (Err refusal) is there) before after grew))
   on-answer answer (unread file) at is ends = absurd ends
   on-answer answer no_memory at is ends = record { reply = of_any (reply_to (Ok (replay name log)) shelf.told); cause = refl; means = tt }
 

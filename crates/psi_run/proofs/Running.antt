@@ -10,11 +10,13 @@ use Rattle.psi_command.specs.declared.status.Status.TheVariants as ending
 use Rattle.psi_command.specs.Status.{IsPrinted, IsReported, IsReplied, IsOfCommand}
 use Rattle.psi_command.specs.Command.{Command, sample, File, net_file, file_name}
 use Rattle.psi_command.specs.Words.{command_of}
-use Rattle.psi_run.specs.Sample.{IsSampled}
-use Rattle.psi_run.specs.Reply.{Reply, IsReplyTo}
+use Rattle.psi_reply.specs.Sample.{IsSampled}
+use Rattle.psi_reply.specs.Reply.{Reply}
+use Rattle.psi_run.specs.Reply.{IsReplyTo}
 use Rattle.psi_run.specs.Means.{Means}
 use Rattle.psi_run.specs.Seen.{ShelfSeen, IsUnread, IsRead, SinkSeen, Grew, GrewByPart, IsUnchanged, HasFailed}
-use Rattle.psi_run.specs.Ending.{Ending, replied, unread, no_memory, ending_reply, IsMeant, IsEnding}
+use Rattle.psi_reply.specs.Ending.{Ending, replied, unread, no_memory, ending_reply}
+use Rattle.psi_run.specs.Ending.{IsMeant, IsEnding}
 use Rattle.psi_run.specs.Call.{Call, reply_to_call, OutFaulted, EndsWithin, ErrFaulted, IsRun}
 use Rattle.psi_run.specs.Written.{IsWhole, IsCut}
 

@@ -4,9 +4,11 @@ use Rattle.std.proofs.Common.{sym, ap, ◌∙◌, subst, arith, inl, inr}
 use Rattle.psi_command.specs.declared.status.Status.{Status}
 use Rattle.psi_command.specs.declared.status.Status.TheVariants.{OutOfMemory}
 use Rattle.psi_command.specs.Command.{Command, certify, replay, net_file, log_file, file_name}
-use Rattle.psi_run.specs.Reply.{Reply, reply_to}
+use Rattle.psi_reply.specs.Reply.{Reply}
+use Rattle.psi_run.specs.Reply.{reply_to}
 use Rattle.psi_run.specs.Seen.{ShelfSeen}
-use Rattle.psi_run.specs.Ending.{Ending, replied, unread, no_memory, ending_reply, MayReply, EndsWith, IsEnding}
+use Rattle.psi_reply.specs.Ending.{Ending, replied, unread, no_memory, ending_reply, EndsWith}
+use Rattle.psi_run.specs.Ending.{MayReply, IsEnding}
 use Rattle.psi_command.specs.declared.words.Question.{Question}
 use Rattle.psi_command.specs.declared.words.Question.TheVariants as question
 use Rattle.psi_command.specs.Request.{asked}

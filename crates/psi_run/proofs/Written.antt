@@ -4,7 +4,7 @@ use Rattle.std.proofs.Common.{sym, ◌∙◌, ap, inr}
 use Rattle.psi_io.specs.declared.sink.SinkFault.{SinkFault}
 use Rattle.psi_io.specs.Sink.{appended}
 use Rattle.psi_io.proofs.SinkLemmas.{appended-nothing}
-use Rattle.psi_run.specs.Reply.{Reply}
+use Rattle.psi_reply.specs.Reply.{Reply}
 use Rattle.psi_run.specs.Seen.{SinkSeen, Grew, GrewByPart, IsUnchanged, HasFailed}
 use Rattle.psi_run.specs.Written.{IsWritten}
 

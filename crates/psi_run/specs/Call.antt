@@ -5,7 +5,8 @@ use Rattle.psi_command.specs.declared.status.Status.TheVariants.{Usage, LogRefus
 use Rattle.psi_command.specs.Status.{IsReplay, IsCertify, IsReward, IsExact, IsClosed, IsPrinted, IsReported, IsReplied}
 use Rattle.psi_command.specs.Words.{command_of}
 use Rattle.psi_texts.specs.Lines.{unread_line, memory_line}
-use Rattle.psi_run.specs.Reply.{Reply, reply_to}
+use Rattle.psi_reply.specs.Reply.{Reply}
+use Rattle.psi_run.specs.Reply.{reply_to}
 use Rattle.psi_run.specs.Seen.{ShelfSeen, HasUnread, SinkSeen, Grew, GrewByPart, IsUnchanged, HasFailed}
 
 -- a call: its words, the shelf that it reads and the two sinks that it writes

@@ -2,9 +2,9 @@
 use Rattle.std.specs.Prelude.{◌≡◌, ℕ, ◌⊎◌}
 use Rattle.psi_command.specs.declared.status.Status.{Status}
 use Rattle.psi_command.specs.declared.status.Status.TheVariants.{WriteFault}
-use Rattle.psi_run.specs.Reply.{Reply}
+use Rattle.psi_reply.specs.Reply.{Reply}
 use Rattle.psi_run.specs.Seen.{SinkSeen}
-use Rattle.psi_run.specs.Ending.{Ending, ending_reply}
+use Rattle.psi_reply.specs.Ending.{Ending, ending_reply}
 use Rattle.psi_run.specs.Written.{IsWhole, IsCut}
 use Rattle.psi_run.specs.Spared.{IsTaken}
 

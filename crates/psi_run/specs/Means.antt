@@ -4,16 +4,16 @@ use Rattle.psi_network.specs.Network.{Network}
 use Rattle.psi_net.specs.Reading.{network_of}
 use Rattle.psi_command.specs.declared.status.Status.{Status}
 use Rattle.psi_command.specs.Command.{Command, sample, check, report, trial, couple, reward, exact, closed, certify, replay}
-use Rattle.psi_run.specs.Sample.{IsSampled}
-use Rattle.psi_run.specs.Check.{IsChecked}
-use Rattle.psi_run.specs.Report.{IsReportOf}
-use Rattle.psi_run.specs.Trial.{IsTrial}
-use Rattle.psi_run.specs.Couple.{IsCouplingOf}
-use Rattle.psi_run.specs.Reward.{kind_named, IsRewardOf}
-use Rattle.psi_run.specs.Exact.{IsSurveyed}
-use Rattle.psi_run.specs.Closed.{IsClosedSampled}
-use Rattle.psi_run.specs.Replay.{IsReplayed}
-use Rattle.psi_run.specs.Certified.{IsCertified}
+use Rattle.psi_reply.specs.Sample.{IsSampled}
+use Rattle.psi_reply.specs.Check.{IsChecked}
+use Rattle.psi_reply.specs.Report.{IsReportOf}
+use Rattle.psi_reply.specs.Trial.{IsTrial}
+use Rattle.psi_reply.specs.Couple.{IsCouplingOf}
+use Rattle.psi_reply.specs.Reward.{kind_named, IsRewardOf}
+use Rattle.psi_reply.specs.Exact.{IsSurveyed}
+use Rattle.psi_reply.specs.Closed.{IsClosedSampled}
+use Rattle.psi_reply.specs.Replay.{IsReplayed}
+use Rattle.psi_reply.specs.Certified.{IsCertified}
 
 -- the network in the file of the name has the property, where the shelf tells the file and it reads as a network
 abbrev pub OfNetwork : (List ℕ → Option (List ℕ)) → List ℕ → (Network → Type 0) → Type 0

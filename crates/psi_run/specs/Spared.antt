@@ -2,9 +2,9 @@
 use Rattle.std.specs.Prelude.{ℕ, ◌≤◌, List, length, Result, IsOk}
 use Rattle.psi_command.specs.Command.{Command, File, file_name}
 use Rattle.psi_texts.specs.Lines.{memory_line}
-use Rattle.psi_run.specs.Reply.{Reply}
+use Rattle.psi_reply.specs.Reply.{Reply}
 use Rattle.psi_run.specs.Seen.{IsRead}
-use Rattle.psi_run.specs.Ending.{Ending, unread}
+use Rattle.psi_reply.specs.Ending.{Ending, unread}
 
 -- the shelf gives each file that the words name: no read of it is to fail
 abbrev pub AreGiven : (List ℕ → Type 0) → Result Command ℕ → Type 0

@@ -1,7 +1,7 @@
 -- How a reply is written.
 use Rattle.std.specs.Prelude.{List, ℕ, Result, MatchResult, ◌⊎◌}
 use Rattle.psi_io.specs.declared.sink.SinkFault.{SinkFault}
-use Rattle.psi_run.specs.Reply.{Reply}
+use Rattle.psi_reply.specs.Reply.{Reply}
 use Rattle.psi_run.specs.Seen.{SinkSeen, Grew, GrewByPart, IsUnchanged, HasFailed}
 
 -- each sink grew by its text

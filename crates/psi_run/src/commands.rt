@@ -7,25 +7,21 @@ ghost use Rattle.psi_run.specs.Seen.{ShelfSeen};
 ghost use Rattle.psi_run.specs.Ending.{IsEnding};
 ghost use Rattle.psi_run.specs.Spared.{AreGiven, HasRead};
 ghost use Rattle.psi_run.specs.Finished.{IsFinished};
-ghost use Rattle.psi_run.specs.Ended.{ending_of, IsNetAt};
+ghost use Rattle.psi_reply.specs.Ended.{ending_of};
+ghost use Rattle.psi_run.specs.Files.{IsNetAt};
 
 mod certify;
-mod check;
-mod closed;
-mod couple;
-mod exact;
 mod replay;
-mod report;
-mod reward;
-mod sample;
-mod trial;
 
-use crate::ending::Ending;
 use crate::files::network_at;
 use crate::writing::finish;
 use psi_command::{Question, Request, Status, command_of};
 use psi_io::{Shelf, Sink};
 use psi_net::Net;
+use psi_reply::{
+    Ending, check_ending, closed_ending, couple_ending, exact_ending, report_ending, reward_ending,
+    sample_ending, trial_ending,
+};
 use std::alloc::Global;
 
 /// Does what the words ask for: the work for their command, before the first byte is written, and then the
@@ -51,7 +47,7 @@ pub(crate) fn perform<F: Shelf, O: Sink, E: Sink>(
         Ok(Request::About { net, question }) => {
             finish(&work(alloc, shelf, net, question), out, err)
         }
-        Ok(Request::Trial { number }) => finish(&trial::work(alloc, number), out, err),
+        Ok(Request::Trial { number }) => finish(&trial_ending(alloc, number), out, err),
         Ok(Request::Certify { net, seed, stream }) => {
             certify::perform(alloc, shelf, net, seed, stream, out, err)
         }
@@ -93,17 +89,17 @@ fn answer<'w, F: Shelf>(
     ensures spared { (name : List ℕ) → AreGiven (F.gives shelf.old) (Ok (asked name question.entry)) → F.faults shelf.new ≡ F.faults shelf.old }
 {
     match question {
-        Question::Sample { seed, stream } => sample::work(alloc, net, seed, stream),
-        Question::Check => check::work(alloc, net),
-        Question::Report { seed, first, count } => { report::work(alloc, net, seed, first, count) }
-        Question::Couple { seed, stream } => couple::work(alloc, net, seed, stream),
-        Question::Reward { seed, stream, name } => { reward::work(alloc, net, seed, stream, name) }
-        Question::Exact { seed, stream, h } => exact::work(alloc, net, seed, stream, h),
+        Question::Sample { seed, stream } => sample_ending(alloc, net, seed, stream),
+        Question::Check => check_ending(alloc, net),
+        Question::Report { seed, first, count } => { report_ending(alloc, net, seed, first, count) }
+        Question::Couple { seed, stream } => couple_ending(alloc, net, seed, stream),
+        Question::Reward { seed, stream, name } => { reward_ending(alloc, net, seed, stream, name) }
+        Question::Exact { seed, stream, h } => exact_ending(alloc, net, seed, stream, h),
         Question::Closed {
             seed,
             stream,
             total,
-        } => closed::work(alloc, net, seed, stream, total),
+        } => closed_ending(alloc, net, seed, stream, total),
         Question::Replay { log } => replay::work(alloc, shelf, net, log),
     }
 }

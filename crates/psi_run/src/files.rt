@@ -2,11 +2,12 @@
 
 ghost use Rattle.std.specs.Prelude.{◌≡◌, ◌≤◌, ℕ, List, IfOk, IfErr};
 ghost use Rattle.psi_run.specs.Spared.{HasRead};
-ghost use Rattle.psi_run.specs.Ended.{ending_of, IsNetAt, IsNoNet, IsTextAt, IsNoText};
+ghost use Rattle.psi_reply.specs.Ended.{ending_of};
+ghost use Rattle.psi_run.specs.Files.{IsNetAt, IsNoNet, IsTextAt, IsNoText};
 
-use crate::ending::Ending;
 use psi_io::{Shelf, ShelfFault};
 use psi_net::{Net, NetError, net_of};
+use psi_reply::Ending;
 use std::alloc::Global;
 
 /// The most bytes that a network file may have.

@@ -1,15 +1,15 @@
 //! Writing what a call ends with.
 
 ghost use Rattle.std.specs.Prelude.{◌≡◌, IsOk};
-ghost use Rattle.psi_run.specs.Ending.{ending_reply};
-ghost use Rattle.psi_run.specs.Ended.{ending_of};
+ghost use Rattle.psi_reply.specs.Ending.{ending_reply};
+ghost use Rattle.psi_reply.specs.Ended.{ending_of};
 ghost use Rattle.psi_run.specs.Written.{IsWritten};
 ghost use Rattle.psi_run.specs.Spared.{IsTaken};
 ghost use Rattle.psi_run.specs.Finished.{IsFinished};
 
-use crate::ending::Ending;
 use psi_command::Status;
 use psi_io::{Sink, SinkFault, write_all};
+use psi_reply::Ending;
 use psi_texts::{log_refused_line, log_rejected_line, not_closed_line, refused_line, usage_line};
 
 // Writes the text of an ending to out, or its line to err, as one piece.

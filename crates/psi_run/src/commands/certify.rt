@@ -1,21 +1,17 @@
 //! `sample NET SEED STREAM log`: the log of a sample.
 
 ghost use Rattle.std.specs.Prelude.{◌≡◌, ◌^◌, ◌≤◌, Ok};
-ghost use Rattle.psi_state.specs.declared.Outcome.TheVariants.{NotMet};
 ghost use Rattle.psi_lines.specs.Text.{log_text};
 ghost use Rattle.psi_record.specs.Recorded.{log_of};
-ghost use Rattle.psi_command.specs.declared.status.Status.TheVariants.{NotCoupled};
 ghost use Rattle.psi_command.specs.Command.{certify};
-ghost use Rattle.psi_texts.specs.Texts.{outcome_text};
-ghost use Rattle.psi_run.specs.Sample.{sampled};
-ghost use Rattle.psi_run.specs.Reply.{text_reply, log_reply, certify_reply};
+ghost use Rattle.psi_reply.specs.Sample.{sampled};
+ghost use Rattle.psi_reply.specs.Reply.{log_reply, certify_reply};
 ghost use Rattle.psi_run.specs.Seen.{ShelfSeen};
-ghost use Rattle.psi_run.specs.Ending.{EndsWith, IsEnding};
+ghost use Rattle.psi_reply.specs.Ending.{EndsWith};
+ghost use Rattle.psi_run.specs.Ending.{IsEnding};
 ghost use Rattle.psi_run.specs.Spared.{HasRead};
-ghost use Rattle.psi_run.specs.Ended.{ending_of};
 ghost use Rattle.psi_run.specs.Finished.{IsFinished};
 
-use crate::ending::Ending;
 use crate::files::network_at;
 use crate::writing::finish;
 use psi_command::Status;
@@ -26,8 +22,8 @@ use psi_log::{Header, LineBuf};
 use psi_net::Net;
 use psi_past::{Past, SeedPast};
 use psi_record::{Block, log_fits, write_log};
+use psi_reply::{Ending, unmet_ending};
 use psi_state::{Outcome, State};
-use psi_texts::outcome_text;
 use std::alloc::Global;
 
 // Writes the log of the run of the header's horizon, which ends with this state, or the line on one that is
@@ -66,20 +62,6 @@ fn write_run<L: EventLaw, P: Past + Drop, O: Sink, E: Sink>(
     }
 }
 
-// What is told of an outcome that isn't met within 2 to the power `limit` steps, at most 2 to the power 22.
-fn unmet<'w>(alloc: Global, limit: u8) -> Ending<'w>
-    requires { limit ≤ 22 }
-    ensures { EndsWith (ending_of result) (text_reply NotCoupled (outcome_text (NotMet limit))) }
-{
-    match outcome_text(alloc, &Outcome::NotMet { limit }) {
-        Ok(text) => Ending::Printed {
-            status: Status::NotCoupled,
-            text,
-        },
-        Err(_) => Ending::OutOfMemory,
-    }
-}
-
 // The log of a sample of the network, written, or what is told in its place.
 fn write_sample<O: Sink, E: Sink>(
     alloc: Global,
@@ -101,7 +83,8 @@ fn write_sample<O: Sink, E: Sink>(
     let Ok(mut plan) = Plan::new(alloc, system, SeedPast::new(seed, stream)) else {
         return finish(&Ending::OutOfMemory, out, err);
     };
-    match plan.sample() {
+    let outcome = plan.sample();
+    match outcome {
         Outcome::Met { horizon, state } => {
             let header = Header {
                 version: 2,
@@ -110,9 +93,14 @@ fn write_sample<O: Sink, E: Sink>(
                 stream,
                 horizon,
             };
-            write_run(alloc, &mut plan, &header, &state, out, err)
+            let status = write_run(alloc, &mut plan, &header, &state, out, err);
+            drop(plan);
+            status
         }
-        Outcome::NotMet { limit } => finish(&unmet(alloc, limit), out, err),
+        Outcome::NotMet { limit } => {
+            drop(plan);
+            finish(&unmet_ending(alloc, limit), out, err)
+        }
     }
 }
 

@@ -1,65 +1,66 @@
 -- Answers in the proof of `answer`.
 use Rattle.std.specs.Prelude.{refl}
 use Rattle.psi_command.specs.Command.{sample, check, report, couple, reward, exact, closed}
-use Rattle.psi_run.specs.Reward.{kind_named}
-use Rattle.psi_run.specs.Closed.{first_other}
+use Rattle.psi_reply.specs.Reward.{kind_named}
+use Rattle.psi_reply.specs.Closed.{first_other}
 use Rattle.psi_run.proofs.Endings.{on_net}
 use Rattle.psi_run.proofs.Sparing.{log_given}
-use Rattle.psi_run.proofs.Sampling.{sampled_printed, sample_about}
-use Rattle.psi_run.proofs.Checking.{checked_printed, check_about}
-use Rattle.psi_run.proofs.Reporting.{report_printed, report_about}
-use Rattle.psi_run.proofs.Coupling.{coupling_printed, couple_about, reward_printed, reward_about}
-use Rattle.psi_run.proofs.Surveying.{exact_printed, exact_about}
-use Rattle.psi_run.proofs.Closing.{closed_printed, closed_about}
+use Rattle.psi_reply.proofs.Sampling.{sampled_printed}
+use Rattle.psi_run.proofs.Abouts.{sample_about, check_about, report_about, couple_about, reward_about, exact_about, closed_about}
+use Rattle.psi_reply.proofs.Checking.{checked_printed}
+use Rattle.psi_reply.proofs.Reporting.{report_printed}
+use Rattle.psi_reply.proofs.Coupling.{coupling_printed, reward_printed}
+use Rattle.psi_reply.proofs.Surveying.{exact_printed}
+use Rattle.psi_reply.proofs.Closing.{closed_printed}
 use Rattle.psi_run.proofs.commands.answer.Goals as goal
 
 pub returns-in-Sample-clause-ending : goal.returns-in-Sample-clause-ending
 returns-in-Sample-clause-ending g c name at =
     let asked = c.in-Sample in
-    rw c.in-Sample.is (on_net (sample name asked.seed asked.stream) name _ _ c.args.net.now _ _ refl (sample_about _ name asked.seed asked.stream) at c.work.ensures
-    (λ has bytes accepted before after grew. sampled_printed before after bytes c.args.net.now asked.seed asked.stream accepted grew))
+    rw c.in-Sample.is (on_net (sample name asked.seed asked.stream) name _ _ c.args.net.now _ _ refl (sample_about _ name asked.seed asked.stream) at c.sample_ending.ensures
+    (λ has kept before after grew. sampled_printed before after c.args.net.now asked.seed asked.stream kept grew))
 
 pub returns-in-Check-clause-ending : goal.returns-in-Check-clause-ending
 returns-in-Check-clause-ending g c name at =
-    rw c.in-Check.is (on_net (check name) name _ _ c.args.net.now _ _ refl (check_about _ name) at c.work-in-Check.ensures.reply
-    (λ has bytes accepted before after grew. checked_printed before after c.args.net.now (c.work-in-Check.ensures.marks has) grew))
+    rw c.in-Check.is (on_net (check name) name _ _ c.args.net.now _ _ refl (check_about _ name) at c.check_ending.ensures.reply
+    (λ has kept before after grew. checked_printed before after c.args.net.now (c.check_ending.ensures.marks has) grew))
 
 pub returns-in-Report-clause-ending : goal.returns-in-Report-clause-ending
 returns-in-Report-clause-ending g c name at =
     let asked = c.in-Report in
-    rw c.in-Report.is (on_net (report name asked.seed asked.first asked.count) name _ _ c.args.net.now _ _ refl (report_about _ name asked.seed asked.first asked.count) at c.work-in-Report.ensures
-    (λ has bytes accepted before after grew. report_printed before after bytes c.args.net.now asked.seed asked.first asked.count accepted grew))
+    rw c.in-Report.is (on_net (report name asked.seed asked.first asked.count) name _ _ c.args.net.now _ _ refl (report_about _ name asked.seed asked.first asked.count) at c.report_ending.ensures
+    (λ has kept before after grew. report_printed before after c.args.net.now asked.seed asked.first asked.count kept grew))
 
 pub returns-in-Couple-clause-ending : goal.returns-in-Couple-clause-ending
 returns-in-Couple-clause-ending g c name at =
     let asked = c.in-Couple in
-    rw c.in-Couple.is (on_net (couple name asked.seed asked.stream) name _ _ c.args.net.now _ _ refl (couple_about _ name asked.seed asked.stream) at c.work-in-Couple.ensures
-    (λ has bytes accepted before after grew. coupling_printed before after bytes c.args.net.now asked.seed asked.stream accepted grew))
+    rw c.in-Couple.is (on_net (couple name asked.seed asked.stream) name _ _ c.args.net.now _ _ refl (couple_about _ name asked.seed asked.stream) at c.couple_ending.ensures
+    (λ has kept before after grew. coupling_printed before after c.args.net.now asked.seed asked.stream kept grew))
 
 pub returns-in-Reward-clause-ending : goal.returns-in-Reward-clause-ending
 returns-in-Reward-clause-ending g c name at =
     let asked = c.in-Reward in
-    rw c.in-Reward.is (on_net (reward name asked.seed asked.stream asked.name.now) name _ _ c.args.net.now _ _ refl (reward_about _ name asked.seed asked.stream asked.name.now) at c.work-in-Reward.ensures
-    (λ has bytes accepted before after grew.
-    reward_printed before after bytes c.args.net.now asked.seed asked.stream (kind_named asked.name.now c.args.net.now.rewards) accepted grew))
+    rw c.in-Reward.is (on_net (reward name asked.seed asked.stream asked.name.now) name _ _ c.args.net.now _ _ refl (reward_about _ name asked.seed asked.stream asked.name.now) at c.reward_ending.ensures
+    (λ has kept before after grew.
+    reward_printed before after c.args.net.now asked.seed asked.stream (kind_named asked.name.now c.args.net.now.rewards) kept grew))
 
 pub returns-in-Exact-clause-ending : goal.returns-in-Exact-clause-ending
 returns-in-Exact-clause-ending g c name at =
     let asked = c.in-Exact in
-    rw c.in-Exact.is (on_net (exact name asked.seed asked.stream asked.h) name _ _ c.args.net.now _ _ refl (exact_about _ name asked.seed asked.stream asked.h) at c.work-in-Exact.ensures
-    (λ has bytes accepted before after grew. exact_printed before after bytes c.args.net.now asked.seed asked.stream asked.h accepted grew))
+    rw c.in-Exact.is (on_net (exact name asked.seed asked.stream asked.h) name _ _ c.args.net.now _ _ refl (exact_about _ name asked.seed asked.stream asked.h) at c.exact_ending.ensures
+    (λ has kept before after grew. exact_printed before after c.args.net.now asked.seed asked.stream asked.h kept grew))
 
 pub returns-in-Closed-clause-ending : goal.returns-in-Closed-clause-ending
 returns-in-Closed-clause-ending g c name at =
     let asked = c.in-Closed in
-    rw c.in-Closed.is (on_net (closed name asked.seed asked.stream asked.total) name _ _ c.args.net.now _ _ refl (closed_about _ name asked.seed asked.stream asked.total) at c.work-in-Closed.ensures
-    (λ has bytes accepted before after grew.
-    closed_printed before after bytes c.args.net.now asked.seed asked.stream asked.total (first_other c.args.net.now) refl accepted grew))
+    rw c.in-Closed.is (on_net (closed name asked.seed asked.stream asked.total) name _ _ c.args.net.now _ _ refl (closed_about _ name asked.seed asked.stream asked.total) at c.closed_ending.ensures
+    (λ has kept before after grew.
+    closed_printed before after c.args.net.now asked.seed asked.stream asked.total (first_other c.args.net.now) refl kept grew))
 
 pub returns-in-Replay-clause-read : goal.returns-in-Replay-clause-read
 returns-in-Replay-clause-read g c name given =
-    c.work-in-Replay.ensures.read (log_given (g.F.Shelf.gives c.args.shelf.now) name c.in-Replay.log.now (rw c.in-Replay.is at given))
+    c.work.ensures.read (log_given (g.F.Shelf.gives c.args.shelf.now) name c.in-Replay.log.now (rw c.in-Replay.is at given))
 
 pub returns-in-Replay-clause-spared : goal.returns-in-Replay-clause-spared
 returns-in-Replay-clause-spared g c name given =
-    c.work-in-Replay.ensures.spared (log_given (g.F.Shelf.gives c.args.shelf.now) name c.in-Replay.log.now (rw c.in-Replay.is at given))
+    c.work.ensures.spared (log_given (g.F.Shelf.gives c.args.shelf.now) name c.in-Replay.log.now (rw c.in-Replay.is at given))

@@ -2,7 +2,7 @@
 use Rattle.std.specs.Prelude.{refl}
 use Rattle.psi_run.proofs.Endings.{no_command, on_number}
 use Rattle.psi_run.proofs.Sparing.{ends-read, certify_given}
-use Rattle.psi_run.proofs.Reporting.{trial_printed}
+use Rattle.psi_reply.proofs.Reporting.{trial_printed}
 use Rattle.psi_run.proofs.Finishing.{finished_with, finished_as}
 use Rattle.psi_run.proofs.commands.perform.Goals as goal
 
@@ -18,7 +18,7 @@ pub returns-in-Ok-Trial-clause-finished : goal.returns-in-Ok-Trial-clause-finish
 returns-in-Ok-Trial-clause-finished g c =
     let asked = rw c.in-Ok-Trial.field-0-is at c.in-Ok-Trial.ensures.command in
     let number = c.in-Ok-Trial.number in
-    let worked = c.work-in-Ok-Trial.ensures in
+    let worked = c.trial_ending.ensures in
     rw asked (finished_with _ _ _ _ _ _ c.finish-in-Ok-Trial.result c.finish-in-Ok-Trial.ensures (
       on_number _ number _ _ refl worked.reply (λ has before after grew. trial_printed before after number (worked.kept has) grew),
       λ given. ends-read _ _ worked.reply,

@@ -3,7 +3,8 @@ use Rattle.std.specs.Prelude.{refl}
 use Rattle.psi_command.specs.Command.{certify}
 use Rattle.psi_run.proofs.Endings.{no_net, on_net}
 use Rattle.psi_run.proofs.Sparing.{ends-read}
-use Rattle.psi_run.proofs.Certifying.{certified_printed, certify_about}
+use Rattle.psi_reply.proofs.Certifying.{certified_printed}
+use Rattle.psi_run.proofs.Abouts.{certify_about}
 use Rattle.psi_run.proofs.Finishing.{finished_as, finished_with}
 use Rattle.psi_run.proofs.commands.certify.perform.Goals as goal
 
@@ -13,8 +14,7 @@ returns-in-Ok-clause-finished g c =
     finished_as _ _ _ _ _ _ c.write_sample.result c.write_sample.ensures
     (λ ending ends. (
       on_net command c.args.net.now _ _ c.in-Ok.net ending _ refl (certify_about _ c.args.net.now c.args.seed c.args.stream) c.in-Ok.ensures.network ends
-          (λ has bytes accepted before after grew.
-          certified_printed before after bytes c.in-Ok.net c.args.seed c.args.stream accepted c.ranges.seed.fits c.ranges.stream.fits grew),
+          (λ has kept before after grew. certified_printed before after c.in-Ok.net c.args.seed c.args.stream kept c.ranges.seed.fits c.ranges.stream.fits grew),
       λ given. ends-read ending _ ends,
     ))
 

@@ -1,34 +1,34 @@
 -- Answers in the proof of `certify::write_sample`.
 use Rattle.std.proofs.Common.{sym, ◌∙◌, subst}
 use Rattle.psi_state.specs.declared.Outcome.{Outcome}
-use Rattle.psi_run.specs.Ending.{EndsWith}
-use Rattle.psi_run.specs.Ended.{ending_of}
-use Rattle.psi_run.specs.Reply.{Reply, certify_reply}
-use Rattle.psi_run.proofs.Sampling.{sampled_by}
-use Rattle.psi_run.proofs.Certifying.{first_within, queues_counted, certified_by}
+use Rattle.psi_reply.specs.Ending.{EndsWith}
+use Rattle.psi_reply.specs.Ended.{ending_of}
+use Rattle.psi_reply.specs.Reply.{Reply, certify_reply}
+use Rattle.psi_reply.proofs.Sampling.{sampled_by}
+use Rattle.psi_reply.proofs.Certifying.{first_within, queues_counted, certified_by}
 use Rattle.psi_run.proofs.Finishing.{finished_as, finished_with}
 use Rattle.psi_run.proofs.commands.certify.write_sample.Goals as goal
 
-pub write_run-requires-clause-most : goal.write_run-requires-clause-most
-write_run-requires-clause-most g c = rw c.sample.ensures.system (first_within _ _ _ _ c.in-Met.ensures.sample.least)
+pub write_run-status-requires-clause-most : goal.write_run-status-requires-clause-most
+write_run-status-requires-clause-most g c = rw c.sample-outcome.ensures.system (first_within _ _ _ _ c.in-Met.ensures.sample.least)
 
 pub returns-in-Met : goal.returns-in-Met
 returns-in-Met g c =
     let made = c.system-system.ensures in
-    let least = rw (c.in-Ok.ensures, c.new.ensures) at c.sample.ensures.sample.least in
-    let is = sampled_by _ c.system-system.result c.args.net.now c.args.seed c.args.stream c.sample.result c.queues-queues.ensures.kept
+    let least = rw (c.in-Ok.ensures, c.new.ensures) at c.sample-outcome.ensures.sample.least in
+    let is = sampled_by _ c.system-system.result c.args.net.now c.args.seed c.args.stream c.sample-outcome.result c.queues-queues.ensures.kept
     made.functions made.rates made.caps made.limit made.split least in
-    let same = certified_by _ c.system-system.result c.args.net.now c.args.seed c.args.stream c.in-Met.horizon c.in-Met.state c.queues-queues.result c.sample.result
+    let same = certified_by _ c.system-system.result c.args.net.now c.args.seed c.args.stream c.in-Met.horizon c.in-Met.state c.queues-queues.result c.sample-outcome.result
     c.queues-queues.ensures.kept (record { caps = made.caps; functions = made.functions; rates = made.rates; limit = made.limit; split = made.split })
     (queues_counted c.args.net.now c.queues-queues.result c.queues-queues.ensures.count) is c.in-Met.is in
-    let finished = rw (c.sample.ensures.system, c.sample.ensures.words, c.in-Ok.ensures, c.new.ensures) at c.write_run.ensures in
-    finished_as _ _ _ _ _ _ c.write_run.result finished (λ ending ends. subst (λ (r : Reply). EndsWith ending r) same ends)
+    let finished = rw (c.sample-outcome.ensures.system, c.sample-outcome.ensures.words, c.in-Ok.ensures, c.new.ensures) at c.write_run-status.ensures in
+    finished_as _ _ _ _ _ _ c.write_run-status.result finished (λ ending ends. subst (λ (r : Reply). EndsWith ending r) same ends)
 
-pub returns : goal.returns
-returns g c =
+pub returns-in-NotMet : goal.returns-in-NotMet
+returns-in-NotMet g c =
     let made = c.system-system.ensures in
-    let least = rw (c.in-Ok.ensures, c.new.ensures) at c.sample.ensures.sample.least in
-    let is = sampled_by _ c.system-system.result c.args.net.now c.args.seed c.args.stream c.sample.result c.queues-queues.ensures.kept
+    let least = rw (c.in-Ok.ensures, c.new.ensures) at c.sample-outcome.ensures.sample.least in
+    let is = sampled_by _ c.system-system.result c.args.net.now c.args.seed c.args.stream c.sample-outcome.result c.queues-queues.ensures.kept
     made.functions made.rates made.caps made.limit made.split least in
     finished_with _ _ _ _ _ _ c.finish-in-NotMet.result c.finish-in-NotMet.ensures
-    (subst (λ (o : Outcome). EndsWith (ending_of c.unmet.result) (certify_reply c.args.net.now c.args.seed c.args.stream o)) (sym c.in-NotMet.is ∙ is) c.unmet.ensures)
+    (subst (λ (o : Outcome). EndsWith (ending_of c.unmet_ending.result) (certify_reply c.args.net.now c.args.seed c.args.stream o)) (sym c.in-NotMet.is ∙ is) c.unmet_ending.ensures)

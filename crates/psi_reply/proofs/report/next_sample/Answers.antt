@@ -1,0 +1,19 @@
+-- Answers in the proof of `report::next_sample`.
+use Rattle.std.proofs.Common.{sym, subst}
+use Rattle.psi_report.specs.Samples.{IsSampleOf}
+use Rattle.psi_reply.proofs.Sampling.{sampled_by}
+use Rattle.psi_reply.proofs.Reporting.{sampled_counts}
+use Rattle.psi_reply.proofs.report.next_sample.Goals as goal
+
+pub returns-clause-value : goal.returns-clause-value
+returns-clause-value c =
+    let least = rw (c.replace.ensures, c.new.ensures) at c.sample.ensures.sample.least in
+    sampled_by _ c.args.plan.now.system c.args.net.now c.args.seed c.args.stream c.sample.result c.queues-queues.ensures.kept c.requires.functions c.requires.rates c.requires.caps
+    c.requires.limit c.requires.split least
+
+pub returns-clause-sample : goal.returns-clause-sample
+returns-clause-sample c =
+    let least = rw (c.replace.ensures, c.new.ensures) at c.sample.ensures.sample.least in
+    let value = sampled_by _ c.args.plan.now.system c.args.net.now c.args.seed c.args.stream c.sample.result c.queues-queues.ensures.kept c.requires.functions c.requires.rates
+    c.requires.caps c.requires.limit c.requires.split least in
+    subst (IsSampleOf c.args.net.now) (sym value) (sampled_counts c.args.net.now c.args.seed c.args.stream c.queues-queues.ensures.kept)

@@ -1,0 +1,30 @@
+//! `sample NET SEED STREAM log`: what is told where there is no log.
+
+ghost use Rattle.std.specs.Prelude.{◌≤◌};
+ghost use Rattle.psi_state.specs.declared.Outcome.TheVariants.{NotMet};
+ghost use Rattle.psi_command.specs.declared.status.Status.TheVariants.{NotCoupled};
+ghost use Rattle.psi_texts.specs.Texts.{outcome_text};
+ghost use Rattle.psi_reply.specs.Reply.{text_reply};
+ghost use Rattle.psi_reply.specs.Ending.{EndsWith};
+ghost use Rattle.psi_reply.specs.Ended.{ending_of};
+
+use crate::ending::Ending;
+use psi_command::Status;
+use psi_state::Outcome;
+use psi_texts::outcome_text;
+use std::alloc::Global;
+
+/// What is told of a sample that isn't met within 2 to the power `limit` steps, `limit` being at most 22: status
+/// `NotCoupled` with its text, or want of memory.
+pub fn unmet_ending<'w>(alloc: Global, limit: u8) -> Ending<'w>
+    requires { limit ≤ 22 }
+    ensures { EndsWith (ending_of result) (text_reply NotCoupled (outcome_text (NotMet limit))) }
+{
+    match outcome_text(alloc, &Outcome::NotMet { limit }) {
+        Ok(text) => Ending::Printed {
+            status: Status::NotCoupled,
+            text,
+        },
+        Err(_) => Ending::OutOfMemory,
+    }
+}

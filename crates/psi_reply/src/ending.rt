@@ -1,0 +1,78 @@
+//! How the work of a call ends, before anything is written.
+
+ghost use Rattle.std.specs.Prelude.{◌≡◌};
+
+use psi_command::Status;
+use psi_document::NetRefusal;
+
+/// How the work of a call ends, once its memory is taken and before anything is written.
+#[derive(Drop, Debug)]
+pub enum Ending<'w> {
+    /// With what the command asks for.
+    Printed {
+        /// The status once the text is written.
+        status: Status,
+        /// The text for out.
+        text: Vec<u8>,
+    },
+    /// The words aren't a command; with the place of the word that offends, counted from 1.
+    Usage(u8),
+    /// The network file is refused.
+    NetRefused(NetRefusal),
+    /// The text is no log.
+    LogRefused {
+        /// The first line that is refused, counted from 1; 0 where the text is too long.
+        line: u32,
+        /// The number of the line's first cause, 1 to 7.
+        cause: u8,
+    },
+    /// The log breaks a rule.
+    LogRejected {
+        /// The first line that breaks one, counted from 1.
+        line: u32,
+        /// The number of the line's first cause, 1 to 8.
+        cause: u8,
+    },
+    /// The log of a sample would be too long.
+    LogTooLong,
+    /// The network has no reward of the name.
+    UnknownReward,
+    /// The network has more than 65,536 states.
+    TooManyStates,
+    /// The event of this number isn't a move of one customer, and those before it are.
+    NotClosed(u16),
+    /// The queues can't hold as many customers.
+    NoSuchTotal,
+    /// The network file of this name couldn't be read.
+    NetUnread(&'w str),
+    /// The log file of this name couldn't be read.
+    LogUnread(&'w str),
+    /// There was not enough memory.
+    OutOfMemory,
+}
+
+impl<'w> Ending<'w> {
+    ghost use Rattle.psi_reply.specs.Ending.{ending_reply};
+    ghost use Rattle.psi_reply.specs.Ended.{ending_of};
+
+    /// The status of the call, once the text of the ending is written whole.
+    pub fn status(&self) -> Status
+        ensures { result ≡ (ending_reply (ending_of self.now)).status }
+    {
+        match self {
+            Ending::Printed { status, .. } => *status,
+            Ending::Usage(_) => Status::Usage,
+            Ending::NetRefused(_) => Status::NetRefused,
+            Ending::LogRefused { .. } => Status::LogRefused,
+            Ending::LogRejected { .. } => Status::LogRefused,
+            Ending::LogTooLong => Status::LogTooLong,
+            Ending::UnknownReward => Status::UnknownReward,
+            Ending::TooManyStates => Status::TooManyStates,
+            Ending::NotClosed(_) => Status::NotClosed,
+            Ending::NoSuchTotal => Status::NoSuchTotal,
+            Ending::NetUnread(_) => Status::ReadFault,
+            Ending::LogUnread(_) => Status::ReadFault,
+            Ending::OutOfMemory => Status::OutOfMemory,
+        }
+    }
+}

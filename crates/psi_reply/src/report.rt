@@ -1,0 +1,88 @@
+//! `report NET SEED FIRST COUNT`: a report over samples of a network, one for each of several streams.
+
+ghost use Rattle.std.specs.Prelude.{◌≡◌, ◌+◌, ◌^◌, ◌≤◌, IfSome};
+ghost use Rattle.psi_report.specs.Samples.{IsSampleOf};
+ghost use Rattle.psi_report.specs.Report.{report_text};
+ghost use Rattle.psi_report.specs.Totals.{StandsFor};
+ghost use Rattle.psi_command.specs.declared.status.Status.TheVariants.{Done};
+ghost use Rattle.psi_reply.specs.Sample.{sampled};
+ghost use Rattle.psi_reply.specs.Report.{samples_of};
+ghost use Rattle.psi_reply.specs.Networks.{IsSystemOf};
+ghost use Rattle.psi_reply.specs.Reply.{text_reply};
+ghost use Rattle.psi_reply.specs.Ending.{EndsWith};
+ghost use Rattle.psi_reply.specs.Ended.{ending_of};
+
+use crate::ending::Ending;
+use psi_command::Status;
+use psi_event::EventLaw;
+use psi_horizon::Plan;
+use psi_kinds::Event;
+use psi_network::Net;
+use psi_past::SeedPast;
+use psi_report::Tally;
+use psi_state::Outcome;
+use std::alloc::Global;
+
+// The sample of a stream, by the plan for the network.
+fn next_sample(plan: &mut Plan<'_, Event, SeedPast>, net: &Net, seed: u64, stream: u64) -> Outcome
+    requires { IsSystemOf ⟦<Event as EventLaw>⟧.function net.now plan.old.system }
+    ensures value { result ≡ sampled net.now seed stream }
+    ensures sample { IsSampleOf net.now result }
+    ensures system { plan.new.system ≡ plan.old.system }
+{
+    // Called for its clause: the network is one that can be sampled.
+    let _queues = net.queues();
+    plan.replace(SeedPast::new(seed, stream));
+    plan.sample()
+}
+
+// The totals of the samples of so many streams; none where there is not enough memory. One plan serves all
+// streams.
+fn tally_of(alloc: Global, net: &Net, seed: u64, first: u64, count: u32) -> Option<Tally>
+    requires few { count ≤ 65536 }
+    requires streams { first + count ≤ 2 ^ 64 }
+    ensures { IfSome result (λ tally. StandsFor tally net.now (samples_of net.now seed first count)) }
+{
+    let mut tally = Tally::new(alloc, net).ok()?;
+    let mut plan = Plan::new(alloc, net.system(), SeedPast::new(seed, first)).ok()?;
+    for i in 0..count {
+        let outcome = next_sample(&mut plan, net, seed, first + i as u64);
+        tally.add(net, &outcome);
+    }
+    drop(plan);
+    Some(tally)
+}
+
+/// The report of the samples of `count` streams, at most 65,536 of them, from `first` on; none where there
+/// is not enough memory.
+pub(crate) fn report_of(
+    alloc: Global,
+    net: &Net,
+    seed: u64,
+    first: u64,
+    count: u32,
+) -> Option<Vec<u8>>
+    requires few { count ≤ 65536 }
+    requires streams { first + count ≤ 2 ^ 64 }
+    ensures { IfSome result (λ text. text.items ≡ report_text net.now (samples_of net.now seed first count)) }
+{
+    let tally = tally_of(alloc, net, seed, first, count)?;
+    let text = tally.text(alloc, net).ok()?;
+    Some(text)
+}
+
+/// The work for `report`: the report of the samples that a seed and `count` streams draw of the network, 1 to 65,536 of
+/// them, from `first` on; status `Done`, or want of memory.
+pub fn report_ending<'w>(alloc: Global, net: &Net, seed: u64, first: u64, count: u32) -> Ending<'w>
+    requires few { count ≤ 65536 }
+    requires streams { first + count ≤ 2 ^ 64 }
+    ensures { EndsWith (ending_of result) (text_reply Done (report_text net.now (samples_of net.now seed first count))) }
+{
+    match report_of(alloc, net, seed, first, count) {
+        Some(text) => Ending::Printed {
+            status: Status::Done,
+            text,
+        },
+        None => Ending::OutOfMemory,
+    }
+}

@@ -1,0 +1,60 @@
+//! `sample NET SEED STREAM`: a sample of a network.
+
+ghost use Rattle.std.specs.Prelude.{◌≡◌, IfOk};
+ghost use Rattle.psi_texts.specs.Texts.{outcome_text, IsWithinLimit};
+ghost use Rattle.psi_reply.specs.Sample.{sampled, outcome_status};
+ghost use Rattle.psi_reply.specs.Reply.{text_reply};
+ghost use Rattle.psi_reply.specs.Ending.{EndsWith};
+ghost use Rattle.psi_reply.specs.Ended.{ending_of};
+
+use crate::ending::Ending;
+use psi_command::Status;
+use psi_horizon::{OutOfMemory, Plan};
+use psi_network::Net;
+use psi_past::SeedPast;
+use psi_state::Outcome;
+use psi_texts::outcome_text;
+use std::alloc::Global;
+
+// The sample of a network under the words of a seed and a stream.
+fn sample_of(alloc: Global, net: &Net, seed: u64, stream: u64) -> Result<Outcome, OutOfMemory>
+    ensures value { IfOk result (λ outcome. outcome ≡ sampled net.now seed stream) }
+    ensures limit { IfOk result IsWithinLimit }
+{
+    // Called for its clause: the network is one that can be sampled.
+    let _queues = net.queues();
+    let system = net.system();
+    // Called for its clause: the limit is at most 22.
+    let _limit = system.limit();
+    let mut plan = Plan::new(alloc, system, SeedPast::new(seed, stream))?;
+    let outcome = plan.sample();
+    drop(plan);
+    Ok(outcome)
+}
+
+/// The status of a sample, once it is printed.
+pub(crate) fn outcome_status(outcome: &Outcome) -> Status
+    ensures { result ≡ outcome_status outcome.now }
+{
+    match outcome {
+        Outcome::Met { .. } => Status::Done,
+        Outcome::NotMet { .. } => Status::NotCoupled,
+    }
+}
+
+/// The work for `sample`: the sample that a seed and a stream draw of the network; status `Done` where it is met,
+/// `NotCoupled` where it isn't met within the network's limit; or want of memory.
+pub fn sample_ending<'w>(alloc: Global, net: &Net, seed: u64, stream: u64) -> Ending<'w>
+    ensures { EndsWith (ending_of result) (text_reply (outcome_status (sampled net.now seed stream)) (outcome_text (sampled net.now seed stream))) }
+{
+    let Ok(outcome) = sample_of(alloc, net, seed, stream) else {
+        return Ending::OutOfMemory;
+    };
+    match outcome_text(alloc, &outcome) {
+        Ok(text) => Ending::Printed {
+            status: outcome_status(&outcome),
+            text,
+        },
+        Err(_) => Ending::OutOfMemory,
+    }
+}

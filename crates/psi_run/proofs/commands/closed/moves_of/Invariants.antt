@@ -1,7 +1,0 @@
--- Invariants of the loops of `closed::moves_of`.
-use Rattle.std.proofs.Common.{take}
-use Rattle.psi_run.specs.Closed.{AreMovesOf}
-use Rattle.psi_run.proofs.commands.closed.moves_of.Given as goal
-
-abbrev pub invariant-loop-e : goal.invariant-loop-e
-invariant-loop-e l = AreMovesOf (take l.e l.net.events) l.moves.items

@@ -1,9 +1,0 @@
--- Answers in the proof of `replay::verdict_on`.
-use Rattle.psi_run.proofs.Judging.{judged_by}
-use Rattle.psi_run.proofs.commands.replay.verdict_on.Goals as goal
-
-pub returns : goal.returns
-returns c =
-    let made = c.system-system.ensures in
-    judged_by _ c.system-system.result c.args.net.now c.args.log.now c.verdict.result c.queues-queues.ensures.kept
-    (record { caps = made.caps; functions = made.functions; rates = made.rates; limit = made.limit; split = made.split }) c.verdict.ensures.value
