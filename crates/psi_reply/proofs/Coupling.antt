@@ -18,10 +18,11 @@ use Rattle.psi_couple.specs.declared.answers.Coupled.{Coupled}
 use Rattle.psi_couple.specs.declared.answers.Valued.{Valued}
 use Rattle.psi_couple.specs.declared.answers.Coupled.TheVariants as coupled
 use Rattle.psi_couple.specs.declared.answers.Valued.TheVariants as valued
-use Rattle.psi_couple.specs.Coupling.{coupled_of, coupled_within, IsCoupled, ReachesCoupled, CouplesWithin}
-use Rattle.psi_couple.specs.Valuing.{value_at, valued_of, valued_within, IsValued, ReachesValued}
+use Rattle.psi_couple.specs.Coupling.{coupled_of, coupled_within, IsCoupled, ReachesCoupled, DecidesCoupled, CouplesWithin}
+use Rattle.psi_couple.specs.Valuing.{value_at, valued_of, valued_within, IsValued, ReachesValued, DecidesValues}
 use Rattle.psi_couple.proofs.AgreeingLemmas.{coupled_within-agree, valued_within-agree}
-use Rattle.psi_couple.proofs.ValuingLemmas.{value-reached}
+use Rattle.psi_couple.proofs.CouplingLemmas.{coupled-decides}
+use Rattle.psi_couple.proofs.ValuingLemmas.{value-reached, valued-decides}
 use Rattle.psi_network.specs.Network.{Network, NamedReward, caps_of, rates_of}
 use Rattle.psi_network.specs.Valid.{IsNetwork}
 use Rattle.psi_reply.specs.Sample.{functions_by_time}
@@ -68,6 +69,11 @@ coupled-within n seed stream (coupled.At t s) kept is =
     ending-within n.split (caps_of n) (functions_by_time n seed stream) t s (functions_by_time-closed n seed stream kept) is.answer
 coupled-within n seed stream (coupled.NotAt l) kept is = tt
 
+coupled-later : (n : Network) (seed stream : ℕ) (c : Coupled) → IsNetwork n → IsCoupled (endings n seed stream) n.limit c
+    → DecidesCoupled n.split (functions_by_time n seed stream) (caps_of n) n.limit c
+unfolding endings
+coupled-later n seed stream c kept is = coupled-decides n.split (caps_of n) (functions_by_time n seed stream) n.limit c (functions_by_time-closed n seed stream kept) is
+
 -- what is printed of a network's least coupling is its text
 pub coupling_printed : (before after : Option (List ℕ)) (n : Network) (seed stream : ℕ) → IsNetwork n
     → after ≡ appended before (coupling_text (coupling n seed stream)) → IsCouplingOf before after (coupling_status (coupling n seed stream)) n seed stream
@@ -77,6 +83,7 @@ coupling_printed before after n seed stream kept grew =
       coupled = coupling n seed stream;
       least = least;
       reached = coupled-reaches n seed stream (coupling n seed stream) kept least;
+      later = coupled-later n seed stream (coupling n seed stream) kept least;
       within = coupled-within n seed stream (coupling n seed stream) kept least;
       status = refl;
       text = grew;
@@ -143,6 +150,12 @@ valued-reaches n seed stream kind (valued.At t z) kept is =
     value-reached (worth_of kind) n.split (caps_of n) (functions_by_time n seed stream) t z (functions_by_time-closed n seed stream kept) is.answer
 valued-reaches n seed stream kind (valued.NotAt l) kept is = tt
 
+valued-later : (n : Network) (seed stream : ℕ) (kind : RewardKind) (v : Valued) → IsNetwork n → IsValued (values n seed stream kind) n.limit v
+    → DecidesValues (worth_of kind) n.split (functions_by_time n seed stream) (caps_of n) n.limit v
+unfolding values
+valued-later n seed stream kind v kept is =
+    valued-decides (worth_of kind) n.split (caps_of n) (functions_by_time n seed stream) n.limit v (functions_by_time-closed n seed stream kept) is
+
 value-printed : (before after : Option (List ℕ)) (n : Network) (seed stream : ℕ) (kind : RewardKind) → IsNetwork n
     → after ≡ appended before (value_text (valuation n seed stream kind)) → IsValueOf before after (value_status (valuation n seed stream kind)) n seed stream kind
 value-printed before after n seed stream kind kept grew =
@@ -151,6 +164,7 @@ value-printed before after n seed stream kind kept grew =
       valued = valuation n seed stream kind;
       first = first;
       reached = valued-reaches n seed stream kind (valuation n seed stream kind) kept first;
+      later = valued-later n seed stream kind (valuation n seed stream kind) kept first;
       status = refl;
       text = grew;
     }

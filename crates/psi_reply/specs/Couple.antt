@@ -4,7 +4,7 @@ use Rattle.psi_io.specs.Sink.{appended}
 use Rattle.psi_horizon.specs.Runs.{ending_at}
 use Rattle.psi_couple.specs.declared.answers.Coupled.{Coupled}
 use Rattle.psi_couple.specs.declared.answers.Coupled.TheVariants.{At, NotAt}
-use Rattle.psi_couple.specs.Coupling.{coupled_within, IsCoupled, ReachesCoupled, CouplesWithin}
+use Rattle.psi_couple.specs.Coupling.{coupled_within, IsCoupled, ReachesCoupled, DecidesCoupled, CouplesWithin}
 use Rattle.psi_network.specs.Network.{Network, caps_of}
 use Rattle.psi_command.specs.declared.status.Status.{Status}
 use Rattle.psi_command.specs.declared.status.Status.TheVariants.{Done, NotCoupled}
@@ -31,6 +31,8 @@ pub record IsCouplingOf (before after : Option (List ℕ)) (result : Status) (ne
   pub least : IsCoupled (endings net seed stream) net.limit coupled
   -- every state that starts there or earlier is in that state at time zero
   pub reached : ReachesCoupled (functions_by_time net seed stream) (caps_of net) coupled
+  -- each longer run ends with that state alone; where there is none, no run of a horizon up to 2^limit ends with one state
+  pub later : DecidesCoupled net.split (functions_by_time net seed stream) (caps_of net) net.limit coupled
   -- the state is within the capacities
   pub within : CouplesWithin (caps_of net) coupled
   -- the status tells whether there is one

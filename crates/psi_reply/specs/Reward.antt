@@ -6,7 +6,7 @@ use Rattle.psi_reward.specs.declared.kinds.RewardKind.{RewardKind}
 use Rattle.psi_reward.specs.Worth.{worth_of}
 use Rattle.psi_couple.specs.declared.answers.Valued.{Valued}
 use Rattle.psi_couple.specs.declared.answers.Valued.TheVariants.{At, NotAt}
-use Rattle.psi_couple.specs.Valuing.{value_at, valued_within, IsValued, ReachesValued}
+use Rattle.psi_couple.specs.Valuing.{value_at, valued_within, IsValued, ReachesValued, DecidesValues}
 use Rattle.psi_network.specs.Network.{Network, NamedReward, caps_of}
 use Rattle.psi_command.specs.declared.status.Status.{Status}
 use Rattle.psi_command.specs.declared.status.Status.TheVariants.{Done, NotCoupled, UnknownReward}
@@ -39,6 +39,8 @@ pub record IsValueOf (before after : Option (List ℕ)) (result : Status) (net :
   pub first : IsValued (values net seed stream kind) net.limit valued
   -- every state that starts there or earlier has that value at time zero
   pub reached : ReachesValued (worth_of kind) (functions_by_time net seed stream) (caps_of net) valued
+  -- all states with which each longer run ends have it; where there is none, the states of no run of a horizon up to 2^limit have one value
+  pub later : DecidesValues (worth_of kind) net.split (functions_by_time net seed stream) (caps_of net) net.limit valued
   -- the status tells whether there is one
   pub status : result ≡ value_status valued
   -- and out grew by its text
