@@ -260,6 +260,24 @@ def filled_log(queues, capacity, regions, most=MOST_LOG):
     return "".join([front % steps, *lines, end])
 
 
+def short_log(queues, capacity, regions, most=MOST_LOG):
+    """The log of these regions in turn with most steps; each has the number 1, which is short."""
+    front = f"psi-log 2\nqueues {queues}\nseed 0\nstream 0\nhorizon %07d\n"
+    front += f"begin box {state(queues, 0)} {state(queues, capacity)}\n"
+    end = f"end {state(queues, 0)}\n"
+    turn = "".join(f"step 1 0 {region}\n" for region in regions)
+    turns = (most - len(front % 0) - len(end)) // len(turn)
+    steps = turns * len(regions)
+    return front.replace("%07d", str(steps)) + turns * turn + end
+
+
+def spaced_log(steps):
+    """The log of so many short steps and a line of spaces, which has all the room that is left."""
+    front = f"psi-log 2\nqueues 1\nseed 0\nstream 0\nhorizon {MOST_STEPS}\nbegin box 0 1\n"
+    front += steps * "step 1 0 move\n"
+    return front + (MOST_LOG - len(front) - 1) * " " + "\n"
+
+
 def logs():
     """Logs of the greatest length, each with a network, by what they are full of."""
     yield "moves of nothing", one_event(32, 1, 1), filled_log(32, 1, ["move"])
@@ -267,6 +285,11 @@ def logs():
     yield "moves of a queue", one_event(32, 1, 0), filled_log(32, 1, there_and_back)
     great = dict(accepted())["parts and index values"]
     yield "moves of a queue of a great network", great, filled_log(32, 65_535, there_and_back)
+    yield "short moves of nothing", one_event(32, 1, 1), short_log(32, 1, ["move"])
+    yield "short moves of a queue", one_event(32, 1, 0), short_log(32, 1, there_and_back)
+    yield "short moves of a queue of a great network", great, short_log(32, 65_535, there_and_back)
+    for steps in (0, 1_048_577, 2_097_153):
+        yield f"spaces behind {steps} short steps", one_event(1, 1, 0), spaced_log(steps)
     yield "sets of a state", one_event(1, 1, 0), filled_log(1, 1, ["set 0"])
     zeros = "set " + state(12, 0)
     yield "sets of a state of 12 queues", one_event(12, 1, 0), filled_log(12, 1, [zeros])

@@ -13,9 +13,9 @@ use Rattle.psi_log.specs.Reading.{box_before, read_step, read_steps}
 use Rattle.psi_log.specs.Kept.{region_of, IsThere}
 use Rattle.psi_log.specs.Lines.{entry_of, HasRegion}
 use Rattle.psi_log.specs.Scanned.{next_step}
-use Rattle.psi_log.specs.declared.regions.Kept.{Kept}
-use Rattle.psi_log.specs.declared.regions.Kept.TheVariants.{Box, Set}
-use Rattle.psi_log.specs.declared.steps.Line.{Line}
+use Rattle.psi_rows.specs.declared.line_list.Kept.{Kept}
+use Rattle.psi_rows.specs.declared.line_list.Kept.TheVariants.{Box, Set}
+use Rattle.psi_rows.specs.declared.line_list.Line.{Line}
 use Rattle.psi_log.specs.declared.refusals.LogError.{LogError}
 use Rattle.psi_log.specs.declared.refusals.LogError.TheVariants.{Refused, OutOfMemory}
 use Rattle.psi_log.proofs.WordLemmas.{bind_ok, ok_same}

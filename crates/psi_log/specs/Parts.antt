@@ -11,11 +11,11 @@ abbrev pub certificate_of : Parts → Certificate
 certificate_of p = record {
   header = p.header;
   begin = region_of p.states.states p.begin;
-  entries = map (entry_of p.states.states) p.lines.items;
+  entries = map (entry_of p.states.states) p.lines;
   final = p.end;
 }
 
 -- the states of each set stand in the list
 pub record IsWhole (p : Parts) : Type 0 where
   pub begin : IsThere p.header.queues p.states.states p.begin
-  pub lines : All (HasRegion p.header.queues p.states.states) p.lines.items
+  pub lines : All (HasRegion p.header.queues p.states.states) p.lines

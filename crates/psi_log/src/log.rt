@@ -1,6 +1,6 @@
 //! A log in memory.
 
-ghost use Rattle.std.specs.Prelude.{◌≡◌, ◌⊎◌, ◌+◌, ◌<◌, ◌≤◌, Ok, Err, Some, length, vec_len, option_map, option_and_then, IfOk, IsTrue, MatchOption, ◌↔◌};
+ghost use Rattle.std.specs.Prelude.{◌≡◌, ◌⊎◌, ◌+◌, ◌<◌, ◌≤◌, Ok, Err, Some, length, option_map, option_and_then, IfOk, IsTrue, MatchOption, ◌↔◌};
 ghost use Rattle.psi_state.specs.State.{IsBelow};
 ghost use Rattle.psi_lines.specs.Log.{Certificate, IsLog};
 ghost use Rattle.psi_lines.specs.Text.{IsLogOf};
@@ -14,8 +14,8 @@ ghost use Rattle.psi_log.specs.declared.refusals.LogError.TheVariants.{OutOfMemo
 use crate::form::Form;
 use crate::parts::{Parts, read_parts};
 use crate::refusals::LogError;
-use crate::regions::Kept;
 use psi_lines::Header;
+use psi_rows::Kept;
 use psi_state::{State, Step};
 use std::alloc::Global;
 use std::marker::Model;
@@ -23,8 +23,8 @@ use std::marker::Model;
 /// A log: its header, the region at which the run begins, the steps from the oldest on with the region after
 /// each, and the state at time zero. It is seen as that, and meets the counts, ranges and orders of the grammar.
 ///
-/// A box that its text writes by what changed stands whole here. The states of all sets lie in one vector of
-/// numbers.
+/// A box that its text writes by what changed stands whole here, but not again where nothing changed. The states of
+/// all sets lie in one vector of numbers.
 #[derive(Drop)]
 pub struct Log {
     parts: Parts,
@@ -43,26 +43,26 @@ impl Model for Log {
 
 // The region with a number.
 #[tactic(auto, using(crate::proofs::ToldLemmas::region_zero, crate::proofs::ToldLemmas::region_next, crate::proofs::ToldLemmas::there_next))]
-fn region_of(parts: &Parts, i: u32) -> &Kept
-    requires number { i ≤ vec_len parts.now.lines }
+fn region_of(parts: &Parts, i: u32) -> Kept
+    requires number { i ≤ length parts.now.lines }
     requires whole { IsWhole parts.now }
-    ensures value { region_at (certificate_of parts.now) i ≡ Some (region_of parts.now.states.states result.now) }
-    ensures there { IsThere parts.now.header.queues parts.now.states.states result.now }
+    ensures value { region_at (certificate_of parts.now) i ≡ Some (region_of parts.now.states.states result) }
+    ensures there { IsThere parts.now.header.queues parts.now.states.states result }
 {
     if i == 0 {
-        return &parts.begin;
+        return parts.begin;
     }
-    &parts.lines[i as usize - 1].region
+    parts.lines.region(i as usize - 1)
 }
 
 // The step with a number.
 #[tactic(auto, using(crate::proofs::ToldLemmas::step_next))]
 fn step_of(parts: &Parts, i: u32) -> Step
     requires least { 1 ≤ i }
-    requires most { i ≤ vec_len parts.now.lines }
+    requires most { i ≤ length parts.now.lines }
     ensures { step_at (certificate_of parts.now) i ≡ Some result }
 {
-    parts.lines[i as usize - 1].step
+    parts.lines.step(i as usize - 1)
 }
 
 impl Log {
@@ -81,8 +81,8 @@ impl Log {
         ensures { option_map form (region_at self.now i) ≡ Some result }
     {
         match region_of(&self.parts, i) {
-            Kept::Box(bounds) => Form::Box(*bounds),
-            Kept::Set { count, .. } => Form::Set { count: *count },
+            Kept::Box(bounds) => Form::Box(bounds),
+            Kept::Set { count, .. } => Form::Set { count },
         }
     }
 
@@ -107,7 +107,7 @@ impl Log {
         // The number of states fits its type, and so does each place below it.
         let _count = self.parts.states.len();
         match region_of(&self.parts, i) {
-            Kept::Set { first, .. } => self.parts.states.get(*first + j as usize),
+            Kept::Set { first, .. } => self.parts.states.get(first + j as usize),
             Kept::Box(bounds) => bounds.lo(),
         }
     }
@@ -123,7 +123,7 @@ impl Log {
         // The number of states fits its type, and so does each place below it.
         let _count = self.parts.states.len();
         match region_of(&self.parts, i) {
-            Kept::Set { first, .. } => self.parts.states.leq(*first + j as usize, most),
+            Kept::Set { first, .. } => self.parts.states.leq(first + j as usize, most),
             Kept::Box(_) => false,
         }
     }

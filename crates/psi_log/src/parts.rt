@@ -9,11 +9,11 @@ ghost use Rattle.psi_log.specs.Parts.{certificate_of, IsWhole};
 use crate::forms::form_of;
 use crate::header::read_start;
 use crate::refusals::{Cause, LogError};
-use crate::regions::{Kept, box_before, read_given, read_state};
-use crate::steps::{Line, read_steps};
+use crate::regions::{box_before, read_given, read_state};
+use crate::steps::read_steps;
 use crate::words::{has_pieces, read_words};
 use psi_lines::Header;
-use psi_rows::StateList;
+use psi_rows::{Kept, LineList, StateList};
 use psi_state::State;
 use std::alloc::Global;
 
@@ -22,7 +22,7 @@ use std::alloc::Global;
 pub(crate) struct Parts {
     pub(crate) header: Header,
     pub(crate) begin: Kept,
-    pub(crate) lines: Vec<Line>,
+    pub(crate) lines: LineList,
     pub(crate) end: State,
     pub(crate) states: StateList,
 }

@@ -14,17 +14,8 @@ use crate::forms::Given;
 use crate::moves::read_move;
 use crate::numbers::piece_in;
 use crate::refusals::{Cause, LogError};
-use psi_rows::StateList;
+use psi_rows::{Kept, StateList};
 use psi_state::{Bounds, State};
-
-/// A region as it is read: a box, or a set of states by their places in a list.
-#[derive(Clone, Copy, Debug)]
-pub(crate) enum Kept {
-    /// The box between two corners.
-    Box(Bounds),
-    /// So many states of the list, from a place on.
-    Set { first: usize, count: u16 },
-}
 
 /// The numbers of a state, of a word that has one piece for each queue.
 ///

@@ -8,11 +8,10 @@ ghost use Rattle.psi_log.specs.Lines.{entry_of, HasRegion};
 ghost use Rattle.psi_log.specs.Scanned.{Stands, AreScanned, next_step};
 
 use crate::header::greatest_horizon;
-use crate::regions::{Kept, ascends};
+use crate::regions::ascends;
 use crate::scan::{has_byte, has_word, number_at, state_at};
-use crate::steps::Line;
 use psi_lines::Header;
-use psi_rows::StateList;
+use psi_rows::{Kept, Line, StateList};
 use psi_state::Step;
 use std::alloc::AllocError;
 

@@ -11,20 +11,13 @@ use crate::forms::form_of;
 use crate::header::greatest_horizon;
 use crate::numbers::number_in;
 use crate::refusals::{Cause, LogError};
-use crate::regions::{Kept, box_before, read_given};
+use crate::regions::{box_before, read_given};
 use crate::set_line::read_set_line;
 use crate::words::read_words;
 use psi_lines::Header;
-use psi_rows::StateList;
+use psi_rows::{Line, LineList, StateList};
 use psi_state::{Bounds, Step};
 use std::alloc::Global;
-
-/// A step and the region after it.
-#[derive(Clone, Copy, Debug)]
-pub(crate) struct Line {
-    pub(crate) step: Step,
-    pub(crate) region: Kept,
-}
 
 // The words of a step and of the region after it; the states of a set are put behind those of the list.
 #[tactic(auto, unfolding(crate::specs::Reading::read_step))]
@@ -134,20 +127,20 @@ pub(crate) fn read_steps<'t>(
     text: &'t [u8],
     words: &mut Vec<&'t [u8]>,
     states: &mut StateList,
-) -> Result<(Vec<Line>, &'t [u8]), LogError>
+) -> Result<(LineList, &'t [u8]), LogError>
     requires some { 1 ≤ header.now.queues }
     requires few { header.now.queues ≤ 32 }
     requires horizon { header.now.horizon ≤ 4194304 }
     requires before { IfSome before (λ from. length from.lo ≡ header.now.queues) }
     requires queues { states.old.queues ≡ header.now.queues }
     ensures queues { states.new.queues ≡ header.now.queues }
-    ensures value { IfOk result (λ read. read_steps header.now header.now.horizon 7 before text.now ≡ Ok (map (entry_of states.new.states) read.0.items, read.1.now)) }
+    ensures value { IfOk result (λ read. read_steps header.now header.now.horizon 7 before text.now ≡ Ok (map (entry_of states.new.states) read.0, read.1.now)) }
     ensures refused { IfErr result (λ error. IsLogError error (read_steps header.now header.now.horizon 7 before text.now)) }
-    ensures there { IfOk result (λ read. All (HasRegion header.now.queues states.new.states) read.0.items) }
+    ensures there { IfOk result (λ read. All (HasRegion header.now.queues states.new.states) read.0) }
     ensures kept { OnOk result (take (length states.old.states) states.new.states ≡ states.old.states) }
     ensures more { OnOk result (length states.old.states ≤ length states.new.states) }
 {
-    let mut lines = Vec::new(alloc);
+    let mut lines = LineList::new(alloc);
     let mut from = before;
     let mut rest = text;
     for line in 7..7 + header.horizon {
@@ -156,7 +149,7 @@ pub(crate) fn read_steps<'t>(
             Err(error) => return Err(error),
         };
         from = box_before(header.version, &read.region);
-        lines.push(read)?;
+        lines.push(&read)?;
         rest = after;
     }
     Ok((lines, rest))

@@ -1,8 +1,11 @@
-//! Lists of states of one length, whose numbers stand one behind another in one vector.
+//! What a log is kept in: lists of states of one length, whose numbers stand one behind another in one vector, and
+//! lists of lines, whose boxes stand in a vector of their own.
 #![tactic(auto)]
 
+mod line_list;
 mod state_list;
 
+pub use line_list::{Kept, Line, LineList};
 pub use state_list::StateList;
 
 #[cfg(test)]

@@ -7,7 +7,7 @@ use Rattle.psi_state.specs.State.{Corners}
 use Rattle.psi_log.specs.Refusal.{IsLogError}
 use Rattle.psi_log.specs.Lines.{entry_of, HasRegion}
 use Rattle.psi_log.specs.Scanned.{next_step}
-use Rattle.psi_log.specs.declared.steps.Line.{Line}
+use Rattle.psi_rows.specs.declared.line_list.Line.{Line}
 use Rattle.psi_log.proofs.StepLemmas.{regions_kept, next_pushed, next_refused, steps_end, states_kept}
 use Rattle.psi_log.proofs.steps.read_steps.Goals as goal
 
@@ -16,7 +16,7 @@ returns-in-Err-clause-refused c =
     let fails = subst (λ (before : Option Corners). IsLogError c.in-Err.error (next_step c.args.header.now c.loop-line.line before c.loop-line.rest.now)) c.as_ref.ensures.value
     c.in-Err.ensures.refused in
     next_refused c.args.header.now (7 + c.args.header.now.horizon - (c.loop-line.line + 1)) c.loop-line.line c.loop-line.from c.loop-line.rest.now
-    (map (entry_of c.loop-line.states.states) c.loop-line.lines.items) c.in-Err.error _ fails (7 + c.args.header.now.horizon - c.loop-line.line) (omega arith) c.loop-line.invariant.value
+    (map (entry_of c.loop-line.states.states) c.loop-line.lines) c.in-Err.error _ fails (7 + c.args.header.now.horizon - c.loop-line.line) (omega arith) c.loop-line.invariant.value
 
 pub loop-line-preserved : goal.loop-line-preserved
 loop-line-preserved c =
@@ -28,17 +28,17 @@ loop-line-preserved c =
       kept = states_kept c.args.states.now.states c.loop-line.states.states c.read_next.new.states.states c.loop-line.invariant.more c.loop-line.invariant.kept c.in-Ok.ensures.kept;
       more = omega arith;
       from = c.box_before-from.ensures.count c.args.header.now.queues c.read_next.new.states.states c.in-Ok.ensures.there;
-      there = subst (λ (ls : List Line). All (HasRegion c.args.header.now.queues c.read_next.new.states.states) ls) (sym c.in_ok-push.ensures.items)
-          (All-push (HasRegion c.args.header.now.queues c.read_next.new.states.states) c.loop-line.lines.items c.in-Ok.next.0
-          (regions_kept c.args.header.now.queues c.loop-line.states.states c.read_next.new.states.states c.loop-line.lines.items c.in-Ok.ensures.more c.loop-line.invariant.there)
+      there = subst (λ (ls : List Line). All (HasRegion c.args.header.now.queues c.read_next.new.states.states) ls) (sym c.in_ok-push.ensures.lines)
+          (All-push (HasRegion c.args.header.now.queues c.read_next.new.states.states) c.loop-line.lines c.in-Ok.next.0
+          (regions_kept c.args.header.now.queues c.loop-line.states.states c.read_next.new.states.states c.loop-line.lines c.in-Ok.ensures.more c.loop-line.invariant.there)
           c.in-Ok.ensures.there);
       value = next_pushed c.args.header.now (7 + c.args.header.now.horizon - c.loop-line.line) (7 + c.args.header.now.horizon - (c.loop-line.line + 1)) c.loop-line.line c.loop-line.from _
-          c.loop-line.rest.now c.in-Ok.next.1.now c.loop-line.states.states c.read_next.new.states.states c.loop-line.lines.items _ c.in-Ok.next.0 _ (omega arith) c.in-Ok.ensures.kept
-          c.loop-line.invariant.there c.in_ok-push.ensures.items value (c.box_before-from.ensures.value c.read_next.new.states.states) c.loop-line.invariant.value;
+          c.loop-line.rest.now c.in-Ok.next.1.now c.loop-line.states.states c.read_next.new.states.states c.loop-line.lines _ c.in-Ok.next.0 _ (omega arith) c.in-Ok.ensures.kept
+          c.loop-line.invariant.there c.in_ok-push.ensures.lines value (c.box_before-from.ensures.value c.read_next.new.states.states) c.loop-line.invariant.value;
     }
 
 pub returns-clause-value : goal.returns-clause-value
 returns-clause-value c =
     sym c.loop-line.invariant.value
     ∙ steps_end c.args.header.now (7 + c.args.header.now.horizon - c.loop-line.line) c.loop-line.line c.loop-line.from c.loop-line.rest.now
-    (map (entry_of c.loop-line.states.states) c.loop-line.lines.items) (omega arith)
+    (map (entry_of c.loop-line.states.states) c.loop-line.lines) (omega arith)

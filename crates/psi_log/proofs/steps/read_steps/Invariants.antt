@@ -12,7 +12,7 @@ invariant-loop-line l = record {
   kept : take (length l.fn.states.states) l.states.states ≡ l.fn.states.states;
   more : length l.fn.states.states ≤ length l.states.states;
   from : IfSome l.from (λ bounds. length bounds.lo ≡ l.header.queues);
-  there : All (HasRegion l.header.queues l.states.states) l.lines.items;
-  value : behind (map (entry_of l.states.states) l.lines.items) (read_steps l.header (7 + l.header.horizon - l.line) l.line l.from l.rest)
+  there : All (HasRegion l.header.queues l.states.states) l.lines;
+  value : behind (map (entry_of l.states.states) l.lines) (read_steps l.header (7 + l.header.horizon - l.line) l.line l.from l.rest)
       ≡ read_steps l.header l.header.horizon 7 l.fn.before l.fn.text;
 }
