@@ -1,14 +1,15 @@
 -- The rank of a state and the state of a rank.
-use Rattle.std.specs.Prelude.{◌≡◌, ℕ, zero, suc, ◌<◌, ◌≤◌, List, [], ◌∷◌, length, slice_get, slice_index_or, Some, refl}
+use Rattle.std.specs.Prelude.{◌≡◌, ℕ, zero, suc, ◌+◌, ◌<◌, ◌≤◌, List, [], ◌∷◌, length, slice_get, slice_index_or, Some, Bool, true, false, refl}
+use Rattle.std.specs.List.{position_or_len}
+use Rattle.std.specs.Str.{bytes_eq}
+use Rattle.std.proofs.lemmas.Slice.Eq.{bytes_eq-Decides}
+use Rattle.std.proofs.lemmas.Cmp.{nat_list_eq_equiv}
 use Rattle.std.proofs.Common.{inl, inr, ap, sym, ◌∙◌, subst, arith}
 use Rattle.std.proofs.lemmas.Option.{get_or_from_slice_get, slice_get_within}
 use Rattle.psi_state.specs.State.{IsBelow, zeros, all_states}
 use Rattle.psi_state.specs.Members.{In}
-use Rattle.psi_state.specs.Boxes.{IsBetween}
-use Rattle.psi_state.proofs.BoxesLemmas.{zeros-below, In-of_all_states}
+use Rattle.psi_state.proofs.BoxesLemmas.{In-all_states, In-of_all_states}
 use Rattle.psi_state.proofs.StatesLemmas.{zeros-caps}
-use Rattle.psi_state.specs.Volume.{place_in}
-use Rattle.psi_state.proofs.VolumeLemmas.{slice_get-box, place_in-small, length-box}
 use Rattle.psi_state.specs.Ascending.{IsDistinct}
 use Rattle.psi_state.proofs.AscendingLemmas.{rising-distinct, box-rising}
 use Rattle.psi_exact.specs.Mapping.{rank_of}
@@ -41,22 +42,35 @@ distinct-place (x ∷ xs) (suc i) zero d distinct first second same =
 distinct-place (x ∷ xs) (suc i) (suc j) d distinct first second same =
     ap suc (distinct-place xs i j d distinct.1 (omega arith) (omega arith) same)
 
--- a state within the capacities is between the corners of the box of all states
-pub all-between : (caps x : List ℕ) → IsBelow x caps → IsBetween (zeros caps) caps x
-all-between caps x within = record { low = zeros-below caps x within.same_length; high = within }
+-- the first place of a member is one, and has it
+record IsFound (x : List ℕ) (xs : List (List ℕ)) (place : ℕ) : Type 0 where
+  small : place < length xs
+  there : slice_index_or xs place [] ≡ x
+
+behind-first : (y : List ℕ) (xs : List (List ℕ)) (n : ℕ) → slice_index_or (y ∷ xs) (1 + n) [] ≡ slice_index_or xs n []
+behind-first y xs n = let next : 1 + n ≡ suc n = omega arith in ap (λ k. slice_index_or (y ∷ xs) k []) next
+
+found-first : (x y : List ℕ) (xs : List (List ℕ)) → In x (y ∷ xs) → (In x xs → IsFound x xs (position_or_len (bytes_eq x) xs)) → (same : Bool) → bytes_eq x y ≡ same
+    → IsFound x (y ∷ xs) (position_or_len (bytes_eq x) (y ∷ xs))
+found-first x y xs member rest true is = record { small = rw is (omega arith); there = rw is (sym ((bytes_eq-Decides x y).0 is)) }
+found-first x y xs member rest false is =
+    elim member [
+      | inl e ↦ absurd (let itself : bytes_eq x y ≡ true = subst (λ (z : List ℕ). bytes_eq x z ≡ true) e (nat_list_eq_equiv.refl x) in cc)
+      | inr behind ↦ (let found = rest behind in let small = found.small in record { small = rw is (omega arith); there = rw is (behind-first y xs (position_or_len (bytes_eq x) xs) ∙ found.there) })
+    ]
+
+found-in : (x : List ℕ) (xs : List (List ℕ)) → In x xs → IsFound x xs (position_or_len (bytes_eq x) xs)
+found-in x [] member = absurd member
+found-in x (y ∷ xs) member = found-first x y xs member (found-in x xs) (bytes_eq x y) refl
 
 -- the state of a state's rank is that state
 pub state_at-rank_of : (caps x : List ℕ) → IsBelow x caps → state_at caps (rank_of caps x) ≡ x
 unfolding state_at rank_of
-state_at-rank_of caps x within =
-    get_or_from_slice_get (all_states caps) (place_in (zeros caps) caps x) x [] (slice_get-box (zeros caps) caps x (all-between caps x within))
+state_at-rank_of caps x within = (found-in x (all_states caps) (In-all_states caps x within)).there
 
 pub rank_of-small : (caps x : List ℕ) → IsBelow x caps → rank_of caps x < length (all_states caps)
 unfolding rank_of
-rank_of-small caps x within =
-    let small = place_in-small (zeros caps) caps x (all-between caps x within) in
-    let count = length-box (zeros caps) caps in
-    omega arith
+rank_of-small caps x within = (found-in x (all_states caps) (In-all_states caps x within)).small
 
 pub state_at-member : (caps : List ℕ) (r : ℕ) → r < length (all_states caps) → In (state_at caps r) (all_states caps)
 unfolding state_at

@@ -1,6 +1,6 @@
 -- The map of a table of ranks.
 use Rattle.std.specs.Prelude.{◌≡◌, ℕ, ◌<◌, ◌≤◌, List, [], ◌∷◌, length, map, slice_index, Some, None, refl}
-use Rattle.std.proofs.Common.{inl, inr, ap, sym, ◌∙◌, arith}
+use Rattle.std.proofs.Common.{inl, inr, ap, sym, ◌∙◌, subst, arith}
 use Rattle.std.proofs.lemmas.List.{ext_get_or, get_or-map, length-map}
 use Rattle.psi_state.specs.State.{IsBelow, zeros, all_states}
 use Rattle.psi_state.specs.Members.{In}
@@ -10,7 +10,7 @@ use Rattle.psi_state.specs.Sets.{ascending, image, single}
 use Rattle.psi_state.proofs.SetsLemmas.{In-image, single-image, single-apart}
 use Rattle.psi_state.proofs.AscendingLemmas.{image-agree}
 use Rattle.psi_event.specs.Law.{IsClosed}
-use Rattle.psi_exact.specs.Mapping.{Mapped, map_of, rank_of, sends}
+use Rattle.psi_exact.specs.Mapping.{Mapped, map_of, rank_of, sends, IsMapOf}
 use Rattle.psi_exact.specs.Table.{state_at, table_of, AreRanks, AreRanksOf}
 use Rattle.psi_exact.specs.Distinct.{AreAll, AreMixed}
 use Rattle.psi_exact.proofs.PlacesLemmas.{state_at-rank_of, rank_of-small, state_at-below, state_at-member, state_at-apart, rank_of-state_at}
@@ -30,6 +30,18 @@ pub sends-map_of : (caps : List ℕ) (f : List ℕ → List ℕ) (x : List ℕ) 
 unfolding sends state_at
 sends-map_of caps f x within =
     get_or-map f (all_states caps) (rank_of caps x) [] [] (rank_of-small caps x within) ∙ ap f (state_at-rank_of caps x within)
+
+-- so a table that is the map of a function is so on every state
+pub every-map_of : (caps : List ℕ) (f : List ℕ → List ℕ) (table : Mapped) → table ≡ map_of caps f → IsMapOf table f
+every-map_of caps f table is = subst (λ (t : Mapped). IsMapOf t f) (sym is) (λ x within. sends-map_of caps f x within)
+
+-- and an event before a map is on every state the event with the function after it
+pub every-older : (caps : List ℕ) (e f : List ℕ → List ℕ) (old new : Mapped) → IsClosed caps e → old.caps ≡ caps → new ≡ map_of old.caps (λ x. sends old (e x)) → IsMapOf old f
+    → IsMapOf new (λ x. f (e x))
+every-older caps e f old new closed same is before =
+    subst (λ (t : Mapped). IsMapOf t (λ x. f (e x))) (sym is)
+    (λ x within. sends-map_of old.caps (λ y. sends old (e y)) x within
+    ∙ before (e x) (subst (λ (cs : List ℕ). IsBelow (e x) cs) (sym same) (closed.each x (subst (λ (cs : List ℕ). IsBelow x cs) same within))))
 
 -- functions that agree on the states of the capacities have one map
 pub map_of-agree : (caps : List ℕ) (f g : List ℕ → List ℕ) → ((x : List ℕ) → IsBelow x caps → f x ≡ g x) → map_of caps f ≡ map_of caps g

@@ -1,7 +1,8 @@
 -- Maps of the states of given capacities.
-use Rattle.std.specs.Prelude.{ℕ, List, [], map, slice_index_or}
-use Rattle.psi_state.specs.State.{zeros, all_states}
-use Rattle.psi_state.specs.Volume.{place_in}
+use Rattle.std.specs.Prelude.{◌≡◌, ℕ, List, [], map, slice_index_or}
+use Rattle.std.specs.List.{position_or_len}
+use Rattle.std.specs.Str.{bytes_eq}
+use Rattle.psi_state.specs.State.{IsBelow, all_states}
 
 -- a map of the states within these capacities: the states that they are sent to, in the order of the list of all states
 pub record Mapped : Type 0 where
@@ -14,8 +15,12 @@ map_of caps f = record { caps = caps; images = map f (all_states caps) }
 
 -- the rank of a state: its place in the list of all states
 unfoldable pub rank_of : List ℕ → List ℕ → ℕ
-rank_of caps x = place_in (zeros caps) caps x
+rank_of caps x = position_or_len (bytes_eq x) (all_states caps)
 
 -- the state that a state is sent to
 unfoldable pub sends : Mapped → List ℕ → List ℕ
 sends table x = slice_index_or table.images (rank_of table.caps x) []
+
+-- every state within the capacities is sent to what the function makes of it
+abbrev pub IsMapOf : Mapped → (List ℕ → List ℕ) → Type 0
+IsMapOf table f = (x : List ℕ) → IsBelow x table.caps → sends table x ≡ f x

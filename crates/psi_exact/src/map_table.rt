@@ -1,6 +1,6 @@
 //! The table of a map of all states.
 
-ghost use Rattle.std.specs.Prelude.{◌≡◌, ◌≤◌, length, IfOk, IfErr, OnOk};
+ghost use Rattle.std.specs.Prelude.{◌≡◌, ◌≤◌, ℕ, List, length, IfOk, IfErr, IfSome, OnOk};
 ghost use Rattle.psi_state.specs.State.{IsBelow, all_states};
 ghost use Rattle.psi_state.specs.Sets.{image, single};
 
@@ -58,7 +58,7 @@ impl Model for MapTable {
 }
 
 impl MapTable {
-    ghost use Rattle.psi_exact.specs.Mapping.{map_of, sends};
+    ghost use Rattle.psi_exact.specs.Mapping.{map_of, sends, IsMapOf};
     ghost use Rattle.psi_exact.specs.Refusal.{IsMapRefusal};
 
     /// The table of the map that sends each state to itself. No other call takes memory.
@@ -67,6 +67,7 @@ impl MapTable {
     /// capacities, and `OutOfMemory` where there is no memory for the table; no clause says when that is.
     pub fn reserve(alloc: Global, caps: State) -> Result<MapTable, MapRefusal>
         ensures itself { IfOk result (λ table. table ≡ map_of caps (λ x. x)) }
+        ensures every { IfOk result (λ table. IsMapOf table (λ x. x)) }
         ensures few { OnOk result (length (all_states caps) ≤ 65536) }
         ensures refused { IfErr result (λ refusal. IsMapRefusal refusal caps) }
     {
@@ -80,7 +81,8 @@ impl MapTable {
 
     /// Lets the map send each state to itself again.
     pub fn reset(&mut self)
-        ensures { self.new ≡ map_of self.old.caps (λ x. x) }
+        ensures itself { self.new ≡ map_of self.old.caps (λ x. x) }
+        ensures every { IsMapOf self.new (λ x. x) }
     {
         self.table.reset();
     }
@@ -89,10 +91,13 @@ impl MapTable {
     /// of it. So the map of the last steps becomes that of one step more, where the event is that of the
     /// step before them.
     ///
-    /// The event is one of the table's capacities.
+    /// The event is one of the table's capacities. The last clause says what the map is on every state: where it
+    /// was that of a function, it is that of the event with the function after it. So from the map that sends each
+    /// state to itself, the events of the last T steps, the newest first, lead to their composition.
     pub fn older<E: EventLaw>(&mut self, e: &E)
         requires { E.capacities e.now ≡ self.old.caps }
-        ensures { self.new ≡ map_of self.old.caps (λ x. sends self.old (E.function e.now x)) }
+        ensures map { self.new ≡ map_of self.old.caps (λ x. sends self.old (E.function e.now x)) }
+        ensures every { (f : List ℕ → List ℕ) → IsMapOf self.old f → IsMapOf self.new (λ x. f (E.function e.now x)) }
     {
         self.table.older(e);
     }
@@ -114,9 +119,11 @@ impl MapTable {
         self.table.image_size()
     }
 
-    /// The one state that all states are sent to, and `None` exactly where they are sent to two or more.
+    /// The one state that all states are sent to, and `None` exactly where they are sent to two or more. It is within
+    /// the capacities.
     pub fn constant(&self) -> Option<State>
-        ensures { result ≡ single (image (sends self.now) (all_states self.now.caps)) }
+        ensures value { result ≡ single (image (sends self.now) (all_states self.now.caps)) }
+        ensures within { IfSome result (λ x. IsBelow x self.now.caps) }
     {
         self.table.constant()
     }

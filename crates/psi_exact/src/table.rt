@@ -1,6 +1,6 @@
 //! Maps of all states, kept as ranks.
 
-ghost use Rattle.std.specs.Prelude.{◌≡◌, ◌*◌, ◌/◌, ◌≤◌, ℕ, List, length, IfOk};
+ghost use Rattle.std.specs.Prelude.{◌≡◌, ◌*◌, ◌/◌, ◌≤◌, ℕ, List, length, IfOk, IfSome};
 ghost use Rattle.psi_event.specs.Law.{IsClosed};
 ghost use Rattle.psi_state.specs.State.{IsBelow, all_states};
 ghost use Rattle.psi_state.specs.Sets.{image, single};
@@ -96,9 +96,11 @@ impl Table {
         count_distinct(self.ranks.as_slice(), self.spare.as_mut_slice())
     }
 
-    /// The one state that all states are sent to, and `None` exactly where they are sent to two or more.
+    /// The one state that all states are sent to, and `None` exactly where they are sent to two or more. It is within
+    /// the capacities.
     pub(crate) fn constant(&self) -> Option<State>
-        ensures { result ≡ single (image (sends self.now) (all_states self.now.caps)) }
+        ensures value { result ≡ single (image (sends self.now) (all_states self.now.caps)) }
+        ensures within { IfSome result (λ x. IsBelow x self.now.caps) }
     {
         let rank = common(self.ranks.as_slice())?;
         Some(Bounds::whole(&self.caps).unrank(rank as u32))

@@ -43,11 +43,11 @@ returns-in-Some-clause-found g c =
     let system = c.args.system.now in
     let f = system_functions g.E.EventLaw.function system (g.P.Past.words c.args.past.now) in
     found-here (meeting_at f system.caps) c.args.place c.in-Some.state (none-found (meeting_at f system.caps) c.args.place c.args.found c.if-is_some.ensures c.requires.found)
-    (constant-of system.caps (compose f (c.args.place + 1)) c.put_before.new.table (Some c.in-Some.state) (returns-in-Some-clause-map g c) c.in-Some.ensures)
+    (constant-of system.caps (compose f (c.args.place + 1)) c.put_before.new.table (Some c.in-Some.state) (returns-in-Some-clause-map g c) c.in-Some.ensures.value)
 
 pub returns-in-None-clause-found : goal.returns-in-None-clause-found
 returns-in-None-clause-found g c =
     let system = c.args.system.now in
     let f = system_functions g.E.EventLaw.function system (g.P.Past.words c.args.past.now) in
     none-here (meeting_at f system.caps) c.args.place (none-found (meeting_at f system.caps) c.args.place c.args.found c.if-is_some.ensures c.requires.found)
-    (constant-of system.caps (compose f (c.args.place + 1)) c.put_before.new.table None (returns-in-None-clause-map g c) c.in-None.ensures)
+    (constant-of system.caps (compose f (c.args.place + 1)) c.put_before.new.table None (returns-in-None-clause-map g c) c.in-None.ensures.value)
