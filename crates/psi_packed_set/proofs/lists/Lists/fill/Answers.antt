@@ -1,4 +1,5 @@
-use Rattle.std.proofs.Common.{List, ℕ, length, map, take, ap, sym, subst, ◌∙◌, arith, rules}
+use Rattle.std.specs.Vec.{with_items}
+use Rattle.std.proofs.Common.{◌≡◌, List, ℕ, length, map, take, ap, sym, subst, ◌∙◌, arith, rules}
 use Rattle.std.proofs.lemmas.List.{with_items_is, length-take-le}
 use Rattle.psi_state.specs.State.{box}
 use Rattle.psi_state.specs.Ascending.{HaveSame}
@@ -62,3 +63,29 @@ returns-clause-some g c =
     let outs = ap (λ (xs : List (Packed g.row.K)). length xs) c.as_mut_slice.ensures.value in
     let front = length-take-le n c.deref.result.now (omega (arith, long, outs, c.pack_all-count.ensures.room, c.pack_all-count.ensures.count, c.requires.room)) in
     omega (arith, some, front, c.pack_all-count.ensures.count, c.pair_up-self.ensures.count)
+
+pub returns-clause-lists : goal.returns-clause-lists
+returns-clause-lists g c =
+    let own = c.args.self.now in
+    let before = c.requires.lists in
+    let list = c.pair_up-self.new.list in
+    let out = c.pack_all-count.new.out in
+    let pairs_of = λ (ps : List (Pairs g.row.K)). length ps in
+    let states_of = λ (xs : List (Packed g.row.K)). length xs in
+    let pairs : length (with_items own.pairs list).items ≡ length own.pairs.items =
+    ap pairs_of (with_items_is own.pairs list (c.pair_up-self.auto.list ∙ c.as_mut_slice-2.ensures.len)) ∙ c.pair_up-self.auto.list ∙ ap pairs_of c.as_mut_slice-2.ensures.value in
+    let states : length (with_items own.states out).items ≡ length own.states.items =
+    ap states_of (with_items_is own.states out (c.pack_all-count.auto.out ∙ c.as_mut_slice.ensures.len)) ∙ c.pack_all-count.auto.out ∙ ap states_of c.as_mut_slice.ensures.value in
+    let n = c.pack_all-count.result in
+    let long = ap states_of (c.deref.ensures.value ∙ with_items_is own.states out (c.pack_all-count.auto.out ∙ c.as_mut_slice.ensures.len)) in
+    let outs = ap states_of c.as_mut_slice.ensures.value in
+    let front = length-take-le n c.deref.result.now (omega (arith, long, outs, c.pack_all-count.ensures.room, c.pack_all-count.ensures.count, c.requires.room)) in
+    record {
+      words = before.words;
+      small = omega (arith, before.small, states);
+      double = omega (arith, before.double, pairs, states);
+      slots = before.slots;
+      shift = before.shift;
+      places = λ i small. omega (arith, before.places i small, states);
+      fits = omega (arith, front, pairs, c.pair_up-self.ensures.count, c.pack_all-count.ensures.count, c.requires.room, before.double);
+    }

@@ -53,3 +53,33 @@ loop-left-preserved g c =
       some = omega (arith, c.step.ensures.same, kept.some);
       left = omega (arith, kept.left);
     }
+
+pub returns-else-self-gt1-clause-lists : goal.returns-else-self-gt1-clause-lists
+returns-else-self-gt1-clause-lists g c = c.loop-left.invariant.lists
+
+pub returns-else-self-gt1-clause-follows : goal.returns-else-self-gt1-clause-follows
+returns-else-self-gt1-clause-follows g c = c.loop-left.invariant.follows
+
+pub returns-else-self-gt1-clause-room : goal.returns-else-self-gt1-clause-room
+returns-else-self-gt1-clause-room g c = c.loop-left.invariant.room
+
+pub returns-else-self-gt1-clause-some : goal.returns-else-self-gt1-clause-some
+returns-else-self-gt1-clause-some g c = c.loop-left.invariant.some
+
+pub returns-else-self-gt1-clause-left : goal.returns-else-self-gt1-clause-left
+returns-else-self-gt1-clause-left g c = c.loop-left.invariant.left
+
+pub returns-after-loop-left-clause-lists : goal.returns-after-loop-left-clause-lists
+returns-after-loop-left-clause-lists g c = c.loop-left.invariant.lists
+
+pub returns-after-loop-left-clause-follows : goal.returns-after-loop-left-clause-follows
+returns-after-loop-left-clause-follows g c = c.loop-left.invariant.follows
+
+pub returns-after-loop-left-clause-room : goal.returns-after-loop-left-clause-room
+returns-after-loop-left-clause-room g c = c.loop-left.invariant.room
+
+pub returns-after-loop-left-clause-some : goal.returns-after-loop-left-clause-some
+returns-after-loop-left-clause-some g c = c.loop-left.invariant.some
+
+pub returns-after-loop-left-clause-left : goal.returns-after-loop-left-clause-left
+returns-after-loop-left-clause-left g c = c.loop-left.invariant.left
