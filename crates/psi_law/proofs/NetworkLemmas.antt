@@ -1,5 +1,5 @@
 -- The chain and the samples of events on all states.
-use Rattle.std.specs.Prelude.{◌≡◌, ℕ, zero, suc, ◌^◌, ◌<◌, ◌↔◌, List, length, map, slice_index_or, All, refl}
+use Rattle.std.specs.Prelude.{◌≡◌, ℕ, zero, suc, ◌^◌, ◌<◌, ◌≤◌, ◌↔◌, List, length, map, slice_index_or, All, refl}
 use Rattle.std.proofs.Common.{ap, sym, ◌∙◌, subst, arith}
 use Rattle.std.proofs.lemmas.List.{length-map}
 use Rattle.std.proofs.lemmas.List.Elements.{All-map}
@@ -9,13 +9,13 @@ use Rattle.psi_state.specs.Sets.{single}
 use Rattle.psi_state.proofs.AscendingLemmas.{box-rising, rising-distinct}
 use Rattle.psi_state.proofs.BoxesLemmas.{In-all_states, In-of_all_states}
 use Rattle.psi_state.proofs.StatesLemmas.{In-caps}
-use Rattle.psi_event.specs.Law.{IsClosed}
+use Rattle.psi_event.specs.Law.{IsClosed, IsMonotone}
 use Rattle.psi_kinds.specs.Kinds.{do_kind}
 use Rattle.psi_kinds.proofs.Closing.{kind-closed}
 use Rattle.psi_rate.specs.Rates.{AreRates}
 use Rattle.psi_rate.specs.Composition.{Parts, Functions, function_at, Below}
 use Rattle.psi_rate.specs.System.{IsSystem}
-use Rattle.psi_rate.specs.Outcomes.{outcome_within}
+use Rattle.psi_rate.specs.Outcomes.{meeting_at, outcome_within, IsOutcome}
 use Rattle.psi_rate.proofs.OutcomesLemmas.{outcome_within-is, outcome_within-only}
 use Rattle.psi_rate.proofs.FunctionsLemmas.{function_at-closed}
 use Rattle.psi_region.specs.Region.{Area, start, step}
@@ -28,12 +28,12 @@ use Rattle.psi_network.specs.Valid.{IsNetwork, IsAccepted}
 use Rattle.psi_network.proofs.QueueLemmas.{capacities_kept}
 use Rattle.psi_law.specs.Counting.{Words}
 use Rattle.psi_law.specs.Chains.{Chain}
-use Rattle.psi_law.specs.Statements.{LooksAtFirst}
+use Rattle.psi_law.specs.Statements.{UnmetIsApart, LooksAtFirst}
 use Rattle.psi_law.specs.Networks.{chain_of, sample_of, network_chain, network_sample}
 use Rattle.psi_law.proofs.ChainLemmas.{IsChain}
 use Rattle.psi_law.proofs.LawLemmas.{Reaches}
 use Rattle.psi_law.proofs.LawfulLemmas.{IsLawful, lawful}
-use Rattle.psi_law.proofs.OutcomeLemmas.{outcome-reaches, outcome-looks}
+use Rattle.psi_law.proofs.OutcomeLemmas.{outcome-reaches, outcome-looks, unmet-apart}
 
 -- a run looks at the functions of its own steps alone
 follow-first : (split : ℕ) (f g : Functions) (t : ℕ) (a : Area) → ((k : ℕ) → k < t → f (suc k) ≡ g (suc k)) → follow split f t a ≡ follow split g t a
@@ -83,6 +83,17 @@ module _ (caps : List ℕ) (functions : List (List ℕ → List ℕ)) (rates : L
           (outcome_within-is (ending_at split (function_at functions rates past) caps) limit)),
     )
 
+    -- where such a sample is that of all states' meetings, what isn't met is what leaves states apart
+    all-unmet : AreRates rates → length rates ≡ length functions → ((past : Words) → IsOutcome (meeting_at (function_at functions rates past) caps) limit (all_sample past))
+        → UnmetIsApart chain_on_all all_sample (2 ^ limit)
+    all-unmet rated count meets = unmet-apart chain_on_all all_sample limit (all-chain rated count) meets
+
+    all-monotone : AreRates rates → length rates ≡ length functions → All (IsMonotone caps) functions → UnmetIsApart chain_on_all all_sample (2 ^ limit)
+    all-monotone rated count monotone = all-unmet rated count (λ past. ((all-samples past (all_sample past)).1 refl).monotone monotone)
+
+    all-small : AreRates rates → length rates ≡ length functions → length (all_states caps) ≤ split → UnmetIsApart chain_on_all all_sample (2 ^ limit)
+    all-small rated count few = all-unmet rated count (λ past. ((all-samples past (all_sample past)).1 refl).small few)
+
 -- the events of a system
 pub system-closed : {E : Type 0} (capacities : E → List ℕ) (function : E → List ℕ → List ℕ) (system : Parts E) → IsSystem capacities system
     → ((event : E) → IsClosed (capacities event) (function event)) → All (IsClosed system.caps) (map function system.events)
@@ -96,6 +107,20 @@ system-lawful capacities function system fit closed =
     all-lawful system.caps (map function system.events) system.rates (system-closed capacities function system fit closed) system.split system.limit
     fit.rated (fit.same_count ∙ sym (length-map system.events function))
 
+pub system-monotone : {E : Type 0} (capacities : E → List ℕ) (function : E → List ℕ → List ℕ) (system : Parts E) → IsSystem capacities system
+    → ((event : E) → IsClosed (capacities event) (function event)) → All (IsMonotone system.caps) (map function system.events)
+    → UnmetIsApart (chain_of function system) (sample_of function system) (2 ^ system.limit)
+system-monotone capacities function system fit closed monotone =
+    all-monotone system.caps (map function system.events) system.rates (system-closed capacities function system fit closed) system.split system.limit
+    fit.rated (fit.same_count ∙ sym (length-map system.events function)) monotone
+
+pub system-small : {E : Type 0} (capacities : E → List ℕ) (function : E → List ℕ → List ℕ) (system : Parts E) → IsSystem capacities system
+    → ((event : E) → IsClosed (capacities event) (function event)) → length (all_states system.caps) ≤ system.split
+    → UnmetIsApart (chain_of function system) (sample_of function system) (2 ^ system.limit)
+system-small capacities function system fit closed few =
+    all-small system.caps (map function system.events) system.rates (system-closed capacities function system fit closed) system.split system.limit
+    fit.rated (fit.same_count ∙ sym (length-map system.events function)) few
+
 -- and those of a network
 pub network-closed : (net : Network) → IsNetwork net → All (IsClosed (caps_of net)) (functions_of net)
 network-closed net kept =
@@ -107,3 +132,13 @@ pub network-lawful : (net : Network) → IsNetwork net → IsLawful (network_cha
 network-lawful net kept =
     all-lawful (caps_of net) (functions_of net) (rates_of net) (network-closed net kept) net.split net.limit kept.rates
     (length-map net.events (λ e. e.rate) ∙ sym (length-map net.events (λ e. do_kind (caps_of net) e.kind)))
+
+pub network-monotone : (net : Network) → IsNetwork net → All (IsMonotone (caps_of net)) (functions_of net) → UnmetIsApart (network_chain net) (network_sample net) (2 ^ net.limit)
+network-monotone net kept monotone =
+    all-monotone (caps_of net) (functions_of net) (rates_of net) (network-closed net kept) net.split net.limit kept.rates
+    (length-map net.events (λ e. e.rate) ∙ sym (length-map net.events (λ e. do_kind (caps_of net) e.kind))) monotone
+
+pub network-small : (net : Network) → IsNetwork net → length (all_states (caps_of net)) ≤ net.split → UnmetIsApart (network_chain net) (network_sample net) (2 ^ net.limit)
+network-small net kept few =
+    all-small (caps_of net) (functions_of net) (rates_of net) (network-closed net kept) net.split net.limit kept.rates
+    (length-map net.events (λ e. e.rate) ∙ sym (length-map net.events (λ e. do_kind (caps_of net) e.kind))) few

@@ -1,17 +1,22 @@
 -- Outcomes of runs under the words of a past: what they reach, and which words they look at.
-use Rattle.std.specs.Prelude.{◌≡◌, ℕ, suc, ◌-◌, ◌^◌, ◌<◌, ◌≤◌, List, Option}
+use Rattle.std.specs.Prelude.{◌≡◌, ℕ, suc, Some, is_none, true, false, ◌-◌, ◌^◌, ◌<◌, ◌≤◌, List, Option}
 use Rattle.std.proofs.Common.{ap, sym, ◌∙◌, subst, arith}
 use Rattle.psi_state.specs.declared.Outcome.{Outcome}
 use Rattle.psi_state.specs.declared.Outcome.TheVariants.{Met, NotMet}
 use Rattle.psi_rate.specs.Composition.{Functions, picked, function_at, compose, IsReachedFrom}
 use Rattle.psi_rate.specs.Doubling.{HasNone}
-use Rattle.psi_rate.specs.Outcomes.{outcome_within, IsOutcome, ReachesFrom}
+use Rattle.psi_state.proofs.SetsLemmas.{single-image}
+use Rattle.psi_rate.specs.Outcomes.{meeting_from, outcome_within, IsOutcome, ReachesFrom}
+use Rattle.psi_rate.proofs.FunctionsLemmas.{function_at-keeping}
 use Rattle.psi_rate.proofs.PowersLemmas.{pow-order}
-use Rattle.psi_rate.proofs.OutcomesLemmas.{outcome_within-is, outcome_within-only}
-use Rattle.psi_law.specs.Counting.{Words}
+use Rattle.psi_rate.proofs.OutcomesLemmas.{outcome_within-is, outcome_within-only, meeting-reached}
+use Rattle.psi_law.specs.Counting.{Words, sum_pasts}
+use Rattle.psi_law.specs.Wheel.{word_count}
+use Rattle.psi_law.specs.Samples.{is_unmet, are_apart}
+use Rattle.psi_law.proofs.SumsLemmas.{one_if, sum-same, sum_pasts-is}
 use Rattle.psi_law.specs.Chains.{Chain}
-use Rattle.psi_law.specs.Statements.{LooksAtFirst}
-use Rattle.psi_law.proofs.ChainLemmas.{Own}
+use Rattle.psi_law.specs.Statements.{UnmetIsApart, LooksAtFirst}
+use Rattle.psi_law.proofs.ChainLemmas.{Own, IsChain}
 use Rattle.psi_law.proofs.LawLemmas.{Reaches}
 
 -- what a set reaches from an outcome's horizon on, it reaches from 2^limit steps before time zero on
@@ -63,3 +68,28 @@ outcome-looks run functions rates limit looks = λ past other same.
     let e : suc j - 1 ≡ j = omega arith in
     ap (λ i. picked functions rates (past i)) e ∙ (ap (λ w. picked functions rates w) (same j (omega arith)) ∙ ap (λ i. picked functions rates (other i)) (sym e)))))
     (outcome_within-is (run f) limit)))
+
+-- where all states have met at one of the horizons, they have at the greatest one
+met-last : (chain : Chain) (past : Words) (limit t : ℕ) (s : List ℕ) → IsChain chain → IsOutcome (meeting_from (function_at chain.functions chain.rates past) chain.states) limit (Met t s)
+    → are_apart chain (2 ^ limit) past ≡ false
+met-last chain past limit t s is met =
+    let f = function_at chain.functions chain.rates past in
+    let order : t ≤ 2 ^ limit = (let power = met.power in let o = pow-order met.exponent limit met.within in omega arith) in
+    let reached = meeting-reached (Own chain) f chain.states t s (function_at-keeping (Own chain) chain.functions chain.rates past is.keeps) (λ x own. own) met.answer in
+    let last : meeting_from f chain.states (2 ^ limit) ≡ Some s =
+    single-image (compose f (2 ^ limit)) s is.some.0 chain.states is.some.1 (λ x own. reached.each x (2 ^ limit) own order) in
+    ap (λ (o : Option (List ℕ)). is_none o) last
+
+-- so where outcomes are those of all states' meetings, those that aren't met are of the pasts that leave states apart
+unmet-same : (chain : Chain) (past : Words) (limit : ℕ) (o : Outcome) → IsChain chain → IsOutcome (meeting_from (function_at chain.functions chain.rates past) chain.states) limit o
+    → one_if (is_unmet o) ≡ one_if (are_apart chain (2 ^ limit) past)
+unmet-same chain past limit (Met t s) is met = (let e = ap one_if (met-last chain past limit t s is met) in omega arith)
+unmet-same chain past limit (NotMet l) is none =
+    let last = none.1.each limit (omega arith) in
+    let e : one_if (are_apart chain (2 ^ limit) past) ≡ 1 = ap (λ (o : Option (List ℕ)). one_if (is_none o)) last in omega arith
+
+pub unmet-apart : (chain : Chain) (sample : Words → Outcome) (limit : ℕ) → IsChain chain
+    → ((past : Words) → IsOutcome (meeting_from (function_at chain.functions chain.rates past) chain.states) limit (sample past)) → UnmetIsApart chain sample (2 ^ limit)
+unmet-apart chain sample limit is meets =
+    sum-same (sum_pasts word_count (2 ^ limit)) (sum_pasts-is word_count (2 ^ limit)) (λ past. one_if (is_unmet (sample past))) (λ past. one_if (are_apart chain (2 ^ limit) past))
+    (λ past. unmet-same chain past limit (sample past) is (meets past))

@@ -5,7 +5,7 @@ use Rattle.psi_state.specs.Members.{In}
 use Rattle.psi_law.specs.Counting.{Words}
 use Rattle.psi_law.specs.Wheel.{word_count}
 use Rattle.psi_law.specs.Chains.{Chain, whole, IsBalanced, IsStationary}
-use Rattle.psi_law.specs.Samples.{HasLaw, HasMean, apart}
+use Rattle.psi_law.specs.Samples.{unmet, HasLaw, HasMean, apart}
 
 module _ (chain : Chain) where
   -- weights that balance are stationary
@@ -31,6 +31,10 @@ module _ (chain : Chain) where
     BalanceIsMean = (weight value : List ℕ → ℕ) (low high : ℕ) → IsBalanced chain weight
         → ((x : List ℕ) → In x chain.states → low ≤ value x) → ((x : List ℕ) → In x chain.states → value x ≤ high)
         → HasMean sample n chain weight value low high
+
+    -- the samples that aren't met are those after whose pasts not all states have met
+    abbrev pub UnmetIsApart : Type 0
+    UnmetIsApart = unmet sample n ≡ apart chain n
 
 -- pasts whose first n words are the same have the same sample
 abbrev pub LooksAtFirst : (Words → Outcome) → ℕ → Type 0

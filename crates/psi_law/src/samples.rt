@@ -1,12 +1,14 @@
 //! The law of samples of a network, over all its states.
 
-ghost use Rattle.std.specs.Prelude.{◌≡◌, ◌^◌, ◌↔◌, map};
+ghost use Rattle.std.specs.Prelude.{◌≡◌, ◌≤◌, ◌^◌, ◌↔◌, length, map, All};
 ghost use Rattle.psi_state.specs.declared.Outcome.{Outcome};
+ghost use Rattle.psi_state.specs.State.{all_states};
+ghost use Rattle.psi_event.specs.Law.{IsMonotone};
 ghost use Rattle.psi_horizon.specs.Sample.{IsSample};
 ghost use Rattle.psi_network.specs.Network.{caps_of, rates_of, functions_of};
 ghost use Rattle.psi_law.specs.Counting.{Words};
 ghost use Rattle.psi_law.specs.Networks.{chain_of, sample_of, network_chain, network_sample};
-ghost use Rattle.psi_law.specs.Statements.{BalanceStays, BalanceIsLaw, ApartFalls, BalanceIsOne, BalanceIsMean, LooksAtFirst};
+ghost use Rattle.psi_law.specs.Statements.{BalanceStays, BalanceIsLaw, ApartFalls, BalanceIsOne, BalanceIsMean, UnmetIsApart, LooksAtFirst};
 
 use psi_event::EventLaw;
 use psi_network::Net;
@@ -18,14 +20,19 @@ use psi_rate::System;
 /// state's part of such weights is at least the part of the lists whose sample is met in it, and at most this with the
 /// part of those whose sample isn't met (`law`; Propp and Wilson 1996); so are means of values (`mean`). The part of the
 /// lists of n words after which not all states have met falls at least like a power of n (`falls`), and where it isn't
-/// all of them for some n, the weights that balance are one but for a factor (`one`). What is counted are the samples
-/// with all that is promised of one (`sample`), and later words have no part in them (`words`).
+/// all of them for some n, the weights that balance are one but for a factor (`one`). In a monotone network, and in one of
+/// at most `split` states, the samples that aren't met are those of such lists (`monotone`, `small`). What is counted are
+/// the samples with all that is promised of one (`sample`), and later words have no part in them (`words`).
 pub fn law_of_samples<E: EventLaw>(system: &System<'_, E>)
     ensures balance { BalanceStays (chain_of E.function system.now) }
     ensures law { BalanceIsLaw (chain_of E.function system.now) (sample_of E.function system.now) (2 ^ system.now.limit) }
     ensures falls { ApartFalls (chain_of E.function system.now) }
     ensures one { BalanceIsOne (chain_of E.function system.now) }
     ensures mean { BalanceIsMean (chain_of E.function system.now) (sample_of E.function system.now) (2 ^ system.now.limit) }
+    ensures monotone { All (IsMonotone system.now.caps) (map E.function system.now.events)
+        → UnmetIsApart (chain_of E.function system.now) (sample_of E.function system.now) (2 ^ system.now.limit) }
+    ensures small { length (all_states system.now.caps) ≤ system.now.split
+        → UnmetIsApart (chain_of E.function system.now) (sample_of E.function system.now) (2 ^ system.now.limit) }
     ensures sample { (past : Words) (outcome : Outcome)
         → IsSample system.now.caps (map E.function system.now.events) system.now.rates system.now.limit system.now.split past outcome
         ↔ (outcome ≡ sample_of E.function system.now past) }
@@ -42,6 +49,10 @@ pub fn law_of_network(net: &Net)
     ensures falls { ApartFalls (network_chain net.now) }
     ensures one { BalanceIsOne (network_chain net.now) }
     ensures mean { BalanceIsMean (network_chain net.now) (network_sample net.now) (2 ^ net.now.limit) }
+    ensures monotone { All (IsMonotone (caps_of net.now)) (functions_of net.now)
+        → UnmetIsApart (network_chain net.now) (network_sample net.now) (2 ^ net.now.limit) }
+    ensures small { length (all_states (caps_of net.now)) ≤ net.now.split
+        → UnmetIsApart (network_chain net.now) (network_sample net.now) (2 ^ net.now.limit) }
     ensures sample { (past : Words) (outcome : Outcome)
         → IsSample (caps_of net.now) (functions_of net.now) (rates_of net.now) net.now.limit net.now.split past outcome
         ↔ (outcome ≡ network_sample net.now past) }

@@ -1,6 +1,6 @@
 -- Answers in the proof of `law_of_network`.
 use Rattle.psi_network.specs.Network.{caps_of, rates_of, functions_of}
-use Rattle.psi_law.proofs.NetworkLemmas.{network-closed, network-lawful, all-samples}
+use Rattle.psi_law.proofs.NetworkLemmas.{network-closed, network-lawful, network-monotone, network-small, all-samples}
 use Rattle.psi_law.proofs.samples.law_of_network.Goals as goal
 
 pub returns-clause-balance : goal.returns-clause-balance
@@ -20,6 +20,12 @@ returns-clause-mean c = (network-lawful c.args.net.now c.queues-queues.ensures.k
 
 pub returns-clause-words : goal.returns-clause-words
 returns-clause-words c = (network-lawful c.args.net.now c.queues-queues.ensures.kept).words
+
+pub returns-clause-monotone : goal.returns-clause-monotone
+returns-clause-monotone c = λ monotone. network-monotone c.args.net.now c.queues-queues.ensures.kept monotone
+
+pub returns-clause-small : goal.returns-clause-small
+returns-clause-small c = λ few. network-small c.args.net.now c.queues-queues.ensures.kept few
 
 pub returns-clause-sample : goal.returns-clause-sample
 returns-clause-sample c = λ past outcome.

@@ -1,6 +1,6 @@
 -- Answers in the proof of `law_of_samples`.
 use Rattle.std.specs.Prelude.{map}
-use Rattle.psi_law.proofs.NetworkLemmas.{system-closed, system-lawful, all-samples}
+use Rattle.psi_law.proofs.NetworkLemmas.{system-closed, system-lawful, system-monotone, system-small, all-samples}
 use Rattle.psi_law.proofs.samples.law_of_samples.Goals as goal
 
 pub returns-clause-balance : goal.returns-clause-balance
@@ -20,6 +20,12 @@ returns-clause-mean g c = (system-lawful g.E.EventLaw.capacities g.E.EventLaw.fu
 
 pub returns-clause-words : goal.returns-clause-words
 returns-clause-words g c = (system-lawful g.E.EventLaw.capacities g.E.EventLaw.function c.args.system.now c.caps-caps.ensures.fit g.met.E.EventLaw.closed).words
+
+pub returns-clause-monotone : goal.returns-clause-monotone
+returns-clause-monotone g c = λ monotone. system-monotone g.E.EventLaw.capacities g.E.EventLaw.function c.args.system.now c.caps-caps.ensures.fit g.met.E.EventLaw.closed monotone
+
+pub returns-clause-small : goal.returns-clause-small
+returns-clause-small g c = λ few. system-small g.E.EventLaw.capacities g.E.EventLaw.function c.args.system.now c.caps-caps.ensures.fit g.met.E.EventLaw.closed few
 
 pub returns-clause-sample : goal.returns-clause-sample
 returns-clause-sample g c = λ past outcome.
