@@ -235,9 +235,9 @@ def pages(top, date):
     yield "psi-many.1", page("psi-many.1", date, many.partition("\n")[2], [call])
     tools = sections_of((top / "docs/TOOLS.md").read_text())
     for name in (name for name in PAGES if name.partition(".")[0] in tools):
-        body = tools[name.partition(".")[0]]
-        calls = re.findall(r"^`tools/(psi-[^`]*)`", body, re.M)
-        yield name, page(name, date, body, calls)
+        tool = name.partition(".")[0]
+        calls = re.findall(rf"^`tools/({tool} [^`]*)`", tools[tool], re.M)
+        yield name, page(name, date, tools[tool], calls)
 
 
 def main():

@@ -1,7 +1,7 @@
 """Batches: reports of one network over different streams, each of which is one value of a mean."""
 
 import dataclasses
-import pathlib
+import os
 
 from psi_tools import merging
 from psi_tools.blocks import FILE, Folder, digest_of
@@ -129,7 +129,7 @@ def read_folder(path):
 
 def read_any(paths):
     """The batches of reports, or of a folder of psi-many; and how many there are to be."""
-    folders = [path for path in paths if pathlib.Path(path).is_dir()]
+    folders = [path for path in paths if os.path.isdir(path)]
     if folders and len(paths) > 1:
         raise Told("a folder of psi-many is given alone, or some reports are")
     if folders:

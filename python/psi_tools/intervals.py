@@ -5,14 +5,18 @@ all repetitions, as far as the streams are independent.
 """
 
 import dataclasses
+import importlib
 import math
-
-import scipy.special
 
 from psi_tools.blocks import LEAST_BLOCKS
 
 # So many batches are asked for at least, and what an interval holds of all repetitions.
 LEAST_BATCHES, LEVEL = LEAST_BLOCKS, 0.95
+
+
+def special():
+    """The functions of scipy, which take a while to be read: only where an interval is wanted."""
+    return importlib.import_module("scipy.special")
 
 
 @dataclasses.dataclass(frozen=True)
@@ -40,7 +44,7 @@ class Mean:
 
 def student(degrees, level=LEVEL):
     """How many standard deviations wide half of an interval is by Student's t."""
-    return float(scipy.special.stdtrit(degrees, (1 + level) / 2))
+    return float(special().stdtrit(degrees, (1 + level) / 2))
 
 
 def mean_of_batches(sums, counts, level=LEVEL):
@@ -86,9 +90,9 @@ def probability(count, many, unknown=0, level=LEVEL):
     of `unknown` more of the many it isn't known (Clopper and Pearson 1934). It holds the
     probability at least so often as the level says, whatever the unknown ones are."""
     tail = (1 - level) / 2
-    low = scipy.special.betaincinv(count, many - count + 1, tail) if count else 0.0
+    low = special().betaincinv(count, many - count + 1, tail) if count else 0.0
     most = count + unknown
-    high = scipy.special.betaincinv(most + 1, many - most, 1 - tail) if most < many else 1.0
+    high = special().betaincinv(most + 1, many - most, 1 - tail) if most < many else 1.0
     return float(low), float(high)
 
 
@@ -104,7 +108,7 @@ def least_rank(share, many, tail):
     low, high = -1, many
     while high - low > 1:
         middle = (low + high) // 2
-        if scipy.special.bdtr(middle, many, share) >= tail:
+        if special().bdtr(middle, many, share) >= tail:
             high = middle
         else:
             low = middle

@@ -9,8 +9,6 @@ import fractions
 import math
 
 import numpy
-import scipy.sparse
-import scipy.sparse.csgraph
 
 
 class Moves:
@@ -107,6 +105,10 @@ class Moves:
     def traps(self, place):
         """The sets of numbers of a queue that can't be left, each as its least, its greatest and
         how many numbers it has: where there are two, states that never meet."""
+        # Both take a while to be read.
+        import scipy.sparse
+        import scipy.sparse.csgraph
+
         count = self.capacities[place] + 1
         pairs = self.steps(place)
         begins = numpy.concatenate([[0], *(begin for begin, _ in pairs)]).astype(int)

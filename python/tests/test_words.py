@@ -1,5 +1,7 @@
 """No word, file or full disk ends in a traceback: one line, and the right status."""
 
+import concurrent.futures
+import os
 import pathlib
 import re
 import subprocess
@@ -10,13 +12,19 @@ from conftest import SECONDS, TOP
 from psi_tools.commands import NAMES
 from psi_tools.completion import SHELLS, completion
 
-NET = TOP / "examples/first.toml"
+NET = TOP / "examples/single-server.toml"
 # Of each command words that are right, with a place for a file.
 RIGHT = {
     "many": ["{}", "0", "0", "20"], "plot": ["report", "{}", "-o", "p.svg"], "means": ["{}"],
     "law": ["{}", "desk", "--count", "20"], "sweep": ["{}", "desk.capacity=2,3", "--count", "20"],
     "where": ["{}"], "why": ["{}"],
 }
+
+
+def side_by_side(tool, name, calls):
+    """The answers of some calls of a tool, in their order."""
+    with concurrent.futures.ThreadPoolExecutor(os.cpu_count()) as pool:
+        return [*pool.map(lambda words: tool(name, *words), calls)]
 
 
 def is_one_line(name, error):
@@ -40,9 +48,9 @@ def files(room):
 
 @pytest.mark.parametrize("name", RIGHT)
 def test_files_that_are_not_what_they_should_be(tool, tmp_path, name):
-    for file in files(tmp_path):
-        words = [word.format(file) for word in RIGHT[name]]
-        status, out, error = tool(f"psi-{name}", *words)
+    names = files(tmp_path)
+    calls = [[word.format(file) for word in RIGHT[name]] for file in names]
+    for file, (status, out, error) in zip(names, side_by_side(tool, f"psi-{name}", calls)):
         if name == "where" and status == 3:
             assert (error, out.count("\n")) == ("", 3), (file, out, error)
             continue
@@ -52,10 +60,10 @@ def test_files_that_are_not_what_they_should_be(tool, tmp_path, name):
 
 @pytest.mark.parametrize("name", NAMES)
 def test_words_that_are_not_right(tool, name):
-    for words in (
+    calls = [
         [], ["--no-such-option"], ["--seed"], ["a"] * 9, ["", ""], ["-"], ["--count", "x", "y"],
-    ):
-        status, out, error = tool(f"psi-{name}", *words)
+    ]
+    for words, (status, out, error) in zip(calls, side_by_side(tool, f"psi-{name}", calls)):
         assert status in (2, 6), (words, status)
         assert out == "" and is_one_line(name, error), (words, error)
 

@@ -33,7 +33,7 @@ def draw_sweep(keys, labels, records, base, notes):
 def title_of(keys, labels, base):
     """What stands above: what differs, and from what the differences are."""
     names = " and ".join(f"{name}.{key}" for name, key in keys)
-    return f"Designs by {names}; differences to {labels[base]}"
+    return f"Designs by {names}; differences to {labels[base].replace(' ', ', ')}"
 
 
 def axis_of(keys, group):
