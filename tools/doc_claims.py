@@ -282,7 +282,7 @@ def claim_readme(document, clone):
 
 def claim_checker(document, clone, phrase):
     """How many lines the checker of logs has, in hundreds."""
-    count = len(text_of(clone, "tools/check_log.py").splitlines())
+    count = len(text_of(clone, "python/psi_tools/check_log.py").splitlines())
     document.claim(phrase.format(round(count, -2)))
 
 
