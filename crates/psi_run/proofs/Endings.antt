@@ -24,7 +24,7 @@ use Rattle.psi_reply.specs.Couple.{coupling}
 use Rattle.psi_reply.specs.Reward.{kind_named}
 use Rattle.psi_reply.specs.Closed.{first_other}
 use Rattle.psi_run.specs.Means.{OfNetwork, Means}
-use Rattle.psi_run.specs.Seen.{ShelfSeen, IsRead, IsMissed}
+use Rattle.psi_run.specs.Seen.{ShelfSeen, IsRead, WasLast, IsMissed}
 use Rattle.psi_reply.specs.Ending.{Ending, replied, unread, no_memory, EndsWith, HasReplied}
 use Rattle.psi_run.specs.Ending.{MayReply, IsMeant, IsEnding}
 use Rattle.psi_reply.specs.Ended.{ending_of}
@@ -96,30 +96,30 @@ module _ (command : Command) (name : List ℕ) (Has : Network → Option (List �
   judged-reply judged ending about is may =
       subst (λ o. IfSome o (MayReply ending)) (sym about.reply) (reply-judged (shelf.told name) (reply_of command shelf.told) judged ending is may)
 
-  pub no_net : (ended : Ended) → IsAbout shelf.told command name Has → IsNoNet shelf name ended → IsEnding shelf (Ok command) (ending_of ended)
-  no_net (Printed own text) about none = absurd none
-  no_net (Usage place) about none = absurd none
-  no_net (LogRefused line cause) about none = absurd none
-  no_net (LogRejected line cause) about none = absurd none
-  no_net LogTooLong about none = absurd none
-  no_net UnknownReward about none = absurd none
-  no_net TooManyStates about none = absurd none
-  no_net (NotClosed event) about none = absurd none
-  no_net NoSuchTotal about none = absurd none
-  no_net (LogUnread own) about none = absurd none
-  no_net (NetRefused refusal) about none = record {
+  pub no_net : (ended : Ended) → IsAbout shelf.told command name Has → IsNoNet shelf name ended → WasLast shelf (net_file name) → IsEnding shelf (Ok command) (ending_of ended)
+  no_net (Printed own text) about none last = absurd none
+  no_net (Usage place) about none last = absurd none
+  no_net (LogRefused line cause) about none last = absurd none
+  no_net (LogRejected line cause) about none last = absurd none
+  no_net LogTooLong about none last = absurd none
+  no_net UnknownReward about none last = absurd none
+  no_net TooManyStates about none last = absurd none
+  no_net (NotClosed event) about none last = absurd none
+  no_net NoSuchTotal about none last = absurd none
+  no_net (LogUnread own) about none last = absurd none
+  no_net (NetRefused refusal) about none last = record {
     reply = judged-reply (Err refusal) (replied (refused_reply refusal)) about none refl;
     cause = refused_replied command refusal;
     means = λ before after grew. about.means before after status.NetRefused
         (λ bytes net there accepted. (let refused : network_of bytes ≡ Err refusal = subst (λ told. IfSome told (λ b. network_of b ≡ Err refusal)) there none in absurd cc));
   }
-  no_net (NetUnread own) about none = record {
+  no_net (NetUnread own) about none last = record {
     reply = of_any (reply_to (Ok command) shelf.told);
     cause = subst (λ (n : List ℕ). IsMissed shelf (Ok command) (net_file n)) (sym none.0)
-        (let missed : IsMissed shelf (Ok command) (net_file name) = record { read = about.reads; needed = tt; rose = none.1 } in missed);
+        (let missed : IsMissed shelf (Ok command) (net_file name) = record { read = about.reads; needed = tt; rose = none.1; last = last } in missed);
     means = tt;
   }
-  no_net OutOfMemory about none = record { reply = of_any (reply_to (Ok command) shelf.told); cause = refl; means = tt }
+  no_net OutOfMemory about none last = record { reply = of_any (reply_to (Ok command) shelf.told); cause = refl; means = tt }
 
   -- the work on the network that was had, which ended with a reply
   pub replied_on : (net : Network) (given : Reply) → IsAbout shelf.told command name Has → IsNetAt shelf.told name net

@@ -1,5 +1,6 @@
 -- What a call is seen to do, from an ending and how it was written.
-use Rattle.std.specs.Prelude.{◌≡◌, ℕ, List, Some, Ok, ◌⊎◌, refl}
+use Rattle.std.specs.Prelude.{◌≡◌, ℕ, List, Option, Some, Result, Ok, Err, ◌⊎◌, refl}
+use Rattle.psi_io.specs.Shelf.{Read}
 use Rattle.std.proofs.Common.{inl, inr, sym, subst}
 use Rattle.psi_network.specs.Network.{Network}
 use Rattle.psi_net.specs.Reading.{network_of}
@@ -9,16 +10,18 @@ use Rattle.psi_command.specs.Status.{IsReplied}
 use Rattle.psi_command.specs.Command.{Command, sample}
 use Rattle.psi_command.specs.Words.{command_of}
 use Rattle.psi_reply.specs.Sample.{IsSampled}
-use Rattle.psi_reply.specs.Reply.{Reply}
+use Rattle.psi_reply.specs.Reply.{Reply, usage_reply}
 use Rattle.psi_run.specs.Reply.{reply_to}
 use Rattle.psi_run.specs.Means.{Means}
-use Rattle.psi_run.specs.Seen.{SinkSeen, HasFailed, IsUnread}
-use Rattle.psi_reply.specs.Ending.{Ending, ending_reply}
+use Rattle.psi_run.specs.Seen.{ShelfSeen, SinkSeen, HasFailed, IsUnread, AreAsked}
+use Rattle.psi_reply.specs.Ending.{Ending, replied, ending_reply}
 use Rattle.psi_run.specs.Ending.{IsEnding}
 use Rattle.psi_run.specs.Spared.{AreGiven, IsTaken, AreTaken, HasRead}
 use Rattle.psi_run.specs.Written.{IsWhole, IsCut}
 use Rattle.psi_run.specs.Finished.{IsFinished}
 use Rattle.psi_run.specs.Call.{Call, IsRun}
+use Rattle.psi_run.proofs.Endings.{no_command}
+use Rattle.psi_run.proofs.ReadFiles.{asked_nothing}
 use Rattle.psi_run.proofs.Running.{run_whole, run_cut, run_means, run_headline}
 use Rattle.psi_run.proofs.Sparing.{where-taken, spared-status}
 
@@ -58,14 +61,36 @@ module _ (given : Ending) (out_takes err_takes : ℕ → Type 0) (out err : Sink
 
 -- ---- a call whose work and writing are known
 
+-- the work for a command ended so, with the reads that it tells, and with no failed read where each file is given
+abbrev EndsFor : ShelfSeen → Result Command ℕ → (List ℕ → Type 0) → Ending → Type 0
+EndsFor shelf command gives ending = IsEnding shelf command ending × (AreGiven gives command → HasRead ending) × AreAsked shelf command (ending_reply ending).status
+
+-- what was done for a command was done for the words that ask for it
+pub finished_words : (shelf : ShelfSeen) (words command : Result Command ℕ) (gives : List ℕ → Type 0) (out_takes err_takes : ℕ → Type 0) (out err : SinkSeen) (result : Status)
+    → words ≡ command → IsFinished (EndsFor shelf command gives) out_takes err_takes out err result → IsFinished (EndsFor shelf words gives) out_takes err_takes out err result
+finished_words shelf words command gives out_takes err_takes out err result same finished =
+    subst (λ (w : Result Command ℕ). IsFinished (EndsFor shelf w gives) out_takes err_takes out err result) (sym same) finished
+
+-- words that aren't a command end with the place of the word that offends, and a shelf that isn't asked is seen as it was
+module _ (told : List ℕ → Option (List ℕ)) (asked : List Read) (faults : List ℕ → ℕ) where
+  abbrev unasked : ShelfSeen
+  unasked = record { told = told; asked_before = asked; asked_after = asked; faults_before = faults; faults_after = faults }
+
+  pub finished_usage : (words : Result Command ℕ) (place : ℕ) (gives : List ℕ → Type 0) (out_takes err_takes : ℕ → Type 0) (out err : SinkSeen) (result : Status)
+      → words ≡ Err place → IsFinished (λ ending. ending ≡ replied (usage_reply place)) out_takes err_takes out err result
+      → IsFinished (EndsFor unasked words gives) out_takes err_takes out err result
+  finished_usage words place gives out_takes err_takes out err result wrong finished =
+      finished_with (replied (usage_reply place)) (EndsFor unasked words gives) out_takes err_takes out err result finished
+      (no_command unasked words place wrong, λ given. tt, asked_nothing unasked words place status.Usage wrong refl)
+
 abbrev EndsSo : Call → (List ℕ → Type 0) → Ending → Type 0
-EndsSo call gives ending = IsEnding call.shelf (command_of call.words) ending × (AreGiven gives (command_of call.words) → HasRead ending)
+EndsSo call gives = EndsFor call.shelf (command_of call.words) gives
 
 module _ (call : Call) (result : Status) (gives : List ℕ → Type 0) (out_takes err_takes : ℕ → Type 0) (finished : IsFinished (EndsSo call gives) out_takes err_takes call.out call.err result) where
   pub finished_run : IsRun call result
   finished_run = elim finished.written [
-    | inl whole ↦ run_whole call finished.ending result finished.is.0 whole.1 whole.0
-    | inr cut ↦ subst (IsRun call) (sym cut.0) (run_cut call finished.ending finished.is.0 cut.1)
+    | inl whole ↦ run_whole call finished.ending result finished.is.0 finished.is.2 whole.1 whole.0
+    | inr cut ↦ subst (IsRun call) (sym cut.0) (run_cut call finished.ending finished.is.0 finished.is.2 cut.1)
   ]
 
   pub finished_means : (command : Command) → command_of call.words ≡ Ok command → IsReplied result → Means command call.shelf.told call.out.before call.out.after result

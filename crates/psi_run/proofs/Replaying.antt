@@ -18,7 +18,7 @@ use Rattle.psi_texts.specs.Lines.{log_refused_line}
 use Rattle.psi_reply.specs.Replay.{judgement}
 use Rattle.psi_reply.specs.Reply.{line_reply, verdict_reply, judged_log, replay_reply}
 use Rattle.psi_run.specs.Reply.{reply_to}
-use Rattle.psi_run.specs.Seen.{ShelfSeen, IsMissed}
+use Rattle.psi_run.specs.Seen.{ShelfSeen, WasLast, IsMissed}
 use Rattle.psi_reply.specs.Ending.{Ending, replied, unread, no_memory, EndsWith}
 use Rattle.psi_run.specs.Ending.{IsEnding}
 use Rattle.psi_reply.specs.Ended.{ending_of}
@@ -71,26 +71,26 @@ module _ (shelf : ShelfSeen) (name log : List ℕ) (net : Network) where
   has-network (Some bytes) at = subst (λ n. IsOk n) (sym at) refl
 
   -- the work where no bytes were had
-  pub no_text : (ended : Ended) → IsNetAt shelf.told name net → IsNoText shelf log ended → IsEnding shelf (Ok (replay name log)) (ending_of ended)
-  no_text (Printed own text) at none = absurd none
-  no_text (Usage place) at none = absurd none
-  no_text (NetRefused refusal) at none = absurd none
-  no_text (LogRejected line cause) at none = absurd none
-  no_text LogTooLong at none = absurd none
-  no_text UnknownReward at none = absurd none
-  no_text TooManyStates at none = absurd none
-  no_text (NotClosed event) at none = absurd none
-  no_text NoSuchTotal at none = absurd none
-  no_text (NetUnread own) at none = absurd none
-  no_text (LogRefused line cause) at none = absurd none
-  no_text (LogUnread own) at none = record {
+  pub no_text : (ended : Ended) → IsNetAt shelf.told name net → IsNoText shelf log ended → WasLast shelf (log_file log) → IsEnding shelf (Ok (replay name log)) (ending_of ended)
+  no_text (Printed own text) at none last = absurd none
+  no_text (Usage place) at none last = absurd none
+  no_text (NetRefused refusal) at none last = absurd none
+  no_text (LogRejected line cause) at none last = absurd none
+  no_text LogTooLong at none last = absurd none
+  no_text UnknownReward at none last = absurd none
+  no_text TooManyStates at none last = absurd none
+  no_text (NotClosed event) at none last = absurd none
+  no_text NoSuchTotal at none last = absurd none
+  no_text (NetUnread own) at none last = absurd none
+  no_text (LogRefused line cause) at none last = absurd none
+  no_text (LogUnread own) at none last = record {
     reply = of_any (reply_to (Ok (replay name log)) shelf.told);
     cause = subst (λ (n : List ℕ). IsMissed shelf (Ok (replay name log)) (log_file n)) (sym none.0)
         (let missed : IsMissed shelf (Ok (replay name log)) (log_file log) =
-        record { read = second_read (net_file name) (log_file log) []; needed = has-network (shelf.told name) at; rose = none.1 } in missed);
+        record { read = second_read (net_file name) (log_file log) []; needed = has-network (shelf.told name) at; rose = none.1; last = last } in missed);
     means = tt;
   }
-  no_text OutOfMemory at none = record { reply = of_any (reply_to (Ok (replay name log)) shelf.told); cause = refl; means = tt }
+  no_text OutOfMemory at none last = record { reply = of_any (reply_to (Ok (replay name log)) shelf.told); cause = refl; means = tt }
 
   -- the work on what its bytes are read as: a log, or none
   on-answer : (answer : Result Certificate Refusal) (ending : Ending) → IsNetAt shelf.told name net → IfSome (shelf.told log) (λ bytes. read bytes ≡ answer)

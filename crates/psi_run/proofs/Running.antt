@@ -14,11 +14,12 @@ use Rattle.psi_reply.specs.Sample.{IsSampled}
 use Rattle.psi_reply.specs.Reply.{Reply}
 use Rattle.psi_run.specs.Reply.{IsReplyTo}
 use Rattle.psi_run.specs.Means.{Means}
-use Rattle.psi_run.specs.Seen.{ShelfSeen, IsUnread, IsRead, SinkSeen, Grew, GrewByPart, IsUnchanged, HasFailed}
+use Rattle.psi_run.specs.Seen.{ShelfSeen, IsUnread, IsRead, AreAsked, SinkSeen, Grew, GrewByPart, IsUnchanged, HasFailed}
 use Rattle.psi_reply.specs.Ending.{Ending, replied, unread, no_memory, ending_reply}
 use Rattle.psi_run.specs.Ending.{IsMeant, IsEnding}
 use Rattle.psi_run.specs.Call.{Call, reply_to_call, OutFaulted, EndsWithin, ErrFaulted, IsRun}
 use Rattle.psi_run.specs.Written.{IsWhole, IsCut}
+use Rattle.psi_run.proofs.ReadFiles.{asked_cut}
 
 ok-not_err : {A B : Type 0} (r : Result A B) → IsOk r → IsErr r → ⊥
 ok-not_err (Ok a) ok err = absurd cc
@@ -85,15 +86,16 @@ reply-err (Err place) reply is printed = absurd (subst (λ (r : Reply). IsPrinte
 still : (sink : SinkSeen) (text : List ℕ) → text ≡ [] → Grew sink text → IsUnchanged sink
 still sink text none grew = grew ∙ ap (appended sink.before) none ∙ appended-nothing sink.before
 
-whole-run : (call : Call) (end : Ending) → IsEnding call.shelf (command_of call.words) end
+whole-run : (call : Call) (end : Ending) → IsEnding call.shelf (command_of call.words) end → AreAsked call.shelf (command_of call.words) (ending_reply end).status
     → IsWhole (ending_reply end) call.out call.err → IsRun call (ending_reply end).status
-whole-run call (replied given) is whole =
+whole-run call (replied given) is reads whole =
     let command = command_of call.words in
     let kind : IsReplied given.status = reply-replied command given is.cause in
     record {
       status = of-same (λ r. IsReplied given.status → given.status ≡ r.status) (reply_to_call call) given is.reply (λ k. refl);
       out = of-same (λ r. IsReplied given.status → Grew call.out r.out) (reply_to_call call) given is.reply (λ k. whole.printed);
       err = of-same (λ r. IsReplied given.status → Grew call.err r.err) (reply_to_call call) given is.reply (λ k. whole.reported);
+      reads = reads;
       complete = λ out err read. inl kind;
       usage = reply-usage command given is.cause;
       no_command = λ wrong. inl (reply-no_command command given is.cause wrong);
@@ -109,10 +111,11 @@ whole-run call (replied given) is whole =
       silent_out = λ k. still call.out given.out (reply-out command given is.cause k) whole.printed;
       silent_err = λ k. still call.err given.err (reply-err command given is.cause k) whole.reported;
     }
-whole-run call (unread file) is whole = record {
+whole-run call (unread file) is reads whole = record {
   status = of-each (λ r. IsReplied ending.ReadFault → ending.ReadFault ≡ r.status) (reply_to_call call) (λ r k. absurd k);
   out = of-each (λ r. IsReplied ending.ReadFault → Grew call.out r.out) (reply_to_call call) (λ r k. absurd k);
   err = of-each (λ r. IsReplied ending.ReadFault → Grew call.err r.err) (reply_to_call call) (λ r k. absurd k);
+  reads = reads;
   complete = λ out err read. absurd (read (record { file = file; missed = is.cause }));
   usage = λ e. absurd cc;
   no_command = λ wrong. absurd (read-command (command_of call.words) file is.cause.read wrong);
@@ -132,10 +135,11 @@ whole-run call (unread file) is whole = record {
   silent_out = λ k. still call.out [] refl whole.printed;
   silent_err = λ k. absurd k;
 }
-whole-run call no_memory is whole = record {
+whole-run call no_memory is reads whole = record {
   status = of-each (λ r. IsReplied ending.OutOfMemory → ending.OutOfMemory ≡ r.status) (reply_to_call call) (λ r k. absurd k);
   out = of-each (λ r. IsReplied ending.OutOfMemory → Grew call.out r.out) (reply_to_call call) (λ r k. absurd k);
   err = of-each (λ r. IsReplied ending.OutOfMemory → Grew call.err r.err) (reply_to_call call) (λ r k. absurd k);
+  reads = reads;
   complete = λ out err read. inr refl;
   usage = λ e. absurd cc;
   no_command = λ wrong. absurd (ok-not_err (command_of call.words) is.cause wrong);
@@ -154,8 +158,8 @@ whole-run call no_memory is whole = record {
 
 -- the text was written whole, and the status is the ending's
 pub run_whole : (call : Call) (end : Ending) (result : Status) → IsEnding call.shelf (command_of call.words) end
-    → IsWhole (ending_reply end) call.out call.err → result ≡ (ending_reply end).status → IsRun call result
-run_whole call end result is whole same = subst (IsRun call) (sym same) (whole-run call end is whole)
+    → AreAsked call.shelf (command_of call.words) (ending_reply end).status → IsWhole (ending_reply end) call.out call.err → result ≡ (ending_reply end).status → IsRun call result
+run_whole call end result is reads whole same = subst (IsRun call) (sym same) (whole-run call end is reads whole)
 
 -- ---- the text of the ending was cut
 
@@ -182,11 +186,12 @@ err-part call no_memory is part = of-each (EndsWithin call) (reply_to_call call)
 failed-sink : (call : Call) → OutFaulted call ⊎ ErrFaulted call → HasFailed call.out ⊎ HasFailed call.err
 failed-sink call faulted = elim faulted [ inl out ↦ inl out.cause | inr err ↦ inr err.cause ]
 
-faulted-run : (call : Call) → OutFaulted call ⊎ ErrFaulted call → IsRun call ending.WriteFault
-faulted-run call faulted = record {
+faulted-run : (call : Call) → AreAsked call.shelf (command_of call.words) ending.WriteFault → OutFaulted call ⊎ ErrFaulted call → IsRun call ending.WriteFault
+faulted-run call reads faulted = record {
   status = of-each (λ r. IsReplied ending.WriteFault → ending.WriteFault ≡ r.status) (reply_to_call call) (λ r k. absurd k);
   out = of-each (λ r. IsReplied ending.WriteFault → Grew call.out r.out) (reply_to_call call) (λ r k. absurd k);
   err = of-each (λ r. IsReplied ending.WriteFault → Grew call.err r.err) (reply_to_call call) (λ r k. absurd k);
+  reads = reads;
   complete = λ out err read. elim (failed-sink call faulted) [ inl o ↦ absurd (out o) | inr e ↦ absurd (err e) ];
   usage = λ e. absurd cc;
   no_command = λ wrong. inr refl;
@@ -204,12 +209,13 @@ faulted-run call faulted = record {
 }
 
 -- the text was cut by a failed write
-pub run_cut : (call : Call) (end : Ending) → IsEnding call.shelf (command_of call.words) end
+pub run_cut : (call : Call) (end : Ending) → IsEnding call.shelf (command_of call.words) end → AreAsked call.shelf (command_of call.words) (ending_reply end).status
     → IsCut (ending_reply end).out call.out call.err ⊎ IsCut (ending_reply end).err call.err call.out → IsRun call ending.WriteFault
-run_cut call end is cut =
+run_cut call end is reads cut =
+    let asked = asked_cut call.shelf (command_of call.words) (ending_reply end).status reads in
     elim cut [
-      | inl out ↦ faulted-run call (inl (record { cause = out.cause; out = out-part call end is out.part; err = out.rest }))
-      | inr err ↦ faulted-run call (inr (record { cause = err.cause; out = err.rest; err = err-part call end is err.part }))
+      | inl out ↦ faulted-run call asked (inl (record { cause = out.cause; out = out-part call end is out.part; err = out.rest }))
+      | inr err ↦ faulted-run call asked (inr (record { cause = err.cause; out = err.rest; err = err-part call end is err.part }))
     ]
 
 -- ---- what the status means

@@ -7,7 +7,7 @@ use Rattle.psi_command.specs.Words.{command_of}
 use Rattle.psi_texts.specs.Lines.{unread_line, memory_line}
 use Rattle.psi_reply.specs.Reply.{Reply}
 use Rattle.psi_run.specs.Reply.{reply_to}
-use Rattle.psi_run.specs.Seen.{ShelfSeen, HasUnread, SinkSeen, Grew, GrewByPart, IsUnchanged, HasFailed}
+use Rattle.psi_run.specs.Seen.{ShelfSeen, HasUnread, AreAsked, SinkSeen, Grew, GrewByPart, IsUnchanged, HasFailed}
 
 -- a call: its words, the shelf that it reads and the two sinks that it writes
 pub record Call : Type 0 where
@@ -65,6 +65,9 @@ pub record IsRun (call : Call) (result : Status) : Type 0 where
   -- and with such a status each sink that tells what it holds grew by exactly the reply's text
   pub out : IfSome (reply_to_call call) (λ reply. IsReplied result → Grew call.out reply.out)
   pub err : IfSome (reply_to_call call) (λ reply. IsReplied result → Grew call.err reply.err)
+  -- each file that the words name is read once, in their order and with its limit, and nothing else is read; a log only once its network
+  -- is accepted, and where it isn't read, a status of a reply is 3
+  pub reads : AreAsked call.shelf (command_of call.words) result
   -- where no count of out, of err or of a file of the command rose in the call, the status is that of a reply, or 8
   pub complete : ¬ (HasFailed call.out) → ¬ (HasFailed call.err) → ¬ (ReadFailed call) → IsReplied result ⊎ (result ≡ OutOfMemory)
   -- status 2 comes only where the words aren't a command, and where they aren't, it comes unless err fails

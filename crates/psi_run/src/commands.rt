@@ -1,9 +1,10 @@
 //! What a call does for its words: the work before the first byte, and the writing.
 
-ghost use Rattle.std.specs.Prelude.{◌≡◌, ℕ, List, Ok, map, string_bytes};
-ghost use Rattle.psi_command.specs.Words.{command_of};
-ghost use Rattle.psi_command.specs.Request.{asked, IsInRange};
-ghost use Rattle.psi_run.specs.Seen.{ShelfSeen};
+ghost use Rattle.std.specs.Prelude.{◌≡◌, ℕ, ◌++◌, List, Ok, map, drop};
+ghost use Rattle.psi_command.specs.Command.{files_of};
+ghost use Rattle.psi_command.specs.Request.{asked, requested, IsInRange, AsksInRange};
+ghost use Rattle.psi_run.specs.Seen.{ShelfSeen, read_of, AreAsked};
+ghost use Rattle.psi_reply.specs.Ending.{ending_reply};
 ghost use Rattle.psi_run.specs.Ending.{IsEnding};
 ghost use Rattle.psi_run.specs.Spared.{AreGiven, HasRead};
 ghost use Rattle.psi_run.specs.Finished.{IsFinished};
@@ -15,7 +16,7 @@ mod replay;
 
 use crate::files::network_at;
 use crate::writing::finish;
-use psi_command::{Question, Request, Status, command_of};
+use psi_command::{Question, Request, Status};
 use psi_io::{Shelf, Sink};
 use psi_net::Net;
 use psi_reply::{
@@ -24,34 +25,32 @@ use psi_reply::{
 };
 use std::alloc::Global;
 
-/// Does what the words ask for: the work for their command, before the first byte is written, and then the
-/// writing. Words that aren't a command take no memory.
+/// Does what is asked for: the work for the command, before the first byte is written, and then the writing.
 pub(crate) fn perform<F: Shelf, O: Sink, E: Sink>(
     alloc: Global,
-    words: &[String],
+    request: Request<'_>,
     shelf: &mut F,
     out: &mut O,
     err: &mut E,
 ) -> Status
-    // The work has an ending; where the shelf gives each file that the words name, no read failed.
-    ensures finished { let command = command_of (map string_bytes words.now) in
-        let seen : ShelfSeen = record { told = F.told shelf.old; faults_before = F.faults shelf.old; faults_after = F.faults shelf.new } in
-        IsFinished (λ ending. IsEnding seen command ending × (AreGiven (F.gives shelf.old) command → HasRead ending)) (O.takes out.old) (E.takes err.old)
+    requires { AsksInRange request }
+    // The work has an ending, with the reads that it tells; where the shelf gives each file that is named, no read failed.
+    ensures finished { let command = Ok (requested request.entry) in
+        let seen : ShelfSeen = record { told = F.told shelf.old; asked_before = F.asked shelf.old; asked_after = F.asked shelf.new; faults_before = F.faults shelf.old; faults_after = F.faults shelf.new } in
+        IsFinished (λ ending. IsEnding seen command ending × (AreGiven (F.gives shelf.old) command → HasRead ending) × AreAsked seen command (ending_reply ending).status)
+        (O.takes out.old) (E.takes err.old)
         (record { before = O.held out.old; after = O.held out.new; faults_before = O.faults out.old; faults_after = O.faults out.new })
         (record { before = E.held err.old; after = E.held err.new; faults_before = E.faults err.old; faults_after = E.faults err.new })
         result }
     // And no count rose there.
-    ensures spared { AreGiven (F.gives shelf.old) (command_of (map string_bytes words.now)) → F.faults shelf.new ≡ F.faults shelf.old }
+    ensures spared { AreGiven (F.gives shelf.old) (Ok (requested request.entry)) → F.faults shelf.new ≡ F.faults shelf.old }
 {
-    match command_of(words) {
-        Ok(Request::About { net, question }) => {
-            finish(&work(alloc, shelf, net, question), out, err)
-        }
-        Ok(Request::Trial { number }) => finish(&trial_ending(alloc, number), out, err),
-        Ok(Request::Certify { net, seed, stream }) => {
+    match request {
+        Request::About { net, question } => finish(&work(alloc, shelf, net, question), out, err),
+        Request::Trial { number } => finish(&trial_ending(alloc, number), out, err),
+        Request::Certify { net, seed, stream } => {
             certify::perform(alloc, shelf, net, seed, stream, out, err)
         }
-        Err(place) => finish(&Ending::Usage(place), out, err),
     }
 }
 
@@ -63,8 +62,10 @@ fn work<'w, F: Shelf>(
     question: Question<'w>,
 ) -> Ending<'w>
     requires { IsInRange question }
-    ensures ending { IsEnding (record { told = F.told shelf.old; faults_before = F.faults shelf.old; faults_after = F.faults shelf.new })
+    ensures ending { IsEnding (record { told = F.told shelf.old; asked_before = F.asked shelf.old; asked_after = F.asked shelf.new; faults_before = F.faults shelf.old; faults_after = F.faults shelf.new })
         (Ok (asked name.now question.entry)) (ending_of result) }
+    ensures asked { AreAsked (record { told = F.told shelf.old; asked_before = F.asked shelf.old; asked_after = F.asked shelf.new; faults_before = F.faults shelf.old; faults_after = F.faults shelf.new })
+        (Ok (asked name.now question.entry)) (ending_reply (ending_of result)).status }
     ensures read { AreGiven (F.gives shelf.old) (Ok (asked name.now question.entry)) → HasRead (ending_of result) }
     ensures spared { AreGiven (F.gives shelf.old) (Ok (asked name.now question.entry)) → F.faults shelf.new ≡ F.faults shelf.old }
 {
@@ -83,8 +84,10 @@ fn answer<'w, F: Shelf>(
 ) -> Ending<'w>
     requires { IsInRange question }
     ensures ending { (name : List ℕ) → IsNetAt (F.told shelf.old) name net.now
-        → IsEnding (record { told = F.told shelf.old; faults_before = F.faults shelf.old; faults_after = F.faults shelf.new })
+        → IsEnding (record { told = F.told shelf.old; asked_before = F.asked shelf.old; asked_after = F.asked shelf.new; faults_before = F.faults shelf.old; faults_after = F.faults shelf.new })
         (Ok (asked name question.entry)) (ending_of result) }
+    // The files that are named behind the network's are read.
+    ensures asked { (name : List ℕ) → F.asked shelf.new ≡ F.asked shelf.old ++ map read_of (drop 1 (files_of (asked name question.entry))) }
     ensures read { (name : List ℕ) → AreGiven (F.gives shelf.old) (Ok (asked name question.entry)) → HasRead (ending_of result) }
     ensures spared { (name : List ℕ) → AreGiven (F.gives shelf.old) (Ok (asked name question.entry)) → F.faults shelf.new ≡ F.faults shelf.old }
 {

@@ -1,6 +1,8 @@
 //! Reading the files that a command names.
 
-ghost use Rattle.std.specs.Prelude.{◌≡◌, ◌≤◌, ℕ, List, IfOk, IfErr};
+ghost use Rattle.std.specs.Prelude.{◌≡◌, ◌≤◌, ◌++◌, ℕ, List, [], ◌∷◌, IfOk, IfErr};
+ghost use Rattle.psi_command.specs.Command.{net_file, log_file};
+ghost use Rattle.psi_run.specs.Seen.{read_of};
 ghost use Rattle.psi_run.specs.Spared.{HasRead};
 ghost use Rattle.psi_reply.specs.Ended.{ending_of};
 ghost use Rattle.psi_run.specs.Files.{IsNetAt, IsNoNet, IsTextAt, IsNoText};
@@ -24,11 +26,13 @@ pub(crate) fn network_at<'w, F: Shelf>(
     name: &'w str,
 ) -> Result<Net, Ending<'w>>
     ensures network { IfOk result (IsNetAt (F.told shelf.old) name.now) }
-    ensures none { IfErr result (IsNoNet (record { told = F.told shelf.old; faults_before = F.faults shelf.old; faults_after = F.faults shelf.new })
+    ensures none { IfErr result (IsNoNet (record { told = F.told shelf.old; asked_before = F.asked shelf.old; asked_after = F.asked shelf.new; faults_before = F.faults shelf.old; faults_after = F.faults shelf.new })
         name.now) }
     // Where the shelf gives the file, no read of it failed, and no count rose.
     ensures read { F.gives shelf.old name.now → IfErr result (λ ending. HasRead (ending_of ending)) }
     ensures spared { F.gives shelf.old name.now → F.faults shelf.new ≡ F.faults shelf.old }
+    // The file is read once, with its limit.
+    ensures asked { F.asked shelf.new ≡ F.asked shelf.old ++ read_of (net_file name.now) ∷ [] }
     // The shelf tells and gives what it did, and no count fell.
     ensures told { F.told shelf.new ≡ F.told shelf.old }
     ensures gives { (other : List ℕ) → F.gives shelf.old other → F.gives shelf.new other }
@@ -54,11 +58,13 @@ pub(crate) fn log_bytes<'w, F: Shelf>(
     name: &'w str,
 ) -> Result<Vec<u8>, Ending<'w>>
     ensures text { IfOk result (λ bytes. IsTextAt (F.told shelf.old) name.now bytes.items) }
-    ensures none { IfErr result (IsNoText (record { told = F.told shelf.old; faults_before = F.faults shelf.old; faults_after = F.faults shelf.new })
+    ensures none { IfErr result (IsNoText (record { told = F.told shelf.old; asked_before = F.asked shelf.old; asked_after = F.asked shelf.new; faults_before = F.faults shelf.old; faults_after = F.faults shelf.new })
         name.now) }
     // Where the shelf gives the file, no read of it failed, and no count rose.
     ensures read { F.gives shelf.old name.now → IfErr result (λ ending. HasRead (ending_of ending)) }
     ensures spared { F.gives shelf.old name.now → F.faults shelf.new ≡ F.faults shelf.old }
+    // The file is read once, with its limit.
+    ensures asked { F.asked shelf.new ≡ F.asked shelf.old ++ read_of (log_file name.now) ∷ [] }
 {
     match shelf.read(alloc, name, MOST_LOG_BYTES) {
         Ok(bytes) => Ok(bytes),

@@ -16,8 +16,10 @@ ghost use Rattle.psi_run.specs.Spared.{AreGiven, AreTaken};
 ghost use Rattle.psi_run.specs.Call.{IsRun};
 
 use crate::commands::perform;
-use psi_command::Status;
+use crate::writing::finish;
+use psi_command::{Status, command_of};
 use psi_io::{Shelf, Sink};
+use psi_reply::Ending;
 use std::alloc::Global;
 
 /// Does what the words after the program's name ask for, and answers how it ended.
@@ -122,6 +124,9 @@ use std::alloc::Global;
 ///
 /// All memory is taken before the first byte is written. Words that aren't a command take none.
 ///
+/// NET is read once, up to 1,048,576 bytes, and then LOG once, up to 33,554,432, where the network is accepted. No
+/// other file is read, and none for `trial` and for words that aren't a command.
+///
 /// Where the shelf gives NET and LOG, and out and err take their texts, no count rises, and the status is
 /// neither `ReadFault` nor `WriteFault`.
 pub fn run<F: Shelf, O: Sink, E: Sink>(
@@ -134,7 +139,7 @@ pub fn run<F: Shelf, O: Sink, E: Sink>(
     // What each status says of the words, the shelf and the sinks.
     ensures call { IsRun (record {
       words = map string_bytes words.now;
-      shelf = record { told = F.told shelf.old; faults_before = F.faults shelf.old; faults_after = F.faults shelf.new };
+      shelf = record { told = F.told shelf.old; asked_before = F.asked shelf.old; asked_after = F.asked shelf.new; faults_before = F.faults shelf.old; faults_after = F.faults shelf.new };
       out = record { before = O.held out.old; after = O.held out.new; faults_before = O.faults out.old; faults_after = O.faults out.new };
       err = record { before = E.held err.old; after = E.held err.new; faults_before = E.faults err.old; faults_after = E.faults err.new };
     }) result }
@@ -161,5 +166,8 @@ pub fn run<F: Shelf, O: Sink, E: Sink>(
         → (F.faults shelf.new ≡ F.faults shelf.old) × (O.faults out.new ≡ O.faults out.old) × (E.faults err.new ≡ E.faults err.old)
         × ((result ≡ reply.status) ⊎ (result ≡ Status.OutOfMemory)) }
 {
-    perform(alloc, words, shelf, out, err)
+    match command_of(words) {
+        Ok(request) => perform(alloc, request, shelf, out, err),
+        Err(place) => finish(&Ending::Usage(place), out, err),
+    }
 }

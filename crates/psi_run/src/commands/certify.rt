@@ -6,8 +6,8 @@ ghost use Rattle.psi_record.specs.Recorded.{log_of};
 ghost use Rattle.psi_command.specs.Command.{certify};
 ghost use Rattle.psi_reply.specs.Sample.{sampled};
 ghost use Rattle.psi_reply.specs.Reply.{log_reply, certify_reply};
-ghost use Rattle.psi_run.specs.Seen.{ShelfSeen};
-ghost use Rattle.psi_reply.specs.Ending.{EndsWith};
+ghost use Rattle.psi_run.specs.Seen.{ShelfSeen, AreAsked};
+ghost use Rattle.psi_reply.specs.Ending.{ending_reply, EndsWith};
 ghost use Rattle.psi_run.specs.Ending.{IsEnding};
 ghost use Rattle.psi_run.specs.Spared.{HasRead};
 ghost use Rattle.psi_run.specs.Finished.{IsFinished};
@@ -117,8 +117,9 @@ pub(crate) fn perform<F: Shelf, O: Sink, E: Sink>(
     out: &mut O,
     err: &mut E,
 ) -> Status
-    ensures finished { let seen : ShelfSeen = record { told = F.told shelf.old; faults_before = F.faults shelf.old; faults_after = F.faults shelf.new } in
-        IsFinished (λ ending. IsEnding seen (Ok (certify net.now seed stream)) ending × (F.gives shelf.old net.now → HasRead ending)) (O.takes out.old) (E.takes err.old)
+    ensures finished { let seen : ShelfSeen = record { told = F.told shelf.old; asked_before = F.asked shelf.old; asked_after = F.asked shelf.new; faults_before = F.faults shelf.old; faults_after = F.faults shelf.new } in
+        IsFinished (λ ending. IsEnding seen (Ok (certify net.now seed stream)) ending × (F.gives shelf.old net.now → HasRead ending)
+        × AreAsked seen (Ok (certify net.now seed stream)) (ending_reply ending).status) (O.takes out.old) (E.takes err.old)
         (record { before = O.held out.old; after = O.held out.new; faults_before = O.faults out.old; faults_after = O.faults out.new })
         (record { before = E.held err.old; after = E.held err.new; faults_before = E.faults err.old; faults_after = E.faults err.new })
         result }

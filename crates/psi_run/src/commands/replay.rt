@@ -1,8 +1,9 @@
 //! `replay NET LOG`: the reading of the log.
 
-ghost use Rattle.std.specs.Prelude.{◌≡◌, ℕ, List, Ok};
-ghost use Rattle.psi_command.specs.Command.{replay};
+ghost use Rattle.std.specs.Prelude.{◌≡◌, ◌++◌, ℕ, List, [], ◌∷◌, Ok};
+ghost use Rattle.psi_command.specs.Command.{replay, log_file};
 ghost use Rattle.psi_reply.specs.Ended.{ending_of};
+ghost use Rattle.psi_run.specs.Seen.{read_of};
 ghost use Rattle.psi_run.specs.Ending.{IsEnding};
 ghost use Rattle.psi_run.specs.Spared.{HasRead};
 ghost use Rattle.psi_run.specs.Files.{IsNetAt};
@@ -21,10 +22,11 @@ pub(crate) fn work<'w, F: Shelf>(
     log: &'w str,
 ) -> Ending<'w>
     ensures ending { (name : List ℕ) → IsNetAt (F.told shelf.old) name net.now
-        → IsEnding (record { told = F.told shelf.old; faults_before = F.faults shelf.old; faults_after = F.faults shelf.new })
+        → IsEnding (record { told = F.told shelf.old; asked_before = F.asked shelf.old; asked_after = F.asked shelf.new; faults_before = F.faults shelf.old; faults_after = F.faults shelf.new })
         (Ok (replay name log.now)) (ending_of result) }
     ensures read { F.gives shelf.old log.now → HasRead (ending_of result) }
     ensures spared { F.gives shelf.old log.now → F.faults shelf.new ≡ F.faults shelf.old }
+    ensures asked { F.asked shelf.new ≡ F.asked shelf.old ++ read_of (log_file log.now) ∷ [] }
 {
     match log_bytes(alloc, shelf, log) {
         Ok(bytes) => replay_ending(alloc, net, bytes.as_slice()),

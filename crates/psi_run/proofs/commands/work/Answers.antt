@@ -4,12 +4,13 @@ use Rattle.std.specs.Prelude.{Ok}
 use Rattle.psi_command.specs.Request.{asked}
 use Rattle.psi_run.proofs.Asked.{asked_none, ended_earlier}
 use Rattle.psi_run.proofs.Sparing.{net_given, given_on}
+use Rattle.psi_run.proofs.ReadFiles.{read_last, asked_all, asked_first}
 use Rattle.psi_run.proofs.commands.work.Goals as goal
 
 pub returns-in-Ok-clause-ending : goal.returns-in-Ok-clause-ending
 returns-in-Ok-clause-ending g c =
     let answered = rw c.in-Ok.ensures.told at c.answer.ensures.ending c.args.name.now in
-    ended_earlier _ _ _ _ _ _ c.in-Ok.ensures.counts (answered c.in-Ok.ensures.network)
+    ended_earlier _ _ _ _ _ _ _ _ _ c.in-Ok.ensures.counts (answered c.in-Ok.ensures.network)
 
 pub returns-in-Ok-clause-read : goal.returns-in-Ok-clause-read
 returns-in-Ok-clause-read g c given = c.answer.ensures.read c.args.name.now (given_on _ _ (Ok (asked c.args.name.now c.args.question)) c.in-Ok.ensures.gives given)
@@ -20,10 +21,17 @@ returns-in-Ok-clause-spared g c given =
     ∙ c.in-Ok.ensures.spared (net_given (g.F.Shelf.gives c.args.shelf.now) c.args.name.now c.args.question given)
 
 pub returns-in-Err-clause-ending : goal.returns-in-Err-clause-ending
-returns-in-Err-clause-ending g c = asked_none _ c.args.name.now c.args.question c.in-Err.ending c.in-Err.ensures.none
+returns-in-Err-clause-ending g c = asked_none _ c.args.name.now c.args.question c.in-Err.ending c.in-Err.ensures.none (read_last _ _ c.in-Err.ensures.asked)
 
 pub returns-in-Err-clause-read : goal.returns-in-Err-clause-read
 returns-in-Err-clause-read g c given = c.in-Err.ensures.read (net_given (g.F.Shelf.gives c.args.shelf.now) c.args.name.now c.args.question given)
 
 pub returns-in-Err-clause-spared : goal.returns-in-Err-clause-spared
 returns-in-Err-clause-spared g c given = c.in-Err.ensures.spared (net_given (g.F.Shelf.gives c.args.shelf.now) c.args.name.now c.args.question given)
+
+pub returns-in-Ok-clause-asked : goal.returns-in-Ok-clause-asked
+returns-in-Ok-clause-asked g c =
+    asked_all _ c.args.name.now c.args.question _ _ c.in-Ok.net c.in-Ok.ensures.network c.in-Ok.ensures.asked (c.answer.ensures.asked c.args.name.now)
+
+pub returns-in-Err-clause-asked : goal.returns-in-Err-clause-asked
+returns-in-Err-clause-asked g c = asked_first _ c.args.name.now c.args.question c.in-Err.ending c.in-Err.ensures.none c.in-Err.ensures.asked

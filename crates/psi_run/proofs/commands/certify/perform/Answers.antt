@@ -3,6 +3,7 @@ use Rattle.std.specs.Prelude.{refl}
 use Rattle.psi_command.specs.Command.{certify}
 use Rattle.psi_run.proofs.Endings.{no_net, on_net}
 use Rattle.psi_run.proofs.Sparing.{ends-read}
+use Rattle.psi_run.proofs.ReadFiles.{read_last, asked_certify}
 use Rattle.psi_reply.proofs.Certifying.{certified_printed}
 use Rattle.psi_run.proofs.Abouts.{certify_about}
 use Rattle.psi_run.proofs.Finishing.{finished_as, finished_with}
@@ -16,11 +17,14 @@ returns-in-Ok-clause-finished g c =
       on_net command c.args.net.now _ _ c.in-Ok.net ending _ refl (certify_about _ c.args.net.now c.args.seed c.args.stream) c.in-Ok.ensures.network ends
           (λ has kept before after grew. certified_printed before after c.in-Ok.net c.args.seed c.args.stream kept c.ranges.seed.fits c.ranges.stream.fits grew),
       λ given. ends-read ending _ ends,
+      asked_certify _ _ _ _ _ c.in-Ok.ensures.asked,
     ))
 
 pub returns-in-Err-clause-finished : goal.returns-in-Err-clause-finished
 returns-in-Err-clause-finished g c =
     finished_with _ _ _ _ _ _ c.finish.result c.finish.ensures (
-      no_net (certify c.args.net.now c.args.seed c.args.stream) c.args.net.now _ _ c.in-Err.ending (certify_about _ c.args.net.now c.args.seed c.args.stream) c.in-Err.ensures.none,
+      no_net (certify c.args.net.now c.args.seed c.args.stream) c.args.net.now _ _ c.in-Err.ending (certify_about _ c.args.net.now c.args.seed c.args.stream) c.in-Err.ensures.none
+          (read_last _ _ c.in-Err.ensures.asked),
       c.in-Err.ensures.read,
+      asked_certify _ _ _ _ _ c.in-Err.ensures.asked,
     )
