@@ -18,6 +18,3 @@ mod windows;
 pub use arcs::{Arcs, OutOfMemory};
 pub use ends::Arc;
 pub use marks::Reach;
-
-#[cfg(test)]
-mod tests;

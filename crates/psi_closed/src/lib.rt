@@ -15,6 +15,3 @@ mod plan;
 pub use diagram::Diagram;
 pub use memory::OutOfMemory;
 pub use plan::ClosedPlan;
-
-#[cfg(test)]
-mod tests;

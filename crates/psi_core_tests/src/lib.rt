@@ -1,5 +1,5 @@
-//! Tests that cross the crates of the core: what rewards and events of a network do, and the sets, regions
-//! and plans that stand on events. They show what no text shows: each call by its answer.
+//! Tests of the crates of the core: what no clause and no text shows. They stand here since a crate that has a
+//! test is proved once more with it.
 #![tactic(auto)]
 
 #[cfg(test)]

@@ -1,12 +1,12 @@
-//! Rewards, events, sets, regions and plans of small networks, worked out by hand.
+//! Outside values, calls that take memory, generic calls, and which events tell their pieces, worked out by hand.
 
 mod covering;
-mod events;
-mod generated;
+mod diagrams;
+mod forms;
+mod keys;
+mod lowering;
 mod plans;
 mod pools;
 mod queues;
 mod refusals;
-mod regions;
-mod reports;
-mod rewards;
+mod states;

@@ -7,8 +7,6 @@
 
 mod idle;
 mod law;
-#[cfg(test)]
-mod tests;
 
 pub use idle::Idle;
 pub use law::EventLaw;

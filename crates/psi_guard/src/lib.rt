@@ -13,8 +13,6 @@ mod guarded;
 mod monotonicity;
 mod parts;
 mod pieces;
-#[cfg(test)]
-mod tests;
 
 pub use guarded::{GuardRefusal, Guarded};
 pub use parts::{Part, Parts};

@@ -12,8 +12,6 @@ mod level;
 mod minima;
 mod search;
 mod table;
-#[cfg(test)]
-mod tests;
 
 pub use level::OutOfMemory;
 pub use table::IndexTable;

@@ -8,7 +8,5 @@ mod filling;
 mod keyed;
 mod marked;
 mod step;
-#[cfg(test)]
-mod tests;
 
 pub use keyed::Keyed;

@@ -22,6 +22,3 @@ pub use lowering::{lower, lower_accepted};
 pub use moves::Move;
 pub use refusals::{KindRefusal, OutOfMemory};
 pub use tables::Tables;
-
-#[cfg(test)]
-mod tests;

@@ -15,6 +15,3 @@ mod regions;
 
 pub use header::Header;
 pub use line_buf::{LineBuf, OutOfMemory};
-
-#[cfg(test)]
-mod tests;

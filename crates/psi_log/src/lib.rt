@@ -21,6 +21,3 @@ pub use header::read_head;
 pub use log::{Log, read_log};
 pub use psi_lines::{Header, LineBuf};
 pub use refusals::{Cause, LogError};
-
-#[cfg(test)]
-mod tests;

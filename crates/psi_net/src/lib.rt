@@ -32,8 +32,6 @@ mod part_tables;
 mod queue_tables;
 mod reading;
 mod reward_tables;
-#[cfg(test)]
-mod tests;
 mod words;
 
 pub use net_error::NetError;

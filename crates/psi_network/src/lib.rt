@@ -12,8 +12,6 @@ mod expansion;
 mod generating;
 mod net;
 mod out_of_memory;
-#[cfg(test)]
-mod tests;
 
 pub use building::{accepted_reward, capacities};
 pub use entries::{Draft, NamedEvent, Queue, RewardEntry};

@@ -7,8 +7,6 @@ mod layout;
 mod moves;
 mod pairs;
 mod program;
-#[cfg(test)]
-mod tests;
 
 pub use layout::{Layout, Packed};
 pub use moves::{Masks, Moves};

@@ -6,7 +6,5 @@ mod lists;
 mod moving;
 mod pace;
 mod packed_set;
-#[cfg(test)]
-mod tests;
 
 pub use packed_set::PackedSet;

@@ -8,8 +8,6 @@
 
 mod system;
 mod table;
-#[cfg(test)]
-mod tests;
 mod wheel;
 
 pub use system::System;

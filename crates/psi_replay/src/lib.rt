@@ -18,6 +18,3 @@ mod sets;
 pub use answers::Verdict;
 pub use causes::Cause;
 pub use replay::verdict;
-
-#[cfg(test)]
-mod tests;

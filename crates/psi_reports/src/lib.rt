@@ -20,8 +20,6 @@ mod report;
 mod rows;
 mod standing;
 mod table;
-#[cfg(test)]
-mod tests;
 mod text;
 mod values;
 mod varying;

@@ -13,8 +13,6 @@ mod out_of_memory;
 mod reward;
 mod rows;
 mod sums;
-#[cfg(test)]
-mod tests;
 
 pub use integers::Numbers;
 pub use kinds::{RewardKind, RewardRefusal};

@@ -21,8 +21,6 @@ mod pieces;
 mod route;
 mod routing;
 mod target_ends;
-#[cfg(test)]
-mod tests;
 
 pub use as_route::RouteLaw;
 pub use judging::{is_self_target, is_size_off};

@@ -7,6 +7,3 @@ mod state_list;
 
 pub use line_list::{Kept, Line, LineList};
 pub use state_list::StateList;
-
-#[cfg(test)]
-mod tests;

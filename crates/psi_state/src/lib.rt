@@ -16,6 +16,3 @@ pub use outcome::{Outcome, Step};
 pub use queues::Queues;
 pub use state::State;
 pub use states::States;
-
-#[cfg(test)]
-mod tests;

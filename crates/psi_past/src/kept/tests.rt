@@ -1,22 +1,7 @@
-//! What is kept, and how often a word is drawn.
+//! How often a word is drawn, which no clause says.
 
 use super::*;
-use crate::ListPast;
 use std::test::Fail;
-
-#[test]
-fn keeps_words_until_the_past_is_replaced(rt: HostRuntime) -> Result<(), Fail> {
-    let alloc = rt.alloc();
-    let mut kept = Kept::reserve(alloc, ListPast::new(vec![in alloc; 5, 6, 7]?), 4)?;
-    kept.extend_to(2);
-    assert_eq!(rt; kept.at(1), 6);
-    kept.replace(ListPast::new(vec![in alloc; 9]?));
-    kept.extend_to(1);
-    assert_eq!(rt; kept.at(0), 9);
-    kept.extend_to(4);
-    assert_eq!(rt; kept.at(3), 0);
-    Ok(())
-}
 
 // A past that counts the words drawn from it, and sees whether their places came in order from 0.
 #[derive(Drop)]

@@ -16,15 +16,6 @@ fn first_block_of_the_zero_seed(rt: HostRuntime) {
     }
 }
 
-#[test]
-fn scattered_places_of_the_zero_seed(rt: HostRuntime) {
-    let mut past = SeedPast::new(0, 0);
-    for place in [9u32, 3, 3, 15, 0, 1, 14, 2, 9, 10] {
-        let expected = FIRST_BLOCK.get(place as usize).copied();
-        assert_eq!(rt; Some(past.word(place)), expected, "at place {place}");
-    }
-}
-
 // The expected words were computed by an independent program from RFC 8439, and agree with those
 // that OpenSSL's ChaCha20 gives for the same key, counter and nonce.
 #[test]
