@@ -1,11 +1,12 @@
 -- What is found of files.
-use Rattle.std.specs.Prelude.{◌≡◌, Vec, ℕ, zero, suc, ◌+◌, ◌-◌, ◌<◌, ◌≤◌, Contains, List, [], ◌∷◌, take, length, map, drop, Option, Some, None, option_and_then, Result, Ok, Err, IfSome, IfErr, true, false, refl}
+use Rattle.std.specs.Prelude.{◌≡◌, Vec, ℕ, ◌+◌, ◌-◌, ◌<◌, ◌≤◌, List, [], ◌∷◌, ◌++◌, take, length, map, drop, Option, Some, None, option_and_then, Result, Ok, Err, IsOk, IfSome, IfOk, IfErr, true, false, refl}
 use Rattle.std.specs.List.{list_all}
-use Rattle.std.proofs.Common.{get_or, ap, sym, ◌∙◌, subst, inl, inr, arith}
+use Rattle.std.proofs.Common.{get_or, ap, sym, ◌∙◌, subst, append_assoc, inl, inr, arith}
 use Rattle.std.proofs.lemmas.Bool.{cases_order, lt-leb}
-use Rattle.std.proofs.lemmas.List.{take_all, length-take-le, drop_more, drop_all, length-map}
+use Rattle.std.proofs.lemmas.List.{take_all, length-take-le, take-append-drop, drop_more, drop_all, map_more, map-append, append-nil}
 use Rattle.std.specs.declared.alloc.Global.{Global}
 use Rattle.psi_io.specs.Counts.{Rose}
+use Rattle.psi_io.specs.Shelf.{Read}
 use Rattle.psi_io.proofs.CountsLemmas.{rose-over}
 use Rattle.psi_reports.specs.Contents.{Contents}
 use Rattle.psi_reports.specs.Text.{text_of}
@@ -16,8 +17,9 @@ use Rattle.psi_merge.specs.declared.ending.Ending.{Ending}
 use Rattle.psi_merge.specs.declared.ending.Ending.TheVariants.{Merged, Usage, Refused, OtherNetwork, TooLarge, Unread, OutOfMemory}
 use Rattle.psi_merge.specs.Reports.{report_in}
 use Rattle.psi_merge.specs.Reply.{Reply, report_reply, report_at, merge_reply, go_on, with_file, with_files, whole_of, is_file, are_files, whole_reply, reply_to, text_reply}
-use Rattle.psi_merge.specs.Seen.{ShelfSeen}
-use Rattle.psi_merge.specs.Ended.{MayEnd, MayBe, MayReply, IsUnreadOf, IsTold, IsMissed, IsFound, AreFound, IsCaused, IsEnding}
+use Rattle.psi_merge.specs.Seen.{ShelfSeen, IsUnread, read_of, HasAsked, IsNext, HasAskedTo, IsNeeded}
+use Rattle.psi_merge.specs.Ended.{MayEnd, MayBe, MayReply, IsUnreadOf, IsTold, IsMissed, AreMissed, AreRead, IsFound, AreFound, IsCaused, IsEnding}
+use Rattle.psi_merge.specs.Spared.{AreNextGiven, AreGiven, HasRead}
 
 -- the front of a file is judged as the file
 report_in-take : (bytes : List ℕ) → report_in (take 1048577 bytes) ≡ report_in bytes
@@ -49,22 +51,21 @@ unread-may name (TooLarge line) whole is = absurd is
 unread-may name (Unread line) whole is = tt
 unread-may name OutOfMemory whole is = tt
 
-pub unread-missed : (shelf : ShelfSeen) (name : List ℕ) (ending : Ending) → IsUnreadOf name ending → Rose (shelf.faults_before name) (shelf.faults_after name)
-    → (words : List (List ℕ)) → Contains words name → IsMissed shelf words ending
-unread-missed shelf name (Merged text) is rose words there = is
-unread-missed shelf name Usage is rose words there = is
-unread-missed shelf name (Refused line) is rose words there = tt
-unread-missed shelf name (OtherNetwork line) is rose words there = tt
-unread-missed shelf name (TooLarge line) is rose words there = tt
-unread-missed shelf name (Unread line) is rose words there = record { cause = record { name = name; named = there; rose = rose }; told = is }
-unread-missed shelf name OutOfMemory is rose words there = tt
+unread-missed : (shelf : ShelfSeen) (name : List ℕ) (ending : Ending) → IsUnreadOf name ending → IsUnread shelf name → IsMissed shelf name ending
+unread-missed shelf name (Merged text) is rose = is
+unread-missed shelf name Usage is rose = is
+unread-missed shelf name (Refused line) is rose = tt
+unread-missed shelf name (OtherNetwork line) is rose = tt
+unread-missed shelf name (TooLarge line) is rose = tt
+unread-missed shelf name (Unread line) is rose = (rose, is)
+unread-missed shelf name OutOfMemory is rose = tt
 
 may-some : (t : Option (Result Contents Reply)) (ending : Ending) → ((whole : Result Contents Reply) → MayEnd ending whole) → IfSome t (MayBe (Err ending))
 may-some None ending may = tt
 may-some (Some whole) ending may = may whole
 
 pub unread-found : (shelf : ShelfSeen) (name : List ℕ) (found : Option (Result Contents Reply)) (ending : Ending) → IsUnreadOf name ending
-    → Rose (shelf.faults_before name) (shelf.faults_after name) → IsFound shelf name found (Err ending)
+    → IsUnread shelf name → IsFound shelf name found (Err ending)
 unread-found shelf name found ending is rose = record {
   answer = may-some found ending (λ whole. unread-may name ending whole is);
   cause = unread-missed shelf name ending is rose;
@@ -111,111 +112,275 @@ pub file-missed : (told : List ℕ → Option (List ℕ)) (c : Contents) (name :
     → IfSome (with_file told c name) (MayBe (Err ending))
 file-missed told c name ending may = may-go_on (λ e. merge_reply name (merged c e)) (report_at told name) ending may
 
+-- an ending that tells of no failed read misses no file, and had no failed read
+told-missed : (shelf : ShelfSeen) (name : List ℕ) (ending : Ending) → IsTold ending → IsMissed shelf name ending
+told-missed shelf name (Merged text) told = told
+told-missed shelf name Usage told = told
+told-missed shelf name (Refused line) told = tt
+told-missed shelf name (OtherNetwork line) told = tt
+told-missed shelf name (TooLarge line) told = tt
+told-missed shelf name (Unread line) told = absurd told
+told-missed shelf name OutOfMemory told = tt
+
+pub told-found : (shelf : ShelfSeen) (name : List ℕ) (found : Option (Result Contents Reply)) (ending : Ending) → IfSome found (MayBe (Err ending)) → IsTold ending
+    → IsFound shelf name found (Err ending)
+told-found shelf name found ending answer told = record { answer = answer; cause = told-missed shelf name ending told }
+
+pub told-read : (ending : Ending) → IsTold ending → HasRead ending
+told-read (Merged text) told = tt
+told-read Usage told = tt
+told-read (Refused line) told = tt
+told-read (OtherNetwork line) told = tt
+told-read (TooLarge line) told = tt
+told-read (Unread line) told = told
+told-read OutOfMemory told = tt
+
 -- ---- all files
 
--- those before it are gone on with
-abbrev pub GoesOn : (List ℕ → Option (List ℕ)) → Contents → List (List ℕ) → Contents → List (List ℕ) → Type 0
-GoesOn told first all whole rest = (result : Result Contents Ending) → IfSome (with_files told whole rest) (MayBe result) → IfSome (with_files told first all) (MayBe result)
+-- the files in two parts
+go_on-both : (next last both : Contents → Option (Result Contents Reply)) (t : Option (Result Contents Reply)) → ((c : Contents) → both c ≡ go_on last (next c))
+    → go_on both t ≡ go_on last (go_on next t)
+go_on-both next last both None same = refl
+go_on-both next last both (Some (Err reply)) same = refl
+go_on-both next last both (Some (Ok c)) same = same c
 
-pub goes-first : (told : List ℕ → Option (List ℕ)) (first : Contents) (all : List (List ℕ)) → GoesOn told first all first all
-goes-first told first all result is = is
-
-pub goes-more : {S : Type 0} (view : S → List ℕ) (told : List ℕ → Option (List ℕ)) (first : Contents) (names : List S) (whole both : Contents) (i : ℕ) (x : S) → i < length names → x ≡ get_or names i x
-    → GoesOn told first (map view names) whole (map view (drop i names)) → IfSome (with_file told whole (view x)) (MayBe (Ok both))
-    → GoesOn told first (map view names) both (map view (drop (i + 1) names))
+with_files-append : (told : List ℕ → Option (List ℕ)) (names others : List (List ℕ)) (c : Contents)
+    → with_files told c (names ++ others) ≡ go_on (λ d. with_files told d others) (with_files told c names)
 unfolding with_files
-goes-more view told first names whole both i x small is goes there result ends =
-    goes result (rw (drop_more names i x small, ← is)
-    (ok-go_on (λ d. with_files told d (map view (drop (i + 1) names))) (with_file told whole (view x)) both (MayBe result) there ends))
+with_files-append told [] others c = refl
+with_files-append told (name ∷ names) others c =
+    go_on-both (λ d. with_files told d names) (λ d. with_files told d others) (λ d. with_files told d (names ++ others)) (with_file told c name) (with_files-append told names others)
 
-pub goes-missed : {S : Type 0} (view : S → List ℕ) (told : List ℕ → Option (List ℕ)) (first : Contents) (names : List S) (whole : Contents) (i : ℕ) (x : S) (ending : Ending) → i < length names
-    → x ≡ get_or names i x → GoesOn told first (map view names) whole (map view (drop i names)) → IfSome (with_file told whole (view x)) (MayBe (Err ending))
-    → IfSome (with_files told first (map view names)) (MayBe (Err ending))
+-- files have this report together, where the shelf tells them
+abbrev pub HasReport : (List (List ℕ) → Option (Result Contents Reply)) → List (List ℕ) → Contents → Type 0
+HasReport found names c = IfSome (found names) (λ whole. whole ≡ Ok c)
+
+pub has-none : (told : List ℕ → Option (List ℕ)) (c : Contents) → HasReport (with_files told c) [] c
 unfolding with_files
-goes-missed view told first names whole i x ending small is goes may =
-    goes (Err ending) (rw (drop_more names i x small, ← is)
-    (may-go_on (λ d. with_files told d (map view (drop (i + 1) names))) (with_file told whole (view x)) ending may))
+has-none told c = refl
 
-pub goes-end : {S : Type 0} (view : S → List ℕ) (told : List ℕ → Option (List ℕ)) (first : Contents) (names : List S) (whole : Contents) (i : ℕ) → length names ≤ i
-    → GoesOn told first (map view names) whole (map view (drop i names)) → IfSome (with_files told first (map view names)) (MayBe (Ok whole))
-unfolding with_files
-goes-end view told first names whole i past goes = goes (Ok whole) (rw (drop_all i names past) refl)
+pub has-ok : (t : Option (Result Contents Reply)) (c : Contents) → IfSome t (λ whole. whole ≡ Ok c) → IfSome t IsOk
+has-ok None c has = tt
+has-ok (Some (Ok d)) c has = refl
+has-ok (Some (Err reply)) c has = absurd cc
 
--- a fault that was counted later was counted over the whole
-pub missed-earlier : (told other_told : List ℕ → Option (List ℕ)) (before between after : List ℕ → ℕ) (words : List (List ℕ)) (ending : Ending) → ((other : List ℕ) → before other ≤ between other)
-    → IsMissed (record { told = other_told; faults_before = between; faults_after = after }) words ending → IsMissed (record { told = told; faults_before = before; faults_after = after }) words ending
-missed-earlier told other_told before between after words (Merged text) counts missed = missed
-missed-earlier told other_told before between after words Usage counts missed = missed
-missed-earlier told other_told before between after words (Refused line) counts missed = tt
-missed-earlier told other_told before between after words (OtherNetwork line) counts missed = tt
-missed-earlier told other_told before between after words (TooLarge line) counts missed = tt
-missed-earlier told other_told before between after words (Unread line) counts missed =
-    let cause = missed.cause in
-    record {
-      cause = record { name = cause.name; named = cause.named; rose = rose-over (before cause.name) (between cause.name) (after cause.name) (after cause.name) (counts cause.name) cause.rose (omega arith) };
-      told = missed.told;
-    }
-missed-earlier told other_told before between after words OutOfMemory counts missed = tt
+-- a file behind those that have a report, with others behind it
+module _ {S : Type 0} (view : S → List ℕ) (told : List ℕ → Option (List ℕ)) (first : Contents) (names : List S) (whole : Contents) (i : ℕ) (x : S)
+    (small : i < length names) (is : x ≡ get_or names i x) (has : HasReport (with_files told first) (map view (take i names)) whole) where
+  pub split-at : map view (take i names) ++ view x ∷ map view (drop (i + 1) names) ≡ map view names
+  split-at =
+      ap (λ (y : S). map view (take i names) ++ view y ∷ map view (drop (i + 1) names)) is
+      ∙ ap (λ (rest : List S). map view (take i names) ++ map view rest) (sym (drop_more names i x small))
+      ∙ sym (map-append view (take i names) (drop i names)) ∙ ap (map view) (take-append-drop i names)
 
-pub contains-map : {S : Type 0} (view : S → List ℕ) (names : List S) (i : ℕ) (x : S) → i < length names → x ≡ get_or names i x → Contains (map view names) (view x)
-contains-map view names i x small is = (i, (let same : length (map view names) ≡ length names = length-map names view in omega arith), mapped view names i x small is)
-  where
-    mapped : {S : Type 0} (view : S → List ℕ) (names : List S) (i : ℕ) (x : S) → i < length names → x ≡ get_or names i x → get_or (map view names) i (view x) ≡ view x
-    mapped view [] i x small is = absurd (omega arith)
-    mapped view (y ∷ ys) zero x small is = ap view (sym is)
-    mapped view (y ∷ ys) (suc i) x small is = mapped view ys i x (omega arith) is
+  -- what is found with more files behind those
+  found-behind : (others : List (List ℕ)) (Is : Result Contents Reply → Type 0) → IfSome (with_files told whole others) Is → IfSome (with_files told first (map view (take i names) ++ others)) Is
+  found-behind others Is is = rw (with_files-append told (map view (take i names)) others first)
+      (ok-go_on (λ d. with_files told d others) (with_files told first (map view (take i names))) whole Is has is)
 
-pub contains-more : (word : List ℕ) (words : List (List ℕ)) (name : List ℕ) → Contains words name → Contains (word ∷ words) name
-contains-more word words name there = (suc there.0, omega (arith, there.1), there.2)
+  pub has-more : (both : Contents) → IfSome (with_file told whole (view x)) (MayBe (Ok both)) → HasReport (with_files told first) (map view (take (i + 1) names)) both
+  unfolding with_files
+  has-more both there =
+      rw (map_more view names i x small, ← is)
+      (found-behind (view x ∷ []) (MayBe (Ok both)) (ok-go_on (λ d. with_files told d []) (with_file told whole (view x)) both (MayBe (Ok both)) there refl))
 
-pub contains-first : (word : List ℕ) (words : List (List ℕ)) → Contains (word ∷ words) word
-contains-first word words = (0, omega arith, refl)
+  pub all-missed : (ending : Ending) → IfSome (with_file told whole (view x)) (MayBe (Err ending)) → IfSome (with_files told first (map view names)) (MayBe (Err ending))
+  unfolding with_files
+  all-missed ending may =
+      subst (λ (all : List (List ℕ)). IfSome (with_files told first all) (MayBe (Err ending))) split-at
+      (found-behind (view x ∷ map view (drop (i + 1) names)) (MayBe (Err ending))
+      (may-go_on (λ d. with_files told d (map view (drop (i + 1) names))) (with_file told whole (view x)) ending may))
 
--- an ending that tells of no failed read misses no file
-pub told-missed : (shelf : ShelfSeen) (words : List (List ℕ)) (ending : Ending) → IsTold ending → IsMissed shelf words ending
-told-missed shelf words (Merged text) told = told
-told-missed shelf words Usage told = told
-told-missed shelf words (Refused line) told = tt
-told-missed shelf words (OtherNetwork line) told = tt
-told-missed shelf words (TooLarge line) told = tt
-told-missed shelf words (Unread line) told = absurd told
-told-missed shelf words OutOfMemory told = tt
-
--- a file that is missed among some is missed among more
-missed-more : (shelf : ShelfSeen) (name : List ℕ) (words : List (List ℕ)) (ending : Ending) → IsMissed shelf words ending → IsMissed shelf (name ∷ words) ending
-missed-more shelf name words (Merged text) missed = missed
-missed-more shelf name words Usage missed = missed
-missed-more shelf name words (Refused line) missed = tt
-missed-more shelf name words (OtherNetwork line) missed = tt
-missed-more shelf name words (TooLarge line) missed = tt
-missed-more shelf name words (Unread line) missed =
-    let cause = missed.cause in record { cause = record { name = cause.name; named = contains-more name words cause.name cause.named; rose = cause.rose }; told = missed.told }
-missed-more shelf name words OutOfMemory missed = tt
-
--- the first file, and those behind it
-module _ (told other_told : List ℕ → Option (List ℕ)) (before between after : List ℕ → ℕ) (name : List ℕ) (names : List (List ℕ)) where
-  missed-behind : (result : Result Contents Ending) → ((other : List ℕ) → before other ≤ between other)
-      → IfErr result (λ ending. IsMissed (record { told = other_told; faults_before = between; faults_after = after }) names ending)
-      → IfErr result (λ ending. IsMissed (record { told = told; faults_before = before; faults_after = after }) (name ∷ names) ending)
-  missed-behind (Ok c) counts missed = tt
-  missed-behind (Err ending) counts missed =
-      missed-earlier told other_told before between after (name ∷ names) ending counts (missed-more (record { told = other_told; faults_before = between; faults_after = after }) name names ending missed)
-
-  pub found-all : (c : Contents) (result : Result Contents Ending) → other_told ≡ told → IfSome (report_at told name) (λ found. found ≡ Ok c)
-      → ((other : List ℕ) → before other ≤ between other) → AreFound (record { told = other_told; faults_before = between; faults_after = after }) names (with_files other_told c names) result
-      → AreFound (record { told = told; faults_before = before; faults_after = after }) (name ∷ names) (whole_of told (name ∷ names)) result
-  found-all c result same there counts found = record {
-    answer = ok-go_on (λ d. with_files told d names) (report_at told name) c (MayBe result) there
-        (subst (λ (t : List ℕ → Option (List ℕ)). IfSome (with_files t c names) (MayBe result)) same found.answer);
-    cause = missed-behind result counts found.cause;
+  -- it comes to be next
+  abbrev pub next-at : IsNext (with_files told first) (map view names) (view x)
+  next-at = record {
+    before = map view (take i names);
+    behind = map view (drop (i + 1) names);
+    place = split-at;
+    merged = has-ok (with_files told first (map view (take i names))) whole has;
   }
 
-pub missed-all : (shelf : ShelfSeen) (name : List ℕ) (names : List (List ℕ)) (ending : Ending) → IsFound shelf name (report_at shelf.told name) (Err ending)
-    → AreFound shelf (name ∷ names) (whole_of shelf.told (name ∷ names)) (Err ending)
-missed-all shelf name names ending found = record {
-  answer = may-go_on (λ c. with_files shelf.told c names) (report_at shelf.told name) ending found.answer;
-  cause = found.cause (name ∷ names) (contains-first name names);
+pub has-all : {S : Type 0} (view : S → List ℕ) (told : List ℕ → Option (List ℕ)) (first : Contents) (names : List S) (whole : Contents) (i : ℕ) → length names ≤ i
+    → HasReport (with_files told first) (map view (take i names)) whole → IfSome (with_files told first (map view names)) (MayBe (Ok whole))
+has-all view told first names whole i past has = rw (← take_all i names past) has
+
+-- ---- what was asked for
+
+-- one more read
+pub asked-more : (before between after : List Read) (names : List (List ℕ)) (name : List ℕ) → between ≡ before ++ map read_of names → after ≡ between ++ read_of name ∷ []
+    → after ≡ before ++ map read_of (names ++ name ∷ [])
+asked-more before between after names name earlier last =
+    last ∙ ap (λ (reads : List Read). reads ++ read_of name ∷ []) earlier ∙ append_assoc before (map read_of names) (read_of name ∷ [])
+    ∙ ap (λ (reads : List Read). before ++ reads) (sym (map-append read_of names (name ∷ [])))
+
+-- more reads behind the first
+asked-behind : (before between after : List Read) (name : List ℕ) (names : List (List ℕ)) → between ≡ before ++ read_of name ∷ [] → after ≡ between ++ map read_of names
+    → after ≡ before ++ map read_of (name ∷ names)
+asked-behind before between after name names first rest =
+    rest ∙ ap (λ (reads : List Read). reads ++ map read_of names) first ∙ append_assoc before (read_of name ∷ []) (map read_of names)
+
+-- one more of the names that are asked for one after another
+pub asked-next : {S : Type 0} (view : S → List ℕ) (names : List S) (i : ℕ) (x : S) → i < length names → x ≡ get_or names i x → (before between after : List Read)
+    → between ≡ before ++ map read_of (map view (take i names)) → after ≡ between ++ read_of (view x) ∷ [] → after ≡ before ++ map read_of (map view (take (i + 1) names))
+asked-next view names i x small is before between after earlier last =
+    asked-more before between after (map view (take i names)) (view x) earlier last
+    ∙ ap (λ (y : _). before ++ map read_of (map view (take i names) ++ view y ∷ [])) is
+    ∙ ap (λ (done : List (List ℕ)). before ++ map read_of done) (sym (map_more view names i x small))
+
+pub asked-all : {S : Type 0} (view : S → List ℕ) (names : List S) (i : ℕ) → length names ≤ i → (before after : List Read) → after ≡ before ++ map read_of (map view (take i names))
+    → after ≡ before ++ map read_of (map view names)
+asked-all view names i past before after asked = asked ∙ ap (λ (all : List _). before ++ map read_of (map view all)) (take_all i names past)
+
+-- a fault that was counted in between was counted over the whole
+missed-over : (told other_told : List ℕ → Option (List ℕ)) (asked_before asked_between asked_after : List Read) (before between after : List ℕ → ℕ) → ((other : List ℕ) → before other ≤ between other)
+    → (name : List ℕ) (ending : Ending)
+    → IsMissed (record { told = other_told; asked_before = asked_between; asked_after = asked_after; faults_before = between; faults_after = after }) name ending
+    → IsMissed (record { told = told; asked_before = asked_before; asked_after = asked_after; faults_before = before; faults_after = after }) name ending
+missed-over told other_told asked_before asked_between asked_after before between after counts name (Merged text) missed = missed
+missed-over told other_told asked_before asked_between asked_after before between after counts name Usage missed = missed
+missed-over told other_told asked_before asked_between asked_after before between after counts name (Refused line) missed = tt
+missed-over told other_told asked_before asked_between asked_after before between after counts name (OtherNetwork line) missed = tt
+missed-over told other_told asked_before asked_between asked_after before between after counts name (TooLarge line) missed = tt
+missed-over told other_told asked_before asked_between asked_after before between after counts name (Unread line) missed =
+    (rose-over (before name) (between name) (after name) (after name) (counts name) missed.0 (omega arith), missed.1)
+missed-over told other_told asked_before asked_between asked_after before between after counts name OutOfMemory missed = tt
+
+-- the first file, and those behind it
+abbrev pub next-first : (told : List ℕ → Option (List ℕ)) (name : List ℕ) (names : List (List ℕ)) → IsNext (whole_of told) (name ∷ names) name
+next-first told name names = record { before = []; behind = names; place = refl; merged = tt }
+
+abbrev next-behind : (told : List ℕ → Option (List ℕ)) (name : List ℕ) (names : List (List ℕ)) (c : Contents) → IfSome (report_at told name) (λ found. found ≡ Ok c)
+    → (other : List ℕ) → IsNext (with_files told c) names other → IsNext (whole_of told) (name ∷ names) other
+next-behind told name names c there other next = record {
+  before = name ∷ next.before;
+  behind = next.behind;
+  place = ap (λ (rest : List (List ℕ)). name ∷ rest) next.place;
+  merged = ok-go_on (λ d. with_files told d next.before) (report_at told name) c IsOk there next.merged;
 }
+
+-- a file that is missed, behind those that have a report
+module _ {S : Type 0} (view : S → List ℕ) (told other_told : List ℕ → Option (List ℕ)) (first : Contents) (names : List S) (whole : Contents) (i : ℕ) (x : S)
+    (small : i < length names) (is : x ≡ get_or names i x) (has : HasReport (with_files told first) (map view (take i names)) whole)
+    (asked_before asked_between asked_after : List Read) (before between after : List ℕ → ℕ) (counts : (other : List ℕ) → before other ≤ between other)
+    (earlier : asked_between ≡ asked_before ++ map read_of (map view (take i names))) (last : asked_after ≡ asked_between ++ read_of (view x) ∷ []) where
+  pub missed-at : (ending : Ending)
+      → IsMissed (record { told = other_told; asked_before = asked_between; asked_after = asked_after; faults_before = between; faults_after = after }) (view x) ending
+      → AreMissed (record { told = told; asked_before = asked_before; asked_after = asked_after; faults_before = before; faults_after = after }) (with_files told first) (map view names) ending
+  missed-at ending missed = record {
+    last = record {
+      name = view x;
+      next = next-at view told first names whole i x small is has;
+      asked = asked-more asked_before asked_between asked_after (map view (take i names)) (view x) earlier last;
+    };
+    cause = missed-over told other_told asked_before asked_between asked_after before between after counts (view x) ending missed;
+  }
+
+-- all files behind the first
+module _ (told : List ℕ → Option (List ℕ)) (name : List ℕ) (names : List (List ℕ)) (c : Contents) (there : IfSome (report_at told name) (λ found. found ≡ Ok c))
+    (asked_before asked_between asked_after : List Read) (asked : asked_between ≡ asked_before ++ read_of name ∷ []) where
+  asked-rest : (result : Result Contents Ending) → IfOk result (λ d. asked_after ≡ asked_between ++ map read_of names) → IfOk result (λ d. asked_after ≡ asked_before ++ map read_of (name ∷ names))
+  asked-rest (Ok d) rest = asked-behind asked_before asked_between asked_after name names asked rest
+  asked-rest (Err ending) rest = tt
+
+  module _ (before between after : List ℕ → ℕ) (counts : (other : List ℕ) → before other ≤ between other) where
+    missed-rest : (result : Result Contents Ending)
+        → IfErr result (AreMissed (record { told = told; asked_before = asked_between; asked_after = asked_after; faults_before = between; faults_after = after }) (with_files told c) names)
+        → IfErr result (AreMissed (record { told = told; asked_before = asked_before; asked_after = asked_after; faults_before = before; faults_after = after }) (whole_of told) (name ∷ names))
+    missed-rest (Ok d) missed = tt
+    missed-rest (Err ending) missed =
+        let last = missed.last in
+        record {
+          last = record {
+            name = last.name;
+            next = next-behind told name names c there last.name last.next;
+            asked = asked-behind asked_before asked_between asked_after name (last.next.before ++ last.name ∷ []) asked last.asked;
+          };
+          cause = missed-over told told asked_before asked_between asked_after before between after counts last.name ending missed.cause;
+        }
+
+    found-rest : (result : Result Contents Ending)
+        → AreFound (record { told = told; asked_before = asked_between; asked_after = asked_after; faults_before = between; faults_after = after }) (with_files told c) names result
+        → AreFound (record { told = told; asked_before = asked_before; asked_after = asked_after; faults_before = before; faults_after = after }) (whole_of told) (name ∷ names) result
+    found-rest result found = record {
+      answer = ok-go_on (λ d. with_files told d names) (report_at told name) c (MayBe result) there found.answer;
+      asked = asked-rest result found.asked;
+      cause = missed-rest result found.cause;
+    }
+
+-- the shelf tells the same behind the first
+module _ (told other_told : List ℕ → Option (List ℕ)) (name : List ℕ) (names : List (List ℕ)) (c : Contents) (same : other_told ≡ told)
+    (there : IfSome (report_at told name) (λ found. found ≡ Ok c)) where
+  pub found-all : (asked_before asked_between asked_after : List Read) (before between after : List ℕ → ℕ) (result : Result Contents Ending)
+      → asked_between ≡ asked_before ++ read_of name ∷ [] → ((other : List ℕ) → before other ≤ between other)
+      → AreFound (record { told = other_told; asked_before = asked_between; asked_after = asked_after; faults_before = between; faults_after = after }) (with_files other_told c) names result
+      → AreFound (record { told = told; asked_before = asked_before; asked_after = asked_after; faults_before = before; faults_after = after }) (whole_of told) (name ∷ names) result
+  found-all asked_before asked_between asked_after before between after result asked counts found =
+      found-rest told name names c there asked_before asked_between asked_after asked before between after counts result
+      (subst (λ (t : List ℕ → Option (List ℕ)).
+      AreFound (record { told = t; asked_before = asked_between; asked_after = asked_after; faults_before = between; faults_after = after }) (with_files t c) names result) same found)
+
+  -- where each file that is needed is given, those behind the first are
+  pub given-behind : (gives gives_on : List ℕ → Type 0) → ((other : List ℕ) → gives other → gives_on other) → AreNextGiven gives (whole_of told) (name ∷ names)
+      → AreNextGiven gives_on (with_files other_told c) names
+  given-behind gives gives_on on given other next =
+      on other (given other (next-behind told name names c there other (subst (λ (t : List ℕ → Option (List ℕ)). IsNext (with_files t c) names other) same next)))
+
+pub missed-all : (shelf : ShelfSeen) (name : List ℕ) (names : List (List ℕ)) (ending : Ending) → IsFound shelf name (report_at shelf.told name) (Err ending)
+    → shelf.asked_after ≡ shelf.asked_before ++ read_of name ∷ [] → AreFound shelf (whole_of shelf.told) (name ∷ names) (Err ending)
+missed-all shelf name names ending found asked = record {
+  answer = may-go_on (λ c. with_files shelf.told c names) (report_at shelf.told name) ending found.answer;
+  asked = tt;
+  cause = record { last = record { name = name; next = next-first shelf.told name names; asked = asked }; cause = found.cause };
+}
+
+-- ---- all words
+
+-- a front of files that are merged is merged
+ok-front : (next : Contents → Option (Result Contents Reply)) (t : Option (Result Contents Reply)) → IfSome (go_on next t) IsOk → IfSome t IsOk
+ok-front next None is = tt
+ok-front next (Some (Ok c)) is = refl
+ok-front next (Some (Err reply)) is = is
+
+front-merged : (told : List ℕ → Option (List ℕ)) (front others : List (List ℕ)) → IfSome (whole_of told (front ++ others)) IsOk → IfSome (whole_of told front) IsOk
+front-merged told [] others is = tt
+front-merged told (name ∷ names) others is = go (report_at told name) is
+  where
+    go : (t : Option (Result Contents Reply)) → IfSome (go_on (λ c. with_files told c (names ++ others)) t) IsOk → IfSome (go_on (λ c. with_files told c names) t) IsOk
+    go None is = tt
+    go (Some (Err reply)) is = is
+    go (Some (Ok c)) is =
+        ok-front (λ d. with_files told d others) (with_files told c names) (subst (λ (t : Option (Result Contents Reply)). IfSome t IsOk) (with_files-append told names others c) is)
+
+-- the last of some names, and those before it
+last-of : (name : List ℕ) (names : List (List ℕ)) → (front : List (List ℕ)) × (last : List ℕ) × (front ++ last ∷ [] ≡ name ∷ names)
+last-of name [] = ([], name, refl)
+last-of name (other ∷ names) =
+    let rest = last-of other names in (name ∷ rest.0, rest.1, ap (λ (all : List (List ℕ)). name ∷ all) rest.2)
+
+-- files that are all read and merged, of which there is one at least
+all-read : (shelf : ShelfSeen) (words : List (List ℕ)) → are_files words ≡ true → HasAsked shelf words → IfSome (whole_of shelf.told words) IsOk → AreRead shelf words
+unfolding are_files
+all-read shelf [] are asked merged = absurd cc
+all-read shelf (word ∷ words) are asked merged =
+    let last = last-of word words in
+    record {
+      last = record {
+        name = last.1;
+        next = record {
+          before = last.0;
+          behind = [];
+          place = last.2;
+          merged = front-merged shelf.told last.0 (last.1 ∷ []) (subst (λ (all : List (List ℕ)). IfSome (whole_of shelf.told all) IsOk) (sym last.2) merged);
+        };
+        asked = subst (λ (all : List (List ℕ)). HasAsked shelf all) (sym last.2) asked;
+      };
+      all = refl;
+    }
+
+-- the words are files, each of which is given where it is needed
+pub given-words : (gives : List ℕ → Type 0) (told : List ℕ → Option (List ℕ)) (words : List (List ℕ)) → are_files words ≡ true → AreGiven gives told words
+    → AreNextGiven gives (whole_of told) words
+given-words gives told words are given name next = given name (record { files = are; next = next })
 
 -- ---- how the work ends
 
@@ -228,12 +393,16 @@ pub files-all : (word : List ℕ) (words : List (List ℕ)) → are_files (word 
 unfolding are_files
 files-all word words = refl
 
-pub ended-usage : (shelf : ShelfSeen) (words : List (List ℕ)) → are_files words ≡ false → IsEnding shelf words Usage
+pub ended-usage : (shelf : ShelfSeen) (words : List (List ℕ)) → are_files words ≡ false → shelf.asked_after ≡ shelf.asked_before → IsEnding shelf words Usage
 unfolding reply_to
-ended-usage shelf words are = record { reply = rw are refl; cause = are }
+ended-usage shelf words are same = record { reply = rw are refl; cause = (are, same ∙ sym (append-nil shelf.asked_before)) }
 
-pub ended-memory : (shelf : ShelfSeen) (words : List (List ℕ)) → are_files words ≡ true → IsEnding shelf words OutOfMemory
-ended-memory shelf words are = record { reply = memory (reply_to shelf.told words); cause = are }
+-- there is no memory for the text of the report of all
+pub ended-memory : (shelf : ShelfSeen) (words : List (List ℕ)) (c : Contents) → are_files words ≡ true → AreFound shelf (whole_of shelf.told) words (Ok c) → IsEnding shelf words OutOfMemory
+ended-memory shelf words c are found = record {
+  reply = memory (reply_to shelf.told words);
+  cause = (are, (all-read shelf words are found.asked (has-ok (whole_of shelf.told words) c found.answer)).last);
+}
   where
     memory : (t : Option Reply) → IfSome t (MayReply OutOfMemory)
     memory None = tt
@@ -244,12 +413,12 @@ replied : (t : Option (Result Contents Reply)) (Is : Reply → Type 0) (May : Re
 replied None Is May may make = tt
 replied (Some whole) Is May may make = make whole may
 
-pub ended-merged : (shelf : ShelfSeen) (words : List (List ℕ)) (text : Vec ℕ Global) (c : Contents) → are_files words ≡ true → IfSome (whole_of shelf.told words) (MayBe (Ok c)) → text.items ≡ text_of c
-    → IsEnding shelf words (Merged text)
+pub ended-merged : (shelf : ShelfSeen) (words : List (List ℕ)) (text : Vec ℕ Global) (c : Contents) → are_files words ≡ true → AreFound shelf (whole_of shelf.told) words (Ok c)
+    → text.items ≡ text_of c → IsEnding shelf words (Merged text)
 unfolding reply_to
 ended-merged shelf words text c are found is = record {
-  reply = rw are (replied (whole_of shelf.told words) (MayReply (Merged text)) (MayBe (Ok c)) found (λ whole same. (rw same (ap text_reply is))));
-  cause = are;
+  reply = rw are (replied (whole_of shelf.told words) (MayReply (Merged text)) (MayBe (Ok c)) found.answer (λ whole same. (rw same (ap text_reply is))));
+  cause = (are, all-read shelf words are found.asked (has-ok (whole_of shelf.told words) c found.answer));
 }
 
 -- an ending for want of a report replies
@@ -262,16 +431,16 @@ may-reply (TooLarge line) whole may = rw may refl
 may-reply (Unread line) whole may = tt
 may-reply OutOfMemory whole may = tt
 
-missed-cause : (shelf : ShelfSeen) (words : List (List ℕ)) (ending : Ending) → are_files words ≡ true → IsMissed shelf words ending → IsCaused shelf words ending
-missed-cause shelf words (Merged text) are missed = absurd missed
-missed-cause shelf words Usage are missed = absurd missed
-missed-cause shelf words (Refused line) are missed = are
-missed-cause shelf words (OtherNetwork line) are missed = are
-missed-cause shelf words (TooLarge line) are missed = are
+missed-cause : (shelf : ShelfSeen) (words : List (List ℕ)) (ending : Ending) → are_files words ≡ true → AreMissed shelf (whole_of shelf.told) words ending → IsCaused shelf words ending
+missed-cause shelf words (Merged text) are missed = absurd missed.cause
+missed-cause shelf words Usage are missed = absurd missed.cause
+missed-cause shelf words (Refused line) are missed = (are, missed)
+missed-cause shelf words (OtherNetwork line) are missed = (are, missed)
+missed-cause shelf words (TooLarge line) are missed = (are, missed)
 missed-cause shelf words (Unread line) are missed = (are, missed)
-missed-cause shelf words OutOfMemory are missed = are
+missed-cause shelf words OutOfMemory are missed = (are, missed.last)
 
-pub ended-missed : (shelf : ShelfSeen) (words : List (List ℕ)) (ending : Ending) → are_files words ≡ true → AreFound shelf words (whole_of shelf.told words) (Err ending) → IsEnding shelf words ending
+pub ended-missed : (shelf : ShelfSeen) (words : List (List ℕ)) (ending : Ending) → are_files words ≡ true → AreFound shelf (whole_of shelf.told) words (Err ending) → IsEnding shelf words ending
 unfolding reply_to
 ended-missed shelf words ending are found = record {
   reply = rw are (replied (whole_of shelf.told words) (MayReply ending) (MayBe (Err ending)) found.answer (λ whole may. may-reply ending whole may));

@@ -2,4 +2,5 @@
 pub mod Finding
 pub mod Written
 pub mod Running
+pub mod Sparing
 pub mod Heading

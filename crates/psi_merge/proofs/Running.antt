@@ -1,6 +1,7 @@
 -- What a call is seen to do, from its ending and how that was written.
-use Rattle.std.specs.Prelude.{◌≡◌, ℕ, List, [], ◌∷◌, ◌++◌, Option, Some, None, IfSome, false, ◌⊎◌, refl}
+use Rattle.std.specs.Prelude.{◌≡◌, Vec, ℕ, List, [], ◌∷◌, ◌++◌, Option, Some, None, IfSome, true, false, ◌⊎◌, refl}
 use Rattle.std.proofs.Common.{inl, inr, ap, sym, ◌∙◌, subst}
+use Rattle.std.specs.declared.alloc.Global.{Global}
 use Rattle.psi_io.specs.Sink.{appended}
 use Rattle.psi_io.proofs.SinkLemmas.{appended-nothing}
 use Rattle.psi_merge.specs.declared.status.Status.{Status}
@@ -8,9 +9,9 @@ use Rattle.psi_merge.specs.declared.status.Status.TheVariants as status
 use Rattle.psi_merge.specs.declared.ending.Ending.{Ending}
 use Rattle.psi_merge.specs.declared.ending.Ending.TheVariants.{Merged, Usage, Refused, OtherNetwork, TooLarge, Unread, OutOfMemory}
 use Rattle.psi_merge.specs.Status.{IsReplied, IsReported}
-use Rattle.psi_merge.specs.Reply.{Reply, are_files}
-use Rattle.psi_merge.specs.Seen.{ShelfSeen, HasUnread, SinkSeen, Grew, GrewByPart, IsUnchanged, HasFailed}
-use Rattle.psi_merge.specs.Ended.{ending_reply, MayReply, IsCaused, IsEnding, IsWhole, IsCut, IsWrittenAs}
+use Rattle.psi_merge.specs.Reply.{Reply, whole_of, are_files}
+use Rattle.psi_merge.specs.Seen.{ShelfSeen, HasUnread, AreAsked, SinkSeen, Grew, GrewByPart, IsUnchanged, HasFailed}
+use Rattle.psi_merge.specs.Ended.{ending_reply, MayReply, AreMissed, IsCaused, IsEnding, IsWhole, IsCut, IsWrittenAs}
 use Rattle.psi_merge.specs.Call.{Call, reply_to_call, ReadFaulted, OutFaulted, EndsWithin, ErrFaulted, MemoryLacked, IsRun}
 
 -- from what is so where there is a reply
@@ -39,6 +40,21 @@ nothing-front (b ∷ front) back whole = absurd cc
 part-any : (sink : SinkSeen) (text : List ℕ) → GrewByPart sink [] → GrewByPart sink text
 part-any sink text part = record { front = []; back = text; whole = refl; grew = part.grew ∙ ap (appended sink.before) (sym (nothing-front part.front part.back part.whole)) }
 
+-- the last file that was read is needed, and a read of it failed
+abbrev missed-of : (shelf : ShelfSeen) (words : List (List ℕ)) (line : Vec ℕ Global) → are_files words ≡ true → AreMissed shelf (whole_of shelf.told) words (Unread line) → HasUnread shelf words
+missed-of shelf words line are missed = record { files = are; last = missed.last; unread = missed.cause.0 }
+
+-- what was asked for, whatever came of the writing
+reads-of : (shelf : ShelfSeen) (words : List (List ℕ)) (ending : Ending) (result : Status) → IsCaused shelf words ending
+    → (result ≡ status.Done → (ending_reply ending).status ≡ status.Done) → AreAsked shelf words result
+reads-of shelf words (Merged text) result cause done = inr (record { files = cause.0; last = cause.1.last; all = λ is. cause.1.all })
+reads-of shelf words Usage result cause done = inl cause
+reads-of shelf words (Refused line) result cause done = inr (record { files = cause.0; last = cause.1.last; all = λ is. (let never = done is in absurd cc) })
+reads-of shelf words (OtherNetwork line) result cause done = inr (record { files = cause.0; last = cause.1.last; all = λ is. (let never = done is in absurd cc) })
+reads-of shelf words (TooLarge line) result cause done = inr (record { files = cause.0; last = cause.1.last; all = λ is. (let never = done is in absurd cc) })
+reads-of shelf words (Unread line) result cause done = inr (record { files = cause.0; last = cause.1.last; all = λ is. (let never = done is in absurd cc) })
+reads-of shelf words OutOfMemory result cause done = inr (record { files = cause.0; last = cause.1; all = λ is. (let never = done is in absurd cc) })
+
 -- ---- an ending that was written whole
 
 kind-of : (shelf : ShelfSeen) (words : List (List ℕ)) (ending : Ending) → IsCaused shelf words ending → ¬ (HasUnread shelf words)
@@ -48,12 +64,12 @@ kind-of shelf words Usage cause read = inl tt
 kind-of shelf words (Refused line) cause read = inl tt
 kind-of shelf words (OtherNetwork line) cause read = inl tt
 kind-of shelf words (TooLarge line) cause read = inl tt
-kind-of shelf words (Unread line) cause read = absurd (read cause.1.cause)
+kind-of shelf words (Unread line) cause read = absurd (read (missed-of shelf words line cause.0 cause.1))
 kind-of shelf words OutOfMemory cause read = inr refl
 
 usage-of : (shelf : ShelfSeen) (words : List (List ℕ)) (ending : Ending) → IsCaused shelf words ending → (ending_reply ending).status ≡ status.Usage → are_files words ≡ false
 usage-of shelf words (Merged text) cause is = absurd cc
-usage-of shelf words Usage cause is = cause
+usage-of shelf words Usage cause is = cause.0
 usage-of shelf words (Refused line) cause is = absurd cc
 usage-of shelf words (OtherNetwork line) cause is = absurd cc
 usage-of shelf words (TooLarge line) cause is = absurd cc
@@ -61,13 +77,13 @@ usage-of shelf words (Unread line) cause is = absurd cc
 usage-of shelf words OutOfMemory cause is = absurd cc
 
 no-files-of : (shelf : ShelfSeen) (words : List (List ℕ)) (ending : Ending) → IsCaused shelf words ending → are_files words ≡ false → (ending_reply ending).status ≡ status.Usage
-no-files-of shelf words (Merged text) cause none = absurd cc
+no-files-of shelf words (Merged text) cause none = (let are = cause.0 in absurd cc)
 no-files-of shelf words Usage cause none = refl
-no-files-of shelf words (Refused line) cause none = absurd cc
-no-files-of shelf words (OtherNetwork line) cause none = absurd cc
-no-files-of shelf words (TooLarge line) cause none = absurd cc
+no-files-of shelf words (Refused line) cause none = (let are = cause.0 in absurd cc)
+no-files-of shelf words (OtherNetwork line) cause none = (let are = cause.0 in absurd cc)
+no-files-of shelf words (TooLarge line) cause none = (let are = cause.0 in absurd cc)
 no-files-of shelf words (Unread line) cause none = (let are = cause.0 in absurd cc)
-no-files-of shelf words OutOfMemory cause none = absurd cc
+no-files-of shelf words OutOfMemory cause none = (let are = cause.0 in absurd cc)
 
 read-fault-of : (call : Call) (ending : Ending) → IsCaused call.shelf call.words ending → IsWhole (ending_reply ending) call.out call.err → (ending_reply ending).status ≡ status.ReadFault → ReadFaulted call
 read-fault-of call (Merged text) cause whole is = absurd cc
@@ -76,9 +92,9 @@ read-fault-of call (Refused line) cause whole is = absurd cc
 read-fault-of call (OtherNetwork line) cause whole is = absurd cc
 read-fault-of call (TooLarge line) cause whole is = absurd cc
 read-fault-of call (Unread line) cause whole is = record {
-  cause = cause.1.cause;
+  cause = missed-of call.shelf call.words line cause.0 cause.1;
   out = unchanged call.out whole.printed;
-  err = subst (Grew call.err) cause.1.told whole.reported;
+  err = subst (Grew call.err) cause.1.cause.1 whole.reported;
 }
 read-fault-of call OutOfMemory cause whole is = absurd cc
 
@@ -89,7 +105,7 @@ no-memory-of call (Refused line) cause whole is = absurd cc
 no-memory-of call (OtherNetwork line) cause whole is = absurd cc
 no-memory-of call (TooLarge line) cause whole is = absurd cc
 no-memory-of call (Unread line) cause whole is = absurd cc
-no-memory-of call OutOfMemory cause whole is = record { words = cause; out = unchanged call.out whole.printed; err = whole.reported }
+no-memory-of call OutOfMemory cause whole is = record { words = cause.0; out = unchanged call.out whole.printed; err = whole.reported }
 
 no-fault-of : (ending : Ending) → (ending_reply ending).status ≡ status.WriteFault → ⊥
 no-fault-of (Merged text) is = absurd cc
@@ -127,6 +143,7 @@ module _ (call : Call) (ending : Ending) (is : IsEnding call.shelf call.words en
         (λ reply may kind. subst (λ (r : Reply). Grew call.out r.out) (same-reply ending reply may kind) whole.printed);
     err = where-some (reply_to_call call) (MayReply ending) (λ reply. IsReplied (ending_reply ending).status → Grew call.err reply.err) is.reply
         (λ reply may kind. subst (λ (r : Reply). Grew call.err r.err) (same-reply ending reply may kind) whole.reported);
+    reads = reads-of call.shelf call.words ending (ending_reply ending).status is.cause (λ done. done);
     complete = λ out err read. kind-of call.shelf call.words ending is.cause read;
     usage = usage-of call.shelf call.words ending is.cause;
     no_files = λ none. inl (no-files-of call.shelf call.words ending is.cause none);
@@ -154,8 +171,8 @@ module _ (call : Call) (ending : Ending) (is : IsEnding call.shelf call.words en
   part-err (Refused line) cause reply may part = inl (subst (λ (r : Reply). GrewByPart call.err r.err) may part)
   part-err (OtherNetwork line) cause reply may part = inl (subst (λ (r : Reply). GrewByPart call.err r.err) may part)
   part-err (TooLarge line) cause reply may part = inl (subst (λ (r : Reply). GrewByPart call.err r.err) may part)
-  part-err (Unread line) cause reply may part = inr (inl (cause.1.cause, subst (GrewByPart call.err) cause.1.told part))
-  part-err OutOfMemory cause reply may part = inr (inr part)
+  part-err (Unread line) cause reply may part = inr (inl (missed-of call.shelf call.words line cause.0 cause.1, subst (GrewByPart call.err) cause.1.cause.1 part))
+  part-err OutOfMemory cause reply may part = inr (inr (cause.0, part))
 
   faulted : IsCut (ending_reply ending).out call.out call.err ⊎ IsCut (ending_reply ending).err call.err call.out → OutFaulted call ⊎ ErrFaulted call
   faulted (inl cut) = inl (record {
@@ -178,6 +195,7 @@ module _ (call : Call) (ending : Ending) (is : IsEnding call.shelf call.words en
     status = where-some (reply_to_call call) (MayReply ending) (λ reply. IsReplied status.WriteFault → status.WriteFault ≡ reply.status) is.reply (λ reply may kind. absurd kind);
     out = where-some (reply_to_call call) (MayReply ending) (λ reply. IsReplied status.WriteFault → Grew call.out reply.out) is.reply (λ reply may kind. absurd kind);
     err = where-some (reply_to_call call) (MayReply ending) (λ reply. IsReplied status.WriteFault → Grew call.err reply.err) is.reply (λ reply may kind. absurd kind);
+    reads = reads-of call.shelf call.words ending status.WriteFault is.cause (λ done. absurd cc);
     complete = λ out err read. absurd (failed cut out err);
     usage = λ e. absurd cc;
     no_files = λ none. inr refl;

@@ -9,7 +9,7 @@ use Rattle.psi_merge.specs.declared.status.Status.{Status}
 use Rattle.psi_merge.specs.declared.status.Status.TheVariants.{Done, Usage, ReadFault, WriteFault, OutOfMemory}
 use Rattle.psi_merge.specs.Status.{IsReplied, IsReported}
 use Rattle.psi_merge.specs.Reply.{Reply, are_files, reply_to, unread_line, memory_line}
-use Rattle.psi_merge.specs.Seen.{ShelfSeen, HasUnread, SinkSeen, Grew, GrewByPart, IsUnchanged, HasFailed}
+use Rattle.psi_merge.specs.Seen.{ShelfSeen, HasUnread, AreAsked, SinkSeen, Grew, GrewByPart, IsUnchanged, HasFailed}
 
 -- a call: its words, the shelf that it reads and the two sinks that it writes
 pub record Call : Type 0 where
@@ -26,7 +26,7 @@ reply_to_call call = reply_to call.shelf.told call.words
 pub record ReadFaulted (call : Call) : Type 0 where
   pub cause : HasUnread call.shelf call.words
   pub out : IsUnchanged call.out
-  pub err : Grew call.err (unread_line cause.name)
+  pub err : Grew call.err (unread_line cause.last.name)
 
 -- out failed within the reply's text
 pub record OutFaulted (call : Call) : Type 0 where
@@ -34,10 +34,11 @@ pub record OutFaulted (call : Call) : Type 0 where
   pub out : IfSome (reply_to_call call) (λ reply. GrewByPart call.out reply.out)
   pub err : IsUnchanged call.err
 
--- what err holds where it failed: a prefix of the reply's line, of the line on a failed read, or of the line on want of memory
+-- what err holds where it failed: a prefix of the reply's line, of the line on a failed read, or where the words are files, of the line on want of memory
 abbrev pub EndsWithin : Call → Reply → Type 0
 EndsWithin call reply =
-    GrewByPart call.err reply.err ⊎ (((cause : HasUnread call.shelf call.words) × GrewByPart call.err (unread_line cause.name)) ⊎ GrewByPart call.err memory_line)
+    GrewByPart call.err reply.err
+    ⊎ (((cause : HasUnread call.shelf call.words) × GrewByPart call.err (unread_line cause.last.name)) ⊎ ((are_files call.words ≡ true) × GrewByPart call.err memory_line))
 
 -- err failed within its text
 pub record ErrFaulted (call : Call) : Type 0 where
@@ -58,7 +59,9 @@ pub record IsRun (call : Call) (result : Status) : Type 0 where
   -- and with such a status each sink that tells what it holds grew by exactly the reply's text
   pub out : IfSome (reply_to_call call) (λ reply. IsReplied result → Grew call.out reply.out)
   pub err : IfSome (reply_to_call call) (λ reply. IsReplied result → Grew call.err reply.err)
-  -- where no count of out, of err or of a file that the words name rose in the call, the status is that of a reply, or 8
+  -- each file is read once, in the words' order and with its limit, only where those before it are accepted and merged, and nothing else is read
+  pub reads : AreAsked call.shelf call.words result
+  -- where no count of out, of err or of a file that is needed rose in the call, the status is that of a reply, or 8
   pub complete : ¬ (HasFailed call.out) → ¬ (HasFailed call.err) → ¬ (HasUnread call.shelf call.words) → IsReplied result ⊎ (result ≡ OutOfMemory)
   -- status 2 comes only where the words aren't files, and where they aren't, it comes unless err fails
   pub usage : result ≡ Usage → are_files call.words ≡ false

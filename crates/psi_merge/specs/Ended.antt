@@ -1,13 +1,13 @@
 -- How the work of a call ends, before anything is written, and how that is written.
-use Rattle.std.specs.Prelude.{◌≡◌, ℕ, List, Option, Result, Ok, Err, MatchResult, IfSome, IfErr, Contains, true, false, ◌⊎◌}
+use Rattle.std.specs.Prelude.{◌≡◌, ℕ, List, [], Option, Result, Ok, Err, MatchResult, IfSome, IfOk, IfErr, true, false, ◌⊎◌}
 use Rattle.psi_io.specs.declared.sink.SinkFault.{SinkFault}
 use Rattle.psi_reports.specs.Contents.{Contents}
 use Rattle.psi_merge.specs.declared.status.Status.{Status}
 use Rattle.psi_merge.specs.declared.status.Status.TheVariants as status
 use Rattle.psi_merge.specs.declared.ending.Ending.{Ending}
 use Rattle.psi_merge.specs.declared.ending.Ending.TheVariants.{Merged, Usage, Refused, OtherNetwork, TooLarge, Unread, OutOfMemory}
-use Rattle.psi_merge.specs.Reply.{Reply, text_reply, line_reply, usage_line, memory_line, unread_line, are_files, reply_to}
-use Rattle.psi_merge.specs.Seen.{ShelfSeen, IsUnread, SinkSeen, Grew, GrewByPart, IsUnchanged, HasFailed}
+use Rattle.psi_merge.specs.Reply.{Reply, text_reply, line_reply, usage_line, memory_line, unread_line, whole_of, are_files, reply_to}
+use Rattle.psi_merge.specs.Seen.{ShelfSeen, IsUnread, HasAsked, HasAskedTo, SinkSeen, Grew, GrewByPart, IsUnchanged, HasFailed}
 
 -- the reply that an ending is
 abbrev pub ending_reply : Ending → Reply
@@ -33,18 +33,29 @@ MayEnd (Unread line) whole = Unit {0}
 MayEnd OutOfMemory whole = Unit {0}
 MayEnd ending whole = whole ≡ Err (ending_reply ending)
 
--- the cause of an ending: the words aren't files, a file is missed, or the words are files
-abbrev pub IsCaused : ShelfSeen → List (List ℕ) → Ending → Type 0
-IsCaused shelf words Usage = are_files words ≡ false
-IsCaused shelf words (Unread line) = (are_files words ≡ true) × IsUnread shelf words line.items
-IsCaused shelf words ending = are_files words ≡ true
-
 -- a file gives no report: a read of it failed, or the ending tells why
-abbrev pub IsMissed : ShelfSeen → List (List ℕ) → Ending → Type 0
-IsMissed shelf words (Merged text) = ⊥
-IsMissed shelf words Usage = ⊥
-IsMissed shelf words (Unread line) = IsUnread shelf words line.items
-IsMissed shelf words ending = Unit {0}
+abbrev pub IsMissed : ShelfSeen → List ℕ → Ending → Type 0
+IsMissed shelf name (Merged text) = ⊥
+IsMissed shelf name Usage = ⊥
+IsMissed shelf name (Unread line) = IsUnread shelf name × (line.items ≡ unread_line name)
+IsMissed shelf name ending = Unit {0}
+
+-- files give no report together: the last that was read gives none
+pub record AreMissed (shelf : ShelfSeen) (found : List (List ℕ) → Option (Result Contents Reply)) (names : List (List ℕ)) (ending : Ending) : Type 0 where
+  pub last : HasAskedTo shelf found names
+  pub cause : IsMissed shelf last.name ending
+
+-- all files were read, each of which but the last has a report with those before it
+pub record AreRead (shelf : ShelfSeen) (words : List (List ℕ)) : Type 0 where
+  pub last : HasAskedTo shelf (whole_of shelf.told) words
+  pub all : last.next.behind ≡ []
+
+-- the cause of an ending: the words aren't files, all are read, or the last that is read is missed
+abbrev pub IsCaused : ShelfSeen → List (List ℕ) → Ending → Type 0
+IsCaused shelf words Usage = (are_files words ≡ false) × HasAsked shelf []
+IsCaused shelf words (Merged text) = (are_files words ≡ true) × AreRead shelf words
+IsCaused shelf words OutOfMemory = (are_files words ≡ true) × HasAskedTo shelf (whole_of shelf.told) words
+IsCaused shelf words ending = (are_files words ≡ true) × AreMissed shelf (whole_of shelf.told) words ending
 
 -- the line of a failed read, or memory ran out
 abbrev pub IsUnreadOf : List ℕ → Ending → Type 0
@@ -67,12 +78,13 @@ MayBe (Err ending) whole = MayEnd ending whole
 -- what is found of a file: the answer where the shelf tells it, and a read of it failed where it couldn't be read
 pub record IsFound (shelf : ShelfSeen) (name : List ℕ) (found : Option (Result Contents Reply)) (result : Result Contents Ending) : Type 0 where
   pub answer : IfSome found (MayBe result)
-  pub cause : IfErr result (λ ending. (words : List (List ℕ)) → Contains words name → IsMissed shelf words ending)
+  pub cause : IfErr result (IsMissed shelf name)
 
--- what is found of all files
-pub record AreFound (shelf : ShelfSeen) (words : List (List ℕ)) (found : Option (Result Contents Reply)) (result : Result Contents Ending) : Type 0 where
-  pub answer : IfSome found (MayBe result)
-  pub cause : IfErr result (λ ending. IsMissed shelf words ending)
+-- what is found of files together
+pub record AreFound (shelf : ShelfSeen) (found : List (List ℕ) → Option (Result Contents Reply)) (names : List (List ℕ)) (result : Result Contents Ending) : Type 0 where
+  pub answer : IfSome (found names) (MayBe result)
+  pub asked : IfOk result (λ c. HasAsked shelf names)
+  pub cause : IfErr result (AreMissed shelf found names)
 
 -- the work for the words ended so
 pub record IsEnding (shelf : ShelfSeen) (words : List (List ℕ)) (ending : Ending) : Type 0 where

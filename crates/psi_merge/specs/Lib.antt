@@ -5,4 +5,5 @@ pub mod Gives
 pub mod Reply
 pub mod Seen
 pub mod Ended
+pub mod Spared
 pub mod Call

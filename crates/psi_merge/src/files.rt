@@ -1,11 +1,13 @@
 //! The report of all files.
 
-ghost use Rattle.std.specs.Prelude.{◌≡◌, ◌≤◌, ℕ, List, ◌∷◌, Err, map, string_bytes, IfSome};
+ghost use Rattle.std.specs.Prelude.{◌≡◌, ◌≤◌, ℕ, List, [], ◌∷◌, ◌++◌, Err, map, string_bytes, IfSome, IfErr};
 ghost use Rattle.std.specs.List.{list_all};
 ghost use Rattle.psi_reports.specs.declared.error.MergeError.{MergeError};
 ghost use Rattle.psi_merge.specs.declared.status.Status.TheVariants as status;
 ghost use Rattle.psi_merge.specs.Reply.{line_reply, refused_line, merge_reply, report_at, with_file, with_files, whole_of, is_file};
+ghost use Rattle.psi_merge.specs.Seen.{read_of};
 ghost use Rattle.psi_merge.specs.Ended.{MayEnd, IsUnreadOf, IsTold, IsFound, AreFound, IsEnding};
+ghost use Rattle.psi_merge.specs.Spared.{AreNextGiven, AreGiven, HasRead};
 
 use crate::ending::Ending;
 use crate::lines::{large_line, other_line, refused_line, unread_line};
@@ -56,9 +58,16 @@ fn unread(alloc: Global, name: &str) -> Ending
 
 // The report of a file, or the ending for want of one.
 fn report_at<F: Shelf>(alloc: Global, shelf: &mut F, name: &str) -> Result<Report, Ending>
-    ensures found { IsFound (record { told = F.told shelf.old; faults_before = F.faults shelf.old; faults_after = F.faults shelf.new }) name.now
+    ensures found { IsFound (record { told = F.told shelf.old; asked_before = F.asked shelf.old; asked_after = F.asked shelf.new; faults_before = F.faults shelf.old; faults_after = F.faults shelf.new }) name.now
         (report_at (F.told shelf.old) name.now) result }
+    // Where the shelf gives the file, no read of it failed, and no count rose.
+    ensures read { F.gives shelf.old name.now → IfErr result HasRead }
+    ensures spared { F.gives shelf.old name.now → F.faults shelf.new ≡ F.faults shelf.old }
+    // The file is read once, with its limit.
+    ensures asked { F.asked shelf.new ≡ F.asked shelf.old ++ read_of name.now ∷ [] }
+    // The shelf tells and gives what it did, and no count fell.
     ensures same { F.told shelf.new ≡ F.told shelf.old }
+    ensures gives { (other : List ℕ) → F.gives shelf.old other → F.gives shelf.new other }
     ensures counts { (other : List ℕ) → F.faults shelf.old other ≤ F.faults shelf.new other }
 {
     let bytes = match shelf.read(alloc, name, MOST_BYTES) {
@@ -80,9 +89,16 @@ fn with_file<F: Shelf>(
     whole: Report,
     name: &str,
 ) -> Result<Report, Ending>
-    ensures found { IsFound (record { told = F.told shelf.old; faults_before = F.faults shelf.old; faults_after = F.faults shelf.new }) name.now
+    ensures found { IsFound (record { told = F.told shelf.old; asked_before = F.asked shelf.old; asked_after = F.asked shelf.new; faults_before = F.faults shelf.old; faults_after = F.faults shelf.new }) name.now
         (with_file (F.told shelf.old) whole name.now) result }
+    // Where the shelf gives the file, no read of it failed, and no count rose.
+    ensures read { F.gives shelf.old name.now → IfErr result HasRead }
+    ensures spared { F.gives shelf.old name.now → F.faults shelf.new ≡ F.faults shelf.old }
+    // The file is read once, with its limit.
+    ensures asked { F.asked shelf.new ≡ F.asked shelf.old ++ read_of name.now ∷ [] }
+    // The shelf tells and gives what it did, and no count fell.
     ensures same { F.told shelf.new ≡ F.told shelf.old }
+    ensures gives { (other : List ℕ) → F.gives shelf.old other → F.gives shelf.new other }
     ensures counts { (other : List ℕ) → F.faults shelf.old other ≤ F.faults shelf.new other }
 {
     let report = match report_at(alloc, shelf, name) {
@@ -102,8 +118,11 @@ fn with_files<F: Shelf>(
     first: Report,
     names: &[String],
 ) -> Result<Report, Ending>
-    ensures { AreFound (record { told = F.told shelf.old; faults_before = F.faults shelf.old; faults_after = F.faults shelf.new }) (map string_bytes names.now)
-        (with_files (F.told shelf.old) first (map string_bytes names.now)) result }
+    ensures found { AreFound (record { told = F.told shelf.old; asked_before = F.asked shelf.old; asked_after = F.asked shelf.new; faults_before = F.faults shelf.old; faults_after = F.faults shelf.new })
+        (with_files (F.told shelf.old) first) (map string_bytes names.now) result }
+    // Where the shelf gives each file that is needed, no read failed, and no count rose.
+    ensures read { AreNextGiven (F.gives shelf.old) (with_files (F.told shelf.old) first) (map string_bytes names.now) → IfErr result HasRead }
+    ensures spared { AreNextGiven (F.gives shelf.old) (with_files (F.told shelf.old) first) (map string_bytes names.now) → F.faults shelf.new ≡ F.faults shelf.old }
 {
     let mut whole = first;
     for name in names {
@@ -122,8 +141,11 @@ fn whole_of<F: Shelf>(
     first: &str,
     rest: &[String],
 ) -> Result<Report, Ending>
-    ensures { AreFound (record { told = F.told shelf.old; faults_before = F.faults shelf.old; faults_after = F.faults shelf.new }) (first.now ∷ map string_bytes rest.now)
-        (whole_of (F.told shelf.old) (first.now ∷ map string_bytes rest.now)) result }
+    ensures found { AreFound (record { told = F.told shelf.old; asked_before = F.asked shelf.old; asked_after = F.asked shelf.new; faults_before = F.faults shelf.old; faults_after = F.faults shelf.new })
+        (whole_of (F.told shelf.old)) (first.now ∷ map string_bytes rest.now) result }
+    // Where the shelf gives each file that is needed, no read failed, and no count rose.
+    ensures read { AreNextGiven (F.gives shelf.old) (whole_of (F.told shelf.old)) (first.now ∷ map string_bytes rest.now) → IfErr result HasRead }
+    ensures spared { AreNextGiven (F.gives shelf.old) (whole_of (F.told shelf.old)) (first.now ∷ map string_bytes rest.now) → F.faults shelf.new ≡ F.faults shelf.old }
 {
     match report_at(alloc, shelf, first) {
         Ok(report) => with_files(alloc, shelf, report, rest),
@@ -155,7 +177,10 @@ fn all_files(words: &[String]) -> bool
 
 /// The work for the words, before the first byte is written. Words that aren't names of files take no memory.
 pub(crate) fn work<F: Shelf>(alloc: Global, words: &[String], shelf: &mut F) -> Ending
-    ensures { IsEnding (record { told = F.told shelf.old; faults_before = F.faults shelf.old; faults_after = F.faults shelf.new }) (map string_bytes words.now) result }
+    ensures ending { IsEnding (record { told = F.told shelf.old; asked_before = F.asked shelf.old; asked_after = F.asked shelf.new; faults_before = F.faults shelf.old; faults_after = F.faults shelf.new }) (map string_bytes words.now) result }
+    // Where the shelf gives each file that is needed, no read failed, and no count rose.
+    ensures read { AreGiven (F.gives shelf.old) (F.told shelf.old) (map string_bytes words.now) → HasRead result }
+    ensures spared { AreGiven (F.gives shelf.old) (F.told shelf.old) (map string_bytes words.now) → F.faults shelf.new ≡ F.faults shelf.old }
 {
     let [first, rest @ ..] = words else {
         return Ending::Usage;

@@ -1,6 +1,8 @@
 //! The call that does all that the program does.
 
-ghost use Rattle.std.specs.Prelude.{map, string_bytes};
+ghost use Rattle.std.specs.Prelude.{◌≡◌, ◌⊎◌, Some, map, string_bytes};
+ghost use Rattle.psi_merge.specs.Reply.{Reply, reply_to};
+ghost use Rattle.psi_merge.specs.Spared.{AreGiven, AreTaken};
 ghost use Rattle.psi_merge.specs.Call.{Call, IsRun, MergesReports};
 
 use crate::files::work;
@@ -38,6 +40,11 @@ use std::alloc::Global;
 /// customers, rewards come to a magnitude of at most 2,097,120,000,000,000, and each sum is one that so many values with
 /// this least and this greatest may have. A count of 2^64 or more, or a sum whose magnitude is 10^37 or more, is too
 /// large.
+///
+/// A file is needed only where those before it are accepted and merged. Each that is needed is read once, in the order of
+/// the words and up to one byte more than it may have; none is read behind one that is refused or couldn't be read.
+/// Where the shelf gives each file that is needed, and out and err take their texts, no count rises, and the status is
+/// neither `ReadFault` nor `WriteFault`.
 pub(crate) fn run<F: Shelf, O: Sink, E: Sink>(
     alloc: Global,
     words: &[String],
@@ -48,7 +55,7 @@ pub(crate) fn run<F: Shelf, O: Sink, E: Sink>(
     // What each status says of the words, the shelf and the sinks.
     ensures call { IsRun (record {
       words = map string_bytes words.now;
-      shelf = record { told = F.told shelf.old; faults_before = F.faults shelf.old; faults_after = F.faults shelf.new };
+      shelf = record { told = F.told shelf.old; asked_before = F.asked shelf.old; asked_after = F.asked shelf.new; faults_before = F.faults shelf.old; faults_after = F.faults shelf.new };
       out = record { before = O.held out.old; after = O.held out.new; faults_before = O.faults out.old; faults_after = O.faults out.new };
       err = record { before = E.held err.old; after = E.held err.new; faults_before = E.faults err.old; faults_after = E.faults err.new };
     }) result }
@@ -57,10 +64,18 @@ pub(crate) fn run<F: Shelf, O: Sink, E: Sink>(
     // of all lists, one behind the other.
     ensures headline { MergesReports (record {
       words = map string_bytes words.now;
-      shelf = record { told = F.told shelf.old; faults_before = F.faults shelf.old; faults_after = F.faults shelf.new };
+      shelf = record { told = F.told shelf.old; asked_before = F.asked shelf.old; asked_after = F.asked shelf.new; faults_before = F.faults shelf.old; faults_after = F.faults shelf.new };
       out = record { before = O.held out.old; after = O.held out.new; faults_before = O.faults out.old; faults_after = O.faults out.new };
       err = record { before = E.held err.old; after = E.held err.new; faults_before = E.faults err.old; faults_after = E.faults err.new };
     }) result }
+
+    // Where the shelf gives each file that is needed, and out and err take the reply's texts and the line on want of memory, no
+    // count of faults rises in this call, and the status is the reply's or tells want of memory.
+    ensures spared { (reply : Reply) → reply_to (F.told shelf.old) (map string_bytes words.now) ≡ Some reply
+        → AreGiven (F.gives shelf.old) (F.told shelf.old) (map string_bytes words.now)
+        → AreTaken (O.takes out.old) (E.takes err.old) (map string_bytes words.now) reply
+        → (F.faults shelf.new ≡ F.faults shelf.old) × (O.faults out.new ≡ O.faults out.old) × (E.faults err.new ≡ E.faults err.old)
+        × ((result ≡ reply.status) ⊎ (result ≡ Status.OutOfMemory)) }
 {
     finish(&work(alloc, words, shelf), out, err)
 }

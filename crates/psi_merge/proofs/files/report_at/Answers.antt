@@ -4,7 +4,7 @@ use Rattle.psi_io.specs.declared.shelf.ShelfFault.{ShelfFault}
 use Rattle.psi_merge.specs.declared.reports.TheConstants.{MOST_BYTES}
 use Rattle.psi_merge.specs.Reply.{report_reply}
 use Rattle.psi_merge.specs.Ended.{MayEnd}
-use Rattle.psi_merge.proofs.Finding.{report-found, unread-found, told-missed}
+use Rattle.psi_merge.proofs.Finding.{report-found, unread-found, told-found, told-read}
 use Rattle.psi_merge.proofs.files.report_at.Goals as goal
 
 pub returns-in-Err-Failed-clause-found : goal.returns-in-Err-Failed-clause-found
@@ -22,8 +22,10 @@ returns-in-Ok-report_in-clause-found g c =
 pub returns-in-Err-Refused-clause-found : goal.returns-in-Err-Refused-clause-found
 returns-in-Err-Refused-clause-found g c =
     let refused = rw (c.as_slice.ensures.value, c.in-Err-Refused.field-0-is) at c.in-Err-Refused.ensures in
-    record {
-      answer = report-found MOST_BYTES refl (g.F.Shelf.told c.args.shelf.now c.args.name.now) c.args.name.now c.in-Ok.bytes.items (Err c.refused.result) c.in-Ok.ensures.bytes
-          (subst (MayEnd c.refused.result) (ap (report_reply c.args.name.now) (sym refused)) c.refused.ensures.ending);
-      cause = λ words there. told-missed _ words c.refused.result c.refused.ensures.told;
-    }
+    told-found _ c.args.name.now _ c.refused.result
+    (report-found MOST_BYTES refl (g.F.Shelf.told c.args.shelf.now c.args.name.now) c.args.name.now c.in-Ok.bytes.items (Err c.refused.result) c.in-Ok.ensures.bytes
+    (subst (MayEnd c.refused.result) (ap (report_reply c.args.name.now) (sym refused)) c.refused.ensures.ending))
+    c.refused.ensures.told
+
+pub returns-in-Err-Refused-clause-read : goal.returns-in-Err-Refused-clause-read
+returns-in-Err-Refused-clause-read g c given = told-read c.refused.result c.refused.ensures.told

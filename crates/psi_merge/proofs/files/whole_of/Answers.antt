@@ -1,13 +1,32 @@
 -- Answers in the proof of `whole_of`.
 use Rattle.std.specs.Prelude.{string_bytes, map}
-use Rattle.psi_merge.proofs.Finding.{found-all, missed-all}
+use Rattle.std.proofs.Common.{◌∙◌}
+use Rattle.psi_merge.proofs.Finding.{found-all, missed-all, given-behind, next-first}
 use Rattle.psi_merge.proofs.files.whole_of.Goals as goal
 
-pub returns-in-Ok : goal.returns-in-Ok
-returns-in-Ok g c =
-    found-all (g.F.Shelf.told c.args.shelf.now) (g.F.Shelf.told c.report_at.new.shelf) (g.F.Shelf.faults c.args.shelf.now) (g.F.Shelf.faults c.report_at.new.shelf)
-    (g.F.Shelf.faults c.with_files.new.shelf) c.args.first.now (map string_bytes c.args.rest.now) c.in-Ok.report c.with_files.result c.in-Ok.ensures.same c.in-Ok.ensures.found.answer
-    c.in-Ok.ensures.counts c.with_files.ensures
+pub returns-in-Ok-clause-found : goal.returns-in-Ok-clause-found
+returns-in-Ok-clause-found g c =
+    found-all (g.F.Shelf.told c.args.shelf.now) (g.F.Shelf.told c.report_at.new.shelf) c.args.first.now (map string_bytes c.args.rest.now) c.in-Ok.report c.in-Ok.ensures.same
+    c.in-Ok.ensures.found.answer (g.F.Shelf.asked c.args.shelf.now) (g.F.Shelf.asked c.report_at.new.shelf) (g.F.Shelf.asked c.with_files.new.shelf)
+    (g.F.Shelf.faults c.args.shelf.now) (g.F.Shelf.faults c.report_at.new.shelf) (g.F.Shelf.faults c.with_files.new.shelf) c.with_files.result
+    c.in-Ok.ensures.asked c.in-Ok.ensures.counts c.with_files.ensures.found
 
-pub returns-in-Err : goal.returns-in-Err
-returns-in-Err g c = missed-all _ c.args.first.now (map string_bytes c.args.rest.now) c.in-Err.ending c.in-Err.ensures.found
+pub returns-in-Ok-clause-read : goal.returns-in-Ok-clause-read
+returns-in-Ok-clause-read g c given =
+    c.with_files.ensures.read (given-behind (g.F.Shelf.told c.args.shelf.now) (g.F.Shelf.told c.report_at.new.shelf) c.args.first.now (map string_bytes c.args.rest.now) c.in-Ok.report
+    c.in-Ok.ensures.same c.in-Ok.ensures.found.answer (g.F.Shelf.gives c.args.shelf.now) (g.F.Shelf.gives c.report_at.new.shelf) c.in-Ok.ensures.gives given)
+
+pub returns-in-Ok-clause-spared : goal.returns-in-Ok-clause-spared
+returns-in-Ok-clause-spared g c given =
+    c.with_files.ensures.spared (given-behind (g.F.Shelf.told c.args.shelf.now) (g.F.Shelf.told c.report_at.new.shelf) c.args.first.now (map string_bytes c.args.rest.now) c.in-Ok.report
+    c.in-Ok.ensures.same c.in-Ok.ensures.found.answer (g.F.Shelf.gives c.args.shelf.now) (g.F.Shelf.gives c.report_at.new.shelf) c.in-Ok.ensures.gives given)
+    ∙ c.in-Ok.ensures.spared (given c.args.first.now (next-first (g.F.Shelf.told c.args.shelf.now) c.args.first.now (map string_bytes c.args.rest.now)))
+
+pub returns-in-Err-clause-found : goal.returns-in-Err-clause-found
+returns-in-Err-clause-found g c = missed-all _ c.args.first.now (map string_bytes c.args.rest.now) c.in-Err.ending c.in-Err.ensures.found c.in-Err.ensures.asked
+
+pub returns-in-Err-clause-read : goal.returns-in-Err-clause-read
+returns-in-Err-clause-read g c given = c.in-Err.ensures.read (given c.args.first.now (next-first (g.F.Shelf.told c.args.shelf.now) c.args.first.now (map string_bytes c.args.rest.now)))
+
+pub returns-in-Err-clause-spared : goal.returns-in-Err-clause-spared
+returns-in-Err-clause-spared g c given = c.in-Err.ensures.spared (given c.args.first.now (next-first (g.F.Shelf.told c.args.shelf.now) c.args.first.now (map string_bytes c.args.rest.now)))

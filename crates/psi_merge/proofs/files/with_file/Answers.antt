@@ -1,5 +1,5 @@
 -- Answers in the proof of `with_file`.
-use Rattle.psi_merge.proofs.Finding.{file-unmerged, file-merged, file-missed, told-missed}
+use Rattle.psi_merge.proofs.Finding.{file-unmerged, file-merged, file-missed, told-found, told-read}
 use Rattle.psi_merge.proofs.files.with_file.Goals as goal
 
 pub returns-in-Err-clause-found : goal.returns-in-Err-clause-found
@@ -18,8 +18,10 @@ returns-in-Ok-merged-clause-found g c =
 
 pub returns-in-Err-merged-clause-found : goal.returns-in-Err-merged-clause-found
 returns-in-Err-merged-clause-found g c =
-    record {
-      answer = file-unmerged (g.F.Shelf.told c.args.shelf.now) c.args.whole c.in-Ok.report c.args.name.now c.in-Err-merged.error c.unmerged.result c.in-Ok.ensures.found.answer
-          c.in-Err-merged.ensures c.unmerged.ensures.ending c.unmerged.ensures.memory;
-      cause = λ words there. told-missed _ words c.unmerged.result c.unmerged.ensures.told;
-    }
+    told-found _ c.args.name.now _ c.unmerged.result
+    (file-unmerged (g.F.Shelf.told c.args.shelf.now) c.args.whole c.in-Ok.report c.args.name.now c.in-Err-merged.error c.unmerged.result c.in-Ok.ensures.found.answer
+    c.in-Err-merged.ensures c.unmerged.ensures.ending c.unmerged.ensures.memory)
+    c.unmerged.ensures.told
+
+pub returns-in-Err-merged-clause-read : goal.returns-in-Err-merged-clause-read
+returns-in-Err-merged-clause-read g c given = told-read c.unmerged.result c.unmerged.ensures.told

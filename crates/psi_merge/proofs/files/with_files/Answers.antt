@@ -1,34 +1,78 @@
 -- Answers in the proof of `with_files`.
 use Rattle.std.specs.Prelude.{string_bytes, map}
-use Rattle.std.proofs.Common.{◌∙◌, arith}
-use Rattle.psi_merge.proofs.Finding.{goes-more, goes-missed, goes-end, missed-earlier, contains-map}
+use Rattle.std.proofs.Common.{◌∙◌, refl, sym, arith}
+use Rattle.std.proofs.lemmas.List.{append-nil}
+use Rattle.psi_merge.proofs.Finding.{has-none, has-more, all-missed, next-at, has-all, asked-next, asked-all, missed-at}
 use Rattle.psi_merge.proofs.files.with_files.Goals as goal
+
+pub loop-name-init : goal.loop-name-init
+loop-name-init g c = record {
+  same = refl;
+  counts = λ other. omega arith;
+  asked = sym (append-nil (g.F.Shelf.asked c.args.shelf.now));
+  gives = λ other given. given;
+  spared = λ given. refl;
+  has = has-none (g.F.Shelf.told c.args.shelf.now) c.args.first;
+}
 
 pub loop-name-preserved : goal.loop-name-preserved
 loop-name-preserved g c =
+    let told = g.F.Shelf.told c.args.shelf.now in
     let there = rw (c.loop-name.invariant.same, c.as_str.ensures.value) at c.in-Ok.ensures.found.answer in
+    let spared = rw c.as_str.ensures.value at c.in-Ok.ensures.spared in
+    let asked = rw c.as_str.ensures.value at c.in-Ok.ensures.asked in
     record {
       same = c.in-Ok.ensures.same ∙ c.loop-name.invariant.same;
       counts = λ other. (let earlier = c.loop-name.invariant.counts other in let later = c.in-Ok.ensures.counts other in omega arith);
-      goes = goes-more string_bytes (g.F.Shelf.told c.args.shelf.now) c.args.first c.args.names.now c.loop-name.whole c.in-Ok.both c.loop-name.name-index c.name-item.result
-          c.loop-name-test.true c.name-item.is c.loop-name.invariant.goes there;
+      asked = asked-next string_bytes c.args.names.now c.loop-name.name-index c.name-item.result c.loop-name-test.true c.name-item.is (g.F.Shelf.asked c.args.shelf.now)
+          (g.F.Shelf.asked c.loop-name.shelf) (g.F.Shelf.asked c.with_file.new.shelf) c.loop-name.invariant.asked asked;
+      gives = λ other given. c.in-Ok.ensures.gives other (c.loop-name.invariant.gives other given);
+      spared = λ given. spared (c.loop-name.invariant.gives (string_bytes c.name-item.result) (given (string_bytes c.name-item.result)
+          (next-at string_bytes told c.args.first c.args.names.now c.loop-name.whole c.loop-name.name-index c.name-item.result c.loop-name-test.true c.name-item.is c.loop-name.invariant.has)))
+          ∙ c.loop-name.invariant.spared given;
+      has = has-more string_bytes told c.args.first c.args.names.now c.loop-name.whole c.loop-name.name-index c.name-item.result c.loop-name-test.true c.name-item.is
+          c.loop-name.invariant.has c.in-Ok.both there;
     }
 
-pub returns-in-Err : goal.returns-in-Err
-returns-in-Err g c =
+pub returns-in-Err-clause-found : goal.returns-in-Err-clause-found
+returns-in-Err-clause-found g c =
+    let told = g.F.Shelf.told c.args.shelf.now in
     let may = rw (c.loop-name.invariant.same, c.as_str.ensures.value) at c.in-Err.ensures.found.answer in
     let missed = rw c.as_str.ensures.value at c.in-Err.ensures.found.cause in
+    let asked = rw c.as_str.ensures.value at c.in-Err.ensures.asked in
     record {
-      answer = goes-missed string_bytes (g.F.Shelf.told c.args.shelf.now) c.args.first c.args.names.now c.loop-name.whole c.loop-name.name-index c.name-item.result c.in-Err.ending
-          c.loop-name-test.true c.name-item.is c.loop-name.invariant.goes may;
-      cause = missed-earlier (g.F.Shelf.told c.args.shelf.now) (g.F.Shelf.told c.loop-name.shelf) (g.F.Shelf.faults c.args.shelf.now) (g.F.Shelf.faults c.loop-name.shelf)
-          (g.F.Shelf.faults c.with_file.new.shelf) (map string_bytes c.args.names.now) c.in-Err.ending c.loop-name.invariant.counts
-          (missed (map string_bytes c.args.names.now) (contains-map string_bytes c.args.names.now c.loop-name.name-index c.name-item.result c.loop-name-test.true c.name-item.is));
+      answer = all-missed string_bytes told c.args.first c.args.names.now c.loop-name.whole c.loop-name.name-index c.name-item.result c.loop-name-test.true c.name-item.is
+          c.loop-name.invariant.has c.in-Err.ending may;
+      asked = tt;
+      cause = missed-at string_bytes told (g.F.Shelf.told c.loop-name.shelf) c.args.first c.args.names.now c.loop-name.whole c.loop-name.name-index c.name-item.result
+          c.loop-name-test.true c.name-item.is c.loop-name.invariant.has (g.F.Shelf.asked c.args.shelf.now) (g.F.Shelf.asked c.loop-name.shelf) (g.F.Shelf.asked c.with_file.new.shelf)
+          (g.F.Shelf.faults c.args.shelf.now) (g.F.Shelf.faults c.loop-name.shelf) (g.F.Shelf.faults c.with_file.new.shelf) c.loop-name.invariant.counts
+          c.loop-name.invariant.asked asked c.in-Err.ending missed;
     }
 
-pub returns : goal.returns
-returns g c =
+pub returns-in-Err-clause-read : goal.returns-in-Err-clause-read
+returns-in-Err-clause-read g c given =
+    let read = rw c.as_str.ensures.value at c.in-Err.ensures.read in
+    read (c.loop-name.invariant.gives (string_bytes c.name-item.result) (given (string_bytes c.name-item.result)
+    (next-at string_bytes (g.F.Shelf.told c.args.shelf.now) c.args.first c.args.names.now c.loop-name.whole c.loop-name.name-index c.name-item.result c.loop-name-test.true c.name-item.is
+    c.loop-name.invariant.has)))
+
+pub returns-in-Err-clause-spared : goal.returns-in-Err-clause-spared
+returns-in-Err-clause-spared g c given =
+    let spared = rw c.as_str.ensures.value at c.in-Err.ensures.spared in
+    spared (c.loop-name.invariant.gives (string_bytes c.name-item.result) (given (string_bytes c.name-item.result)
+    (next-at string_bytes (g.F.Shelf.told c.args.shelf.now) c.args.first c.args.names.now c.loop-name.whole c.loop-name.name-index c.name-item.result c.loop-name-test.true c.name-item.is
+    c.loop-name.invariant.has)))
+    ∙ c.loop-name.invariant.spared given
+
+pub returns-clause-found : goal.returns-clause-found
+returns-clause-found g c =
     record {
-      answer = goes-end string_bytes (g.F.Shelf.told c.args.shelf.now) c.args.first c.args.names.now c.loop-name.whole c.loop-name.name-index c.loop-name-test.false c.loop-name.invariant.goes;
+      answer = has-all string_bytes (g.F.Shelf.told c.args.shelf.now) c.args.first c.args.names.now c.loop-name.whole c.loop-name.name-index c.loop-name-test.false c.loop-name.invariant.has;
+      asked = asked-all string_bytes c.args.names.now c.loop-name.name-index c.loop-name-test.false (g.F.Shelf.asked c.args.shelf.now) (g.F.Shelf.asked c.loop-name.shelf)
+          c.loop-name.invariant.asked;
       cause = tt;
     }
+
+pub returns-clause-spared : goal.returns-clause-spared
+returns-clause-spared g c given = c.loop-name.invariant.spared given

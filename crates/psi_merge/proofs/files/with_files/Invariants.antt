@@ -1,12 +1,19 @@
--- The files before it are gone on with.
-use Rattle.std.proofs.Common.{◌≡◌, ◌≤◌, ℕ, List, map, drop}
+-- The files before it have a report together.
+use Rattle.std.proofs.Common.{◌≡◌, ◌≤◌, ◌++◌, ℕ, List, map, take}
 use Rattle.std.specs.Prelude.{string_bytes}
-use Rattle.psi_merge.proofs.Finding.{GoesOn}
+use Rattle.psi_merge.specs.Reply.{with_files}
+use Rattle.psi_merge.specs.Seen.{read_of}
+use Rattle.psi_merge.specs.Spared.{AreNextGiven}
+use Rattle.psi_merge.proofs.Finding.{HasReport}
 use Rattle.psi_merge.proofs.files.with_files.Given as goal
 
 abbrev pub invariant-loop-name : goal.invariant-loop-name
 invariant-loop-name g l = record {
   same : g.F.Shelf.told l.shelf ≡ g.F.Shelf.told l.fn.shelf;
   counts : (other : List ℕ) → g.F.Shelf.faults l.fn.shelf other ≤ g.F.Shelf.faults l.shelf other;
-  goes : GoesOn (g.F.Shelf.told l.fn.shelf) l.fn.first (map string_bytes l.names) l.whole (map string_bytes (drop l.name-index l.names));
+  asked : g.F.Shelf.asked l.shelf ≡ g.F.Shelf.asked l.fn.shelf ++ map read_of (map string_bytes (take l.name-index l.names));
+  gives : (other : List ℕ) → g.F.Shelf.gives l.fn.shelf other → g.F.Shelf.gives l.shelf other;
+  spared : AreNextGiven (g.F.Shelf.gives l.fn.shelf) (with_files (g.F.Shelf.told l.fn.shelf) l.fn.first) (map string_bytes l.names)
+      → g.F.Shelf.faults l.shelf ≡ g.F.Shelf.faults l.fn.shelf;
+  has : HasReport (with_files (g.F.Shelf.told l.fn.shelf) l.fn.first) (map string_bytes (take l.name-index l.names)) l.whole;
 }
