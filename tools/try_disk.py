@@ -4,8 +4,9 @@
 Runs the built program, whose path PSI is, on a real disk, pipe and terminal that fail: a full
 device, a limit on the size of files, a reader that leaves, a pipe that takes no more, a terminal
 that is gone, outputs that are closed, files that grow while they are read or never end, folders,
-files without permission, and names and words that can't be. What has to come is what README.md and
-docs/FORMATS.md say, never what the program printed.
+files without permission, and names and words that can't be. psi_merge is run on them too, where it is
+built beside it or in its crate. What has to come is what README.md and docs/FORMATS.md say, never
+what the program printed.
 
 It tells each run that ends in another way. The last line says in how many runs, and how many
 failed; the exit status is 1 where one failed. It wants a system with /dev/full, /dev/zero and
@@ -24,6 +25,7 @@ import tempfile
 import threading
 import tty
 
+import try_merges
 from check_gallery import TOP, runs_of_document, runs_of_gallery
 from toml_text import table
 
@@ -43,6 +45,26 @@ TOLD = (
     (["check", "/dev/zero"], LONG_NETWORK),
     (["replay", "filling.toml", "/dev/zero"], LONG_LOG),
     (["reward", "filling.toml", "0", "0", "none"], (9, b"", b"psi: unknown reward\n")),
+)
+REPORT = try_merges.BASE.encode()
+NO_FILES = (2, b"", b"psi_merge: usage: psi_merge FILE..\n")
+WRONG_REPORT = (3, b"", b"psi_merge: refused 3 Samples line 7 wrong.csv\n")
+LONG_REPORT = (3, b"", b"psi_merge: refused 0 TooLong line 0 %s\n")
+
+
+def no_report(name):
+    """How psi_merge ends on a file of this name that can't be read."""
+    return 6, b"", b"psi_merge: cannot read %s\n" % name.encode()
+
+
+# Words of psi_merge whose answer is a line on standard error.
+MERGES_TOLD = (
+    ([], NO_FILES),
+    (["-x", "absent"], NO_FILES),
+    (["absent", "wrong.csv"], no_report("absent")),
+    (["report.csv", "absent"], no_report("absent")),
+    (["wrong.csv", "absent"], WRONG_REPORT),
+    (["report.csv", "/dev/zero", "absent"], (3, b"", LONG_REPORT[2] % b"/dev/zero")),
 )
 
 
@@ -79,19 +101,31 @@ class Place:
         self.write("filling.toml", filling_network())
         self.log = filling_log()
         self.write("filling.log", self.log)
+        self.write("report.csv", REPORT)
+        self.write("wrong.csv", try_merges.changed({7: "sum,a,14"}).encode())
+        self.merger = None
+        merger = try_merges.merger_beside(program)
+        if merger:
+            self.merger = str(self.folder / "psi_merge")
+            shutil.copyfile(merger, self.merger)
+            os.chmod(self.merger, 0o755)
         self.accepted = (0, b"accepted %d\nstate %d\n" % (PLACES + 1, PLACES), b"")
 
     def write(self, name, data):
         (self.folder / name).write_bytes(data)
 
-    def run(self, words, **more):
+    def run(self, words, program=None, **more):
         """The status of a run and both its texts; a text is None where it goes elsewhere."""
-        words = [self.program, *words]
+        words = [program or self.program, *words]
         pipes = {"stdout": subprocess.PIPE, "stderr": subprocess.PIPE, **more}
         done = subprocess.run(
             words, cwd=self.folder, stdin=subprocess.DEVNULL, timeout=SECONDS, **pipes
         )
         return done.returncode, done.stdout, done.stderr
+
+    def merge(self, words, **more):
+        """A run of psi_merge."""
+        return self.run(words, self.merger, **more)
 
     def shown(self):
         """Runs that the documents show, one of each command: the words, and the whole text, or its
@@ -303,6 +337,63 @@ def wrong_words(place):
             yield f"{words}, which aren't UTF-8", [(13, b"", b"")], place.run(words)
 
 
+def told_merges(place, what, **more):
+    """The lines of psi_merge where standard error takes nothing."""
+    for words, _ in MERGES_TOLD:
+        yield f"the line on a merge of {words} {what}", [(7, b"", None)], place.merge(words, **more)
+
+
+def outputs_of_merges(place):
+    """Merges whose outputs fail, and lines whose outputs do; and each with the other output gone."""
+    words = ["report.csv"]
+    with open("/dev/full", "wb") as full:
+        yield "a merge on a full device", [(7, None, b"")], place.merge(words, stdout=full)
+        yield "a merge that needs no err", [(0, REPORT, None)], place.merge(words, stderr=full)
+        yield from told_merges(place, "on a full device", stderr=full)
+        for told, (status, _, line) in MERGES_TOLD:
+            got = place.merge(told, stdout=full)
+            yield f"a merge of {told} that needs no out", [(status, None, line)], got
+    read, write = os.pipe()
+    os.close(read)
+    yield "a merge whose reader is gone", [(7, None, b"")], place.merge(words, stdout=write)
+    yield from told_merges(place, "without a reader", stderr=write)
+    os.close(write)
+    got = place.merge(words, preexec_fn=lambda: os.close(1))
+    yield "a merge with standard output closed", [(7, b"", b"")], got
+    got = place.merge(words, preexec_fn=lambda: (os.close(0), os.close(2)))
+    yield "a merge with the others closed", [(0, REPORT, b"")], got
+    for told, wanted in MERGES_TOLD:
+        got = place.merge(told, preexec_fn=lambda: os.close(2))
+        yield f"a merge of {told} with standard error closed", [(7, b"", b"")], got
+        got = place.merge(told, preexec_fn=lambda: os.close(1))
+        yield f"a merge of {told} with standard output closed", [wanted], got
+
+
+def files_of_merges(place):
+    """Files of merges that can't be read, that never end, that come in pieces, and those in order."""
+    user = {"user": NOBODY, "group": NOBODY, "extra_groups": []} if os.geteuid() == 0 else {}
+    for name in ("folder", "locked", "loop", "absent", "", "report.csv/below", "x" * 4_096):
+        shown = f"{name[:20]!r} of {len(name)} bytes"
+        for words in ([name], ["report.csv", name], [name, "wrong.csv"]):
+            got = place.merge(words, **user)
+            yield f"a merge of {shown}, one of {len(words)}", [no_report(name)], got
+    for told, wanted in MERGES_TOLD:
+        yield f"a merge of {told}", [wanted], place.merge(told)
+    os.mkfifo(place.folder / "pieces.csv")
+    for most in (1, 7, 4_096):
+        asked = (place.folder / "pieces.csv", REPORT, most)
+        writer = threading.Thread(target=write_slowly, args=asked, daemon=True)
+        writer.start()
+        got = place.merge(["pieces.csv"])
+        writer.join(SECONDS)
+        yield f"a merge of what comes by {most} bytes", [(0, REPORT, b"")], got
+    for wrong in (b"\xff", b"a\xc3", b"\xed\xa0\x80"):
+        for words in ([wrong], [b"report.csv", wrong]):
+            got = place.merge(words)
+            yield f"a merge of {words}, which aren't UTF-8", [(13, b"", b"")], got
+
+
+MERGES = (outputs_of_merges, files_of_merges)
 TRIALS = (
     full_devices,
     size_limits,
@@ -323,7 +414,9 @@ def main():
     runs = failures = 0
     with tempfile.TemporaryDirectory() as folder:
         place = Place(sys.argv[1], folder)
-        for trial in TRIALS:
+        if not place.merger:
+            print("not tried: psi_merge, which isn't built")
+        for trial in TRIALS + (MERGES if place.merger else ()):
             for what, wanted, got in trial(place):
                 runs += 1
                 if got not in wanted:

@@ -1,9 +1,10 @@
 #!/usr/bin/env python3
 """try_memory.py PSI [--commands check,sample,..]
 
-Refuses the built program each growth of its memory in turn; PSI is its path. It wants a C
-compiler, `cc` or what CC names, and a dynamic linker that knows LD_PRELOAD: tools/refuse/refuse.c
-says what a growth is and how one is refused.
+Refuses the built program each growth of its memory in turn; PSI is its path. psi_merge is tried
+too, where it is built beside it or in its crate. It wants a C compiler, `cc` or what CC names, and a
+dynamic linker that knows LD_PRELOAD: tools/refuse/refuse.c says what a growth is and how one is
+refused.
 
 Each call is first made with ample memory; it has to end as its case says, if it has one, and with a
 status of an answer. Then, for N = 1, 2, 3, .. until no growth is refused any more, it is made with
@@ -15,7 +16,8 @@ other: where one of them is refused, the status has to be 8, and nothing is writ
 
 It tells each call that ends in another way and, for each command, how many growths were refused.
 The last line says in how many runs, and how many failed. The exit status is 1 where one failed.
---commands keeps the calls of these commands; `log` is `sample` with its fifth word.
+--commands keeps the calls of these commands; `log` is `sample` with its fifth word, and `merge` is
+psi_merge.
 """
 
 import argparse
@@ -27,6 +29,7 @@ import subprocess
 import sys
 import tempfile
 
+import try_merges
 from case_files import case_named
 from toml_text import table
 
@@ -35,7 +38,8 @@ SECONDS = 20
 # More growths than any call here makes.
 MOST = 20_000
 NOTHING = (8, b"", b"")
-THE_LINE = (8, b"", b"psi: out of memory\n")
+# What each program says of words that are no command, or no files.
+USAGES = {"psi": b"psi: usage word 1\n", "psi_merge": b"psi_merge: usage: psi_merge FILE..\n"}
 # The statuses that are no answer to what was asked.
 NO_ANSWERS = (2, 6, 7, 8, 13)
 
@@ -54,7 +58,21 @@ COMMANDS = {
     "reward": ("reward NET 0 0 cost", "rows-couple.cases: reward-above reward-never"),
     "exact": ("exact NET 0 0 2", "rows-exact.cases: exact-first-network too-many-states"),
     "closed": ("closed NET 0 0 1", "rows-closed.cases: ring-of-three no-state-with-this-total"),
+    "merge": (None, None),
 }
+
+# The merges that are tried, by their names in try_merges.
+MERGES = (
+    "the base",
+    "one sample",
+    "a sum that is too low",
+    "two reports",
+    "the second without a sample that is met",
+    "another name",
+    "a wrong second file",
+    "too many samples",
+    "32 queues",
+)
 
 # The networks, by cases that have them.
 NETWORKS = (
@@ -85,16 +103,22 @@ class WrongEnd(Exception):
     """A run that ends in another way than it has to, where nothing more can be tried."""
 
 
-class Refusing:
-    """The program, with growths that are refused."""
+def refusing_library(room):
+    """The library that refuses growths, as it is built in a folder."""
+    library = str(pathlib.Path(room, "refuse.so"))
+    compiler = shlex.split(os.environ.get("CC", "cc"))
+    source = str(TOOLS / "refuse/refuse.c")
+    subprocess.run([*compiler, "-shared", "-fPIC", "-O2", "-o", library, source], check=True)
+    return library
 
-    def __init__(self, program, room):
-        self.program = program
-        self.library = str(pathlib.Path(room, "refuse.so"))
-        compiler = shlex.split(os.environ.get("CC", "cc"))
-        source = str(TOOLS / "refuse/refuse.c")
-        compiler += ["-shared", "-fPIC", "-O2", "-o", self.library, source]
-        subprocess.run(compiler, check=True)
+
+class Refusing:
+    """A program, with growths that are refused."""
+
+    def __init__(self, name, program, library):
+        self.name, self.program, self.library = name, program, library
+        self.the_line = (8, b"", f"{name}: out of memory\n".encode())
+        self.usage = (2, b"", USAGES[name])
 
     def run(self, words, folder, first=0, last=None):
         """How a run ends, its status and both texts, and whether a growth was refused."""
@@ -125,30 +149,34 @@ class Refusing:
         other = ["-" * len(words[0]), *words[1:]]
         for place in range(1, MOST):
             end, refused = self.run(other, folder, place)
-            if not refused and end == (2, b"", b"psi: usage word 1\n"):
+            if not refused and end == self.usage:
                 return place - 1
             if not refused or end != NOTHING:
-                raise WrongEnd(f"psi {shlex.join(other)}: growth {place}: {end}")
-        raise WrongEnd(f"psi {shlex.join(other)} takes ever more memory")
+                raise WrongEnd(f"{self.name} {shlex.join(other)}: growth {place}: {end}")
+        raise WrongEnd(f"{self.name} {shlex.join(other)} takes ever more memory")
 
 
 class Call:
-    """A call of the program: its command, its words, its files, and how it has to end, where a case
+    """A call of a program: its command, its words, its files, and how it has to end, where a case
     says that.
     """
 
-    def __init__(self, command, words, files, wanted=None):
-        self.command, self.words, self.files, self.wanted = command, words, files, wanted
+    def __init__(self, refusing, command, words, files, wanted=None):
+        self.refusing, self.command, self.words = refusing, command, words
+        self.files, self.wanted = files, wanted
         self.failures, self.refused, self.runs = [], 0, 0
 
-    def fail(self, what, end):
-        self.failures.append(f"psi {shlex.join(self.words)}: {what}: {end}")
+    def shown(self):
+        return f"{self.refusing.name} {shlex.join(self.words)}"
 
-    def try_place(self, refusing, folder, place, words_alone, ample):
+    def fail(self, what, end):
+        self.failures.append(f"{self.shown()}: {what}: {end}")
+
+    def try_place(self, folder, place, words_alone, ample):
         """Refuses a growth, alone and with all later ones; answers whether one was refused."""
-        allowed = [NOTHING] if place <= words_alone else [THE_LINE, ample]
+        allowed = [NOTHING] if place <= words_alone else [self.refusing.the_line, ample]
         for last in (place, None):
-            end, refused = refusing.run(self.words, folder, place, last)
+            end, refused = self.refusing.run(self.words, folder, place, last)
             if not refused and end == ample:
                 return False
             self.runs += 1
@@ -157,27 +185,27 @@ class Call:
                 self.fail(what, end)
         return refused
 
-    def try_places(self, refusing, folder):
+    def try_places(self, folder):
         """Makes the call with ample memory, and then with each growth refused."""
-        ample, _ = refusing.run(self.words, folder)
+        ample, _ = self.refusing.run(self.words, folder)
         if ample[0] in NO_ANSWERS or self.wanted not in (None, ample):
             self.fail("with ample memory", ample)
             return
-        words_alone = refusing.words_alone(self.words, folder)
-        while self.try_place(refusing, folder, self.refused + 1, words_alone, ample):
+        words_alone = self.refusing.words_alone(self.words, folder)
+        while self.try_place(folder, self.refused + 1, words_alone, ample):
             self.refused += 1
             if self.refused == MOST:
-                raise WrongEnd(f"psi {shlex.join(self.words)} takes ever more memory")
+                raise WrongEnd(f"{self.shown()} takes ever more memory")
         if self.refused <= words_alone:
-            raise WrongEnd(f"psi {shlex.join(self.words)}: no growth but for its words")
+            raise WrongEnd(f"{self.shown()}: no growth but for its words")
 
-    def perform(self, refusing):
+    def perform(self):
         """Makes the call in a folder with its files, as often as it has growths."""
         with tempfile.TemporaryDirectory() as folder:
             for name, data in self.files.items():
                 pathlib.Path(folder, name).write_bytes(data)
             try:
-                self.try_places(refusing, folder)
+                self.try_places(folder)
             except WrongEnd as wrong:
                 self.failures.append(str(wrong))
         return self
@@ -187,7 +215,8 @@ def calls(refusing, folder, command):
     """The calls of a command."""
     pattern, line = COMMANDS[command]
     for case in cases(line):
-        yield Call(command, case.words, case.files, (case.status, case.out, case.err))
+        wanted = case.status, case.out, case.err
+        yield Call(refusing, command, case.words, case.files, wanted)
     if not pattern:
         return
     files = [case.files["net.toml"] for line in NETWORKS for case in cases(line)] + [ring()]
@@ -198,7 +227,16 @@ def calls(refusing, folder, command):
             pathlib.Path(folder, "net.toml").write_bytes(net)
             (_, text, _), _ = refusing.run(["sample", "net.toml", "0", "0", "log"], folder)
             log = {"log.txt": text}
-        yield Call(command, words, {"net.toml": net, **log})
+        yield Call(refusing, command, words, {"net.toml": net, **log})
+
+
+def merges(refusing):
+    """The calls of psi_merge; what is wanted of several reports, merge_reports.py says."""
+    cases_of = try_merges.all_cases()
+    for name in MERGES:
+        texts, _ = cases_of[name]
+        files = {f"{place}.csv": text.encode() for place, text in enumerate(texts)}
+        yield Call(refusing, "merge", [*files], files, try_merges.wanted_of_texts(texts))
 
 
 def main():
@@ -206,13 +244,20 @@ def main():
     parser.add_argument("program")
     parser.add_argument("--commands", default=",".join(COMMANDS))
     given = parser.parse_args()
-    program = str(pathlib.Path(given.program).resolve())
+    program = pathlib.Path(given.program).resolve()
+    merger = try_merges.merger_beside(program)
     commands = given.commands.split(",")
+    if "merge" in commands and merger is None:
+        commands.remove("merge")
+        print("not tried: psi_merge, which isn't built")
     with tempfile.TemporaryDirectory() as room:
-        refusing = Refusing(program, room)
-        asked = [call for command in commands for call in calls(refusing, room, command)]
+        library = refusing_library(room)
+        refusing = Refusing("psi", str(program), library)
+        asked = [call for one in commands if one != "merge" for call in calls(refusing, room, one)]
+        if "merge" in commands:
+            asked += merges(Refusing("psi_merge", str(merger), library))
         with concurrent.futures.ThreadPoolExecutor(os.cpu_count()) as pool:
-            done = [*pool.map(lambda call: call.perform(refusing), asked)]
+            done = [*pool.map(Call.perform, asked)]
     failures = [failure for call in done for failure in call.failures]
     for failure in failures:
         print(failure)

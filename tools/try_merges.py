@@ -264,6 +264,26 @@ def change(text, chance):
     return "\n".join(rows)
 
 
+def wanted_of_texts(texts):
+    """How psi_merge has to end on files 0.csv, 1.csv, .. with these texts, as merge_reports.py says:
+    the status and both texts.
+    """
+    with tempfile.TemporaryDirectory(prefix="try-merges-") as folder:
+        files = [pathlib.Path(folder, f"{place}.csv") for place in range(len(texts))]
+        for file, text in zip(files, texts):
+            file.write_bytes(text.encode())
+        status, out, said = said_in_python(files)
+        line = f"psi_merge: {said}\n".replace(f"{folder}/", "") if said else ""
+        return status, out, line.encode()
+
+
+def merger_beside(program):
+    """psi_merge, built beside the program or in its crate; none where it isn't."""
+    beside = pathlib.Path(program).parent
+    places = beside / "psi_merge", beside.parent.parent / "psi_merge/out/psi_merge"
+    return next((place for place in places if place.is_file()), None)
+
+
 def said_in_python(files):
     """What the tool says, as `said_by` has it, without a process."""
     try:
@@ -296,6 +316,23 @@ def differences(merger, room):
     return kinds, found
 
 
+def check_order(program, words, room, missing, check):
+    """A file is read only where those before it are accepted and merged."""
+    base, wrong, other = (room / f"{name}.csv" for name in ("base", "wrong", "other"))
+    base.write_text(BASE)
+    wrong.write_text(changed({7: "sum,a,14"}))
+    other.write_text(changed({13: None, 14: None, 15: None}))
+    orders = {
+        "a wrong file and a missing one": ([wrong, missing], f"{SAMPLES} 7", wrong),
+        "another network and a missing file": ([base, other, missing], "other network line 13", other),
+        "a missing file and a wrong one": ([missing, wrong], "cannot read", missing),
+        "a missing file between two": ([base, missing, wrong], "cannot read", missing),
+    }
+    for name, (files, said, told) in orders.items():
+        answer = said_by(words, files)
+        check(f"{program} on {name}", answer == wanted_of(said, told), answer)
+
+
 def try_merges(merger, check):
     """Tries psi_merge and the tool on all of these; `check` counts and tells a check."""
     with tempfile.TemporaryDirectory(prefix="try-merges-") as folder:
@@ -313,6 +350,7 @@ def try_merges(merger, check):
             answer = said_by(words, [files[0], missing])
             right = answer == wanted_of("cannot read", missing)
             check(f"{program} on a missing file", right, answer)
+            check_order(program, words, room, missing, check)
             usage = said_by(words, []), said_by(words, ["-x"])
             check(f"{program} without a file", all(one[:2] == (2, b"") for one in usage), usage)
         kinds, found = differences(merger, room)
