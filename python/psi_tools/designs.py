@@ -12,7 +12,7 @@ from psi_tools.told import Told
 # What may differ: in which table it stands, and the least and the greatest value.
 KEYS = {
     "rate": ("event", 1, MOST_RATE), "capacity": ("queue", 1, 65_535), "servers": ("queue", 1, 64),
-    "size": ("event", 1, 65_535), "amount": ("event", 1, 65_535),
+    "size": ("event", 1, 65_535), "amount": ("event", 1, 65_535), "level": ("reward", 0, 65_535),
 }
 WORD = re.compile(r"([A-Za-z0-9_-]{1,32})\.([a-z]+)=(.+)")
 RANGE = re.compile(r"(\d+)\.\.(\d+)(?:\.\.(\d+))?")
@@ -81,8 +81,8 @@ def scale_of(found):
 
 def designs_of(words, net, together=False):
     """The designs of the words: all combinations of their values, or the first values of all, the
-    second ones, and so on, where they go together. Gives the keys, the designs, and by how much
-    rates were multiplied."""
+    second ones, and so on, where they go together. Gives the keys, the designs, by how much rates
+    were multiplied, and the rewards that are left out, since their tables don't go so far."""
     found = keys_of(words, net)
     scale = scale_of(found)
     if together and len({len(values) for values in found.values()}) > 1:
@@ -91,7 +91,35 @@ def designs_of(words, net, together=False):
     if len(rows) > MOST_DESIGNS:
         raise Told(f"there would be more than {MOST_DESIGNS} designs")
     designs = [Design(row, changed(net, found, row, scale)) for row in rows]
-    return [*found], designs, scale
+    short = {name for design in designs for name in fit_tables(design.net)}
+    for design in designs:
+        rewards = design.net.table["reward"]
+        rewards[:] = [reward for reward in rewards if reward["name"] not in short]
+    return [*found], designs, scale, sorted(short)
+
+
+def fit_tables(net):
+    """Cuts the tables of a network whose capacities are less than they were. Gives the names of the
+    rewards whose tables have no value for so many customers; an index that lacks is refused."""
+    capacity = dict(zip(net.queues, net.capacities))
+    for event in net.table["event"]:
+        if event["kind"] == "index":
+            cut_rows(event["table"], [capacity[name] for name in event["to"]])
+            for name, row in zip(event["to"], event["table"]):
+                if len(row) < capacity[name]:
+                    said = f"its table has no index for so many customers in {name}"
+                    raise Told(f"{event['name']}: {said}")
+    for reward in net.table["reward"]:
+        if reward["kind"] == "table":
+            wanted = [capacity[name] + 1 for name in reward["queues"]]
+            cut_rows(reward["table"], wanted)
+            if any(len(row) < count for row, count in zip(reward["table"], wanted)):
+                yield reward["name"]
+
+
+def cut_rows(table, counts):
+    """Cuts each row to as many values as it may have."""
+    table[:] = [row[:count] for row, count in zip(table, counts)]
 
 
 def changed(net, keys, row, scale):

@@ -27,9 +27,10 @@ all of them, and where a design needs fewer an idle event has the others.
     psi-sweep desk.toml come.rate=4,5 desk.capacity=10..30..10
     psi-sweep desk.toml desk.servers=2,3 --count 100000 --picture servers.svg
 
-NAME.KEY is the rate, size or amount of an event, or the capacity or servers of a queue. VALUES are
-numbers with commas between, or FIRST..LAST, or FIRST..LAST..STEP; a rate may have places behind a
-point, and all rates are multiplied then. The first design is that of the first values.
+NAME.KEY is the rate, size or amount of an event, the capacity or servers of a queue, or the level
+of a reward. VALUES are numbers with commas between, or FIRST..LAST, or FIRST..LAST..STEP; a rate
+may have places behind a point, and all rates are multiplied then. The first design is that of the
+first values.
 
 What is drawn is kept in a folder, so the same call, or one with more values, goes on with it."""
 
@@ -133,7 +134,7 @@ def records_of(keys, designs, batches, base, names):
     return records
 
 
-def notes_of(labels, batches, why):
+def notes_of(labels, batches, why, short):
     """What has to be known before a mean is read."""
     notes = [
         f"NOT COUPLED: {own.uncoupled:,} of {sum(own.samples):,} streams of {label}; its means are "
@@ -142,6 +143,8 @@ def notes_of(labels, batches, why):
     ]
     if why:
         notes.append(f"the same words don't choose the same events: {why}")
+    if short:
+        notes.append(f"left out, as their tables have no value for so many: {', '.join(short)}")
     return notes
 
 
@@ -186,13 +189,14 @@ def answer_of(words, keys, labels, records, notes, base, scale):
 
 
 def prepared(words):
-    """The program, the keys, the designs, why they aren't aligned, and the scale of rates."""
+    """The program, the keys, the designs, why they aren't aligned, the scale of rates, and the
+    rewards that are left out."""
     last_stream_is_one(words)
     look_at(words.out)
     look_at_picture(words.picture)
     psi = Psi(words.psi, words.jobs)
     net = checked(psi, words.net)
-    keys, designs, scale = designs_of(words.keys, net, words.together)
+    keys, designs, scale, short = designs_of(words.keys, net, words.together)
     absent = [name for name in words.of or () if name not in [*net.queues, *net.rewards]]
     if absent:
         raise Told(f"the network has no queue and no reward {absent[0]}")
@@ -204,12 +208,12 @@ def prepared(words):
         if answer.status:
             said = answer.line.removeprefix("psi: ")
             raise Told(f"{label}: {said}; psi-where tells what that means", answer.status)
-    return psi, keys, designs, why, scale
+    return psi, keys, designs, why, scale, short
 
 
 def work(arguments):
     words = reader().parse_args(arguments)
-    psi, keys, designs, why, scale = prepared(words)
+    psi, keys, designs, why, scale, short = prepared(words)
     numbers = {"seed": words.seed, "first": words.first, "count": words.count}
     name = "{}.{seed}.{first}.{count}.sweep".format(pathlib.Path(words.net).name, **numbers)
     path = pathlib.Path(words.folder or name)
@@ -220,7 +224,7 @@ def work(arguments):
     if {len(own.samples) for own in batches} != {len(batches[0].samples)}:
         raise Told(f"{path} has blocks of another size; remove it, or say another --folder")
     records = records_of(keys, designs, batches, base, words.of)
-    notes = notes_of(labels, batches, why)
+    notes = notes_of(labels, batches, why, short)
     if words.picture:
         from psi_tools.plotting.draw_sweep import draw_sweep
         from psi_tools.plotting.style import saved

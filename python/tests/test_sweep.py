@@ -45,8 +45,9 @@ def rows_of(tool, net, *words):
 
 
 def test_events_have_the_same_numbers_in_all_designs():
-    keys, designs, scale = designs_of(["ring.rate=5,6", "calls.servers=2,3"], Network.parse(CALLS))
-    assert (keys, scale) == ([("ring", "rate"), ("calls", "servers")], 1)
+    words = ["ring.rate=5,6", "calls.servers=2,3"]
+    keys, designs, scale, short = designs_of(words, Network.parse(CALLS))
+    assert (keys, scale, short) == ([("ring", "rate"), ("calls", "servers")], 1, [])
     designs, why = aligned(designs)
     assert why is None
     for design in designs:
@@ -60,10 +61,31 @@ def test_events_have_the_same_numbers_in_all_designs():
 
 
 def test_rates_with_a_point_are_made_whole():
-    _, designs, scale = designs_of(["ring.rate=5,5.25"], Network.parse(CALLS))
+    _, designs, scale, _ = designs_of(["ring.rate=5,5.25"], Network.parse(CALLS))
     assert scale == 100
     rates = [[event["rate"] for event in design.net.table["event"]] for design in designs]
     assert rates == [[500, 200], [525, 200]]
+
+
+def test_tables_are_cut_and_rewards_without_a_value_left_out():
+    net = Network.parse(CALLS)
+    net.reward("waiting", "table", ["calls"], table=[[max(0, n - 3) for n in range(13)]])
+    words = ["calls.capacity=10,11", "full.level=9,10"]
+    _, designs, _, short = designs_of(words, net, together=True)
+    assert short == []
+    assert [len(design.net.table["reward"][1]["table"][0]) for design in designs] == [11, 12]
+    assert [design.net.table["reward"][0]["level"] for design in designs] == [9, 10]
+    _, designs, _, short = designs_of(["calls.capacity=12,13"], net)
+    assert short == ["waiting"]
+    assert [design.net.rewards for design in designs] == [["full"]] * 2
+
+
+def test_an_index_without_a_value_is_refused():
+    net = Network().queue("a", 2).queue("b", 2)
+    net.event("in", "index", 1, to=["a", "b"], table=[[0, 1], [0, 1]])
+    assert designs_of(["a.capacity=1,2"], net)[1][0].net.table["event"][0]["table"] == [[0], [0, 1]]
+    with pytest.raises(Told, match="in: its table has no index for so many customers in b"):
+        designs_of(["b.capacity=2,3"], net)
 
 
 @pytest.mark.parametrize("word", ["ring.rate", "ring.speed=1", "bell.rate=2", "calls.capacity=2.5",
