@@ -3,7 +3,7 @@
 import copy
 
 from psi_tools import toml
-from psi_tools.program import read_file
+from psi_tools.program import Refused, read_file
 from psi_tools.told import Told
 
 # What a network may have at most, counted over servers, and what its rates may add up to.
@@ -155,7 +155,11 @@ def network_of(net):
 def checked(psi, path):
     """The network of a file that psi takes; raises psi's own refusal where it doesn't."""
     data = read_file(path)
-    psi.ask("check", data)
+    try:
+        psi.ask("check", data)
+    except Refused as refused:
+        hint = "; psi-where tells the line" if refused.status == 3 else ""
+        raise Refused(f"{refused}{hint}", refused.status) from None
     return Network.parse(data, path)
 
 

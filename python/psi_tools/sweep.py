@@ -163,7 +163,7 @@ def text_of(words, labels, records, notes, base, scale):
         label, half, gap = labels[place % len(labels)], record["half"], record["difference_half"]
         is_first = place % len(labels) == 0
         name = record["name"] if is_first else ""
-        shown = "-" if half is None else f"± {figures(half, half)}"
+        shown = f"± {figures(half, half)}" if half else "-"
         is_base = place % len(labels) == base
         told = ("", "") if is_base else difference_of(record["difference"], gap)
         rows.append((name, label, figures(record["mean"], half), shown, *told))
@@ -176,7 +176,7 @@ def difference_of(value, half):
     if value is None:
         return "-", "-"
     sign = "+" if value > 0 else ""
-    return sign + figures(value, half), "-" if half is None else f"± {figures(half, half)}"
+    return sign + figures(value, half), f"± {figures(half, half)}" if half else "-"
 
 
 def answer_of(words, keys, labels, records, notes, base, scale):
