@@ -1,5 +1,5 @@
 -- The header, the first region and the last state: each is told by its text, and its text is read as it.
-use Rattle.std.specs.Prelude.{◌≡◌, ◌⊎◌, ℕ, ◌-◌, ◌<◌, ◌≤◌, ◌^◌, List, [], ◌∷◌, ◌++◌, length, take, drop, codes, Bool, true, false, not, ◌&&◌, cond, nat_le, None, Result, Ok, Err, refl}
+use Rattle.std.specs.Prelude.{◌≡◌, ◌⊎◌, ℕ, ◌-◌, ◌<◌, ◌≤◌, ◌^◌, List, [], ◌∷◌, ◌++◌, take, drop, codes, Bool, true, false, not, ◌&&◌, cond, None, Result, Ok, Err, refl}
 use Rattle.std.specs.List.{list_all}
 use Rattle.std.specs.Fmt.{decimal}
 use Rattle.std.specs.Str.{bytes_eq}
@@ -10,13 +10,11 @@ use Rattle.std.proofs.lemmas.List.{take-append-drop}
 use Rattle.psi_lines.specs.declared.header.Header.{Header}
 use Rattle.psi_lines.specs.Log.{Region, greatest_horizon, IsHeader, IsState, IsRegion}
 use Rattle.psi_lines.specs.Text.{line_text, numbers_text, number_words, region_words, header_text}
-use Rattle.psi_log.specs.Refusal.{Refusal, refused, ◌>>=◌, holds_or, IsLogError}
-use Rattle.psi_log.specs.declared.refusals.LogError.{LogError}
-use Rattle.psi_log.specs.declared.refusals.LogError.TheVariants.{Refused, OutOfMemory}
+use Rattle.psi_log.specs.Refusal.{Refusal, refused, ◌>>=◌, holds_or}
 use Rattle.psi_log.specs.Words.{line_of, has_pieces, read_version}
 use Rattle.psi_log.specs.Regions.{Given, form_of, read_state, read_given}
-use Rattle.psi_log.specs.Reading.{named_line, read_header, head, read_begin, read_end, after_header, read}
-use Rattle.psi_log.specs.declared.refusals.Cause.TheVariants.{NotLog, Version, Shape, TooLong}
+use Rattle.psi_log.specs.Reading.{named_line, read_header, read_begin, read_end}
+use Rattle.psi_log.specs.declared.refusals.Cause.TheVariants.{NotLog, Version, Shape}
 use Rattle.psi_log.proofs.WordLemmas.{bind_ok, ok_same, held, same_word, lacks, line_found, line_again}
 use Rattle.psi_log.proofs.StateLemmas.{state_found, state_again, state_shaped, state_lacks}
 use Rattle.psi_log.proofs.GivenLemmas.{region_found, region_again, words_lack}
@@ -100,23 +98,6 @@ header_found text x h =
           five text _ _ _ _ _ rest q.0.1 s.0.1 n.0.1 k.0.1 is a.0 b.0 c.0 d.0,
           record { version = version; some = a.1; few = a.2; seed = (let seed = b.2 in omega arith); stream = (let stream = c.2 in omega arith); least = d.1; most = d.2 },
         )
-
--- the header of a text is in its ranges
-pub header_in : (text : List ℕ) (h : Header) (rest : List ℕ) → read_header text ≡ Ok (h, rest) → IsHeader h
-header_in text h rest is = (header_found text (h, rest) is).1
-
--- a text whose header is refused is refused so as a whole
-pub head_refused : (text : List ℕ) (error : LogError) → IsLogError error (head text) → IsLogError error (read text)
-unfolding head read
-head_refused text (Refused line cause) is = go (holds_or (refused 0 TooLong) (nat_le (length text) 33554432)) (read_header text) is
-  where
-    go : (few : Result (Unit {0}) Refusal) (header : Result (Header × List ℕ) Refusal)
-        → few >>= (λ (u : Unit {0}). header >>= (λ (p : Header × List ℕ). Ok p.0)) ≡ Err (record { line = line; cause = cause })
-        → few >>= (λ (u : Unit {0}). header >>= (λ (p : Header × List ℕ). after_header p.0 p.1)) ≡ Err (record { line = line; cause = cause })
-    go (Err refusal) header is = cc
-    go (Ok u) (Err refusal) is = cc
-    go (Ok u) (Ok p) is = absurd cc
-head_refused text OutOfMemory is = tt
 
 pub header_again : (h : Header) (rest : List ℕ) → IsHeader h → read_header (header_text h ++ rest) ≡ Ok (h, rest)
 unfolding read_header header_text

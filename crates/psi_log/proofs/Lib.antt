@@ -22,4 +22,5 @@ mod OrderLemmas
 pub mod TurnLemmas
 mod ScanLemmas
 mod SetLineLemmas
+mod MoveLineLemmas
 mod Worked

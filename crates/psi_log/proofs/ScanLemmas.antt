@@ -83,7 +83,7 @@ scanned_none queues text at old =
           (record { front = sym (append-nil (take at text)); place = omega arith; len = refl });
     }
 
-in_push : {X : Type 0} (xs : List X) (x y : X) → In y (xs ++ x ∷ []) → In y xs ⊎ (y ≡ x)
+pub in_push : {X : Type 0} (xs : List X) (x y : X) → In y (xs ++ x ∷ []) → In y xs ⊎ (y ≡ x)
 in_push [] x y there = elim there [ inl e ↦ inr e | inr t ↦ absurd t ]
 in_push (z ∷ xs) x y there = elim there [ inl e ↦ inl (inl e) | inr t ↦ elim (in_push xs x y t) [ inl u ↦ inl (inr u) | inr e ↦ inr e ] ]
 

@@ -1,10 +1,10 @@
 -- Texts worked by hand, and what is read of them.
-use Rattle.std.specs.Prelude.{◌≡◌, codes, true, Ok, Err, refl}
+use Rattle.std.specs.Prelude.{◌≡◌, codes, true, Err, refl}
 use Rattle.std.specs.Result.{is_ok}
 use Rattle.psi_log.specs.Refusal.{each}
 use Rattle.psi_log.specs.Words.{line_of, number_in, read_version, read_named}
 use Rattle.psi_log.specs.Regions.{box_form, set_form, move_form, form_of, read_state, read_change, read_given}
-use Rattle.psi_log.specs.Reading.{read, head, after_header, read_header, named_line, read_begin, read_step, read_steps, read_end}
+use Rattle.psi_log.specs.Reading.{read, after_header, read_header, named_line, read_begin, read_step, read_steps, read_end}
 
 carriage_return_after_the_first_line : read (codes "psi-log 1\r\nqueues 1\nseed 0\nstream 0\nhorizon 4\nbegin box 0 3\nstep 4 1 set 0 1 2\nstep 3 0 set 1 2 3\nstep 2 0 set 2 3\nstep 1 0 set 3\nend 3\n") ≡ Err (record { line = 1; cause = 2 })
 unfolding read after_header read_header named_line read_begin read_step read_steps read_end line_of number_in read_version read_named box_form set_form move_form form_of read_state read_change read_given each
@@ -145,15 +145,3 @@ empty_event = refl
 state_of_nothing : read (codes "psi-log 2\nqueues 1\nseed 0\nstream 0\nhorizon 1\nbegin box 0 2\nstep 1 0 set \nend 0\n") ≡ Err (record { line = 7; cause = 3 })
 unfolding read after_header read_header named_line read_begin read_step read_steps read_end line_of number_in read_version read_named box_form set_form move_form form_of read_state read_change read_given each
 state_of_nothing = refl
-
-head_of_a_text_that_ends_with_it : head (codes "psi-log 2\nqueues 2\nseed 8\nstream 7\nhorizon 4194304\n") ≡ Ok (record { version = 2; queues = 2; seed = 8; stream = 7; horizon = 4194304 })
-unfolding head read_header named_line line_of number_in read_version read_named
-head_of_a_text_that_ends_with_it = refl
-
-head_of_another_text : head (codes "psi-log 1\nqueues 1\nseed 0\nstream 0\nhorizon 4\nbegin circle") ≡ Ok (record { version = 1; queues = 1; seed = 0; stream = 0; horizon = 4 })
-unfolding head read_header named_line line_of number_in read_version read_named
-head_of_another_text = refl
-
-head_without_its_last_line : head (codes "psi-log 1\nqueues 1\nseed 0\nstream 0\nhorizon 4") ≡ Err (record { line = 5; cause = 5 })
-unfolding head read_header named_line line_of number_in read_version read_named
-head_without_its_last_line = refl

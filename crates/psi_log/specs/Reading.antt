@@ -27,13 +27,6 @@ read_header text = do
   horizon ← named_line 5 (codes "horizon") 1 (greatest_horizon version) stream.1
   Ok (record { version = version; queues = queues.0; seed = seed.0; stream = stream.0; horizon = horizon.0 }, horizon.1)
 
--- the header of a text, whatever follows it
-unfoldable pub head : List ℕ → Result Header Refusal
-head text = do
-  few ← holds_or (refused 0 TooLong) (nat_le (length text) 33554432)
-  header ← read_header text
-  Ok header.0
-
 -- the words of the region at which the run begins
 unfoldable pub read_begin : ℕ → List (List ℕ) → Result Region Refusal
 read_begin queues [] = Err (refused 6 Shape)

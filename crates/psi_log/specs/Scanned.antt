@@ -1,13 +1,15 @@
 -- What stands in a text from a place on.
-use Rattle.std.specs.Prelude.{◌≡◌, ℕ, ◌≤◌, List, length, map, take, drop, Option, Result, Ok}
+use Rattle.std.specs.Prelude.{◌≡◌, ℕ, ◌<◌, ◌≤◌, ◌^◌, List, length, map, take, drop, true, Option, Result, Ok}
+use Rattle.std.specs.List.{list_all}
 use Rattle.psi_state.specs.State.{Corners}
 use Rattle.psi_state.specs.Members.{In}
 use Rattle.psi_lines.specs.declared.header.Header.{Header}
 use Rattle.psi_lines.specs.Log.{Entry, IsState}
-use Rattle.psi_lines.specs.Text.{numbers_text}
+use Rattle.psi_lines.specs.Text.{numbers_text, Change, change_text}
 use Rattle.psi_lines.specs.Room.{Puts, spaced_words}
 use Rattle.psi_log.specs.Refusal.{Refusal, ◌>>=◌}
 use Rattle.psi_log.specs.Words.{line_of, words_of}
+use Rattle.psi_log.specs.Regions.{queues_ascend, is_change, changed}
 use Rattle.psi_log.specs.Reading.{read_step}
 
 -- the words stand in the text from one place to another
@@ -20,6 +22,16 @@ pub record AreScanned (queues : ℕ) (text : List ℕ) (at end : ℕ) (old new :
   pub more : length old ≤ length new
   pub each : (x : List ℕ) → In x (drop (length old) new) → IsState queues x
   pub words : Stands text at end (spaced_words (map numbers_text (drop (length old) new)))
+
+-- changes that make a box of another stand in the text from one place to another, each behind a space
+pub record AreChanged (queues : ℕ) (from : Corners) (text : List ℕ) (at end : ℕ) (to : Corners) : Type 0 where
+  pub changes : List Change
+  pub few : length changes ≤ queues
+  pub each : (c : Change) → In c changes → (c.queue < queues) × (c.least < 2 ^ 16) × (c.greatest < 2 ^ 16)
+  pub ascend : queues_ascend changes ≡ true
+  pub differ : list_all (is_change from) changes ≡ true
+  pub made : to ≡ changed from changes
+  pub words : Stands text at end (spaced_words (map change_text changes))
 
 -- line n, where it is that of a step and begins the text, and what follows it
 unfoldable pub next_step : Header → ℕ → Option Corners → List ℕ → Result (Entry × List ℕ) Refusal

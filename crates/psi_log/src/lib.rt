@@ -6,6 +6,7 @@ mod form;
 mod forms;
 mod header;
 mod log;
+mod move_line;
 mod moves;
 mod numbers;
 mod parts;
@@ -17,7 +18,6 @@ mod steps;
 mod words;
 
 pub use form::Form;
-pub use header::read_head;
 pub use log::{Log, read_log};
 pub use psi_lines::{Header, LineBuf};
 pub use refusals::{Cause, LogError};

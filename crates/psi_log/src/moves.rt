@@ -14,10 +14,10 @@ use psi_state::Bounds;
 
 /// A queue, with the least and the greatest number of customers that it holds from now on.
 #[derive(Clone, Copy, Debug)]
-struct Change {
-    queue: u8,
-    least: u16,
-    greatest: u16,
+pub(crate) struct Change {
+    pub(crate) queue: u8,
+    pub(crate) least: u16,
+    pub(crate) greatest: u16,
 }
 
 // The three numbers of a change, of a word that has three pieces.
@@ -38,8 +38,8 @@ fn read_change(line: u32, queues: u8, word: &[u8]) -> Result<Change, LogError>
     })
 }
 
-// Whether the least number is at most the greatest, and they aren't both those that the queue had.
-fn is_change(from: &Bounds, c: &Change) -> bool
+/// Whether the least number is at most the greatest, and they aren't both those that the queue had.
+pub(crate) fn is_change(from: &Bounds, c: &Change) -> bool
     requires { c.now.queue < length from.now.lo }
     ensures { result ≡ is_change from.now (change c.now) }
 {

@@ -7,7 +7,7 @@ ghost use Rattle.psi_log.specs.Kept.{region_of, IsThere};
 ghost use Rattle.psi_log.specs.Parts.{certificate_of, IsWhole};
 
 use crate::forms::form_of;
-use crate::header::read_start;
+use crate::header::read_header;
 use crate::refusals::{Cause, LogError};
 use crate::regions::{box_before, read_given, read_state};
 use crate::steps::read_steps;
@@ -111,12 +111,15 @@ fn parts_of<'t>(
 /// # Errors
 ///
 /// The first refusal of the text; `OutOfMemory`.
-#[tactic(auto, unfolding(crate::specs::Reading::read), using(crate::proofs::HeaderLemmas::head_refused))]
+#[tactic(auto, unfolding(crate::specs::Reading::read))]
 pub(crate) fn read_parts(alloc: Global, text: &[u8]) -> Result<Parts, LogError>
     ensures value { Gives certificate_of result (read text.now) }
     ensures whole { IfOk result (λ parts. IsWhole parts) }
 {
+    if text.len() > 33_554_432 {
+        return Err(Cause::TooLong.at(0));
+    }
     let mut words = Vec::new(alloc);
-    let (header, rest) = read_start(text, &mut words)?;
+    let (header, rest) = read_header(text, &mut words)?;
     parts_of(alloc, header, rest, &mut words)
 }

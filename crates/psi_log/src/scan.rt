@@ -80,10 +80,10 @@ fn any_small_at(text: &[u8], at: usize) -> Option<(u16, usize)>
     Some((number as u16, end))
 }
 
-// The same, at once where it has one or two digits.
+/// The number of 16 bits that stands at a place, and the place behind it; at once where it has one or two digits.
 #[inline]
 #[tactic(auto, using(crate::proofs::ScanLemmas::digit_first, crate::proofs::ScanLemmas::two_digits))]
-fn small_at(text: &[u8], at: usize) -> Option<(u16, usize)>
+pub(crate) fn small_at(text: &[u8], at: usize) -> Option<(u16, usize)>
     ensures within { IfSome result (λ read. read.1 ≤ length text.now) }
     ensures there { IfSome result (λ read. Stands text.now at read.1 (decimal read.0)) }
 {

@@ -15,9 +15,9 @@ use psi_rows::{Kept, Line, StateList};
 use psi_state::Step;
 use std::alloc::AllocError;
 
-// The step whose line begins a text, and the place behind its event.
+/// The step whose line begins a text, and the place behind its event.
 #[tactic(auto, using(crate::proofs::SetLineLemmas::step_stands))]
-fn step_at(version: u8, text: &[u8]) -> Option<(Step, usize)>
+pub(crate) fn step_at(version: u8, text: &[u8]) -> Option<(Step, usize)>
     ensures least { IfSome result (λ read. 1 ≤ read.0.number) }
     ensures most { IfSome result (λ read. read.0.number ≤ greatest_horizon version) }
     ensures event { IfSome result (λ read. read.0.event ≤ 1024) }

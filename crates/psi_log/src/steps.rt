@@ -9,6 +9,7 @@ ghost use Rattle.psi_log.specs.Scanned.{next_step};
 
 use crate::forms::form_of;
 use crate::header::greatest_horizon;
+use crate::move_line::read_move_line;
 use crate::numbers::number_in;
 use crate::refusals::{Cause, LogError};
 use crate::regions::{box_before, read_given};
@@ -106,6 +107,11 @@ fn read_next<'t>(
     ensures kept { OnOk result (take (length states.old.states) states.new.states ≡ states.old.states) }
     ensures more { OnOk result (length states.old.states ≤ length states.new.states) }
 {
+    if let Some(from) = before {
+        if let Some(read) = read_move_line(header, from, text) {
+            return Ok(read);
+        }
+    }
     match read_set_line(header, text, states) {
         Ok(Some(read)) => return Ok(read),
         Ok(None) => {}
