@@ -9,7 +9,7 @@ use psi_lines::{Header, LineBuf};
 use psi_log::{Form, Log, read_log};
 use psi_net::Net;
 use psi_past::{Past, SeedPast};
-use psi_record::{Block, log_fits, recorded_end, write_log};
+use psi_record::{Block, log_fits, write_log};
 use psi_replay::verdict;
 use psi_state::{Bounds, Outcome, State, Step};
 use std::alloc::Global;
@@ -94,8 +94,6 @@ fn make_log(alloc: Global, calls: bool, net: &Net, limit: u8) -> Option<()>
         return None;
     };
     if calls {
-        let header = header_of(&plan, system.caps().len());
-        let _end = recorded_end(&mut plan, &header, writing.sink.bytes(), &mut writing.line);
         write(&mut plan, &system.caps(), &mut writing);
         call_log(&log);
         let _verdict = verdict(&system, &log);

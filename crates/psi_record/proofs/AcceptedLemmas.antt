@@ -217,22 +217,3 @@ unfolding event_of
 events-few system words t few =
     let below : event_numbers system words t ≤ length system.rates = event_at-below system.rates (words (t - 1) % least_power (total system.rates)) in
     omega arith
-
-pub log-accepted : {E : Type 0} (capacities : E → List ℕ) (function : E → List ℕ → List ℕ) (system : Parts E) (words : ℕ → ℕ) (h : Head) (state : List ℕ)
-    → ((event : E) → IsClosed (capacities event) (function event)) → IsSystem capacities system → h.version ≡ 2 → h.queues ≡ length system.caps → h.seed < 2 ^ 64 → h.stream < 2 ^ 64
-    → 1 ≤ h.horizon → h.horizon ≤ 2 ^ system.limit → ending_at system.split (system_functions function system words) system.caps h.horizon ≡ Some state
-    → IsAccepted system.caps system.limit (event_numbers system words) (system_functions function system words) (log_of function system words h state)
-unfolding recorded
-log-accepted capacities function system words h state closed fit version queues seed stream some most ends =
-    let greatest : 2 ^ system.limit ≤ 2 ^ 22 = pow-order system.limit 22 fit.most_limit in
-    let few : h.horizon ≤ 4194304 = omega arith in
-    let f = system_functions function system words in
-    let events = event_numbers system words in
-    let each = functions-closed capacities function system words closed fit.same_caps in
-    let kept = recorded-judged system.caps system.limit events f system.split h state fit.most_split each queues most ends in
-    record {
-      log = recorded-log system.caps system.limit events f system.split h state fit.valid fit.most_split each (λ t. events-few system words t fit.rated.few)
-          version queues seed stream some few ends;
-      kept = kept;
-      verdict = ap (λ (r : Result (Unit {0}) Refusal). verdict_of (recorded system.split f system.caps events h state) r) kept;
-    }

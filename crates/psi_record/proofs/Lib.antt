@@ -3,7 +3,6 @@ pub mod SendingLemmas
 pub mod WalkingLemmas
 pub mod TextLemmas
 pub mod RoomLemmas
-pub mod RestLemmas
 pub mod RegionLemmas
 pub mod BoundLemmas
 pub mod WidthLemmas

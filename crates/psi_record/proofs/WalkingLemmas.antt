@@ -2,14 +2,12 @@
 use Rattle.std.proofs.Common.{◌≡◌, ℕ, suc, ◌+◌, ◌-◌, ◌<◌, List, ◌++◌, Bool, true, Option, Some, None, IfSome, IsSome, if◌then◌else◌, refl, sym, ◌∙◌, ap, subst, add-one}
 use Rattle.psi_state.specs.State.{Corners, IsBelow}
 use Rattle.psi_state.specs.Hull.{corners}
-use Rattle.psi_state.specs.Sets.{single}
 use Rattle.psi_state.specs.declared.outcome.Step.{Step}
 use Rattle.psi_state.proofs.StatesLemmas.{corners-box}
 use Rattle.psi_rate.specs.Composition.{Parts, system_functions}
 use Rattle.psi_region.specs.Region.{Area, ShowsBox}
 use Rattle.psi_horizon.specs.Planned.{Running, Planned, onward}
-use Rattle.psi_horizon.specs.Runs.{region_after, ending_at}
-use Rattle.psi_horizon.proofs.RunsLemmas.{region_after-whole}
+use Rattle.psi_horizon.specs.Runs.{region_after}
 use Rattle.psi_lines.specs.Log.{Region, in_box, in_set}
 use Rattle.psi_lines.specs.Text.{region_words, next_words, step_text}
 use Rattle.psi_record.specs.Recorded.{region_of}
@@ -190,19 +188,3 @@ pub walking-run : {E P : Type 0} (function : E → List ℕ → List ℕ) (words
 walking-run {E} {P} function words first now horizon done left room told walk is =
     same-both (λ (s : Parts E) (w : ℕ → ℕ). IsAmpleAfter function s w left room horizon done) now.system first.system (words now.past) (words first.past) walk.system walk.same_words
     (if_some-at (λ r. IsAmpleAfter function now.system (words now.past) left room r.horizon r.done) now.run (record { horizon = horizon; done = done }) walk.run is)
-
--- what is told of its region once all steps are done is told of the one with which the run ends
-pub walking-ending : {E P : Type 0} (function : E → List ℕ → List ℕ) (words : P → ℕ → ℕ) (first now : Planned E P) (horizon done : ℕ) (told : Option Corners) (state : Option (List ℕ))
-    → IsWalking function words first now horizon done told → done ≡ horizon
-    → IfSome now.run (λ r. state ≡ single (region_after now.system.split (system_functions function now.system (words now.past)) now.system.caps r.horizon r.done).states)
-    → state ≡ ending_at first.system.split (system_functions function first.system (words first.past)) first.system.caps horizon
-walking-ending {E} {P} function words first now horizon done told state walk all is =
-    let f = system_functions function first.system (words first.past) in
-    let here : state ≡ single (region_after now.system.split (system_functions function now.system (words now.past)) now.system.caps horizon done).states =
-    if_some-at (λ r. state ≡ single (region_after now.system.split (system_functions function now.system (words now.past)) now.system.caps r.horizon r.done).states)
-    now.run (record { horizon = horizon; done = done }) walk.run is in
-    let own : state ≡ single (region_after first.system.split f first.system.caps horizon done).states =
-    same-both (λ (s : Parts E) (w : ℕ → ℕ). state ≡ single (region_after s.split (system_functions function s w) s.caps horizon done).states)
-    now.system first.system (words now.past) (words first.past) walk.system walk.same_words here in
-    own ∙ (ap (λ n. single (region_after first.system.split f first.system.caps horizon n).states) all
-    ∙ ap (λ (a : Area). single a.states) (region_after-whole first.system.split first.system.caps f horizon))

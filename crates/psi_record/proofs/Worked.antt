@@ -6,7 +6,7 @@ use Rattle.psi_region.specs.Region.{step}
 use Rattle.psi_horizon.specs.Runs.{ending_at}
 use Rattle.psi_lines.specs.Text.{line_text, numbers_text, header_text, changes, begin_text, step_text, end_text, log_text}
 use Rattle.psi_replay.specs.Verdict.{judge_step, judge_steps, judge_end, judged}
-use Rattle.psi_record.specs.Recorded.{recorded, header_of, IsRecordedEnd}
+use Rattle.psi_record.specs.Recorded.{recorded, header_of}
 
 pair : ℕ → ℕ → List ℕ
 pair a b = a ∷ b ∷ []
@@ -45,10 +45,6 @@ worked_text = refl
 worked_end : ending_at 1 functions (pair 1 1) 8 ≡ Some (pair 0 1)
 unfolding pair split_in move_on leave_first leave_second events functions step hull
 worked_end = refl
-
--- the text is known by it
-worked_known : IsRecordedEnd (ending_at 1 functions (pair 1 1) 8) (λ x. log_text (recorded 1 functions (pair 1 1) events (header_of (pair 1 1) 0 0 8) x)) (log_text (recorded 1 functions (pair 1 1) events (header_of (pair 1 1) 0 0 8) (pair 0 1))) (Some (pair 0 1))
-worked_known = (worked_end, refl)
 
 -- the log breaks no rule
 worked_rules : judged (pair 1 1) 3 events functions (recorded 1 functions (pair 1 1) events (header_of (pair 1 1) 0 0 8) (pair 0 1)) ≡ Ok tt

@@ -1,6 +1,6 @@
 -- The log of a run: all states at its begin, each of its steps with the region after it, and the state with which it ends
 -- (coupling from the past, Propp and Wilson 1996, with the envelopes of Bušić, Gaujal and Vincent 2008).
-use Rattle.std.specs.Prelude.{◌≡◌, ℕ, suc, ◌-◌, List, length, map, Option, Some, None, if◌then◌else◌}
+use Rattle.std.specs.Prelude.{ℕ, suc, ◌-◌, List, length, map, if◌then◌else◌}
 use Rattle.psi_state.specs.State.{numbers_from}
 use Rattle.psi_state.specs.Hull.{corners}
 use Rattle.psi_rate.specs.Composition.{Functions, Parts, system_functions}
@@ -40,8 +40,3 @@ header_of caps seed stream horizon = record { version = 2; queues = length caps;
 abbrev pub log_of : {E : Type 0} → (E → List ℕ → List ℕ) → Parts E → (ℕ → ℕ) → Header → List ℕ → Certificate
 log_of function system words h state =
     recorded system.split (system_functions function system words) system.caps (event_numbers system words) h state
-
--- what is told of a text, where a run ends with the given state, or with more than one: the state, where the text is the log with it, and nothing where it isn't
-abbrev pub IsRecordedEnd : Option (List ℕ) → (List ℕ → List ℕ) → List ℕ → Option (List ℕ) → Type 0
-IsRecordedEnd ending log text None = (x : List ℕ) → ending ≡ Some x → text ≡ log x → ⊥
-IsRecordedEnd ending log text (Some x) = (ending ≡ Some x) × (text ≡ log x)

@@ -1,15 +1,12 @@
 //! The writing of the log of a sample, the text that certifies it: the run is done step by step, and each
-//! line is written as soon as its step is done, so that no more than a block of the text is held. A text that
-//! is such a log is known by the same lines.
+//! line is written as soon as its step is done, so that no more than a block of the text is held.
 #![tactic(auto)]
 
 mod block;
 mod laws;
-mod recorded;
 mod steps;
 mod writing;
 
 pub use block::{Block, OutOfMemory};
 pub use laws::logs_are_accepted;
-pub use recorded::recorded_end;
 pub use writing::{log_fits, write_log};
