@@ -8,11 +8,12 @@ from psi_tools import tables
 from psi_tools.batches import read_report
 from psi_tools.moves import Moves, loads_of
 from psi_tools.networks import checked
+from psi_tools.plotting.read_exact import read_exact
 from psi_tools.program import Psi
 from psi_tools.told import Told
 from psi_tools.words import GREATEST, Words, add_form, give, look_at, number, run
 
-COMMAND, STREAMS, SECONDS = "psi-why", 20, 10
+COMMAND, STREAMS, SECONDS, EXPONENT = "psi-why", 20, 10, 12
 ABOUT = """Tells what may keep samples of a network from coupling, and how far back they have to
 begin:
 
@@ -20,7 +21,8 @@ begin:
 - numbers of a queue that can't be left, and queues that only fill or only empty;
 - events that aren't monotone, where boxes may stay wide;
 - the load of each queue: in balance the past has to be long;
-- at which horizons some streams are met, from a short limit on to longer ones, as long as it takes.
+- at which horizons some streams are met, from a short limit on to longer ones, as long as it takes;
+- and where some aren't, what the single states of a small network become.
 
     psi-why desk.toml
 
@@ -141,6 +143,31 @@ def horizons_of(psi, net, words, limit):
     return found
 
 
+def single_states(psi, net, words):
+    """What all states of a small network become by themselves, as `exact` tells of the first
+    stream, in words; nothing where there are too many states, or it takes too long."""
+    call = [psi.path, "exact", "/dev/stdin", str(words.seed), "0", str(EXPONENT)]
+    try:
+        done = subprocess.run(call, input=net.data, capture_output=True, timeout=words.seconds)
+    except subprocess.TimeoutExpired:
+        return []
+    if done.returncode not in (0, 1):
+        return []
+    found = read_exact(done.stdout)
+    if found.constant is None:
+        left = found.images[found.longest()]
+        return [
+            f"of {found.states:,} states, followed each by itself, {left:,} are left after "
+            f"{found.longest():,} steps (stream 0)"
+        ]
+    longest, region = found.longest(), found.region
+    boxes = f"not within {longest:,}" if region is None else f"after {region:,}"
+    return [
+        f"all {found.states:,} states, followed each by itself, have met after "
+        f"{found.constant:,} steps (stream 0), the boxes of a run {boxes}"
+    ]
+
+
 def loads_told(net):
     """The load of each queue as a row: its name, the rates in and out, and their quotient; there
     are none where nobody comes from outside."""
@@ -200,6 +227,7 @@ def text_of(words, told):
         of = ", ".join(f"{count} at {horizon}" for horizon, count in shares)
         line = f"limit {power}: {met} of {words.count} streams are met"
         lines.append(line + (f" ({of})" if of else ""))
+    lines += told["states"]
     if told["stopped"]:
         limit = told["limit"]
         lines.append(f"longer limits, up to the file's {limit}, take more time than was given")
@@ -215,12 +243,13 @@ def told_of(psi, words):
     moves = Moves(net)
     never = never_met(net, moves)
     found = [] if never else horizons_of(psi, net, words, heads["limit"])
+    is_met = bool(found) and found[-1][1].met == words.count
     return {
         "never": never, "one_sided": [*one_sided(net, moves)], "upset": upset,
         "loads": loads_told(net), "limit": heads["limit"],
         "horizons": [(power, report.met, report.horizons) for power, report in found],
-        "stopped": not never and (not found or found[-1][0] < heads["limit"]
-                                  and found[-1][1].met < words.count),
+        "states": [] if never or is_met else single_states(psi, net, words),
+        "stopped": not never and not is_met and (not found or found[-1][0] < heads["limit"]),
         "advice": [*advice(found, never, upset, heads, heads["limit"], words, net)],
     }
 

@@ -60,6 +60,21 @@ def test_events_have_the_same_numbers_in_all_designs():
         assert (sum(total[:place]), sum(total[place:])) == (6, 6)
 
 
+def test_where_there_is_no_room_for_idle_events_it_says_why():
+    net = Network.parse(CALLS)
+    for number in range(15):
+        net.event(f"more-{number}", "service", 2**20, source="calls")
+    net.table["queue"][0]["servers"] = 1
+    _, designs, _, _ = designs_of(["more-0.rate=1,1048576", "more-1.rate=1048576,1"], net)
+    same, why = aligned(designs[:2])
+    assert why is None and same is not designs
+    net.event("another", "arrival", 2**20, to=["calls"])
+    _, designs, _, _ = designs_of(["more-0.rate=1,1048576", "more-1.rate=1048576,1"], net)
+    same, why = aligned(designs)
+    assert same is designs
+    assert why == "the rates of all designs together would add up to more than 16,777,216"
+
+
 def test_rates_with_a_point_are_made_whole():
     _, designs, scale, _ = designs_of(["ring.rate=5,5.25"], Network.parse(CALLS))
     assert scale == 100

@@ -96,6 +96,16 @@ def test_horizons_are_those_of_the_report(tool, psi):
     assert told["never"] == [] and told["stopped"] is False
 
 
+def test_single_states_are_told_where_streams_are_not_met(tool, tmp_path):
+    text = (TOP / "examples/longest-queue.toml").read_text()
+    (tmp_path / "net.toml").write_text(text.replace("\nsplit = 1\n", "\nsplit = 1\nlimit = 8\n"))
+    status, out, _ = tool("psi-why", "net.toml", "--seconds", "60")
+    assert status == 0
+    wanted = "all 64 states, followed each by itself, have met after 30 steps (stream 0), "
+    assert f"\n{wanted}the boxes of a run after 1,586\n" in out
+    assert "\nwhat may help: a greater limit: 20, or 22 in version 2; the file's is 8\n" in out
+
+
 def test_events_that_are_not_monotone(tool):
     status, out, _ = tool("psi-why", TOP / "examples/batch-arrivals.toml", "--seconds", "2")
     assert status == 0
