@@ -10,11 +10,8 @@ use Rattle.psi_state.specs.Hull.{corners}
 use Rattle.psi_state.proofs.MembersLemmas.{In-of_map, In-of_numbers_from}
 use Rattle.psi_event.specs.Law.{IsClosed}
 use Rattle.psi_rate.specs.Rates.{total, least_power, event_of}
-use Rattle.psi_rate.specs.Composition.{Parts, AreClosed, system_functions}
-use Rattle.psi_rate.specs.System.{IsSystem}
-use Rattle.psi_rate.proofs.PowersLemmas.{pow-order}
+use Rattle.psi_rate.specs.Composition.{Parts, AreClosed}
 use Rattle.psi_rate.proofs.RatesLemmas.{event_at-below}
-use Rattle.psi_rate.proofs.FunctionsLemmas.{functions-closed}
 use Rattle.psi_region.specs.Region.{Area, start, splits, step}
 use Rattle.psi_region.proofs.RegionLemmas.{step-has, step-split, step-box}
 use Rattle.psi_horizon.specs.Runs.{region_at, ending_at, region_after}
@@ -27,8 +24,8 @@ use Rattle.psi_log.proofs.StateLemmas.{below_again}
 use Rattle.psi_replay.specs.Verdict.{rejected, states_of, has, covers, is_within, is_small, holds_all, judge_step, judge_steps, judge_end, judged, verdict_of, event_numbers}
 use Rattle.psi_replay.specs.declared.causes.Cause.TheVariants.{Header, StepNumber, WrongEvent, OutsideBox, NotCovered, SplitTooLarge, NotSingle, WrongState}
 use Rattle.psi_replay.proofs.ListLemmas.{all_from, has-from_In}
-use Rattle.psi_record.specs.Recorded.{region_of, entry_after, recorded, log_of}
-use Rattle.psi_record.specs.Accepted.{IsAccepted, LogsAreAccepted}
+use Rattle.psi_record.specs.Recorded.{region_of, entry_after, recorded}
+use Rattle.psi_record.specs.Accepted.{LogsAreAccepted}
 use Rattle.psi_record.proofs.WalkingLemmas.{region_of-set}
 use Rattle.psi_record.proofs.RegionLemmas.{IsKept, kept-start, kept-step, kept-after, splits-few, region_of-plain, states_of-region, state-below, region_of-region}
 

@@ -1,5 +1,5 @@
 -- How long the lines of a run are at most, by the digits of the capacities, the number of the queues and the split number.
-use Rattle.std.proofs.Common.{◌≡◌, ◌⊎◌, ℕ, zero, suc, ◌+◌, ◌-◌, ◌*◌, ◌<◌, ◌≤◌, ◌^◌, List, [], ◌∷◌, ◌++◌, length, map, codes, Bool, true, false, slice_index, inl, inr, refl, sym, ◌∙◌, ap, subst, arith, length-append}
+use Rattle.std.proofs.Common.{◌≡◌, ◌⊎◌, ℕ, zero, suc, ◌+◌, ◌-◌, ◌*◌, ◌<◌, ◌≤◌, ◌^◌, List, [], ◌∷◌, ◌++◌, length, map, codes, Bool, false, slice_index, inl, inr, refl, sym, ◌∙◌, ap, subst, arith, length-append}
 use Rattle.std.specs.Prelude.{cond}
 use Rattle.std.specs.Fmt.{decimal}
 use Rattle.std.specs.List.{filter}
@@ -9,7 +9,6 @@ use Rattle.std.proofs.lemmas.Bool.{true≢false, cases_Bool, cases_lt}
 use Rattle.std.proofs.lemmas.List.{get_or_past}
 use Rattle.psi_state.specs.State.{Corners, IsBelow, IsVector, AreCapacities, numbers_from}
 use Rattle.psi_state.specs.Members.{In}
-use Rattle.psi_state.proofs.MembersLemmas.{In-of_numbers_from}
 use Rattle.psi_state.specs.Hull.{lows, highs, corners, HaveLength, IsTight}
 use Rattle.psi_state.specs.Boxes.{IsBetween}
 use Rattle.psi_state.proofs.BoxesLemmas.{below-through}
