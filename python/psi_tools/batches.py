@@ -5,7 +5,7 @@ import os
 
 from psi_tools import merging
 from psi_tools.blocks import FILE, Folder, digest_of
-from psi_tools.intervals import LEVEL, Mean, mean_of_batches
+from psi_tools.intervals import LEVEL, mean_of_batches
 from psi_tools.told import Told
 
 REWARD = "reward-"
@@ -141,6 +141,3 @@ def interval_or_none(batches, row):
     """The interval of a row, none where there are too few batches to say one."""
     mean = batches.mean(row)
     return (mean.low, mean.high) if mean.half is not None else None
-
-
-__all__ = ["Batches", "Mean", "Row", "batches_of", "read_any", "read_files", "read_folder"]

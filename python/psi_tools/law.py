@@ -14,7 +14,7 @@ from psi_tools.program import Psi
 from psi_tools.told import Told
 from psi_tools.words import (
     Progress, Words, add_form, add_picture, add_program, add_streams, give, last_stream_is_one,
-    look_at, look_at_picture, run, write,
+    look_at, look_at_picture, run, tell, write,
 )
 
 COMMAND, COUNT = "psi-law", 10_000
@@ -250,7 +250,7 @@ def work(arguments):
         write(words.picture, saved(draw_law(law, ""), words.picture.rpartition(".")[2].lower()))
     give(answer_of(law, words), words.out)
     if notes_of(law) and words.format != "text":
-        raise Told(notes_of(law)[0], 0)
+        tell(COMMAND, notes_of(law)[0])
     return 0
 
 

@@ -128,6 +128,17 @@ def reader():
         "--closed", metavar="TOTAL", type=number(0, MOST_TOTAL),
         help="sample a closed network that holds TOTAL customers, by psi closed",
     )
+    add_blocks(words)
+    add_ways(words)
+    words.add_argument(
+        "--merge", metavar="PROGRAM",
+        help="the program that merges reports; psi_merge where it is built, else merge_reports.py",
+    )
+    return words
+
+
+def add_blocks(words):
+    """The options that say how blocks are drawn and kept."""
     words.add_argument(
         "--folder", metavar="FOLDER",
         help="where finished blocks are kept; NET.SEED.FIRST.COUNT.many where it isn't given",
@@ -145,12 +156,6 @@ def reader():
         help="how many blocks are drawn at once, or how many tasks Slurm has; as many as there are "
         "processors, or 100 tasks, where it isn't given",
     )
-    add_ways(words)
-    words.add_argument(
-        "--merge", metavar="PROGRAM",
-        help="the program that merges reports; psi_merge where it is built, else merge_reports.py",
-    )
-    return words
 
 
 def add_ways(words):

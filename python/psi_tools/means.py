@@ -4,7 +4,7 @@ from psi_tools import tables
 from psi_tools.batches import REWARD, read_any
 from psi_tools.intervals import LEAST_BATCHES, figures
 from psi_tools.told import Told
-from psi_tools.words import Words, add_form, give, look_at, run
+from psi_tools.words import Words, add_form, give, look_at, run, tell
 
 COMMAND = "psi-means"
 ABOUT = """Prints the mean of every row of a report with its interval. Each report is a batch: their
@@ -146,12 +146,9 @@ def work(arguments):
     text, notes = answer(words)
     give(text, words.out)
     if notes:
-        raise Told("; ".join(notes), 0)
+        tell(COMMAND, "; ".join(notes))
     return 0
 
 
 def main(arguments):
     return run(COMMAND, work, arguments)
-
-
-
