@@ -5,5 +5,5 @@ mod Texts
 mod KeptKinds
 mod KeptQueues
 mod KeptEvents
-mod KeptRewards
+pub mod KeptRewards
 pub mod NetworkLemmas

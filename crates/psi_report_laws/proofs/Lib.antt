@@ -1,0 +1,4 @@
+-- The lemmas of this crate.
+mod NameLemmas
+mod DescribedLaws
+mod GeneratedLaws
