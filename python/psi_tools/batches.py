@@ -5,7 +5,7 @@ import os
 
 from psi_tools import merging
 from psi_tools.blocks import FILE, Folder, digest_of
-from psi_tools.intervals import LEVEL, mean_of_batches
+from psi_tools.intervals import LEVEL, mean_of_batches, share_of
 from psi_tools.told import Told
 
 REWARD = "reward-"
@@ -40,7 +40,10 @@ class Batches:
         return sum(self.samples) - sum(self.met)
 
     def mean(self, row, level=LEVEL):
-        """The mean of a row over the samples that are met."""
+        """The mean of a row over the samples that are met. Where all values are 0 or 1 it is a
+        share, whose interval holds it also where one of the two is rare."""
+        if row.least is not None and 0 <= row.least and row.greatest <= 1:
+            return share_of(sum(row.sums), sum(self.met), level)
         return mean_of_batches(row.sums, self.met, level)
 
     def row(self, sort, name):
@@ -49,7 +52,7 @@ class Batches:
 
     def share(self, counts, level=LEVEL):
         """The share of all samples that some are, by their number in each batch."""
-        return mean_of_batches(counts, self.samples, level)
+        return share_of(sum(counts), sum(self.samples), level)
 
 
 def batches_of(reports):

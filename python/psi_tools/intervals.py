@@ -21,20 +21,25 @@ def special():
 
 @dataclasses.dataclass(frozen=True)
 class Mean:
-    """A mean with half of its interval, in the unit of the values; none where there are no values,
-    or only one batch with some."""
+    """A mean with half the width of its interval, in the unit of the values; none where there are
+    no values, or only one batch with some. The ends are there where the mean isn't the middle."""
 
     mean: float | None
     half: float | None
+    ends: tuple[float, float] | None = None
 
     @property
     def low(self):
         """The lower end."""
+        if self.ends is not None:
+            return self.ends[0]
         return None if self.half is None else self.mean - self.half
 
     @property
     def high(self):
         """The upper end."""
+        if self.ends is not None:
+            return self.ends[1]
         return None if self.half is None else self.mean + self.half
 
     def holds(self, value):
@@ -94,6 +99,14 @@ def probability(count, many, unknown=0, level=LEVEL):
     most = count + unknown
     high = special().betaincinv(most + 1, many - most, 1 - tail) if most < many else 1.0
     return float(low), float(high)
+
+
+def share_of(count, many, level=LEVEL):
+    """The share that `count` of `many` independent samples are, with the ends of its interval."""
+    if not many:
+        return Mean(None, None)
+    low, high = probability(count, many, level=level)
+    return Mean(count / many, (high - low) / 2, (low, high))
 
 
 def ranks(share, many, level=LEVEL):

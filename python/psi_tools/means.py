@@ -9,7 +9,8 @@ from psi_tools.words import Words, add_form, give, look_at, run, tell
 COMMAND = "psi-means"
 ABOUT = """Prints the mean of every row of a report with its interval. Each report is a batch: their
 means are the values to which Student's t applies, so there are at least 20. Give 20 reports or more
-of one network over different streams, or the folder of one call of psi-many.
+of one network over different streams, or the folder of one call of psi-many. Where all values are 0
+or 1 the mean is a share, and its interval that of Clopper and Pearson.
 
     psi-many desk.toml 0 0 100000 --out desk.csv
     psi-means desk.toml.0.0.100000.many
@@ -112,13 +113,15 @@ def share_of(each):
 
 
 def remarks(batches):
-    """What an interval of no width means."""
+    """What an interval means where all samples are alike."""
     rows = [row for row in batches.rows if row.least is not None]
     alike = [row.name for row in rows if row.least == row.greatest]
     if not alike:
         return []
-    return [f"all samples have the same value of {', '.join(alike)}: an interval of no width there"
-            " says only that others are rare"]
+    return [
+        f"all samples have the same value of {', '.join(alike)}: that others are rare is all that "
+        "the interval says"
+    ]
 
 
 def answer(words):

@@ -4,7 +4,7 @@ import numpy
 import pytest
 from solving import means_of
 
-from psi_tools.batches import batches_of
+from psi_tools.batches import Batches, Row, batches_of
 from psi_tools.draws import blocks_of, reports_of
 from psi_tools.intervals import (
     difference_of_batches, figures, mean_of_batches, probability, quantile, ranks, student,
@@ -33,6 +33,14 @@ def test_batches_of_other_sizes_count_by_their_samples():
     found = mean_of_batches([2, 4, 0], [2, 1, 0])
     assert found.mean == 2
     assert found.half == pytest.approx(student(1) * (6 / 3) ** 0.5)
+
+
+def test_a_rare_share_has_an_interval_though_none_came():
+    rows = [Row("", "full", [0] * 20, 0, 0), Row("", "jobs", [3] + [0] * 19, 0, 2)]
+    batches = Batches([50] * 20, [50] * 20, [{}] * 20, rows)
+    assert (batches.mean(rows[0]).low, batches.mean(rows[0]).mean) == (0, 0)
+    assert batches.mean(rows[0]).high == pytest.approx(0.00368, abs=1e-5)
+    assert batches.mean(rows[1]).ends is None
 
 
 def test_great_sums_lose_nothing():
@@ -93,13 +101,19 @@ def test_intervals_hold_the_solved_mean(program):
     net.event("ring", "arrival", 5, to=["calls"])
     net.event("answer", "service", 2, source="calls")
     net.reward("full", "above", ["calls"], level=7)
+    # One of a thousand samples: in a third of all reports none comes.
+    net.queue("rare", 4)
+    net.event("seldom", "arrival", 2, to=["rare"]).event("gone", "service", 11, source="rare")
+    net.reward("rare-full", "above", ["rare"], level=3)
     queues, rewards = means_of(net)
     blocks = blocks_of(0, REPEATED * 20 * 50, 50)
     reports = reports_of(Psi(program, 2), net.data, 7, blocks)
-    held = {"calls": 0, "full": 0}
+    held = {"calls": 0, "full": 0, "rare": 0, "rare-full": 0}
+    wanted = {**queues, **rewards}
     for k in range(REPEATED):
         batches = batches_of(reports[20 * k : 20 * k + 20])
-        for row, wanted in zip(batches.rows, (queues["calls"], rewards["full"])):
-            held[row.name] += batches.mean(row).holds(wanted)
-    assert LEAST <= held["calls"] <= MOST
-    assert LEAST <= held["full"] <= MOST
+        for row in batches.rows:
+            held[row.name] += batches.mean(row).holds(wanted[row.name])
+    # The interval of a share holds it more often still where it is rare.
+    assert LEAST <= held.pop("rare-full")
+    assert all(LEAST <= count <= MOST for count in held.values()), held
