@@ -14,8 +14,9 @@ SENTENCES = {
     "`-` where it isn't of the form of a name. Correct the spelling, or move it below its own "
     "header; look at the kind's keys above.",
     "MissingKey": "A key is absent that is required, or there is no queue. Add it.",
-    "WrongType": "A value is of another type, as `rate = \"x\"`. Write a number, a string or an "
-    "array as the key asks.",
+    "WrongType": "A value is of another type, as `rate = \"x\"`, or a number has a point, as "
+    "`rate = 0.8` or `4.0`. Write a whole number, a string or an array as the key asks; for rates "
+    "of 0.8 and 1 write 4 and 5.",
     "OutOfRange": "A number is out of its range, a name isn't of the allowed form, `full` is "
     "neither `lost` nor `stay`, a list that needs a name is empty, `part` is empty, or `size` "
     "isn't 1 beside `from`. See the ranges above; `servers` is at most the capacity.",
