@@ -10,12 +10,14 @@ import re
 ROOT = pathlib.Path(__file__).resolve().parent.parent
 CRATES = ROOT / "crates"
 # What belongs to the language, and so has no definition.
-LANGUAGE = set("abbrev unfoldable pub record data where module infixl infixr infix let in then else "
-               "Type Unit tt u8 u16 u32 u64 i32 i64 bool usize str".split())
-SIGNS = set("→ × ¬ λ ⊥ = : ; . , ← | _ > >> & ' # -> :: != => &mut".split())
+LANGUAGE = set(
+    "abbrev unfoldable pub record data where module infixl infixr infix let in then else "
+    "Type Unit tt".split()
+)
+SIGNS = set("→ × ¬ ⊥ = : . ←".split())
 WORD = re.compile(r"(?!λ)[^\W\d]\w*(?:\.\w+)*")
 TOKEN = re.compile(r"(?<=[\w)])\.\w+|" + WORD.pattern + r"|\d\w*|\[\]|[^\s\w(){}\[\];,]+")
-ITEM = re.compile(r"(?:abbrev |unfoldable )?(?:pub )?(?:(record|data) )?(\S+)(?= )")
+ITEM = re.compile(r"(?:abbrev |unfoldable )?(?:pub )?(?:record |data )?(\S+)(?= )")
 
 
 class Missing(Exception):
@@ -23,18 +25,25 @@ class Missing(Exception):
 
 
 class Item:
-    """A definition: its place, the lines of its comment and of its text, and the modules it is in."""
+    """A definition: its file, its name, its comment and its text, and the modules it stands in."""
 
-    def __init__(self, file, name, line, indent, comment, modules):
-        self.file, self.name, self.line, self.indent = file, name, line, indent
+    def __init__(self, file, name, indent, comment, modules):
+        self.file, self.name, self.indent = file, name, indent
         self.comment, self.modules, self.text = comment, list(modules), []
-        self.makers = set()  # the constructors of a data, and the variants of an enum
-        self.rust = None  # what a declaration of a source names
-        self.bound, self.traits, self.skipped = [], {}, []  # of a clause: parameters, those of types, the head
-
+        # The constructors of a data, and the variants of an enum.
+        self.makers = set()
+        # What a declaration of a source names.
+        self.rust = None
+        # Of a clause: the parameters, the traits of those that are types, and the function's head.
+        self.bound, self.traits, self.head = [], {}, []
 
     def body(self):
-        return [s for s in self.text[len(self.skipped) :] if not s.lstrip().startswith(("--", "//"))]
+        """The lines without comments, and without the head of a function."""
+        return [s for s in self.text[len(self.head) :] if not s.lstrip().startswith(("--", "//"))]
+
+    def missing(self, name):
+        place = self.file.path.relative_to(ROOT)
+        return Missing(f"{place}: {self.name} names {name}, which is nothing")
 
 
 class File:
@@ -76,22 +85,26 @@ class File:
                 self.passed_on[other or name] = (module, name)
 
 
+def words_of(item):
+    return item.text[0].split()
+
+
 class Spec(File):
     """A file of specs/."""
 
     def __init__(self, path):
         super().__init__(path)
         modules, comment, item, fixity = [], [], None, []
-        for number, line in enumerate(self.lines, 1):
+        for line in self.lines:
             indent = len(line) - len(line.lstrip())
             if not line.strip():
                 item = None
                 comment += [""] if comment else []
                 continue
-            if item and (indent > item.indent or (indent == item.indent and self.goes_on(line, item))):
+            if item and (indent > item.indent or indent == item.indent and self.is_equation(line)):
                 item.text.append(line)
-                maker = re.match(r" *(\w+) :", line) if item.text[0].lstrip().startswith("pub data") else None
-                if maker and indent == item.indent + 2:
+                maker = re.match(r" *(\w+) :", line)
+                if maker and indent == item.indent + 2 and words_of(item)[:2] == ["pub", "data"]:
                     item.makers.add(maker.group(1))
                 continue
             item = None
@@ -110,7 +123,8 @@ class Spec(File):
             elif words.startswith("infix"):
                 fixity = [line]
             else:
-                item = Item(self, ITEM.match(words).group(2), number, indent, comment, [m for _, m in modules])
+                name = ITEM.match(words).group(1)
+                item = Item(self, name, indent, comment, [module for _, module in modules])
                 item.text = fixity + [line]
                 comment, fixity = [], []
                 self.items[item.name] = item
@@ -118,13 +132,13 @@ class Spec(File):
             for maker in item.makers:
                 self.items[maker] = item
 
-    def goes_on(self, line, item):
-        """Whether a line at the indent of an item is one of its equations."""
+    def is_equation(self, line):
+        """Whether a line at the indent of a definition is one of its equations."""
         return not re.match(r"(abbrev|unfoldable|pub|module|infix\w*|--|use) ?", line.strip())
 
 
 class Source(File):
-    """A file of src/: its types and traits, with their comments, and how the definitions see a type."""
+    """A file of src/: its types and traits, with their comments, and how definitions see a type."""
 
     def __init__(self, path):
         super().__init__(path)
@@ -139,39 +153,47 @@ class Source(File):
                 self.read_type(start, *found.groups())
 
     def until_closed(self, start):
+        """The lines of a declaration from its first on."""
         end = start
-        while not re.match(r"[})]|.*;$", self.lines[end]) or (end > start and self.lines[end][0] == " "):
-            end += 1
+        if not self.lines[start].endswith(";"):
+            while not self.lines[end].startswith(("}", ")")):
+                end += 1
         return self.lines[start : end + 1]
 
     def read_type(self, start, sort, name):
         begin = start
         while self.lines[begin - 1].startswith(("///", "#[")):
             begin -= 1
-        item = Item(self, name, start + 1, 0, [s for s in self.lines[begin:start] if s[0] == "/"], [])
+        comment = [s for s in self.lines[begin:start] if s.startswith("///")]
+        item = self.items[name] = Item(self, name, 0, comment, [])
         item.text = self.until_closed(start)
+        model = [s for s in self.lines if re.match(rf"impl(<.*>)? Model for {name}\b", s)]
+        if sort == "enum":
+            item.makers = set(re.findall(r"^    (\w+)[ ,{(]", "\n".join(item.text), re.M))
         if sort == "trait":
-            ghosts = [s for s in item.text if s.startswith("    ghost ")]
             kept = [s for s in item.text if s.startswith(("    ghost ", "    // "))]
             item.text = item.text[:1] + kept + ["    ..", "}"]
-        if sort == "enum":
-            item.makers = {m.group(1) for s in item.text for m in [re.match(r"    (\w+)[ ,{(]", s)] if m}
-        model = [i for i, s in enumerate(self.lines) if re.match(r"impl(<.*>)? Model for %s\b" % name, s)]
-        if model:
-            body = self.until_closed(model[0])
-            kept = [s for s in body if re.match(r"    ghost (Value|view) =", s)]
-            item.text += ["", body[0]] + kept + ["    ..", "}"]
-        if model or sort == "trait":
-            code = "\n".join(re.sub(r"^.*?[=:] ", "", s) for s in (kept if model else ghosts))
-            code = re.sub(r"([{;]\s*)\w+ = ", r"\1", code)
-            names = re.findall(r"ghost (\w+):|[<,] ?(\w+): \w+", "\n".join(item.text))
-            bound = {"Self", "Type", "record"} | {name for pair in names for name in pair}
-            bound |= set(" ".join(re.findall(r"λ ([^.]*)\.", code) + re.findall(r"\((\w+) :", code)).split())
-            item.rust = [n for n in (w.split(".")[0] for w in WORD.findall(code)) if n not in bound]
+            item.rust = self.ghost_names(item, kept)
+        elif model:
+            seen = self.until_closed(self.lines.index(model[0]))
+            kept = [s for s in seen if re.match(r"    ghost (Value|view) =", s)]
+            item.text += ["", seen[0]] + kept + ["    ..", "}"]
+            item.rust = self.ghost_names(item, kept)
         else:
-            code = "\n".join(item.body())
-            item.rust = [n for n in re.findall(r"\b[A-Z]\w+", code) if n not in item.makers | {name, "Vec", "Option"}]
-        self.items[name] = item
+            names = re.findall(r"\b[A-Z]\w+", "\n".join(item.body()))
+            item.rust = [n for n in names if n not in item.makers | {name, "Vec", "Option"}]
+
+    def ghost_names(self, item, kept):
+        """What the ghost lines of a trait or of a model name, but for what they bind themselves."""
+        code = "\n".join(re.sub(r"^.*?[=:] ", "", s) for s in kept if s.startswith("    ghost "))
+        code = re.sub(r"([{;]\s*)\w+ = ", r"\1", code)
+        bound = re.findall(r"λ ([^.]*)\.", code) + re.findall(r"\((\w+) :", code)
+        for member, parameter in re.findall(
+            r"ghost (\w+):|[<,] ?(\w+): \w+", "\n".join(item.text)
+        ):
+            bound.append(member or parameter)
+        known = {"Self", "Type", "record"} | set(" ".join(bound).split())
+        return [w.split(".")[0] for w in WORD.findall(code) if w.split(".")[0] not in known]
 
 
 class Sources:
@@ -219,7 +241,7 @@ class Sources:
         raise Missing(f"{module} has no {name}")
 
     def named(self, file, name):
-        """What a name means in a file: a definition, None for one of the kit's; False where it means nothing."""
+        """What a name means in a file: a definition, None if it is the kit's, False if nothing."""
         if name in file.items:
             return file.items[name]
         if name in file.names:
@@ -242,8 +264,9 @@ def bound_names(item, code):
     bound = set(re.findall(r"^ *pub (\w+) :", code, re.M)) | set(item.bound)
     for group in re.findall(r"[({]([\w ]+) :", modules_of(item) + code):
         bound |= set(group.split())
-    for group in re.findall(r"λ ([^.]*)\.", code) + re.findall(r"^ *(.*?) ←", code, re.M) + re.findall(r"let (\w+)", code):
-        bound |= set(WORD.findall(group))
+    for pattern in r"λ ([^.]*)\.", r"^ *(.*?) ←", r"let (\w+)":
+        for group in re.findall(pattern, code, re.M):
+            bound |= set(WORD.findall(group))
     return bound
 
 
@@ -267,7 +290,7 @@ def uses(sources, item):
     for name in item.rust or []:
         found.append(sources.named(item.file, name))
         if found[-1] is False:
-            raise Missing(f"{item.file.path.relative_to(ROOT)}: {item.name} names {name}, which is nothing")
+            raise item.missing(name)
     if item.rust is not None:
         return [means for means in found if means and means is not item]
     code = re.sub(r'"[^"]*"|//.*|(ensures|requires) \w* ?\{', "", "\n".join(item.body()))
@@ -289,11 +312,11 @@ def uses(sources, item):
             if head in left and (means is False or means and head not in means.makers):
                 continue
             if means is False:
-                raise Missing(f"{item.file.path.relative_to(ROOT)}: {item.name} names {token}, which is nothing")
+                raise item.missing(token)
             found.append(means)
             continue
         names = sources.sign(item.file, {"do": ">>="}.get(token, token))
         if not names and token not in SIGNS:
-            raise Missing(f"{item.file.path.relative_to(ROOT)}: {item.name} uses {token}, which is nothing")
+            raise item.missing(token)
         found += [sources.named(item.file, name) for name in names]
     return [means for means in found if means and means is not item]

@@ -17,8 +17,8 @@ from definitions import CRATES, ROOT, Item, Missing, Source, Sources, uses
 PAGE = ROOT / "docs" / "STATEMENT.md"
 
 
-def clause(sources, path, function, label):
-    """A clause of a function, by its label; without one all clauses, with the function's comment."""
+def clause(sources, path, function, label=""):
+    """A clause of a function, by its label; without one all clauses, behind the function's head."""
     file = sources.file(CRATES / path, Source)
     start = next(i for i, s in enumerate(file.lines) if re.match(r"pub fn %s\b" % function, s))
     end = next(i for i in range(start, len(file.lines)) if file.lines[i] == "{")
@@ -34,25 +34,35 @@ def clause(sources, path, function, label):
         begin = first
         while file.lines[begin - 1].startswith("    //"):
             begin -= 1
-    item = Item(file, function, first + 1, 0, file.lines[begin : first if label else start], [])
+    shown = first if label else start
+    item = Item(file, function, 0, file.lines[begin:shown], [])
+    item.text = file.lines[shown:end]
+    item.head = [] if label else file.lines[start : heads[0]]
     head = " ".join(file.lines[start : heads[0]])
-    item.text = file.lines[first if label else start : end]
-    item.traits = dict(re.findall(r"(\w+): (\w+)", (re.search(r"fn \w+<(.*?)>\(", head) or re.match("()", "")).group(1)))
-    item.bound = re.findall(r"(\w+): ", head) + ["result", "now", "old", "new"]
-    item.skipped = [] if label else file.lines[start : heads[0]]
-    kinds = [] if label else re.findall(r"\b[A-Z]\w+", head)
-    item.heads = [sources.named(file, kind) for kind in kinds]
-    if False in item.heads:
-        raise Missing(f"{path}: {function} takes {kinds[item.heads.index(False)]}, which is nothing")
+    item.traits = dict(re.findall(r"[<,] ?(\w+): (\w+)", head.split("(")[0]))
+    item.bound = re.findall(r"(\w+): ", head) + ["result"]
+    item.taken = []
+    for kind in re.findall(r"\b[A-Z]\w+", " ".join(item.head)):
+        item.taken.append(sources.named(file, kind))
+        if item.taken[-1] is False:
+            raise item.missing(kind)
     return item
 
 
 class Part:
-    """A part of the page: its words, its roots, what it leaves to later parts or out, and its sections."""
+    """A part of the page.
+
+    It begins with clauses and names. What is shown later, or is left out for a reason, isn't
+    followed, and of what is cut one case is shown. A section has a title, words, and the paths
+    that belong to it.
+    """
 
     def __init__(self, title):
         self.title, self.words, self.sections = title, [], []
         self.clauses, self.names, self.later, self.left, self.cut = [], [], [], {}, {}
+
+    def last_words(self):
+        return self.sections[-1][1] if self.sections else self.words
 
 
 def outline():
@@ -80,23 +90,31 @@ def outline():
         elif key == "paths":
             parts[-1].sections[-1][2] = rest.split()
         else:
-            words = head if not parts else parts[-1].sections[-1][1] if parts[-1].sections else parts[-1].words
+            words = parts[-1].last_words() if parts else head
             words += [line] if line or words and words[-1] else []
     return head, parts
 
 
+def cut(item, begun):
+    """Of a definition the lines of its type, and those of the one equation that begins so."""
+    kept, on = item.text[:1], False
+    for line in item.text[1:]:
+        on = line.startswith(begun) or on and line.startswith(" ")
+        kept += [line] if on else []
+    if len(kept) == 1:
+        raise item.missing(begun)
+    return kept + ["-- and so on for the others"]
+
+
 def put(sources, part, item, shown, order):
-    """Puts a definition that isn't shown yet, and what it needs, in the order in which it is named."""
+    """Puts a definition that isn't shown yet, and what it needs, in the order of naming."""
     key = item.file.path, item.name
     if key in shown or item.name in part.later or item.name in part.left:
         return
     shown[key] = item
     order.append(item)
     if item.name in part.cut:
-        only = part.cut[item.name]
-        kept = [i for i, s in enumerate(item.text) if s.startswith(f"{item.name} ({only} ")]
-        after = [i for i in range(kept[0] + 1, len(item.text) + 1) if i == len(item.text) or item.text[i][0] != " "]
-        item.text = item.text[:1] + item.text[kept[0] : after[0]] + ["-- and so on for the others"]
+        item.text = cut(item, f"{item.name} ({part.cut[item.name]} ")
     for means in uses(sources, item):
         put(sources, part, means, shown, order)
 
@@ -121,17 +139,20 @@ def block(items):
 
 
 def place_of(part, item):
-    """The section of a definition and its place there: those of the longest path that is named for it."""
+    """The section of a definition and its place there, by the longest path that is told for it."""
     path = item.file.path.relative_to(CRATES).as_posix()
-    found = [(len(named), number, place) for number, (_, _, paths) in enumerate(part.sections)
-             for place, named in enumerate(paths) if (path + "/").startswith(named + "/")]
+    found = []
+    for number, (_, _, paths) in enumerate(part.sections):
+        for place, named in enumerate(paths):
+            if (path + "/").startswith(named + "/"):
+                found.append((len(named), number, place))
     if not found:
         raise Missing(f"{part.title}: no section for {item.name} of {path}")
     return max(found)[1:]
 
 
 def sections(part, order):
-    """The sections of a part: file by file, in the order of their paths and in which they are first named."""
+    """The sections of a part, file by file: in the order of their paths, and then of naming."""
     lines, files = [], {}
     for item in order:
         files.setdefault(item.file.path, []).append(item)
@@ -149,13 +170,13 @@ def page(sources):
     lines, shown, counts = head, {}, []
     for part in parts:
         order = []
-        clauses = [clause(sources, path, function, "".join(label)) for path, function, *label in part.clauses]
+        clauses = [clause(sources, *words) for words in part.clauses]
         lines += [f"## {part.title}", ""] + part.words
         for name, reason in part.left.items():
             lines += [f"`{name}` isn't followed: {reason}", ""]
         for item in clauses:
             lines += block([item])
-            for means in item.heads + uses(sources, item):
+            for means in item.taken + uses(sources, item):
                 put(sources, part, means, shown, order)
         for module, name in part.names:
             put(sources, part, sources.imported(module, name), shown, order)
@@ -163,22 +184,35 @@ def page(sources):
         counts.append((part.title, order))
     left = {name for part in parts for name in part.later} - {name for _, name in shown}
     unused = set(sources.kit) - sources.kit_used
-    if left or unused:
-        raise Missing(f"not shown, or told in checks/kit_names.txt for nothing: {', '.join(sorted(left | unused))}")
+    if left:
+        raise Missing(f"a part leaves {min(left)} to a later one, which hasn't it")
+    if unused:
+        raise Missing(f"checks/kit_names.txt tells {min(unused)} for nothing")
     return lines + ending(sources, counts)
 
 
 def ending(sources, counts):
     """What the kit gives, and how much it is in all."""
-    lines = ["## What the kit gives", "", "These names belong to Rattle's library, and are not followed further.", ""]
+    lines = ["## What the kit gives", ""]
+    lines += ["These names belong to Rattle's library, and aren't followed further.", ""]
     lines += [f"- `{name}`: {told}" for name, told in sources.kit.items()]
-    lines += ["", "## How much it is", "", "| Part | Definitions | Types of sources | Lines | Files | Crates |", "|---|---|---|---|---|---|"]
+    lines += ["", "## How much it is", ""]
+    lines += ["| Part | Definitions | Types of sources | Lines | Files | Crates |"]
+    lines += ["|---|---|---|---|---|---|"]
     for title, order in counts + [("All", [item for _, order in counts for item in order])]:
         types = [item for item in order if isinstance(item.file, Source)]
-        text = sum(1 for item in order for s in item.body() if s.strip())
+        text = [s for item in order for s in item.body() if s.strip()]
         files, crates = {item.file.path for item in order}, {item.file.crate() for item in order}
-        lines.append(f"| {title} | {len(order) - len(types)} | {len(types)} | {text} | {len(files)} | {len(crates)} |")
-    return lines + ["", "Lines are those without comments and blank lines; a file or crate of two parts counts in both."]
+        counted = len(order) - len(types), len(types), len(text), len(files), len(crates)
+        lines.append(f"| {title} | {' | '.join(map(str, counted))} |")
+    lines += ["", "Lines are those without comments and blank lines. A file or a crate of two"]
+    return lines + ["parts counts in both, and once in all."]
+
+
+def kit_names():
+    """What the names of the kit mean, by their names."""
+    text = (ROOT / "checks" / "kit_names.txt").read_text(encoding="utf-8")
+    return dict(line.split("\t") for line in text.splitlines())
 
 
 def main(words):
@@ -186,15 +220,15 @@ def main(words):
         print(__doc__, file=sys.stderr)
         return 2
     try:
-        kit = dict(line.split("\t") for line in (ROOT / "checks/kit_names.txt").read_text(encoding="utf-8").splitlines())
-        made = "\n".join(page(Sources(kit))).strip("\n") + "\n"
+        made = "\n".join(page(Sources(kit_names()))).strip("\n") + "\n"
     except Missing as missing:
         print(f"make_statement: {missing}", file=sys.stderr)
         return 1
     if not words:
         PAGE.write_text(made, encoding="utf-8")
     elif not PAGE.is_file() or PAGE.read_text(encoding="utf-8") != made:
-        print("docs/STATEMENT.md isn't what the sources say: run checks/make_statement.py", file=sys.stderr)
+        print("docs/STATEMENT.md isn't what the sources say", file=sys.stderr)
+        print("checks/make_statement.py makes it anew", file=sys.stderr)
         return 1
     return 0
 
