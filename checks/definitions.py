@@ -134,7 +134,7 @@ class Spec(File):
 
     def is_equation(self, line):
         """Whether a line at the indent of a definition is one of its equations."""
-        return not re.match(r"(abbrev|unfoldable|pub|module|infix\w*|--|use) ?", line.strip())
+        return not re.match(r"(abbrev|unfoldable|pub|module|infix[lr]?|use)\b|--", line.strip())
 
 
 class Source(File):
