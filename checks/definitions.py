@@ -32,6 +32,8 @@ class Item:
         self.comment, self.modules, self.text = comment, list(modules), []
         # The constructors of a data, and the variants of an enum.
         self.makers = set()
+        # The names that stand for others in its text.
+        self.renamed = {}
         # What a declaration of a source names.
         self.rust = None
         # Of a clause: the parameters, the traits of those that are types, and the function's head.
@@ -305,10 +307,13 @@ def uses(sources, item):
                 means = sources.named(item.file, item.traits[head])
             elif head in item.file.aliases and tail:
                 means = sources.imported(item.file.aliases[head], tail.split(".")[0])
+                item.renamed[f"{head}.{tail}"] = tail, means
             elif head in bound or head == "_":
                 continue
             else:
                 means = sources.named(item.file, head)
+                if head not in item.file.items and item.file.names.get(head, ("", head))[1] != head:
+                    item.renamed[head] = item.file.names[head][1], means
             if head in left and (means is False or means and head not in means.makers):
                 continue
             if means is False:

@@ -135,7 +135,21 @@ def block(items):
                 told.append(module)
         open_now = item.modules
         lines += item.comment + item.text
-    return [f"{link(items[0].file)}. {items[0].file.header()}", "", "```"] + lines[1:] + ["```", ""]
+    head = f"{link(items[0].file)}. {items[0].file.header()}{renamed(items)}"
+    return [head, "", "```"] + lines[1:] + ["```", ""]
+
+
+def renamed(items):
+    """What stands under another name in definitions, as a sentence."""
+    told = {}
+    for item in items:
+        for name, (own, means) in item.renamed.items():
+            kind = name.split(".")[0] if "." in name else ""
+            if kind and means and own in means.makers:
+                told[kind] = f"`{kind}.` stands before a variant of `{means.name}`"
+            else:
+                told[name] = f"`{name}` is `{own}` of {link(means.file) if means else 'the kit'}"
+    return f" Here {', and '.join(told.values())}." if told else ""
 
 
 def place_of(part, item):
@@ -175,9 +189,9 @@ def page(sources):
         for name, reason in part.left.items():
             lines += [f"`{name}` isn't followed: {reason}", ""]
         for item in clauses:
-            lines += block([item])
             for means in item.taken + uses(sources, item):
                 put(sources, part, means, shown, order)
+            lines += block([item])
         for module, name in part.names:
             put(sources, part, sources.imported(module, name), shown, order)
         lines += sections(part, order)
