@@ -1,20 +1,29 @@
 #!/usr/bin/python3
 """man_pages.py FOLDER [DATE]
 
-Makes the man pages psi(1), psi-many(1), psi-file(5) and those of the tools of README.md,
-docs/FORMATS.md, docs/MANY.md and docs/TOOLS.md, and writes them to a folder; DATE stands at their
-feet. A page says what these say, word by word: the part of README on the use, each part of FORMATS
-in one of the two pages, and each part of TOOLS in its own. In the commands `./psi` is `psi`, and the
-tools have no folder.
+Makes the man pages of the package, and writes them to a folder; DATE stands at their feet. Those of
+the commands are tools/package-files/man/NAME.SECTION.md, written for the package, in which a line
 
-The form is that of groff's man macros, with tables by tbl. Of Markdown it knows what the three
-documents have: headings, paragraphs, lists in lists, tables, quotes, blocks of code, and in a text
-code, bold, italics and links. A table of two columns, or for which a page is too narrow, is a list.
+- `@options COMMAND` stands for the options of psi-COMMAND, as its reader of words has them;
+- `@kinds COMMAND` for the kinds of its first word;
+- `@status` for the statuses that the tools share;
+- `@files` for the files of the package.
+
+psi-file(5) is docs/FORMATS.md. There `./psi` is `psi`, the tools have no folder, and other files the
+one in which the package has them.
+
+The form is that of groff's man macros, with tables by tbl. Of Markdown it knows what these files
+have: headings, paragraphs, lists in lists, tables, quotes, blocks of code, and in a text code, bold,
+italics and links. A table of two columns, or for which a page is too narrow, is a list.
 """
 
+import importlib
 import pathlib
 import re
 import sys
+
+import packaged  # noqa: F401
+from psi_tools.completion import kinds_of, options_of
 
 TOP = pathlib.Path(__file__).resolve().parent.parent
 ITEM = re.compile(r"( *)(-|\d+\.) +")
@@ -22,32 +31,35 @@ INLINE = re.compile(r"`([^`]+)`|\*\*(.+?)\*\*|\*(.+?)\*|!?\[((?:[^\]`]|`[^`]*`)*
 # So many signs may a table have beside one another.
 MOST_WIDE = 64
 BULLET = "\\(bu"
-# The parts of FORMATS that are of psi(1); all others are of psi-file(5).
-OF_COMMANDS = (
-    "What `check` prints", "How short a past would do", "A value before its state",
-    "What regions lose", "Closed networks", "Trials", "Not coupled",
-)
-PAGES = {
-    "psi.1": ("PSI", "perfect samples of finite queueing networks"),
-    "psi-many.1": ("PSI-MANY", "reports of many streams, on many processors and machines"),
-    "psi-file.5": ("PSI-FILE", "network files, reports and certificates of psi(1)"),
-    "psi-means.1": ("PSI-MEANS", "means of reports with their intervals"),
-    "psi-law.1": ("PSI-LAW", "the law of a number of customers or of a reward"),
-    "psi-sweep.1": ("PSI-SWEEP", "designs of one network, and their differences"),
-    "psi-where.1": ("PSI-WHERE", "the line of a network file that psi refuses"),
-    "psi-why.1": ("PSI-WHY", "why samples of a network may not couple"),
-    "psi-new.1": ("PSI-NEW", "a network file from a few words"),
-}
-FILES = """.SH FILES
-.TP
-.I /usr/share/doc/psi-sampler/examples
-The gallery of networks; where a text says
-.IR examples ,
-this folder is meant.
-.TP
-.I /usr/share/doc/psi-sampler
-README.md and docs, whose TOUR.md is a tour in nine steps.
+SOURCES = TOP / "tools/package-files/man"
+LIBRARY, SHARE = "/usr/lib/psi-sampler", "/usr/share/doc/psi-sampler"
+FORMATS = "psi-file", "5", "network files, reports and certificates of psi(1)"
+FILES = f"""`{SHARE}/examples`: the gallery of networks.
+
+`{SHARE}`: README.md, and docs with the guides; docs/TOUR.md is a tour in nine steps.
 """
+STATUS = """| Status | Means |
+|---|---|
+| 0 | The answer is written. |
+| 1 | None of the streams is coupled, or work failed. |
+| 2 | A word or an input isn't what it should be. |
+| 3, 6, 11, 12 | As psi(1), where that doesn't take the network. |
+| 7 | The answer can't be written, which is looked at before the work. |
+| 8 | There isn't enough memory. |
+| 130 | Ctrl-C ended it. |
+
+Each but 0 has one line on standard error.
+"""
+# What a guide says of the sources alone; each has to stand there once.
+OF_SOURCES = (
+    " It is built by `rt run` in `crates/psi_merge`, as `crates/psi_merge/out/psi_merge`.",
+)
+# What stands elsewhere in the package.
+PLACES = (
+    ("crates/psi/out/psi", "psi"), ("./psi", "psi"), ("tools/psi-", "psi-"),
+    ("tools/setup", "apt-get"), ("psi_merge FILE", "psi-merge FILE"),
+    ("tools/", f"{LIBRARY}/tools/"), ("examples/", f"{SHARE}/examples/"),
+)
 
 
 def escaped(text):
@@ -76,15 +88,18 @@ def inline(text):
             parts.append(f"\\fI{plain(italic)}\\fP")
         else:
             far = f" <{escaped(target)}>" if "://" in target else ""
-            parts.append(inline(link) + far)
+            parts.append(inline(of_package(link)) + far)
         end = found.end()
     return "".join(parts) + plain(text[end:])
 
 
 def of_package(code):
     """Code as it is written where the package is installed."""
-    code = code.replace("crates/psi/out/psi", "psi").replace("./psi", "psi")
-    return re.sub(r"\btools/(?=psi-)", "", code)
+    if code == "psi_merge":
+        return "psi-merge"
+    for source, place in PLACES:
+        code = code if place in code and source in place else code.replace(source, place)
+    return code
 
 
 def line_of(text):
@@ -188,56 +203,74 @@ def rendered(lines):
         before = sort
 
 
-def sections_of(text):
-    """The parts of a document by their headings of the second level; that before them by none."""
-    parts = re.split(r"^## (.*)\n", text, flags=re.M)
-    return {"": parts[0].partition("\n")[2]} | dict(zip(parts[1::2], parts[2::2]))
+def one_paragraph(text):
+    return " ".join(text.split())
 
 
-def use_of(text):
-    """README's part on the use, its passages as parts of a page."""
-    found = sections_of(text)["Use"]
-    return re.sub(r"^\*\*(.+?)\.\*\* ", r"## \1\n\n", found, flags=re.M)
+def options_text(command):
+    """The options of a command, as a list."""
+    reader = importlib.import_module(f"psi_tools.{command}").reader()
+    lines = ["| Option | Says |", "|---|---|"]
+    for names, metavar, choices, said in options_of(reader):
+        value = "" if metavar is None else f" {'|'.join(choices) if choices else metavar}"
+        said = said.replace("the built program; crates/psi/out/psi, or psi on the PATH,",
+                            "the program psi; that on the PATH")
+        said = said.replace("merge_reports.py", "a tool of Python").replace("psi_merge where it is "
+                            "built", "psi-merge where it is there")
+        lines.append(f"| `{', '.join(names)}{value}` | {one_paragraph(said)} |".replace("||", "|"))
+    return "\n".join(line.replace("text|csv|json", "FORMAT").replace("text|json", "FORMAT")
+                     for line in lines)
 
 
-def page(name, date, body, calls=()):
+def kinds_text(command):
+    """The kinds of a command's first word, as a list."""
+    reader = importlib.import_module(f"psi_tools.{command}").reader()
+    rows = [f"| `{kind}` | {one_paragraph(said)} |" for kind, (_, said) in kinds_of(reader).items()]
+    return "\n".join(["| Kind | Models |", "|---|---|", *rows])
+
+
+def source_of(text):
+    """A page's source with what its lines stand for."""
+    made = {"options": options_text, "kinds": kinds_text}
+
+    def stands_for(found):
+        name, command = found.groups()
+        return made[name](command) if command else {"files": FILES, "status": STATUS}[name]
+
+    return re.sub(r"^@(\w+)(?: (\w+))?$", stands_for, text, flags=re.M)
+
+
+def page(name, section, about, date, body):
     """A page with its head."""
-    title, about = PAGES[name]
-    section = name.rpartition(".")[2]
     head = [
-        "'\\\" t", f'.TH {title} {section} "{date}" "PSI" ""', ".nh", ".ad l", ".SH NAME",
-        f"{escaped(title.lower())} \\- {escaped(about)}",
+        "'\\\" t", f'.TH {escaped(name.upper())} {section} "{date}" "PSI" ""', ".nh", ".ad l",
+        ".SH NAME", f"{escaped(name)} \\- {plain(about)}",
     ]
-    if calls:
-        head += [".SH SYNOPSIS", ".nf", *(f"\\fB{escaped(call)}\\fP" for call in calls), ".fi"]
-    head.append(".SH DESCRIPTION")
-    return "\n".join([*head, *rendered(body.split("\n"))]) + "\n" + FILES
+    return "\n".join([*head, *rendered(body.split("\n"))]) + "\n"
+
+
+def guide_of(text):
+    """The guide without its title and what it says of the sources."""
+    for said in OF_SOURCES:
+        form = r"\s+".join(map(re.escape, said.split()))
+        text, count = re.subn(r"\s+" + form, "", text)
+        if count != 1:
+            sys.exit(f"man_pages: docs/FORMATS.md doesn't say once:{said}")
+    return text.partition("\n")[2]
 
 
 def pages(top, date):
     """All pages by their names."""
-    readme, formats, many = (
-        (top / name).read_text() for name in ("README.md", "docs/FORMATS.md", "docs/MANY.md")
-    )
-    parts = sections_of(formats)
-    absent = [name for name in OF_COMMANDS if name not in parts]
-    if absent:
-        sys.exit(f"man_pages: docs/FORMATS.md has no part {absent}")
-
-    def joined(names):
-        return "\n".join(f"## {name}\n{parts[name]}" if name else parts[name] for name in names)
-
-    others = [name for name in parts if name not in OF_COMMANDS]
-    calls = re.findall(r"^\| `\./(psi [^`]*)` \|", readme, re.M)
-    yield "psi.1", page("psi.1", date, use_of(readme) + joined(OF_COMMANDS), calls)
-    yield "psi-file.5", page("psi-file.5", date, joined(others))
-    call = re.search(r"^`tools/(psi-many [^`]*)`", many, re.M)[1]
-    yield "psi-many.1", page("psi-many.1", date, many.partition("\n")[2], [call])
-    tools = sections_of((top / "docs/TOOLS.md").read_text())
-    for name in (name for name in PAGES if name.partition(".")[0] in tools):
-        tool = name.partition(".")[0]
-        calls = re.findall(rf"^`tools/({tool} [^`]*)`", tools[tool], re.M)
-        yield name, page(name, date, tools[tool], calls)
+    for file in sorted((top / SOURCES.relative_to(TOP)).glob("*.md")):
+        title, _, body = file.read_text().partition("\n")
+        name, about = title.removeprefix("# ").split(": ", 1)
+        section = file.stem.rpartition(".")[2]
+        yield file.stem, page(name, section, about, date, source_of(body))
+    guide = guide_of((top / "docs/FORMATS.md").read_text())
+    name, section, about = FORMATS
+    more = f"\n## FILES\n\n{FILES}\n## SEE ALSO\n\npsi(1), psi-merge(1), psi-where(1)\n"
+    body = "## DESCRIPTION\n\n" + guide + more
+    yield f"{name}.{section}", page(name, section, about, date, body)
 
 
 def main():
