@@ -1,5 +1,5 @@
-"""What README.md and docs/TOUR.md say in sentences and tables of what commands print, for
-try_docs.py: each phrase is made anew of what came, and compared.
+"""What README.md, docs/LIMITS.md, docs/TOUR.md and examples/README.md say in sentences and tables of
+what commands print, for try_docs.py: each phrase is made anew of what came, and compared.
 """
 
 import csv
@@ -36,20 +36,23 @@ UNTRIED = {
     "README.md": [
         # What the first build takes: measured.
         ("Its first call proves every crate", "The answers are the same."),
+        ("`./psi` looks for changed files first,", "the built program itself:"),
+        # `rt ci` proves and tests it.
+        ("## What is proved", "drawn evenly and by itself."),
+    ],
+    "docs/LIMITS.md": [
         # tools/try_memory.py tries it.
         ("With status 8 there is no line", "for the words themselves."),
-        ("`./psi` looks for changed files first,", "the built program itself:"),
         # Measured by tools/measure_limits.py, in hours.
-        ("**Files of strangers.**", "which make every network that a trial can have."),
+        ("## Files of strangers", "which make every network that a trial can have."),
         # tools/try_disk.py and tools/try_memory.py run it.
-        ("**What fails.**", "a word isn't UTF-8 | 13 | nothing |"),
-        # `rt ci` proves and tests it.
-        ("## What is proved", "the words are those of ChaCha20."),
+        ("## What fails", "a word isn't UTF-8 | 13 | nothing |"),
     ],
     "docs/TOUR.md": [],
+    "examples/README.md": [],
 }
 
-# A call for each status of README's table, as a command of the shell; what they need is made first.
+# A call for each status of the table in LIMITS, as a command of the shell; what they need is made first.
 MAKE = r"""
 printf 'version = 3\n' >bad.toml
 printf 'none\n' >bad.log
@@ -85,7 +88,7 @@ CALLS = {
     12: ["./psi closed examples/central-server.toml 0 0 19"],
     13: [r'''./psi check "$(printf '\377')"'''],
 }
-# What stands for a word of README's tables.
+# What stands for a word of README's table of commands.
 EXAMPLES = {
     "NET": "examples/tandem-blocking.toml", "SEED": "0", "STREAM": "0", "FIRST": "0", "COUNT": "9",
     "NUMBER": "5", "NAME": "parts", "H": "8", "LOG": "tandem-0.log", "TOTAL": "6",
@@ -173,7 +176,7 @@ def claim_bounds(document, clone):
 def claim_gallery(document, clone):
     """The table of the gallery's files."""
     rows = re.findall(r"^\| `([^`]*\.toml)` \|", document.text, re.M)
-    files = os.listdir(clone.find("examples"))
+    files = [file for file in os.listdir(clone.find("examples")) if file.endswith(".toml")]
     document.hold(sorted(rows) == sorted(files), f"the gallery has {files}, the table {rows}")
     for row in rows:
         document.cover(f"`{row}`")
@@ -199,6 +202,8 @@ def claim_statuses(document, clone):
             document.hold(shown, f"status {number}: another line comes: {error}")
 
 
+def claim_causes(document, clone):
+    """What the table of statuses says in words, and what is said behind it."""
     most = clone.run("./psi exact most.toml 0 0 1")
     states = int(most[1].split()[1]) if most[0] == 1 else most
     document.claim(f"`exact` of a network of more than {states:,} states")
@@ -253,31 +258,19 @@ def claim_readme(document, clone):
     document.claim(f"goes in {steps} such steps from one queue to a closed network")
     claim_words(document, clone)
     claim_bounds(document, clone)
-    claim_gallery(document, clone)
-    claim_statuses(document, clone)
-    claim_ends(document, clone)
     claim_many_samples(document, clone)
-    lines = said(document, clone, "./psi exact examples/longest-queue.toml 0 0 11")
-    found = read_exact("".join(f"{line}\n" for line in lines).encode())
-    split = key_of(clone, "longest-queue.toml", "split")
-    document.claim(
-        f"ends with `{lines[-2]}` and `{lines[-1]}`: all {found.states} states have met within "
-        f"{found.constant} steps, and the region run of this file, whose `split` is {split}, "
-        f"shows it from {found.region:,} steps on."
-    )
-    lines = said(document, clone, "./psi closed examples/central-server.toml 0 0 6")
-    document.claim(f"prints `{lines[0]}` and `{lines[1]}`. [The guide]")
     lines = said(document, clone, "./psi replay examples/tandem-blocking.toml sample.log")
     document.claim(
         f"says `{lines[0]}` and `{lines[1]}`. That proves, whoever wrote the log, that every state "
         f"which starts {lines[0].split()[1]} steps before time zero, or earlier, is "
         f"{lines[1].split()[1]} at time zero."
     )
-    out = clone.run("crates/psi/out/psi sample examples/tandem-blocking.toml 0 0 log")[1]
-    same = out == text_of(clone, "sample.log")
-    document.hold(same, "the built program and the script write different logs")
-    document.claim("`crates/psi/out/psi sample .. log` and `crates/psi/out/psi replay ..`.")
     claim_checker(document, clone, "checks logs by {} lines of Python that share nothing")
+
+
+def claim_limits(document, clone):
+    for claim in (claim_statuses, claim_causes, claim_ends):
+        claim(document, clone)
 
 
 def claim_checker(document, clone, phrase):
@@ -292,12 +285,7 @@ def claim_many_samples(document, clone):
     report = report_of(said(document, clone, call))
     first, count = map(int, call.split()[-2:])
     document.claim(f"samples the streams {first} to {first + count - 1} of seed {call.split()[3]},")
-    mean = report["sum", "cut"] / report["met", "-"]
-    document.claim(
-        f"So {report['horizon', '16']} of them are met at the horizon 16, and the first machine "
-        f"holds {report['least', 'cut']} to {report['greatest', 'cut']} parts, {mean:.3f} on "
-        "average over these samples."
-    )
+    document.claim(f"So {report['horizon', '16']} of them are met at the horizon 16.")
     loop = next((block for block in document.commands() if block.startswith("for stream")), None)
     counts = [line.split() for line in clone.answer(loop)[-1][2].splitlines()] if loop else []
     total = sum(int(number) for number, _, _ in counts)
@@ -611,4 +599,7 @@ def claim_law(document, clone):
     document.claim_rows(f"| State | Weight | Its part of {samples:,} | Samples |", rows)
 
 
-CLAIMS = {"README.md": claim_readme, "docs/TOUR.md": claim_tour}
+CLAIMS = {
+    "README.md": claim_readme, "docs/LIMITS.md": claim_limits, "docs/TOUR.md": claim_tour,
+    "examples/README.md": claim_gallery,
+}

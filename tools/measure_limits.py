@@ -17,7 +17,7 @@ tells 16 times their time; those of the greatest length, and the closed network 
 are run for their memory alone, and ended after 3 seconds. Processor time is that of the run alone,
 but grows with what else the machine does. It all takes some five minutes of it.
 
-Nothing is judged: the figures are for README.md.
+Nothing is judged: the figures are for docs/LIMITS.md.
 """
 
 import argparse

@@ -5,8 +5,8 @@ Runs the built program, whose path PSI is, on a real disk, pipe and terminal tha
 device, a limit on the size of files, a reader that leaves, a pipe that takes no more, a terminal
 that is gone, outputs that are closed, files that grow while they are read or never end, folders,
 files without permission, and names and words that can't be. psi_merge is run on them too, where it is
-built beside it or in its crate. What has to come is what README.md and docs/FORMATS.md say, never
-what the program printed.
+built beside it or in its crate. What has to come is what docs/LIMITS.md, README.md and docs/FORMATS.md
+say, never what the program printed.
 
 It tells each run that ends in another way. The last line says in how many runs, and how many
 failed; the exit status is 1 where one failed. It wants a system with /dev/full, /dev/zero and

@@ -1,10 +1,11 @@
 #!/usr/bin/env python3
 """try_docs.py [PSI] [changed]
 
-Tries README.md and docs/TOUR.md from a fresh clone, which it makes in a temporary folder: runs each
-command that they show, in their order, and compares each text that they show with what comes. PSI
-is the path of the built program, which stands in the clone for the one that `./psi` would build;
-where it isn't given `./psi` builds its own, which takes some half an hour.
+Tries README.md, docs/LIMITS.md, docs/TOUR.md and examples/README.md from a fresh clone of what is
+committed, which it makes in a temporary folder: runs each command that they show, in their order,
+and compares each text that they show with what comes. PSI is the path of the built program, which
+stands in the clone for the one that `./psi` would build; where it isn't given `./psi` proves and
+builds its own there.
 
 - A block of commands has to end as it should, and one that follows prose which ends with 'prints'
   is the text that the last command has printed; a last line `...` stands for further lines.
@@ -17,7 +18,7 @@ where it isn't given `./psi` builds its own, which takes some half an hour.
 - A number or a piece of code that nothing of this compares is told, but in the passages that
   `doc_claims.py` lists as not tried, with the reason.
 
-With `changed` it changes the two documents in one place after the other: each line of a text, each
+With `changed` it changes the documents in one place after the other: each line of a text, each
 sentence that is compared, each command. Each change has to be told.
 
 It tells all that differs; the last line says how many texts were compared. The exit status is 1
@@ -36,7 +37,7 @@ import time
 import doc_claims
 from check_gallery import BLOCK, TOP, UNMET, is_shown
 
-DOCUMENTS = "README.md", "docs/TOUR.md"
+DOCUMENTS = tuple(doc_claims.CLAIMS)
 COMMAND = re.compile(r"(?:\./psi|crates/psi/out/psi|tools/\S+|python3|for|rt) ")
 INLINE = re.compile(r"`([^`\n]+)`")
 SAYS_COMMAND = re.compile(r"`((?:rt|\./psi) [^`]*)` prints[^`]*$")
@@ -352,7 +353,7 @@ def main(words):
         if is_changing and not differences:
             made, silent = try_changes(documents, clone)
             print(f"{made - silent} of {made} changes are told")
-    print(f"{compared - differences} of {compared} texts of README and TOUR are what comes")
+    print(f"{compared - differences} of {compared} texts of the documents are what comes")
     return 1 if differences or silent else 0
 
 
