@@ -8,11 +8,10 @@ all pairs of states.
 """
 
 import itertools
-import sys
 import tomllib
 
 import plain
-from case_text import case
+from case_text import Output, case
 from plain_network import Network, box, is_below
 from toml_text import table
 
@@ -107,7 +106,8 @@ def prove_marks(net):
             assert keeps == (pair is None), (event.name, x, y)
 
 
-def main():
+def cases():
+    """The cases of `check`, so many events in each."""
     for sizes in CAPACITIES:
         caps = dict(zip(NAMES, sizes))
         head = "version = 2\n" + "".join(
@@ -125,7 +125,13 @@ def main():
             name = f"kinds-{'-'.join(map(str, sizes))}-from-{front}"
             files = {"net.toml": text.encode()}
             out = plain.description(net).encode()
-            sys.stdout.buffer.write(case(name, ["check", "net.toml"], files, 0, out))
+            yield case(name, ["check", "net.toml"], files, 0, out)
+
+
+def main():
+    with Output() as output:
+        for data in cases():
+            output.put(data)
 
 
 if __name__ == "__main__":

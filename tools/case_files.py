@@ -39,25 +39,59 @@ class Case:
             setattr(self, key, getattr(self, key) + text)
 
 
-def cases(file):
-    """The cases of a file of crates/psi_cases/data, one by one."""
-    case = None
-    for line in (DATA / file).read_bytes().split(b"\n"):
-        if line == b"end":
+class Texts:
+    """The named texts of a file, and what the lines of a text stand for."""
+
+    def __init__(self):
+        self.named, self._last = {}, None
+
+    def begin(self, name):
+        """Begins a text of this name."""
+        self.named[name], self._last = b"", name
+
+    def add(self, text):
+        """Adds bytes to the text that was named last."""
+        self.named[self._last] += text
+
+    def of(self, line):
+        """The bytes that a line of a text stands for; none where it is another line."""
+        if line[:1] == b"|":
+            return line[1:] + b"\n"
+        if line[:1] == b"\\":
+            return line[1:]
+        key, _, value = line.partition(b" ")
+        if key == b"use":
+            return b"".join(self.named[name] for name in value.decode().split(" "))
+        if key in (b"repeat", b"front"):
+            count, rest = value.split(b" ", 1)
+            is_front = key == b"front"
+            return self.named[rest.decode()][: int(count)] if is_front else int(count) * rest
+        return None
+
+
+def cases_of(data):
+    """The cases of the bytes of a file, one by one."""
+    texts, case = Texts(), None
+    for line in data.split(b"\n"):
+        text = texts.of(line)
+        if text is not None:
+            (case or texts).add(text)
+        elif line == b"end":
             yield case
-        elif line[:1] == b"|":
-            case.add(line[1:] + b"\n")
-        elif line[:1] == b"\\":
-            case.add(line[1:])
-        elif line[:7] == b"repeat ":
-            count, text = line[7:].split(b" ", 1)
-            case.add(int(count) * text)
+            case = None
         elif line:
             key, _, value = line.decode().partition(" ")
             if key == "case":
                 case = Case(value)
+            elif key == "let":
+                texts.begin(value)
             else:
                 case.take(key, value)
+
+
+def cases(file):
+    """The cases of a file of crates/psi_cases/data, one by one."""
+    return cases_of((DATA / file).read_bytes())
 
 
 def case_named(file, name):

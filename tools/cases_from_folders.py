@@ -19,7 +19,7 @@ import subprocess
 import sys
 import tempfile
 
-from case_text import case
+from case_text import Output, case
 from cases_from_json import COMMANDS, command_of
 
 APART = {"words", "status", "out", "err", "since", "make.py"}
@@ -58,10 +58,10 @@ def main():
     parser.add_argument("--commands", default=",".join(COMMANDS))
     options = parser.parse_args()
     commands = options.commands.split(",")
-    with tempfile.TemporaryDirectory() as room:
+    with tempfile.TemporaryDirectory() as room, Output() as output:
         for folder in sorted(path for path in options.folder.iterdir() if path.is_dir()):
             for name, part in cases_in(folder, pathlib.Path(room)).items():
-                sys.stdout.buffer.write(written(name, part, commands))
+                output.put(written(name, part, commands))
 
 
 if __name__ == "__main__":

@@ -13,9 +13,8 @@ asked for by `check` instead, which refuses it in the same line.
 import argparse
 import base64
 import json
-import sys
 
-from case_text import case
+from case_text import Output, case
 
 COMMANDS = "check sample log replay report trial couple reward exact closed".split()
 REFUSED = 3
@@ -51,7 +50,7 @@ def main():
     parser.add_argument("--commands", default=",".join(COMMANDS))
     options = parser.parse_args()
     commands = options.commands.split(",")
-    with open(options.file, encoding="utf-8") as lines:
+    with open(options.file, encoding="utf-8") as lines, Output() as output:
         for entry in map(json.loads, lines):
             words = words_of(entry, commands)
             files = {name: bytes_of(file) for name, file in entry["files"].items()}
@@ -59,7 +58,7 @@ def main():
                 continue
             files = {name: data for name, data in files.items() if name in words}
             out, err = entry["out"].encode(), entry["err"].encode()
-            sys.stdout.buffer.write(case(entry["name"], words, files, entry["status"], out, err))
+            output.put(case(entry["name"], words, files, entry["status"], out, err))
 
 
 if __name__ == "__main__":

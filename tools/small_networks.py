@@ -18,7 +18,7 @@ import sys
 import tomllib
 
 import plain
-from case_text import case
+from case_text import Output, case
 from toml_text import table
 
 SPLITS = (1, 1, 1, 2, 3, 5, 8, 64, 4096)
@@ -173,9 +173,9 @@ def is_kept(command, number, said):
     return meeting.startswith("constant") and meeting.split()[1] != region.split()[1]
 
 
-def main():
-    command = sys.argv[2] if len(sys.argv) > 2 else "sample"
-    for number in range(int(sys.argv[1])):
+def cases(count, command):
+    """The cases of a command, of so many numbers."""
+    for number in range(count):
         text, last = asked(command, number)
         words, net = [number, number * number, *last], plain.Network(tomllib.loads(text))
         status, said = getattr(plain, command)(net, *words)
@@ -185,7 +185,13 @@ def main():
         name = f"small-{number:04}" if command == "sample" else f"small-{command}-{number:04}"
         out, err = (said.encode(), b"") if status <= 1 else (b"", said.encode())
         words = [command, "net.toml", *map(str, words)]
-        sys.stdout.buffer.write(case(name, words, files, status, out, err))
+        yield case(name, words, files, status, out, err)
+
+
+def main():
+    with Output() as output:
+        for data in cases(int(sys.argv[1]), sys.argv[2] if len(sys.argv) > 2 else "sample"):
+            output.put(data)
 
 
 if __name__ == "__main__":

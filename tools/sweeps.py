@@ -20,12 +20,11 @@ with the proved one.
 
 import functools
 import itertools
-import sys
 import tomllib
 
 import all_kinds
 import plain
-from case_text import case
+from case_text import Output, case
 from small_networks import Dice
 from toml_text import written
 
@@ -150,10 +149,15 @@ def telling(seed, net, others):
 
 
 class Sweep:
-    """Writes the cases of a list of events, numbered; those of `check` where it is described."""
+    """Puts out the cases of a list of events, numbered; those of `check` where it is described."""
 
-    def __init__(self, name, dice, is_described):
-        self.name, self.dice, self.is_described, self.count = name, dice, is_described, 0
+    def __init__(self, output, name, dice, is_described):
+        self.output, self.name, self.dice = output, name, dice
+        self.is_described, self.count = is_described, 0
+
+    def put(self, name, words, files, status, out):
+        """Puts out a case."""
+        self.output.put(case(name, words, files, status, out.encode()))
 
     def write(self, caps, servers, entry, entries, splits):
         """Writes the cases of one event among others."""
@@ -169,32 +173,34 @@ class Sweep:
             ]
             files = {"net.toml": text.encode()}
             if self.is_described and split == splits[0]:
-                put(name, ["check", "net.toml"], files, 0, plain.description(net))
+                self.put(name, ["check", "net.toml"], files, 0, plain.description(net))
             for stream, answer in telling(self.count, net, others):
                 mode = "boxes" if split == BOXES else "sets"
                 words = ["sample", "net.toml", str(self.count), str(stream)]
-                put(f"{name}-{mode}-{stream}", words, files, *answer)
+                self.put(f"{name}-{mode}-{stream}", words, files, *answer)
         self.count += 1
 
 
-def put(name, words, files, status, out):
-    sys.stdout.buffer.write(case(name, words, files, status, out.encode()))
-
-
-def main():
+def write(output):
+    """Puts out the cases of all three lists."""
     dice = Dice(0)
-    sweep, entries = Sweep("guarded", dice, True), list(guarded())
+    sweep, entries = Sweep(output, "guarded", dice, True), list(guarded())
     for entry in entries:
         sweep.write({"a": 2, "b": 2}, {"a": 1, "b": 1}, entry, entries, (BOXES, SETS))
-    sweep = Sweep("routes", dice, True)
+    sweep = Sweep(output, "routes", dice, True)
     for caps, entry in drawn_routes(dice):
         servers = {queue: caps[queue] if queue == "a" else 1 for queue in caps}
         sweep.write(caps, servers, entry, list(routes(caps)), [dice.pick((BOXES, SETS))])
-    sweep = Sweep("kinds", dice, False)
+    sweep = Sweep(output, "kinds", dice, False)
     for sizes in all_kinds.CAPACITIES:
         caps = dict(zip(all_kinds.NAMES, sizes))
         for entry, entries in drawn_kinds(dice, caps):
             sweep.write(caps, caps, entry, entries, (BOXES, SETS))
+
+
+def main():
+    with Output() as output:
+        write(output)
 
 
 if __name__ == "__main__":

@@ -4,6 +4,7 @@
 //!
 //! | Line | Means |
 //! |---|---|
+//! | `let NAME` | between cases: a text of this name begins, empty so far |
 //! | `case NAME` | a case begins |
 //! | `word WORD` | the next word of the call; `word` alone is the empty word |
 //! | `file NAME` | a file of the shelf, empty so far |
@@ -16,9 +17,11 @@
 //! | a bar and TEXT | TEXT and a line feed, at the end of the word, file or text that was named last |
 //! | a backslash and TEXT | TEXT there, without the line feed |
 //! | `repeat N TEXT` | N times TEXT there, without line feeds |
+//! | `use NAME..` | the texts of these names there, which stand further up in the file |
+//! | `front N NAME` | the first N bytes of the text of this name there |
 //! | `end` | the case ends |
 //!
-//! Names and words are UTF-8; other texts may be any bytes.
+//! Names and words are UTF-8, and the name of a text has no space; other texts may be any bytes.
 
 use crate::case::{Case, NamedFile};
 use anyhow::{Context, bail};
@@ -28,6 +31,7 @@ use std::str;
 /// What the lines of text belong to.
 #[derive(Clone, Copy)]
 enum Part {
+    Named,
     Word,
     File,
     Out,
@@ -38,6 +42,7 @@ enum Part {
 #[derive(Drop)]
 pub(crate) struct Reader {
     alloc: Global,
+    texts: Vec<NamedFile>,
     case: Option<Case>,
     part: Part,
 }
@@ -47,6 +52,7 @@ impl Reader {
     pub(crate) fn new(alloc: Global) -> Reader {
         Reader {
             alloc,
+            texts: Vec::new(alloc),
             case: None,
             part: Part::Word,
         }
@@ -94,8 +100,14 @@ impl Reader {
 
     // Adds to the word, file or text that was named last.
     fn push_text(&mut self, text: &[u8]) -> anyhow::Result<()> {
+        if let Part::Named = self.part {
+            let named = self.texts.last_mut().context("a text without a name")?;
+            named.bytes.extend_from_slice(text)?;
+            return Ok(());
+        }
         let case = self.case.as_mut().context("a text before any case")?;
         match self.part {
+            Part::Named => {}
             Part::Word => {
                 let word = case.words.last_mut().context("a text before any word")?;
                 word.push_str(
@@ -117,8 +129,11 @@ impl Reader {
     // Does what a line with a key says.
     fn take_key(&mut self, key: &str, value: &str) -> anyhow::Result<()> {
         match key {
+            "let" => return self.name(value),
             "case" => return self.begin(value),
             "repeat" => return self.repeat(value),
+            "use" => return self.push_texts(value),
+            "front" => return self.push_front(value),
             _ => {}
         }
         let case = self.case.as_mut().context("a key before any case")?;
@@ -148,6 +163,42 @@ impl Reader {
         Ok(())
     }
 
+    // The text of this name.
+    fn text(&self, name: &str) -> anyhow::Result<Vec<u8>> {
+        let named = self.texts.iter().find(|text| text.name.as_str() == name);
+        Ok(named.context("no text of this name")?.bytes.clone()?)
+    }
+
+    // Adds named texts to the word, file or text that was named last.
+    fn push_texts(&mut self, names: &str) -> anyhow::Result<()> {
+        for name in names.split(' ') {
+            let text = self.text(name)?;
+            self.push_text(text.as_slice())?;
+        }
+        Ok(())
+    }
+
+    // Adds the front of a named text to the word, file or text that was named last.
+    fn push_front(&mut self, value: &str) -> anyhow::Result<()> {
+        let (count, name) = value.split_once(' ').context("a front without its name")?;
+        let count: usize = count.parse().ok().context("a front without its number")?;
+        let text = self.text(name)?;
+        self.push_text(text.get(..count).context("a front of too short a text")?)
+    }
+
+    // Begins a text of this name.
+    fn name(&mut self, name: &str) -> anyhow::Result<()> {
+        if self.case.is_some() {
+            bail!("a text that is named within a case");
+        }
+        if self.text(name).is_ok() {
+            bail!("a second text of one name");
+        }
+        self.texts.push(NamedFile::new(self.alloc, name)?)?;
+        self.part = Part::Named;
+        Ok(())
+    }
+
     // Begins a case.
     fn begin(&mut self, name: &str) -> anyhow::Result<()> {
         if self.case.is_some() {
@@ -155,6 +206,7 @@ impl Reader {
         }
         let name = String::from_str(self.alloc, name)?;
         self.case = Some(Case::new(self.alloc, name));
+        self.part = Part::Word;
         Ok(())
     }
 }
