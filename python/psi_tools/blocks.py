@@ -10,6 +10,7 @@ import re
 from psi_tools.networks import Network
 from psi_tools.told import Told
 
+UNWRITTEN = 7
 MOST_BLOCKS = 1_048_576
 # So many blocks are made at least, while there are streams: as many values as an interval asks for.
 LEAST_BLOCKS = 20
@@ -48,11 +49,15 @@ def names_of(text, count):
 def write_whole(path, text):
     """Writes a file under another name first, so that under its own it is never cut short."""
     part = path.with_name(f"part.{os.uname().nodename}.{os.getpid()}.{path.name}")
-    with open(part, "wb") as file:
-        file.write(text)
-        file.flush()
-        os.fsync(file.fileno())
-    part.rename(path)
+    try:
+        with open(part, "wb") as file:
+            file.write(text)
+            file.flush()
+            os.fsync(file.fileno())
+        part.rename(path)
+    except OSError as fault:
+        # Folder.tidy removes what is left of it.
+        raise Told(f"{path} can't be written: {fault.strerror or fault}", UNWRITTEN) from None
 
 
 class Folder:
@@ -77,29 +82,43 @@ class Folder:
             fcntl.flock(self.locked, fcntl.LOCK_EX | fcntl.LOCK_NB)
         except BlockingIOError:
             raise Told(f"another psi-many is at work in {self.path}") from None
+        except OSError as fault:
+            said = fault.strerror or fault
+            raise Told(f"{self.path}/lock can't be locked: {said}", UNWRITTEN) from None
 
     def bind(self, net, wanted, size, fitting):
         """Binds a new folder to a call, whose blocks have `size` streams, or as many as are fitting
-        where that isn't given; refuses a folder that is bound to another call.
+        where that isn't given; refuses a folder that is bound to another call, but for one of fewer
+        streams, to which the others are added. Gives how many it was bound to before.
         """
         wanted = {"network": digest_of(net), **wanted}
         if not (self.path / "bound").exists():
             write_whole(self.net, net)
-            bound = {**wanted, "block": size or fitting}
-            lines = "".join(f"{key} {value}\n" for key, value in bound.items())
-            write_whole(self.path / "bound", lines.encode())
+            self.write_bound({**wanted, "block": size or fitting})
         self.read_bound()
+        before, count = self.count, wanted["count"]
         if size:
             wanted["block"] = size
         for key in {**wanted, "closed": None, **wanted}:
             value = wanted.get(key)
-            if value is None and self.bound.get(key) is None:
+            if value is None and self.bound.get(key) is None or key == "count" and before < count:
                 continue
             if str(value) != self.bound.get(key):
                 other = f"{key} {self.bound.get(key)}, not {value}"
                 raise Told(f"the blocks in {self.path} are of another call: {other}")
+        if count > MOST_BLOCKS * self.size:
+            raise Told(f"there would be more than {MOST_BLOCKS} blocks of {self.size} streams")
         if self.net.read_bytes() != net:
             write_whole(self.net, net)
+        if before < count:
+            self.write_bound({**self.bound, "count": count})
+            self.read_bound()
+        return before
+
+    def write_bound(self, bound):
+        """Writes what the folder is bound to."""
+        lines = "".join(f"{key} {value}\n" for key, value in bound.items())
+        write_whole(self.path / "bound", lines.encode())
 
     def read_bound(self):
         """Reads what the folder is bound to."""
@@ -147,18 +166,24 @@ class Folder:
 
     def finished(self):
         """The files of the blocks that are whole and of one network, by number. Others are removed:
-        those cut short or changed, and all of a block that has several.
+        those cut short or changed, and all of a block that has several. What was wrong with them is
+        kept in `removed`, by number.
         """
-        whole, names = {}, {}
-        for number, files in self.listed().items():
+        whole, names, self.removed = {}, {}, {}
+        for number, files in sorted(self.listed().items()):
             text = files[0].read_bytes()
-            if len(files) == 1 and FILE.fullmatch(files[0].name)[2] == digest_of(text)[:16]:
-                names[number] = names_of(text, self.block(number).count)
-                whole[number] = files[0]
-            if not names.get(number):
-                for file in files:
-                    file.unlink()
-        most = max(filter(None, names.values()), key=len, default=None)
-        for number in [number for number, those in names.items() if those and those != most]:
-            whole[number].unlink()
-        return {number: whole[number] for number, those in names.items() if those and those == most}
+            names[number] = names_of(text, self.block(number).count)
+            if len(files) > 1:
+                self.removed[number] = "has several files"
+            elif FILE.fullmatch(files[0].name)[2] != digest_of(text)[:16]:
+                self.removed[number] = "isn't as it was written"
+            elif not names[number]:
+                self.removed[number] = f"isn't of {max(0, self.block(number).count)} samples"
+            whole[number] = files
+        most = max((names[n] for n in names if n not in self.removed), key=len, default=None)
+        for number, those in names.items():
+            if number not in self.removed and those != most:
+                self.removed[number] = "has fewer queues and rewards than others"
+        for file in (file for number in self.removed for file in whole[number]):
+            file.unlink()
+        return {number: files[0] for number, files in whole.items() if number not in self.removed}

@@ -14,18 +14,23 @@ but 0 has a line on standard error.
 
 import os
 import pathlib
+import re
 import shlex
 import signal
 import subprocess
 
-from psi_tools.blocks import LEAST_BLOCKS, MOST_BLOCKS, Folder, names_of
+from psi_tools.blocks import LEAST_BLOCKS, MOST_BLOCKS, Folder, names_of, write_whole
 from psi_tools.program import MOST_BYTES, built_program, found_on_path
 from psi_tools.told import Told
 from psi_tools.ways import ROUNDS, SHARE, SSH, Here, Hosts, Progress, Slurm, run_task
-from psi_tools.words import GREATEST, Words, give, look_at, number, run
+from psi_tools.words import GREATEST, Words, give, look_at, number, run, tell
 
 COMMAND, MOST_STREAMS, MOST_TOTAL = "psi-many", 65_536, 256
+MOST_COUNT = MOST_BLOCKS * MOST_STREAMS
 MERGED_AT_ONCE = 1_000
+UNCOUPLED = re.compile(rb"^uncoupled,-,(\d+)$", re.M)
+# So many removed blocks are told one by one.
+MOST_TOLD = 5
 ABOUT = """Prints the report of any number of streams, as psi report would if it took so many. The
 streams are cut in blocks, which are drawn side by side; finished blocks are kept in a folder, so
 the same call goes on where it was stopped. psi-means tells the means of such a folder with their
@@ -38,18 +43,40 @@ intervals.
 def draw_all(folder, way):
     """Draws the blocks that aren't finished yet, those that failed again, and gives the files."""
     blocks, finished, vain = folder.all_blocks(), folder.finished(), 0
+    tell_removed(folder, blocks)
     progress = Progress(folder, sum(folder.block(number).count for number in finished))
     while missing := [block for block in blocks if block.number not in finished]:
-        if vain == ROUNDS:
-            _, first, count = missing[0]
-            streams = f"the streams {first} to {first + count - 1}"
-            raise Told(f"{len(missing)} blocks failed, first {streams}{last_line(folder)}", 1)
         done = len(finished)
-        way.draw(folder, missing, progress)
+        again = way.draw(folder, missing, progress)
         finished = folder.finished()
         vain = 0 if len(finished) > done else vain + 1
         progress.show(sum(folder.block(number).count for number in finished), at_once=True)
+        tell_removed(folder, blocks)
+        if again := [block for block in again if block.number in finished]:
+            tell(COMMAND, f"{len(again)} blocks were drawn again, first {streams_of(again[0])}")
+        if failed := [block for block in missing if block.number not in finished]:
+            first = f"{streams_of(failed[0])}{last_line(folder)}"
+            line = f"{len(failed)} blocks failed, first {first}"
+            if vain == ROUNDS:
+                raise Told(line, 1)
+            tell(COMMAND, f"{line}; they are drawn again")
     return [finished[number] for number in sorted(finished)]
+
+
+def tell_removed(folder, blocks):
+    """Tells which files of blocks weren't as they should be, and are removed."""
+    for number, why in [*folder.removed.items()][:MOST_TOLD]:
+        if number < len(blocks):
+            streams = streams_of(blocks[number])
+            tell(COMMAND, f"{streams} are drawn again: the file of their block {why}")
+        else:
+            tell(COMMAND, f"the file of the block {number}, which this call hasn't, is removed")
+    if (more := len(folder.removed) - MOST_TOLD) > 0:
+        tell(COMMAND, f"{more} files of blocks more are removed")
+
+
+def streams_of(block):
+    return f"the streams {block.first} to {block.first + block.count - 1}"
 
 
 def last_line(folder):
@@ -86,7 +113,7 @@ def merge(folder, files, program):
         begun = len(made)
         for place, text in enumerate(texts, begun):
             made.append(folder.path / f"merged.{place}")
-            made[-1].write_bytes(text)
+            write_whole(made[-1], text)
         files = made[begun:]
     for file in made:
         file.unlink()
@@ -117,7 +144,8 @@ def reader():
         "first", metavar="FIRST", type=number(0, GREATEST), help=f"the first stream, {last}"
     )
     words.add_argument(
-        "count", metavar="COUNT", type=number(1, GREATEST + 1), help="how many streams are drawn"
+        "count", metavar="COUNT", type=number(1, MOST_COUNT),
+        help=f"how many streams are drawn, 1 to {MOST_COUNT:,}: at most {MOST_BLOCKS:,} blocks",
     )
     words.add_argument(
         "-o", "--out", metavar="FILE",
@@ -182,8 +210,8 @@ def read_words(arguments):
             raise Told(f"{option} isn't a command's words: {fault}") from None
     if words.first + words.count - 1 > GREATEST:
         raise Told(f"the last stream is above {GREATEST}")
-    if words.count > MOST_BLOCKS * (words.block or MOST_STREAMS):
-        raise Told(f"there would be more than {MOST_BLOCKS} blocks")
+    if words.block and words.count > MOST_BLOCKS * words.block:
+        raise Told(f"there would be more than {MOST_BLOCKS} blocks of {words.block} streams")
     return words
 
 
@@ -235,10 +263,20 @@ def report(words):
     folder = Folder(words.folder or name)
     folder.lock()
     fitting = min(-(-words.count // (SHARE * way.slots)), words.count // LEAST_BLOCKS)
-    folder.bind(net, numbers, words.block, max(1, min(MOST_STREAMS, fitting)))
+    before = folder.bind(net, numbers, words.block, max(1, min(MOST_STREAMS, fitting)))
+    if before < words.count:
+        tell(COMMAND, f"{folder.path} has {before} streams, and gets {words.count - before} more")
     files = draw_all(folder, way)
     folder.tidy()
     return merge(folder, files, program)
+
+
+def tell_uncoupled(text, words):
+    """Tells of streams that aren't coupled: what the report says is of the others."""
+    lost = int(UNCOUPLED.search(text)[1])
+    if lost:
+        what = f"NOT COUPLED: {lost} of {words.count} streams"
+        tell(COMMAND, f"{what}; sums and extremes are of the others, and biased")
 
 
 def stop(number, frame):
@@ -254,6 +292,7 @@ def work(arguments):
     look_at(words.out)
     text = report(words)
     give(text.decode(), words.out)
+    tell_uncoupled(text, words)
     return 0
 
 

@@ -1,5 +1,6 @@
 """The ways in which psi-many draws blocks: on this machine, on hosts behind ssh, with Slurm."""
 
+import collections
 import os
 import pathlib
 import re
@@ -11,8 +12,8 @@ import time
 from psi_tools.blocks import Folder, digest_of, write_whole
 from psi_tools.closed import report_of_text
 from psi_tools.program import found_on_path
-from psi_tools.told import Told
-from psi_tools.words import Pulse, clock, is_terminal
+from psi_tools.told import Told, printable
+from psi_tools.words import Pulse, clock, is_terminal, say
 
 # So many blocks for each processor, and so many tasks in Slurm, where the call doesn't say.
 SHARE, TASKS = 4, 100
@@ -25,6 +26,10 @@ SET_UP = """set -e; cd; umask 077; mkdir -p .psi-many/{digest}; cd .psi-many
 part=part.$(uname -n).$$; mkdir "$part"; tar -xf - -C "$part"
 mv -f "$part/net.toml" "$part/psi" {digest}/; rmdir "$part"
 {digest}/psi check {digest}/net.toml >/dev/null; nproc"""
+# Tells that a block is begun, by its place among those of the round: so that one that is begun twice
+# is known. On a host this is done before ssh, which has none of these variables.
+BEGIN = 'echo "$PARALLEL_SEQ" >>"$PSI_MANY_BEGUN"; '
+BEGIN_HERE = f'[ -z "$PSI_MANY_BEGUN" ] || {BEGIN}'
 # What draws one block: {1} is its number, {2} its first stream, and {3} how many streams it has; of
 # a closed network, whose samples are drawn one by one, it is the last one.
 STEP = """printf 'block %s\\n' {{1}} && {psi} report net.toml {seed} {{2}} {{3}} \
@@ -53,7 +58,7 @@ class Progress:
         if drawn and streams < count:
             line += f", {clock((now - self.begun) / drawn * (count - streams))} to go"
         end = "\n" if at_once or not self.redraws else ""
-        print(f"\r{line}\x1b[K" if self.redraws else line, end=end, file=sys.stderr, flush=True)
+        say(f"\r{line}\x1b[K" if self.redraws else line, end=end)
 
 
 def take(lines, finish):
@@ -89,7 +94,8 @@ def line_of(folder, block):
 
 
 def run_parallel(folder, blocks, progress, words, command, psi):
-    """Draws blocks by GNU parallel, and keeps those that come whole."""
+    """Draws blocks by GNU parallel, and keeps those that come whole. Gives those that it has begun
+    several times."""
 
     def finish(number, text):
         if keep(folder, number, text):
@@ -98,10 +104,13 @@ def run_parallel(folder, blocks, progress, words, command, psi):
     # Where this program is killed, the signal ends GNU parallel and what it runs.
     guard = ["setpriv", "--pdeathsig", "TERM"] if found_on_path("setpriv") else []
     call = [*guard, "parallel", "--plain", "--colsep", " ", "--retries", str(TRIES)]
-    call += [*words, command]
+    call += [*words, BEGIN_HERE + command]
+    begun = folder.path / "begun"
     environment = {**os.environ, "PARALLEL_SHELL": "/bin/sh", "PSI_MANY_PSI": psi}
+    environment["PSI_MANY_BEGUN"] = str(begun)
     lines = "".join(line_of(folder, block) for block in blocks)
     write_whole(folder.path / "jobs", lines.encode())
+    write_whole(begun, b"")
     with open(folder.path / "jobs", "rb") as jobs, open(folder.path / "said", "wb") as said:
         streams = {"stdin": jobs, "stdout": subprocess.PIPE, "stderr": said}
         with subprocess.Popen(
@@ -112,6 +121,8 @@ def run_parallel(folder, blocks, progress, words, command, psi):
             except BaseException:
                 run.terminate()
                 raise
+    times = collections.Counter(begun.read_text(errors="replace").split())
+    return [block for place, block in enumerate(blocks, 1) if times[str(place)] > 1]
 
 
 class Here:
@@ -122,7 +133,8 @@ class Here:
 
     def draw(self, folder, blocks, progress):
         command = step_of(folder, '"$PSI_MANY_PSI"')
-        run_parallel(folder, blocks, progress, ["--jobs", str(self.slots)], command, self.psi)
+        words = ["--jobs", str(self.slots)]
+        return run_parallel(folder, blocks, progress, words, command, self.psi)
 
 
 class Hosts:
@@ -157,7 +169,7 @@ class Hosts:
         answer = done.stdout.decode(errors="replace").split()
         if done.returncode or not answer or not answer[-1].isdigit():
             said = (done.stderr.decode(errors="replace").split("\n") + ["no answer"])[0]
-            print(f"psi-many: host {name} is left out: {said}", file=sys.stderr)
+            say(f"psi-many: host {name} is left out: {printable(said)}")
             return None
         return slots or int(answer[-1]), name
 
@@ -166,12 +178,14 @@ class Hosts:
             self.find()
         self.is_fresh = False
         if not self.logins:
-            return time.sleep(REST)
+            time.sleep(REST)
+            return []
         lines = "".join(f"{slots}/{name}\n" for slots, name in self.logins)
         write_whole(folder.path / "hosts", lines.encode())
-        words = ["--ssh", self.ssh, "--sshloginfile", str(folder.path / "hosts")]
+        words = ["--ssh", BEGIN + self.ssh, "--sshloginfile", str(folder.path / "hosts")]
         command = f'cd "$HOME/.psi-many/{self.digest}" && {step_of(folder, "./psi")}'
-        run_parallel(folder, blocks, progress, [*words, "--sshdelay", "0.02"], command, self.psi)
+        words += ["--sshdelay", "0.02"]
+        return run_parallel(folder, blocks, progress, words, command, self.psi)
 
 
 def read_hosts(path):
@@ -217,11 +231,12 @@ class Slurm:
         if not (job and self.is_queued(job)):
             job = self.submit(folder, blocks)
             write_whole(kept, job.encode())
-        print(f"psi-many: waiting for the Slurm job {job}", file=sys.stderr)
+        say(f"psi-many: waiting for the Slurm job {job}")
         try:
             self.wait(job, folder, progress)
         except Told as told:
             raise Told(f"{told}; the Slurm job {job} goes on by itself", told.status) from None
+        return []
 
     def wait(self, job, folder, progress):
         """Waits until all blocks are there, or no task of the job is left."""

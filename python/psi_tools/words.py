@@ -169,6 +169,17 @@ def give(text, path=None):
         raise Told(f"standard output can't be written: {said}", UNWRITTEN) from None
 
 
+def say(line, end="\n"):
+    """Tells something on standard error, as far as it can be written; where it can't, nothing more
+    is told."""
+    if sys.stderr is None:
+        return
+    try:
+        print(line, end=end, file=sys.stderr, flush=True)
+    except (OSError, ValueError):
+        silence(sys.stderr)
+
+
 def is_terminal():
     """Whether standard error is one, so that it can be told how far a work is."""
     return sys.stderr is not None and sys.stderr.isatty()
@@ -189,10 +200,10 @@ class Pulse:
         wait, has_told = QUIET, False
         while not self.is_over.wait(wait):
             line = f"{self.command}: at work, {clock(time.monotonic() - self.begun)}"
-            print(f"\r{line}\x1b[K", end="", file=sys.stderr, flush=True)
+            say(f"\r{line}\x1b[K", end="")
             wait, has_told = 1, True
         if has_told:
-            print("\r\x1b[K", end="", file=sys.stderr, flush=True)
+            say("\r\x1b[K", end="")
 
     @classmethod
     def begin(cls, command):
@@ -229,12 +240,12 @@ class Progress:
         line = f"{self.command}: {done:,} of {self.whole:,} {self.what}, {clock(now - self.begun)}"
         if 0 < done < self.whole:
             line += f", {clock((now - self.begun) / done * (self.whole - done))} to go"
-        print(f"\r{line}\x1b[K", end="", file=sys.stderr, flush=True)
+        say(f"\r{line}\x1b[K", end="")
 
     def end(self):
         """Removes what was told."""
         if self.has_told:
-            print("\r\x1b[K", end="", file=sys.stderr, flush=True)
+            say("\r\x1b[K", end="")
 
 
 def clock(seconds):
@@ -245,14 +256,12 @@ def clock(seconds):
 
 def tell(command, why):
     """One line on standard error, as far as it can be written."""
-    try:
-        print(f"{command}: {printable(why)}", file=sys.stderr, flush=True)
-    except (OSError, ValueError, AttributeError):
-        pass
+    say(f"{command}: {printable(why)}")
 
 
 def run(command, work, arguments):
     """The exit status of a command's work, whatever ends it: no fault is a traceback."""
+    fill_closed()
     Pulse.begin(command)
     try:
         try:
@@ -285,15 +294,24 @@ def run(command, work, arguments):
             raise
         tell(command, f"a fault of the tool: {type(fault).__name__}: {fault}")
         status = 1
-    silence()
+    silence(sys.stdout)
     return status
 
 
-def silence():
-    """What wasn't written to standard output is given up, so that nothing is said of it again."""
+def fill_closed():
+    """Where standard input, output or error is closed, no file that is opened gets its number, so
+    that nothing of what processes say there comes into one."""
+    while (file := os.open(os.devnull, os.O_RDWR)) <= 2:
+        os.set_inheritable(file, True)
+    os.close(file)
+
+
+def silence(stream):
+    """What wasn't written to a stream is given up, so that nothing is said of it again."""
     try:
         nowhere = os.open(os.devnull, os.O_WRONLY)
-        if sys.stdout is not None:
-            os.dup2(nowhere, sys.stdout.fileno())
+        if stream is not None:
+            os.dup2(nowhere, stream.fileno())
+        os.close(nowhere)
     except (OSError, ValueError):
         pass

@@ -1,0 +1,133 @@
+"""psi-many: what it tells on standard error, folders that are enlarged, and disks without room."""
+
+import os
+import pathlib
+import re
+import resource
+import subprocess
+
+import pytest
+from conftest import SECONDS, TOP
+
+from psi_tools.many import MOST_COUNT
+
+NET, SHORT = TOP / "examples/single-server.toml", TOP / "examples/short-past.toml"
+CALL = [NET, "0", "0", "400", "--block", "50"]
+
+
+def report(program, net, count):
+    """What one process prints of the first streams of seed 0."""
+    return subprocess.check_output([program, "report", net, "0", "0", str(count)], text=True)
+
+
+def lines_of(error):
+    """What is told beside how far it is."""
+    return [line for line in error.splitlines() if "so far" not in line]
+
+
+def program_in(folder, psi, way):
+    """A program in place of psi, whose first reports of each block go another way."""
+    (folder / "kept").mkdir()
+    path = folder / "psi"
+    first = '[ "$1" = report ] && mkdir "$KEPT/$4" 2>/dev/null'
+    lines = ["#!/bin/sh", f"KEPT={folder}/kept", f"PSI={psi}", f"{first} && {{ {way}; }}"]
+    path.write_text("\n".join([*lines, 'exec "$PSI" "$@"', ""]))
+    path.chmod(0o755)
+    return path
+
+
+def test_uncoupled_streams_are_told(tool, program):
+    status, out, error = tool("psi-many", SHORT, 0, 0, 100)
+    assert (status, out) == (0, report(program, SHORT, 100))
+    assert lines_of(error) == [
+        "psi-many: NOT COUPLED: 59 of 100 streams; sums and extremes are of the others, and biased"
+    ]
+    assert lines_of(tool("psi-many", NET, 0, 0, 100)[2]) == []
+
+
+@pytest.mark.parametrize("way", ["exit 8", "kill -9 $$"])
+def test_a_block_that_is_drawn_again_is_told(tool, program, tmp_path, way):
+    other = program_in(tmp_path, program, way)
+    status, out, error = tool("psi-many", *CALL, "--psi", other)
+    assert (status, out) == (0, report(program, NET, 400))
+    [line] = lines_of(error)
+    assert line == "psi-many: 8 blocks were drawn again, first the streams 0 to 49"
+
+
+def test_a_block_that_fails_is_told(tool, program, tmp_path):
+    # The status is 0, so GNU parallel takes it.
+    other = program_in(tmp_path, program, "echo half of it >&2; exit 0")
+    status, out, error = tool("psi-many", *CALL, "--psi", other)
+    assert (status, out) == (0, report(program, NET, 400))
+    [line] = lines_of(error)
+    failed = "8 blocks failed, first the streams 0 to 49: half of it"
+    assert line == f"psi-many: {failed}; they are drawn again"
+
+
+def test_a_file_that_is_removed_is_told(tool, tmp_path):
+    tool("psi-many", *CALL, "--folder", "kept")
+    files = sorted((tmp_path / "kept/blocks").iterdir())
+    files[0].write_bytes(files[0].read_bytes()[:-1])
+    files[1].rename(files[1].with_name(files[1].name.replace("0000001", "0000009")))
+    status, _, error = tool("psi-many", *CALL, "--folder", "kept")
+    assert status == 0
+    first, second = lines_of(error)
+    assert first.startswith("psi-many: the streams 0 to 49 are drawn again: the file of their block")
+    assert second == "psi-many: the file of the block 9, which this call hasn't, is removed"
+
+
+def test_a_folder_is_enlarged(tool, program, tmp_path):
+    for count in (100, 110, 260):
+        status, out, error = tool("psi-many", *CALL[:3], count, "--block", 50, "--folder", "kept")
+        assert (status, out) == (0, report(program, NET, count)), error
+        if count == 100:
+            first = {file: file.stat().st_ino for file in (tmp_path / "kept/blocks").iterdir()}
+    assert len(first) == 2 and all(file.stat().st_ino == one for file, one in first.items())
+    told = lines_of(error)
+    assert told[0] == f"psi-many: {tmp_path}/kept has 110 streams, and gets 150 more"
+    assert told[1].startswith("psi-many: the streams 100 to 149 are drawn again")
+    assert tool("psi-means", "kept")[0] == 2
+    status, out, error = tool("psi-many", *CALL[:3], 110, "--folder", "kept")
+    assert (status, out) == (2, "") and error.endswith("another call: count 260, not 110\n")
+
+
+def test_count_has_its_true_range(tool):
+    assert f"1 to {MOST_COUNT:,}" in " ".join(tool("psi-many", "-h")[1].split())
+    status, out, error = tool("psi-many", NET, 0, 0, MOST_COUNT + 1)
+    assert (status, out) == (2, "") and f"a number from 1 to {MOST_COUNT} is wanted" in error
+    status, out, error = tool("psi-many", NET, 0, 0, MOST_COUNT, "--block", 65_535)
+    assert (status, out) == (2, "") and "blocks of 65535 streams" in error
+
+
+def test_a_hosts_file_that_is_not_there(tool, tmp_path):
+    status, out, error = tool("psi-many", *CALL, "--hosts", "absent")
+    assert (status, out) == (2, "")
+    assert error == "psi-many: absent can't be read: No such file or directory\n"
+    assert [*tmp_path.iterdir()] == []
+
+
+def ended(environment, room, **options):
+    """The end of a call of 400 streams, of which standard output and error may be elsewhere."""
+    call = [str(word) for word in (TOP / "tools/psi-many", *CALL, "--folder", "kept")]
+    pipes = {"stdout": subprocess.PIPE, "stderr": subprocess.PIPE, **options}
+    return subprocess.run(call, cwd=room, env=environment, text=True, timeout=SECONDS, **pipes)
+
+
+@pytest.mark.parametrize("bytes_written", [0, 20, 150])
+def test_a_file_that_cannot_be_written_is_named(environment, tmp_path, bytes_written):
+    def limit():
+        resource.setrlimit(resource.RLIMIT_FSIZE, (bytes_written, bytes_written))
+
+    done = ended(environment, tmp_path, preexec_fn=limit)
+    assert (done.returncode, done.stdout) == (7, "")
+    found = re.fullmatch(r"psi-many: (/\S+) can't be written: File too large\n", done.stderr)
+    assert found and pathlib.Path(found[1]).is_relative_to(tmp_path), done.stderr
+
+
+def test_standard_error_that_cannot_be_written(environment, program, tmp_path):
+    wanted = report(program, NET, 400)
+    with open("/dev/full", "wb") as full:
+        done = ended(environment, tmp_path, stderr=full)
+    assert (done.returncode, done.stdout) == (0, wanted)
+    done = ended(environment, tmp_path, preexec_fn=lambda: os.close(2))
+    assert (done.returncode, done.stdout) == (0, wanted)
