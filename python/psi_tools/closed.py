@@ -6,11 +6,15 @@ states are taken in its form, and the values of rewards by the guide's rules.
 
 import collections
 import re
-import subprocess
-import sys
 
-from psi_tools.networks import Network, values_of
-from psi_tools.program import built_program
+from psi_tools.networks import checked, values_of
+from psi_tools.program import Psi
+from psi_tools.told import Told
+from psi_tools.words import Words, give, number, run
+
+COMMAND, MOST_TOTAL, MOST_COUNT = "closed_report", 256, 2**20
+ABOUT = """Prints the report of the samples of a closed network: those of the streams 0 to COUNT - 1
+and the seed 0. psi-many with --closed draws those of other seeds and streams too, and keeps them."""
 
 SAMPLE = re.compile(rb"met (\d+)\nstate (\d+(?:,\d+)*)\n|not coupled within \d+\n")
 
@@ -66,17 +70,38 @@ def figures(sort, names, rows):
             yield f"{sort}greatest", name, max(numbers)
 
 
-def main(words):
-    """Prints the report of the first COUNT streams of seed 0; the words say NET TOTAL COUNT."""
-    file, total, count = words[:3]
-    program = words[3] if len(words) > 3 else built_program()
-    texts = []
-    for stream in range(int(count)):
-        call = [program, "closed", file, "0", str(stream), total]
-        done = subprocess.run(call, capture_output=True)
-        if done.returncode not in (0, 1):
-            print(done.stderr.decode(errors="replace").strip(), file=sys.stderr)
-            return done.returncode
-        texts.append(done.stdout)
-    sys.stdout.buffer.write(report_of(Network.read(file), samples_of(b"".join(texts))))
+def reader():
+    """The reader of the words."""
+    words = Words(COMMAND, ABOUT)
+    words.add_argument("net", metavar="NET", help="the file of a closed network")
+    words.add_argument(
+        "total", metavar="TOTAL", type=number(0, MOST_TOTAL),
+        help=f"how many customers there are, 0 to {MOST_TOTAL}",
+    )
+    words.add_argument(
+        "count", metavar="COUNT", type=number(1, MOST_COUNT),
+        help=f"how many streams are drawn, 1 to {MOST_COUNT:,}",
+    )
+    words.add_argument("psi", metavar="PSI", nargs="?", help="the built program")
+    return words
+
+
+def work(arguments):
+    """Prints the report of the first COUNT streams of seed 0."""
+    words = reader().parse_args(arguments)
+    psi = Psi(words.psi)
+    net = checked(psi, words.net)
+
+    def drawn(stream):
+        return psi.ask("closed", net.data, 0, stream, words.total, statuses=(0, 1)).out.encode()
+
+    texts = psi.all([lambda stream=stream: drawn(stream) for stream in range(words.count)])
+    text = report_of_text(net, b"".join(texts), words.count)
+    if text is None:
+        raise Told("psi printed no whole samples", 1)
+    give(text.decode())
     return 0
+
+
+def main(arguments):
+    return run(COMMAND, work, arguments)

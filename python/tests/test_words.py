@@ -76,6 +76,29 @@ def test_help_and_version(tool, name):
     assert tool(f"psi-{name}", "--version") == (0, f"psi-{name} 0.1.0\n", "")
 
 
+# The tools that are no commands of the package, with words that are right but for a file.
+OTHERS = {"mean_values.py": ["{}", "6", "2"], "plotting/closed_report.py": ["{}", "6", "2"]}
+
+
+@pytest.mark.parametrize("name", OTHERS)
+def test_the_other_tools_end_with_one_line(tool, environment, tmp_path, name):
+    command = pathlib.Path(name).stem
+    status, out, error = tool(name, "-h")
+    assert (status, error) == (0, "") and out.startswith(f"usage: {command} ")
+    closed = str(TOP / "examples/central-server.toml")
+    calls = [[word.format(file) for word in OTHERS[name]] for file in [*files(tmp_path), NET]]
+    calls += [[], ["a"], [closed, "x", "2"], [closed, "257", "2"], [closed, "6", "-2"]]
+    for words, (status, out, error) in zip(calls, side_by_side(tool, name, calls)):
+        assert status in (2, 3, 6, 11) and out == "", (words, status, error)
+        assert re.fullmatch(rf"{command}: [^\n]+\n", error), (words, error)
+    with open("/dev/full", "wb") as full:
+        done = subprocess.run(
+            [TOP / "tools" / name, closed, "6", "2"], stdout=full, stderr=subprocess.PIPE, text=True,
+            timeout=SECONDS, env=environment,
+        )
+    assert done.returncode == 7 and "No space left on device" in done.stderr
+
+
 def test_each_option_says_what_it_does():
     import importlib
 
