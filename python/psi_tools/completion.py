@@ -8,6 +8,7 @@ import importlib
 import sys
 
 from psi_tools.commands import NAMES
+from psi_tools.words import give, run
 
 SHELLS = "bash", "zsh", "fish"
 # What of an option's or a word's name says that it is a file or a folder.
@@ -175,13 +176,13 @@ def completion(shell, name):
     return {"bash": bash_of, "zsh": zsh_of, "fish": fish_of}[shell](name, reader)
 
 
-def main():
-    shell, command = sys.argv[1:]
-    sys.stdout.write(completion(shell, command.removeprefix("psi-")))
+def main(arguments):
+    shell, command = arguments
+    give(completion(shell, command.removeprefix("psi-")))
 
 
 if __name__ == "__main__":
     is_known = len(sys.argv) == 3 and sys.argv[1] in SHELLS
     if not is_known or sys.argv[2].removeprefix("psi-") not in NAMES:
         sys.exit("usage: python3 -m psi_tools.completion bash|zsh|fish COMMAND")
-    main()
+    sys.exit(run("psi_tools.completion", main, sys.argv[1:]))

@@ -124,10 +124,12 @@ def merge(folder, files, program):
 
 def merger_of(words, psi):
     """The program that merges: the one that the call says; else psi_merge, which is proved, where
-    it stands beside PSI or is built beside its crate; else none, and merge_reports.py does it.
+    it stands beside PSI, as psi-merge too, or is built beside its crate; else none, and
+    merge_reports.py does it.
     """
     beside = pathlib.Path(psi).parent
-    proved = beside / "psi_merge", beside.parent.parent / "psi_merge/out/psi_merge"
+    proved = [beside / name for name in ("psi_merge", "psi-merge")]
+    proved.append(beside.parent.parent / "psi_merge/out/psi_merge")
     found = [str(path) for path in proved if os.access(path, os.X_OK)]
     if words.merge or found:
         return program_of(words.merge or found[0])
