@@ -45,6 +45,11 @@ ending-first : (caps : List ℕ) (k : ℕ) (f g : Functions) (t : ℕ) → ((j :
 unfolding closed_run
 ending-first caps k f g t same = ap (λ (xs : List (List ℕ)). single xs) (after-first caps k f g t (total_states caps k) same)
 
+-- all that is proved of events, on the states of a total, and of their samples
+pub record IsLawfulOnTotal (caps : List ℕ) (k : ℕ) (functions : List (List ℕ → List ℕ)) (rates : List ℕ) (limit : ℕ) (chain : Chain) (sample : Words → Outcome) : Type 0 where
+  pub laws : IsLawful chain sample (2 ^ limit)
+  pub promised : (past : Words) (o : Outcome) → IsClosedSample caps k (function_at functions rates past) limit o ↔ (o ≡ sample past)
+
 -- functions that keep the states of a total, with rates of a wheel
 module _ (caps : List ℕ) (k : ℕ) (functions : List (List ℕ → List ℕ)) (rates : List ℕ) (keeps : All (Keeps (IsOfTotal caps k)) functions) (fits : IsTotal caps k) where
   -- their chain on these states
@@ -73,11 +78,8 @@ module _ (caps : List ℕ) (k : ℕ) (functions : List (List ℕ → List ℕ)) 
     total-looks : LooksAtFirst total_sample (2 ^ limit)
     total-looks = outcome-looks (λ f. closed_ending caps k f) functions rates limit (λ f g t same. ending-first caps k f g t same)
 
-    total-lawful : AreRates rates → length rates ≡ length functions → IsLawful chain_on_total total_sample (2 ^ limit)
-    total-lawful rated count = lawful chain_on_total total_sample (2 ^ limit) (total-chain rated count) total-reaches total-looks
-
     -- they are the samples that a closed plan promises
-    pub total-samples : (past : Words) (o : Outcome) → IsClosedSample caps k (function_at functions rates past) limit o ↔ (o ≡ total_sample past)
+    total-samples : (past : Words) (o : Outcome) → IsClosedSample caps k (function_at functions rates past) limit o ↔ (o ≡ total_sample past)
     total-samples past o =
         let f = function_at functions rates past in
         let own = function_at-keeping (IsOfTotal caps k) functions rates past keeps in
@@ -93,13 +95,19 @@ module _ (caps : List ℕ) (k : ℕ) (functions : List (List ℕ → List ℕ)) 
               }),
         )
 
+    total-lawful : AreRates rates → length rates ≡ length functions → IsLawfulOnTotal caps k functions rates limit chain_on_total total_sample
+    total-lawful rated count = record {
+      laws = lawful chain_on_total total_sample (2 ^ limit) (total-chain rated count) total-reaches total-looks;
+      promised = total-samples;
+    }
+
 -- the moves of a closed network
-pub moves-keep : (caps : List ℕ) (k : ℕ) (moves : List Move) → AreMoves caps moves → All (Keeps (IsOfTotal caps k)) (map (λ m. moved caps m) moves)
+moves-keep : (caps : List ℕ) (k : ℕ) (moves : List Move) → AreMoves caps moves → All (Keeps (IsOfTotal caps k)) (map (λ m. moved caps m) moves)
 moves-keep caps k moves are =
     All-map (Keeps (IsOfTotal caps k)) (λ m. moved caps m) moves (λ i d small. record { each = λ x is. moved-keeps caps (slice_index_or moves i d) k x (are i d small) is })
 
 pub moves-lawful : (caps : List ℕ) (k : ℕ) (moves : List Move) (rates : List ℕ) (limit : ℕ) → AreMoves caps moves → IsTotal caps k → AreRates rates → length moves ≡ length rates
-    → IsLawful (closed_chain caps k moves rates) (closed_sample caps k moves rates limit) (2 ^ limit)
+    → IsLawfulOnTotal caps k (map (λ m. moved caps m) moves) rates limit (closed_chain caps k moves rates) (closed_sample caps k moves rates limit)
 moves-lawful caps k moves rates limit are fits rated count =
     total-lawful caps k (map (λ m. moved caps m) moves) rates (moves-keep caps k moves are) fits limit rated (sym count ∙ sym (length-map moves (λ m. moved caps m)))
 
@@ -108,7 +116,7 @@ is-some : {A : Type 0} (o : Option A) → IsSome o → (a : A) × (o ≡ Some a)
 is-some None some = absurd cc
 is-some (Some a) some = (a, refl)
 
-pub kinds-keep : (net : Network) (k : ℕ) → IsNetwork net → All (λ event. IsSome (move_of event.kind)) net.events → All (Keeps (IsOfTotal (caps_of net) k)) (functions_of net)
+kinds-keep : (net : Network) (k : ℕ) → IsNetwork net → All (λ event. IsSome (move_of event.kind)) net.events → All (Keeps (IsOfTotal (caps_of net) k)) (functions_of net)
 kinds-keep net k kept moves =
     All-map (Keeps (IsOfTotal (caps_of net) k)) (λ e. do_kind (caps_of net) e.kind) net.events
     (λ i d small. (let event = slice_index_or net.events i d in
@@ -120,7 +128,7 @@ kinds-keep net k kept moves =
     }))
 
 pub kinds-lawful : (net : Network) (k : ℕ) → IsNetwork net → All (λ event. IsSome (move_of event.kind)) net.events → IsTotal (caps_of net) k
-    → IsLawful (network_total_chain net k) (network_total_sample net k) (2 ^ net.limit)
+    → IsLawfulOnTotal (caps_of net) k (functions_of net) (rates_of net) net.limit (network_total_chain net k) (network_total_sample net k)
 kinds-lawful net k kept moves fits =
     total-lawful (caps_of net) k (functions_of net) (rates_of net) (kinds-keep net k kept moves) fits net.limit kept.rates
     (length-map net.events (λ e. e.rate) ∙ sym (length-map net.events (λ e. do_kind (caps_of net) e.kind)))

@@ -42,6 +42,13 @@ follow-first split f g (suc t) a same =
     follow-first split f g t (step split (f (suc t)) a) (λ k small. same k (omega arith))
     ∙ ap (λ (h : List ℕ → List ℕ). follow split g t (step split h a)) (same t (omega arith))
 
+-- all that is proved of events, on all states of these capacities, and of their samples
+pub record IsLawfulOnAll (caps : List ℕ) (functions : List (List ℕ → List ℕ)) (rates : List ℕ) (split limit : ℕ) (chain : Chain) (sample : Words → Outcome) : Type 0 where
+  pub laws : IsLawful chain sample (2 ^ limit)
+  pub monotone : All (IsMonotone caps) functions → UnmetIsApart chain sample (2 ^ limit)
+  pub small : length (all_states caps) ≤ split → UnmetIsApart chain sample (2 ^ limit)
+  pub promised : (past : Words) (o : Outcome) → IsSample caps functions rates limit split past o ↔ (o ≡ sample past)
+
 -- functions that make states of these capacities of such states, with rates of a wheel
 module _ (caps : List ℕ) (functions : List (List ℕ → List ℕ)) (rates : List ℕ) (closed : All (IsClosed caps) functions) where
   -- their chain on all states
@@ -71,11 +78,8 @@ module _ (caps : List ℕ) (functions : List (List ℕ → List ℕ)) (rates : L
     all-looks = outcome-looks (λ f. ending_at split f caps) functions rates limit
         (λ f g t same. ap (λ (a : Area). single a.states) (follow-first split f g t (start caps) same))
 
-    all-lawful : AreRates rates → length rates ≡ length functions → IsLawful chain_on_all all_sample (2 ^ limit)
-    all-lawful rated count = lawful chain_on_all all_sample (2 ^ limit) (all-chain rated count) all-reaches all-looks
-
     -- they are the samples that a plan promises
-    pub all-samples : (past : Words) (o : Outcome) → IsSample caps functions rates limit split past o ↔ (o ≡ all_sample past)
+    all-samples : (past : Words) (o : Outcome) → IsSample caps functions rates limit split past o ↔ (o ≡ all_sample past)
     all-samples past o = (
       λ sample. outcome_within-only (ending_at split (function_at functions rates past) caps) limit o sample.least,
       λ same. subst (λ (p : Outcome). IsSample caps functions rates limit split past p) (sym same)
@@ -88,57 +92,36 @@ module _ (caps : List ℕ) (functions : List (List ℕ → List ℕ)) (rates : L
         → UnmetIsApart chain_on_all all_sample (2 ^ limit)
     all-unmet rated count meets = unmet-apart chain_on_all all_sample limit (all-chain rated count) meets
 
-    all-monotone : AreRates rates → length rates ≡ length functions → All (IsMonotone caps) functions → UnmetIsApart chain_on_all all_sample (2 ^ limit)
-    all-monotone rated count monotone = all-unmet rated count (λ past. ((all-samples past (all_sample past)).1 refl).monotone monotone)
-
-    all-small : AreRates rates → length rates ≡ length functions → length (all_states caps) ≤ split → UnmetIsApart chain_on_all all_sample (2 ^ limit)
-    all-small rated count few = all-unmet rated count (λ past. ((all-samples past (all_sample past)).1 refl).small few)
+    all-lawful : AreRates rates → length rates ≡ length functions → IsLawfulOnAll caps functions rates split limit chain_on_all all_sample
+    all-lawful rated count = record {
+      laws = lawful chain_on_all all_sample (2 ^ limit) (all-chain rated count) all-reaches all-looks;
+      monotone = λ monotone. all-unmet rated count (λ past. ((all-samples past (all_sample past)).1 refl).monotone monotone);
+      small = λ few. all-unmet rated count (λ past. ((all-samples past (all_sample past)).1 refl).small few);
+      promised = all-samples;
+    }
 
 -- the events of a system
-pub system-closed : {E : Type 0} (capacities : E → List ℕ) (function : E → List ℕ → List ℕ) (system : Parts E) → IsSystem capacities system
+system-closed : {E : Type 0} (capacities : E → List ℕ) (function : E → List ℕ → List ℕ) (system : Parts E) → IsSystem capacities system
     → ((event : E) → IsClosed (capacities event) (function event)) → All (IsClosed system.caps) (map function system.events)
 system-closed capacities function system fit closed =
     All-map (IsClosed system.caps) function system.events
     (λ k d small. subst (λ (caps : List ℕ). IsClosed caps (function (slice_index_or system.events k d))) (fit.same_caps k d small) (closed (slice_index_or system.events k d)))
 
 pub system-lawful : {E : Type 0} (capacities : E → List ℕ) (function : E → List ℕ → List ℕ) (system : Parts E) → IsSystem capacities system
-    → ((event : E) → IsClosed (capacities event) (function event)) → IsLawful (chain_of function system) (sample_of function system) (2 ^ system.limit)
+    → ((event : E) → IsClosed (capacities event) (function event))
+    → IsLawfulOnAll system.caps (map function system.events) system.rates system.split system.limit (chain_of function system) (sample_of function system)
 system-lawful capacities function system fit closed =
     all-lawful system.caps (map function system.events) system.rates (system-closed capacities function system fit closed) system.split system.limit
     fit.rated (fit.same_count ∙ sym (length-map system.events function))
 
-pub system-monotone : {E : Type 0} (capacities : E → List ℕ) (function : E → List ℕ → List ℕ) (system : Parts E) → IsSystem capacities system
-    → ((event : E) → IsClosed (capacities event) (function event)) → All (IsMonotone system.caps) (map function system.events)
-    → UnmetIsApart (chain_of function system) (sample_of function system) (2 ^ system.limit)
-system-monotone capacities function system fit closed monotone =
-    all-monotone system.caps (map function system.events) system.rates (system-closed capacities function system fit closed) system.split system.limit
-    fit.rated (fit.same_count ∙ sym (length-map system.events function)) monotone
-
-pub system-small : {E : Type 0} (capacities : E → List ℕ) (function : E → List ℕ → List ℕ) (system : Parts E) → IsSystem capacities system
-    → ((event : E) → IsClosed (capacities event) (function event)) → length (all_states system.caps) ≤ system.split
-    → UnmetIsApart (chain_of function system) (sample_of function system) (2 ^ system.limit)
-system-small capacities function system fit closed few =
-    all-small system.caps (map function system.events) system.rates (system-closed capacities function system fit closed) system.split system.limit
-    fit.rated (fit.same_count ∙ sym (length-map system.events function)) few
-
 -- and those of a network
-pub network-closed : (net : Network) → IsNetwork net → All (IsClosed (caps_of net)) (functions_of net)
+network-closed : (net : Network) → IsNetwork net → All (IsClosed (caps_of net)) (functions_of net)
 network-closed net kept =
     All-map (IsClosed (caps_of net)) (λ e. do_kind (caps_of net) e.kind) net.events
     (λ k d small. (let is : IsAccepted (caps_of net) (slice_index_or net.events k d).kind = kept.kinds k d small in
     kind-closed (caps_of net) (slice_index_or net.events k d).kind (capacities_kept net.queues kept.queues) is.named is.accepted))
 
-pub network-lawful : (net : Network) → IsNetwork net → IsLawful (network_chain net) (network_sample net) (2 ^ net.limit)
+pub network-lawful : (net : Network) → IsNetwork net → IsLawfulOnAll (caps_of net) (functions_of net) (rates_of net) net.split net.limit (network_chain net) (network_sample net)
 network-lawful net kept =
     all-lawful (caps_of net) (functions_of net) (rates_of net) (network-closed net kept) net.split net.limit kept.rates
     (length-map net.events (λ e. e.rate) ∙ sym (length-map net.events (λ e. do_kind (caps_of net) e.kind)))
-
-pub network-monotone : (net : Network) → IsNetwork net → All (IsMonotone (caps_of net)) (functions_of net) → UnmetIsApart (network_chain net) (network_sample net) (2 ^ net.limit)
-network-monotone net kept monotone =
-    all-monotone (caps_of net) (functions_of net) (rates_of net) (network-closed net kept) net.split net.limit kept.rates
-    (length-map net.events (λ e. e.rate) ∙ sym (length-map net.events (λ e. do_kind (caps_of net) e.kind))) monotone
-
-pub network-small : (net : Network) → IsNetwork net → length (all_states (caps_of net)) ≤ net.split → UnmetIsApart (network_chain net) (network_sample net) (2 ^ net.limit)
-network-small net kept few =
-    all-small (caps_of net) (functions_of net) (rates_of net) (network-closed net kept) net.split net.limit kept.rates
-    (length-map net.events (λ e. e.rate) ∙ sym (length-map net.events (λ e. do_kind (caps_of net) e.kind))) few

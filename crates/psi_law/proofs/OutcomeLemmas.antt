@@ -1,5 +1,5 @@
 -- Outcomes of runs under the words of a past: what they reach, and which words they look at.
-use Rattle.std.specs.Prelude.{◌≡◌, ℕ, suc, Some, is_none, true, false, ◌-◌, ◌^◌, ◌<◌, ◌≤◌, List, Option}
+use Rattle.std.specs.Prelude.{◌≡◌, ℕ, suc, Some, is_none, false, ◌-◌, ◌^◌, ◌<◌, ◌≤◌, List, Option}
 use Rattle.std.proofs.Common.{ap, sym, ◌∙◌, subst, arith}
 use Rattle.psi_state.specs.declared.Outcome.{Outcome}
 use Rattle.psi_state.specs.declared.Outcome.TheVariants.{Met, NotMet}

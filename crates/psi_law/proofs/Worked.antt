@@ -109,7 +109,7 @@ first-kept limit most = record {
 
 first-law : (limit : ℕ) → limit ≤ 22 → HasLaw (network_sample (first limit)) (2 ^ limit) (network_chain (first limit)) halves
 unfolding sum_below do_kind
-first-law limit most = (network-lawful (first limit) (first-kept limit most)).law halves (balanced-by (network_chain (first limit)) halves refl)
+first-law limit most = (network-lawful (first limit) (first-kept limit most)).laws.law halves (balanced-by (network_chain (first limit)) halves refl)
 
 -- and not 4, 2 and 2
 abbrev wrong : List ℕ → ℕ
