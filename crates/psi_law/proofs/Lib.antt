@@ -1,6 +1,7 @@
 -- The lemmas of this crate.
 pub mod SumsLemmas
 pub mod WheelLemmas
+pub mod WordsLemmas
 pub mod PowersLemmas
 pub mod ChainLemmas
 pub mod BalanceLemmas

@@ -1,7 +1,9 @@
 -- The definitions on small inputs, worked out by hand and computed by the checker. The modulus of each network is 4, so pasts are
 -- counted of the words below 4.
-use Rattle.std.proofs.Common.{◌≡◌, ℕ, zero, suc, ◌<◌, ◌≤◌, ◌^◌, ◌*◌, List, [], ◌∷◌, map, slice_index, nat_eq, inl, inr, ap, sym, ◌∙◌, refl, arith}
+use Rattle.std.proofs.Common.{◌≡◌, ℕ, zero, suc, ◌+◌, ◌<◌, ◌≤◌, ◌^◌, ◌*◌, List, [], ◌∷◌, map, slice_index, nat_eq, inl, inr, ap, sym, ◌∙◌, refl, arith}
 use Rattle.std.specs.Prelude.{codes}
+use Rattle.std.proofs.Math.Nat.{le_of_mul-le-mul_left}
+use Rattle.std.proofs.lemmas.Bool.{cases_lt}
 use Rattle.std.proofs.lemmas.List.Elements.{All-nil, All-cons}
 use Rattle.psi_state.specs.declared.Outcome.{Outcome}
 use Rattle.psi_state.specs.Members.{In}
@@ -13,7 +15,7 @@ use Rattle.psi_kinds.specs.declared.moves.Move.{Move}
 use Rattle.psi_kinds.specs.Kinds.{do_kind}
 use Rattle.psi_kinds.specs.Moves.{moved}
 use Rattle.psi_kinds.specs.Refusals.{refusal_of}
-use Rattle.psi_rate.specs.Rates.{total, least_power, event_of}
+use Rattle.psi_rate.specs.Rates.{AreRates, total, least_power, event_of}
 use Rattle.psi_rate.specs.Doubling.{first_answer}
 use Rattle.psi_rate.specs.Outcomes.{outcome_within}
 use Rattle.psi_region.specs.Region.{step}
@@ -23,9 +25,13 @@ use Rattle.psi_network.specs.Valid.{IsNetwork, IsQueue, IsAccepted}
 use Rattle.psi_network.specs.declared.entries.Queue.{Queue}
 use Rattle.psi_network.specs.declared.entries.NamedEvent.{NamedEvent}
 use Rattle.psi_law.specs.Counting.{Words, sum_below, count_below, sum_pasts, count_pasts}
-use Rattle.psi_law.specs.Chains.{Chain, is_same, end_of, whole, weighted, flow_to, IsBalanced}
-use Rattle.psi_law.specs.Samples.{HasLaw, is_met_in, is_unmet, value_met, are_apart}
-use Rattle.psi_law.specs.Networks.{network_chain, network_sample, closed_chain, closed_sample}
+use Rattle.psi_law.specs.Wheel.{word_count, words_for}
+use Rattle.psi_law.specs.Chains.{Chain, function_of, is_same, end_of, pasts_between, whole, weighted, flow_to, IsBalanced}
+use Rattle.psi_law.specs.Samples.{HasLaw, HasMean, is_met_in, is_unmet, value_met, met_in, unmet, sum_met, are_apart, apart}
+use Rattle.psi_law.specs.Networks.{network_chain, network_sample, closed_chain, closed_sample, network_total_chain, network_total_sample}
+use Rattle.psi_law.proofs.SumsLemmas.{one_if}
+use Rattle.psi_law.proofs.WheelLemmas.{IsShare, share, sum-words, wheel-exact}
+use Rattle.psi_law.proofs.LawfulLemmas.{IsLawful}
 use Rattle.psi_law.proofs.NetworkLemmas.{network-lawful}
 
 -- ---- weights that balance
@@ -66,9 +72,9 @@ first limit = record { queues = queue 2 ∷ []; events = event 1 (Arrival (0 ∷
 abbrev halves : List ℕ → ℕ
 halves x = slice_index (4 ∷ 2 ∷ 1 ∷ []) (slice_index x 0)
 
-first-balanced : IsBalanced (network_chain (first 18)) halves
+first-balanced : (limit : ℕ) → IsBalanced (network_chain (first limit)) halves
 unfolding sum_below do_kind
-first-balanced = balanced-by (network_chain (first 18)) halves refl
+first-balanced limit = balanced-by (network_chain (first limit)) halves refl
 
 -- it is a network, whatever the limit is, so its samples have the law of these weights
 first-rate : (i : ℕ) → i < 2 → (1 ≤ slice_index (1 ∷ 2 ∷ []) i) × (slice_index (1 ∷ 2 ∷ []) i ≤ 2)
@@ -107,9 +113,41 @@ first-kept limit most = record {
   few_rewards = omega arith;
 }
 
+first-lawful : (limit : ℕ) → limit ≤ 22 → IsLawful (network_chain (first limit)) (network_sample (first limit)) (2 ^ limit)
+first-lawful limit most = (network-lawful (first limit) (first-kept limit most)).laws
+
 first-law : (limit : ℕ) → limit ≤ 22 → HasLaw (network_sample (first limit)) (2 ^ limit) (network_chain (first limit)) halves
-unfolding sum_below do_kind
-first-law limit most = (network-lawful (first limit) (first-kept limit most)).laws.law halves (balanced-by (network_chain (first limit)) halves refl)
+first-law limit most = (first-lawful limit most).law halves (first-balanced limit)
+
+-- and their means of the customers, who are 2 at most
+first-room : (x : List ℕ) → In x (network_chain (first 18)).states → slice_index x 0 ≤ 2
+first-room x member = elim member [
+  | inl none ↦ (let e : slice_index x 0 ≡ 0 = ap (λ (y : List ℕ). slice_index y 0) none in omega arith)
+  | inr more ↦ elim more [
+    | inl one ↦ (let e : slice_index x 0 ≡ 1 = ap (λ (y : List ℕ). slice_index y 0) one in omega arith)
+    | inr last ↦ elim last [
+      | inl two ↦ (let e : slice_index x 0 ≡ 2 = ap (λ (y : List ℕ). slice_index y 0) two in omega arith)
+      | inr past ↦ absurd past
+    ]
+  ]
+]
+
+first-mean : (limit : ℕ) → limit ≤ 22 → HasMean (network_sample (first limit)) (2 ^ limit) (network_chain (first limit)) halves (λ x. slice_index x 0) 0 2
+first-mean limit most = (first-lawful limit most).mean halves (λ x. slice_index x 0) 0 2 (first-balanced limit) (λ x member. omega arith) first-room
+
+-- of other weights that balance the state 0 has 4 parts of 7 too, where some past couples
+first-only : (other : List ℕ → ℕ) (n : ℕ) → IsBalanced (network_chain (first 18)) other → apart (network_chain (first 18)) n < word_count ^ n
+    → 4 * whole (network_chain (first 18)) other ≡ other (0 ∷ []) * 7
+first-only other n balanced some = (first-lawful 18 (omega arith)).one halves other n (first-balanced 18) balanced some (0 ∷ []) (inl refl)
+
+-- with the limit 1 two words are all that a sample looks at
+first-looks : (past other : Words) → past 0 ≡ other 0 → past 1 ≡ other 1 → network_sample (first 1) past ≡ network_sample (first 1) other
+first-looks past other newest older =
+    let same : (k : ℕ) → k < 2 → past k ≡ other k = λ k small. elim (cases_lt k 1) [
+      | inl first ↦ (let e : k ≡ 0 = omega arith in ap past e ∙ (newest ∙ sym (ap other e)))
+      | inr last ↦ (let e : k ≡ 1 = omega arith in ap past e ∙ (older ∙ sym (ap other e)))
+    ] in
+    (first-lawful 1 (omega arith)).words past other same
 
 -- and not 4, 2 and 2
 abbrev wrong : List ℕ → ℕ
@@ -149,12 +187,76 @@ round-balanced : IsBalanced (closed_chain (2 ∷ 2 ∷ []) 2 round (1 ∷ 3 ∷ 
 unfolding sum_below moved total_states
 round-balanced = balanced-by (closed_chain (2 ∷ 2 ∷ []) 2 round (1 ∷ 3 ∷ [])) threes refl
 
+-- the same by a network
+abbrev rounds : Network
+rounds = record { queues = queue 2 ∷ queue 2 ∷ []; events = event 1 (served 0 (1 ∷ []) Stay) ∷ event 3 (served 1 (0 ∷ []) Stay) ∷ []; limit = 1; split = 256; rewards = [] }
+
+rounds-balanced : IsBalanced (network_total_chain rounds 2) threes
+unfolding sum_below do_kind total_states
+rounds-balanced = balanced-by (network_total_chain rounds 2) threes refl
+
+-- ---- what the laws say where nothing is left open
+
+-- where each sample is met, each state's part of them is that of the weights
+law-exact : (chain : Chain) (sample : Words → Outcome) (n : ℕ) (weight : List ℕ → ℕ) → HasLaw sample n chain weight → unmet sample n ≡ 0
+    → (s : List ℕ) → In s chain.states → whole chain weight * met_in sample n s ≡ weight s * word_count ^ n
+law-exact chain sample n weight law none s member =
+    let least = law.least s member in
+    let most = law.most s member in
+    let e : whole chain weight * (met_in sample n s + unmet sample n) ≡ whole chain weight * (met_in sample n s + 0) = ap (λ u. whole chain weight * (met_in sample n s + u)) none in
+    omega arith
+
+-- where one state has all weight, each sample that is met is met in it
+law-one : (chain : Chain) (sample : Words → Outcome) (n : ℕ) (weight : List ℕ → ℕ) → HasLaw sample n chain weight
+    → (s : List ℕ) → In s chain.states → whole chain weight ≡ weight s → 1 ≤ weight s → word_count ^ n ≤ met_in sample n s + unmet sample n
+law-one chain sample n weight law s member all some =
+    let most = law.most s member in
+    let e : whole chain weight * (met_in sample n s + unmet sample n) ≡ weight s * (met_in sample n s + unmet sample n) = ap (λ k. k * (met_in sample n s + unmet sample n)) all in
+    let under : weight s * word_count ^ n ≤ weight s * (met_in sample n s + unmet sample n) = omega arith in
+    le_of_mul-le-mul_left under some
+
+-- where each value is the same, the mean is that value
+mean-exact : (chain : Chain) (sample : Words → Outcome) (n : ℕ) (weight value : List ℕ → ℕ) (c : ℕ) → HasMean sample n chain weight value c c
+    → whole chain weight * (sum_met sample n value + c * unmet sample n) ≡ weighted chain weight value * word_count ^ n
+mean-exact chain sample n weight value c mean = (let least = mean.least in let most = mean.most in omega arith)
+
 -- ---- words and pasts
 
 -- of the words below 4 one brings a customer, two serve one, and one is idle
 words-counted : map (λ e. count_below 4 (λ word. nat_eq (event_of (1 ∷ 2 ∷ []) word) e)) (0 ∷ 1 ∷ 2 ∷ []) ≡ 1 ∷ 2 ∷ 1 ∷ []
 unfolding sum_below event_of least_power
 words-counted = refl
+
+-- so of all words 2^30 bring a customer, 2^31 serve one, and 2^30 are idle
+first-rates : AreRates (1 ∷ 2 ∷ [])
+first-rates = (first-kept 18 (omega arith)).rates
+
+words-dealt : (words_for (1 ∷ 2 ∷ []) 0 ≡ 2 ^ 30) × ((words_for (1 ∷ 2 ∷ []) 1 ≡ 2 ^ 31) × (words_for (1 ∷ 2 ∷ []) 2 ≡ 2 ^ 30))
+unfolding word_count least_power
+words-dealt =
+    let exact = wheel-exact (1 ∷ 2 ∷ []) first-rates in
+    let joins : words_for (1 ∷ 2 ∷ []) 0 * 4 ≡ 1 * 2 ^ 32 = exact.each 0 (omega arith) in
+    let leaves : words_for (1 ∷ 2 ∷ []) 1 * 4 ≡ 2 * 2 ^ 32 = exact.each 1 (omega arith) in
+    let idles : words_for (1 ∷ 2 ∷ []) 2 * 4 ≡ 1 * 2 ^ 32 = exact.idle in
+    (omega arith, (omega arith, omega arith))
+
+-- and as many pasts of one word lead from no customer to one, and from one to none
+between-shares : (q : ℕ) → IsShare (1 ∷ 2 ∷ []) q
+    → (pasts_between (network_chain (first 18)) 1 (0 ∷ []) (1 ∷ []) ≡ q * 1) × (pasts_between (network_chain (first 18)) 1 (1 ∷ []) (0 ∷ []) ≡ q * 2)
+unfolding sum_below do_kind least_power
+between-shares q is =
+    let to : List ℕ → List ℕ → ℕ → ℕ = λ x y e. one_if (is_same (function_of (network_chain (first 18)) e x) y) in
+    (sum-words (1 ∷ 2 ∷ []) q (to (0 ∷ []) (1 ∷ [])) is, sum-words (1 ∷ 2 ∷ []) q (to (1 ∷ []) (0 ∷ [])) is)
+
+between-first : (pasts_between (network_chain (first 18)) 1 (0 ∷ []) (1 ∷ []) ≡ 2 ^ 30) × (pasts_between (network_chain (first 18)) 1 (1 ∷ []) (0 ∷ []) ≡ 2 ^ 31)
+unfolding word_count least_power
+between-first =
+    let q = share (1 ∷ 2 ∷ []) first-rates in
+    let parts = between-shares q.0 q.1 in
+    let joins = parts.0 in
+    let leaves = parts.1 in
+    let all : 2 ^ 32 ≡ q.0 * 4 = q.1.whole in
+    (omega arith, omega arith)
 
 -- the pasts of one word that lead from each state to each
 abbrev between : List ℕ → List ℕ
@@ -192,6 +294,10 @@ mean-weighed : (weighted (network_chain (first 2)) halves (λ x. slice_index x 0
 mean-weighed = (refl, refl)
 
 -- and of the closed network
-closed-words : tally (closed_sample (2 ∷ 2 ∷ []) 2 round (1 ∷ 3 ∷ []) 1) 2 (total_states (2 ∷ 2 ∷ []) 2) ≡ 6 ∷ 1 ∷ 0 ∷ 9 ∷ []
+closed-words : tally (closed_sample (2 ∷ 2 ∷ []) 2 round (1 ∷ 3 ∷ []) 1) 2 (closed_chain (2 ∷ 2 ∷ []) 2 round (1 ∷ 3 ∷ [])).states ≡ 6 ∷ 1 ∷ 0 ∷ 9 ∷ []
 unfolding sum_below moved total_states all_arcs held_states closed_run event_of least_power outcome_within first_answer
 closed-words = refl
+
+rounds-words : tally (network_total_sample rounds 2) 2 (network_total_chain rounds 2).states ≡ 6 ∷ 1 ∷ 0 ∷ 9 ∷ []
+unfolding sum_below do_kind total_states all_arcs held_states closed_run event_of least_power outcome_within first_answer
+rounds-words = refl
