@@ -30,11 +30,11 @@ module _ (sample : Words → Outcome) (n : ℕ) where
   abbrev pub met_in : List ℕ → ℕ
   met_in s = count_pasts word_count n (λ past. is_met_in s (sample past))
 
-  -- how many give a sample that isn't met
+  -- how many pasts give a sample that isn't met
   abbrev pub unmet : ℕ
   unmet = count_pasts word_count n (λ past. is_unmet (sample past))
 
-  -- the sum of a value over the pasts whose sample is met
+  -- the sum, over the pasts whose sample is met, of the value of the state in which it is met
   abbrev pub sum_met : (List ℕ → ℕ) → ℕ
   sum_met value = sum_pasts word_count n (λ past. value_met value (sample past))
 
@@ -48,10 +48,10 @@ module _ (sample : Words → Outcome) (n : ℕ) where
     pub least : whole chain weight * (sum_met value + low * unmet) ≤ weighted chain weight value * word_count ^ n
     pub most : weighted chain weight value * word_count ^ n ≤ whole chain weight * (sum_met value + high * unmet)
 
--- whether the runs from all states of a chain, n steps before time zero, end in more than one: they haven't coalesced (Propp and Wilson 1996)
+-- whether a past leaves states apart: the runs from all states of a chain, from n steps before time zero on, end in more than one state, and so haven't coalesced (Propp and Wilson 1996)
 abbrev pub are_apart : Chain → ℕ → Words → Bool
 are_apart chain n past = is_none (meeting_from (function_at chain.functions chain.rates past) chain.states n)
 
--- after how many pasts of n words they do
+-- how many pasts of n words leave states apart
 abbrev pub apart : Chain → ℕ → ℕ
 apart chain n = count_pasts word_count n (are_apart chain n)

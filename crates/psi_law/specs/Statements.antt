@@ -26,13 +26,13 @@ module _ (chain : Chain) where
     abbrev pub BalanceIsLaw : Type 0
     BalanceIsLaw = (weight : List ℕ → ℕ) → IsBalanced chain weight → HasLaw sample n chain weight
 
-    -- and the means of values, which are from low to high
+    -- the samples have the mean, by weights that balance, of each value that is from low to high at every state
     abbrev pub BalanceIsMean : Type 0
     BalanceIsMean = (weight value : List ℕ → ℕ) (low high : ℕ) → IsBalanced chain weight
         → ((x : List ℕ) → In x chain.states → low ≤ value x) → ((x : List ℕ) → In x chain.states → value x ≤ high)
         → HasMean sample n chain weight value low high
 
-    -- the samples that aren't met are those after whose pasts not all states have met
+    -- as many pasts of n words give a sample that isn't met as leave states apart
     abbrev pub UnmetIsApart : Type 0
     UnmetIsApart = unmet sample n ≡ apart chain n
 
