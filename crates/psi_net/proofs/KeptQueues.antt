@@ -8,6 +8,7 @@ use Rattle.psi_document.specs.Values.{elements_in}
 use Rattle.psi_net.specs.QueueTables.{queue_of, queue_step, queues_in, queues_of}
 use Rattle.psi_network.specs.Valid.{IsQueue, AreListed}
 use Rattle.psi_document.specs.declared.refusals.Cause.TheVariants.{MissingKey}
+use Rattle.psi_document.specs.declared.refusals.Place.{Place}
 use Rattle.psi_network.specs.declared.entries.Queue.{Queue}
 use Rattle.psi_document.proofs.ReadingLemmas.{bind_ok, required_ok, number_range, elements_count, each_kept}
 
@@ -16,9 +17,9 @@ record AreRead (n : ℕ) (queues : List Queue) : Type 0 where
   each : All IsQueue queues
   count : n ≡ length queues + 1
 
-queue_kept : (n : ℕ) (earlier : List (List ℕ)) (ms : Members) (queue : Queue) → queue_of n earlier ms ≡ Ok queue → IsQueue queue
+queue_kept : (place : Place) (earlier : List (List ℕ)) (ms : Members) (queue : Queue) → queue_of place earlier ms ≡ Ok queue → IsQueue queue
 unfolding queue_of
-queue_kept n earlier ms queue h = grind (arith, number_range)
+queue_kept place earlier ms queue h = grind (arith, number_range)
 
 queue_step_kept : (n : ℕ) (queues more : List Queue) (d : Data) → AreRead n queues → queue_step n queues d ≡ Ok more → AreRead (n + 1) more
 unfolding queue_step

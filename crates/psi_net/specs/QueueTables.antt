@@ -6,27 +6,28 @@ use Rattle.psi_document.specs.Values.{no_unknown, required, optional, number_in,
 use Rattle.psi_document.specs.Names.{name_in, unless_taken}
 use Rattle.psi_document.specs.declared.refusals.Cause.TheVariants.{MissingKey}
 use Rattle.psi_document.specs.declared.refusals.NetRefusal.{NetRefusal}
+use Rattle.psi_document.specs.declared.refusals.Place.{Place}
 use Rattle.psi_network.specs.declared.entries.Queue.{Queue}
 
 -- the keys of a queue's table
 abbrev pub queue_keys : List (List ℕ)
 queue_keys = codes "name" ∷ codes "capacity" ∷ codes "servers" ∷ []
 
--- a queue's table, with its number and the names of the queues before it
-unfoldable pub queue_of : ℕ → List (List ℕ) → Members → Result Queue NetRefusal
-queue_of n earlier ms = do
-  known ← no_unknown (queue_place n) queue_keys ms
-  name ← required (queue_place n) (codes "name") (name_in (queue_place n) (codes "name")) (get_member (codes "name") ms)
-  fresh ← unless_taken (queue_place n) earlier name
-  capacity ← required (queue_place n) (codes "capacity") (number_in (queue_place n) (codes "capacity") 1 65535) (get_member (codes "capacity") ms)
-  servers ← optional 1 (number_in (queue_place n) (codes "servers") 1 (min 64 capacity)) (get_member (codes "servers") ms)
+-- a queue's table, with its place and the names of the queues before it
+unfoldable pub queue_of : Place → List (List ℕ) → Members → Result Queue NetRefusal
+queue_of place earlier ms = do
+  known ← no_unknown place queue_keys ms
+  name ← required place (codes "name") (name_in place (codes "name")) (get_member (codes "name") ms)
+  fresh ← unless_taken place earlier name
+  capacity ← required place (codes "capacity") (number_in place (codes "capacity") 1 65535) (get_member (codes "capacity") ms)
+  servers ← optional 1 (number_in place (codes "servers") 1 (min 64 capacity)) (get_member (codes "servers") ms)
   Ok (record { name = name; capacity = capacity; servers = servers })
 
 -- one element of the array, with its number and the queues before it
 unfoldable pub queue_step : ℕ → List Queue → Data → Result (List Queue) NetRefusal
 queue_step n earlier d = do
   ms ← table_in (queue_place n) d
-  queue ← queue_of n (map (λ q. q.name) earlier) ms
+  queue ← queue_of (queue_place n) (map (λ q. q.name) earlier) ms
   Ok (earlier ++ queue ∷ [])
 
 -- `queue`: an array of 1 to 32 tables

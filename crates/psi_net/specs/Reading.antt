@@ -36,7 +36,7 @@ default_limit = 18
 abbrev pub default_split : ℕ
 default_split = 256
 
--- the keys at the top that are numbers; there are no unknown ones
+-- the numbers at the top: first `version`, which has to be there, then that no key at the top is unknown, and then `limit` and `split`, each with its default
 unfoldable pub numbers_of : Members → Result TopNumbers NetRefusal
 numbers_of ms = do
   version ← required top (codes "version") version_in (get_member (codes "version") ms)

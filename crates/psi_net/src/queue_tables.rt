@@ -28,28 +28,18 @@ struct QueueList {
     queues: Vec<Queue>,
 }
 
-// A queue's table, with its number and the names of the queues before it.
+// A queue's table, with its place and the names of the queues before it.
 #[tactic(auto, unfolding(crate::specs::QueueTables::queue_of))]
-fn queue(number: u32, earlier: &IndexSet<Name>, table: &Table) -> Result<Queue, NetRefusal>
-    ensures value { Gives (λ queue. queue) result (queue_of number earlier.now.keys (table_view table.now)) }
+fn queue(place: Place, earlier: &IndexSet<Name>, table: &Table) -> Result<Queue, NetRefusal>
+    ensures value { Gives (λ queue. queue) result (queue_of place earlier.now.keys (table_view table.now)) }
     ensures fresh { IfOk result (λ queue. list_any (bytes_eq queue.name) earlier.now.keys ≡ false) }
 {
-    let place = Place {
-        section: Section::Queue,
-        number,
-    };
     read!(no_unknown(place, &["name", "capacity", "servers"], &[], table));
     let name = read!(required_name(place, "name", find(table, "name")));
     read!(unless_taken(place, earlier, name));
     let capacity = read!(required_number(place, "capacity", 1, 65535, find(table, "capacity")));
-    let servers = read!(number_or(
-        place,
-        "servers",
-        1,
-        1,
-        64.min(capacity),
-        find(table, "servers")
-    ));
+    let most = 64.min(capacity);
+    let servers = read!(number_or(place, "servers", 1, 1, most, find(table, "servers")));
     Ok(Queue {
         name,
         capacity: capacity as u16,
@@ -74,7 +64,7 @@ fn push_queue(
         number,
     };
     let table = judged!(table_in(place, value));
-    let queue = judged!(queue(number, names, table));
+    let queue = judged!(queue(place, names, table));
     names.insert(queue.name)?;
     queues.push(queue)?;
     Ok(())

@@ -62,7 +62,7 @@ pub(crate) struct TopNumbers {
     pub(crate) split: u16,
 }
 
-// The keys at the top that are numbers; there are no unknown ones.
+// The numbers at the top: `version`, and where no key at the top is unknown, `limit` and `split`.
 #[tactic(auto, unfolding(crate::specs::Reading::numbers_of))]
 fn top_numbers(table: &Table) -> Result<TopNumbers, NetRefusal>
     ensures { Gives (λ numbers. numbers) result (numbers_of (table_view table.now)) }

@@ -61,18 +61,18 @@ record IsFresh (earlier : List (List ℕ)) (name : List ℕ) : Type 0 where
 
 -- ---- queues
 
-queue-fresh : (n : ℕ) (earlier : List (List ℕ)) (ms : Members) (queue : Queue) → queue_of n earlier ms ≡ Ok queue → IsFresh earlier queue.name
+queue-fresh : (place : Place) (earlier : List (List ℕ)) (ms : Members) (queue : Queue) → queue_of place earlier ms ≡ Ok queue → IsFresh earlier queue.name
 unfolding queue_of
-queue-fresh n earlier ms queue h =
-    let known = bind_ok (no_unknown (queue_place n) queue_keys ms) _ queue h in
-    let name = bind_ok (required (queue_place n) (codes "name") (name_in (queue_place n) (codes "name")) (get_member (codes "name") ms)) _ queue known.2 in
-    let fresh = bind_ok (unless_taken (queue_place n) earlier name.0) _ queue name.2 in
-    let capacity = bind_ok (required (queue_place n) (codes "capacity") (number_in (queue_place n) (codes "capacity") 1 65535) (get_member (codes "capacity") ms)) _ queue fresh.2 in
-    let servers = bind_ok (optional 1 (number_in (queue_place n) (codes "servers") 1 (min 64 capacity.0)) (get_member (codes "servers") ms)) _ queue capacity.2 in
+queue-fresh place earlier ms queue h =
+    let known = bind_ok (no_unknown place queue_keys ms) _ queue h in
+    let name = bind_ok (required place (codes "name") (name_in place (codes "name")) (get_member (codes "name") ms)) _ queue known.2 in
+    let fresh = bind_ok (unless_taken place earlier name.0) _ queue name.2 in
+    let capacity = bind_ok (required place (codes "capacity") (number_in place (codes "capacity") 1 65535) (get_member (codes "capacity") ms)) _ queue fresh.2 in
+    let servers = bind_ok (optional 1 (number_in place (codes "servers") 1 (min 64 capacity.0)) (get_member (codes "servers") ms)) _ queue capacity.2 in
     let whole = ok_same _ queue servers.2 in
-    let read = required_ok (queue_place n) (codes "name") (name_in (queue_place n) (codes "name")) (get_member (codes "name") ms) name.0 name.1 in
-    let is = name-read (queue_place n) (codes "name") read.0 name.0 read.1 in
-    let own = fresh-read (queue_place n) earlier name.0 fresh.0 fresh.1 in
+    let read = required_ok place (codes "name") (name_in place (codes "name")) (get_member (codes "name") ms) name.0 name.1 in
+    let is = name-read place (codes "name") read.0 name.0 read.1 in
+    let own = fresh-read place earlier name.0 fresh.0 fresh.1 in
     subst (λ (q : Queue). IsFresh earlier q.name) whole (record { name_is = is; fresh = own })
 
 abbrev QueuesNamed : ℕ → List Queue → Type 0
@@ -82,9 +82,9 @@ queue-step-named : (n : ℕ) (s t : List Queue) (d : Data) → QueuesNamed n s �
 unfolding queue_step
 queue-step-named n s t d named h =
     let table = bind_ok (table_in (queue_place n) d) _ t h in
-    let queue = bind_ok (queue_of n (map (λ (q : Queue). q.name) s) table.0) _ t table.2 in
+    let queue = bind_ok (queue_of (queue_place n) (map (λ (q : Queue). q.name) s) table.0) _ t table.2 in
     let whole = ok_same _ t queue.2 in
-    let is = queue-fresh n (map (λ (q : Queue). q.name) s) table.0 queue.0 queue.1 in
+    let is = queue-fresh (queue_place n) (map (λ (q : Queue). q.name) s) table.0 queue.0 queue.1 in
     let more = names-push (map (λ (q : Queue). q.name) s) queue.0.name named is.name_is is.fresh in
     subst (λ (qs : List Queue). AreNames (map (λ (q : Queue). q.name) qs)) whole (subst AreNames (sym (map_push (λ (q : Queue). q.name) s queue.0)) more)
 
