@@ -17,7 +17,7 @@ use Rattle.psi_lines.specs.Text.{numbers_text, region_words, next_words, step_te
 use Rattle.psi_lines.specs.Room.{spaced_words}
 use Rattle.psi_lines.proofs.LinePieces.{step_pieces, end_pieces}
 use Rattle.psi_record.specs.Recorded.{region_of, recorded}
-use Rattle.psi_record.specs.Walking.{step_line, front_text}
+use Rattle.psi_record.specs.Walking.{step_line, front_text, IsAmple}
 use Rattle.psi_record.proofs.WalkingLemmas.{next-set}
 use Rattle.psi_record.proofs.TextLemmas.{front_text-more, log_text-recorded}
 use Rattle.psi_record.proofs.RegionLemmas.{length-image, kept-after, state-below}
@@ -145,7 +145,7 @@ module _ (split : ℕ) (f : ℕ → List ℕ → List ℕ) (caps : List ℕ) (ev
         omega arith
 
     -- the text of the whole log
-    pub log-short : (h : Header) (state : List ℕ) (k done room : ℕ) → h.version ≡ 2 → h.horizon ≡ horizon → done ≤ horizon → IsVector state → HasFew k (region_after split f caps horizon done)
+    log-short : (h : Header) (state : List ℕ) (k done room : ℕ) → h.version ≡ 2 → h.horizon ≡ horizon → done ≤ horizon → IsVector state → HasFew k (region_after split f caps horizon done)
         → (horizon - done) * (22 + k * (6 * length caps + 1)) + 200 ≤ room
         → length (log_text (recorded split f caps events h state)) ≤ length (front_text split f caps events h done) + room
     log-short h state k done room version same order vector few ample =
@@ -157,3 +157,12 @@ module _ (split : ℕ) (f : ℕ → List ℕ → List ℕ) (caps : List ℕ) (ev
         let count : length (log_text (recorded split f caps events h state)) ≡ length (front_text split f caps events h h.horizon) + length (end_text state) =
         ap (λ (t : List ℕ). length t) (log_text-recorded split f caps events h state) ∙ length-append (front_text split f caps events h h.horizon) (end_text state) in
         omega arith
+
+-- the text of the whole log, as far as a set leaves it room
+pub log-ample : (split : ℕ) (f : ℕ → List ℕ → List ℕ) (caps : List ℕ) (events : ℕ → ℕ) (h : Header) (state : List ℕ) (done room : ℕ) → AreCapacities caps → AreClosed caps f
+    → h.horizon < 10 ^ 7 → ((t : ℕ) → events t < 10 ^ 4) → h.version ≡ 2 → done ≤ h.horizon → IsVector state
+    → IsAmple caps (region_after split f caps h.horizon done) (h.horizon - done) room
+    → length (log_text (recorded split f caps events h state)) ≤ length (front_text split f caps events h done) + room
+log-ample split f caps events h state done room valid closed most named version order vector ample =
+    let k = length (region_after split f caps h.horizon done).states in
+    log-short split f caps events h.horizon valid closed most named h state k done room version refl order vector (record { set = ample.split; few = omega arith }) ample.enough

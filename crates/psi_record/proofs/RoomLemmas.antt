@@ -1,19 +1,20 @@
 -- How many bytes a text leaves of a room.
-use Rattle.std.proofs.Common.{◌≡◌, ℕ, ◌+◌, ◌-◌, ◌<◌, ◌≤◌, List, ◌++◌, length, Option, None, MatchOption, sym, ◌∙◌, ap, subst, length-append, arith}
+use Rattle.std.proofs.Common.{◌≡◌, ℕ, ◌+◌, ◌-◌, ◌<◌, ◌≤◌, List, ◌++◌, length, true, false, ◌↔◌, IsTrue, refl, sym, ◌∙◌, ap, length-append, arith}
 
--- a text that leaves no room leaves none with more behind it
-pub none-left : {A : Type 0} (r : Option A) (most : ℕ) (text rest whole : List ℕ) → r ≡ None → most < length text → text ++ rest ≡ whole
-    → MatchOption r (most < length whole) (λ _. length whole ≤ most)
-none-left r most text rest whole none past is =
-    let count : length whole ≡ length text + length rest = sym (ap (λ (xs : List ℕ). length xs) is) ∙ length-append text rest in
-    let long : most < length whole = omega arith in
-    subst (λ o. MatchOption o (most < length whole) (λ _. length whole ≤ most)) (sym none) long
+-- whether a text fits
+pub fits-yes : (size : ℕ) → size ≤ 33554432 → IsTrue true ↔ (size ≤ 33554432)
+fits-yes size fits = (λ is. fits, λ short. refl)
+
+pub fits-no : (size : ℕ) → 33554432 < size → IsTrue false ↔ (size ≤ 33554432)
+fits-no size long = (λ no. absurd (cc), λ short. absurd (omega arith))
 
 -- a line that is longer than what is left
-pub line-past : (most room : ℕ) (text line next held : List ℕ) → room + length text ≡ most → held ≡ line → next ≡ text ++ line → (length held ≤ room → ⊥) → most < length next
-line-past most room text line next held left same is long =
+pub line-past : (most room : ℕ) (text line next held rest whole : List ℕ) → room + length text ≡ most → held ≡ line → next ≡ text ++ line → next ++ rest ≡ whole
+    → (length held ≤ room → ⊥) → most < length whole
+line-past most room text line next held rest whole left same is ends long =
     let count : length next ≡ length text + length line = ap (λ (xs : List ℕ). length xs) is ∙ length-append text line in
     let size : length held ≡ length line = ap (λ (xs : List ℕ). length xs) same in
+    let all : length whole ≡ length next + length rest = sym (ap (λ (xs : List ℕ). length xs) ends) ∙ length-append next rest in
     omega arith
 
 -- a line that isn't

@@ -25,6 +25,10 @@ sent-nothing s waiting text same =
       takes_on = λ n takes. (let e : n ≡ n - (length text - length waiting) = omega arith in subst s.takes e takes);
     }
 
+-- no text yet
+pub sent-none : (s : SinkState) (block held text : List ℕ) → block ≡ [] → held ≡ [] → text ≡ [] → IsSent s s (block ++ held) text
+sent-none s block held text first second is = sent-nothing s (block ++ held) text (ap (λ (xs : List ℕ). xs ++ held) first ∙ (second ∙ sym is))
+
 -- more of the text that waits too
 pub sent-waits : (a b : SinkState) (waiting text more : List ℕ) → IsSent a b waiting text → IsSent a b (waiting ++ more) (text ++ more)
 sent-waits a b waiting text more s =
@@ -131,19 +135,6 @@ sent-both a b c old text full last n m is left s r =
     (subst (λ (xs : List ℕ). IsSent a c (rest_of (rest_of text n) m) xs) (cut-twice old text n m)
     (sent-waits a c [] ((old ++ take n text) ++ piece) (rest_of (rest_of text n) m) front))
 
--- a line is put behind a text, of which some waits
-pub sent-line : (a b c : SinkState) (waiting still text held line next : List ℕ) → held ≡ line → next ≡ text ++ line → IsSent a b waiting text → IsSent b c still (waiting ++ held)
-    → IsSent a c still next
-sent-line a b c waiting still text held line next same is s r =
-    subst (λ (xs : List ℕ). IsSent a c still xs) (ap (λ (xs : List ℕ). text ++ xs) same ∙ sym is) (sent-more a b c waiting still text held s r)
-
--- the sink fails in the line, and so in the whole
-pub stopped-line : (a b c : SinkState) (waiting text held line next rest whole : List ℕ) → held ≡ line → next ≡ text ++ line → next ++ rest ≡ whole → IsSent a b waiting text
-    → IsStopped b c (waiting ++ held) → IsStopped a c whole
-stopped-line a b c waiting text held line next rest whole same is ends s r =
-    let there : IsStopped a c next = subst (λ (xs : List ℕ). IsStopped a c xs) (ap (λ (xs : List ℕ). text ++ xs) same ∙ sym is) (stopped-more a b c waiting text held s r) in
-    subst (λ (xs : List ℕ). IsStopped a c xs) ends (stopped-longer a c next rest there)
-
 -- what waits of a text goes on by itself
 pub sent-on : (a b c : SinkState) (waiting still text : List ℕ) → IsSent a b waiting text → IsSent b c still waiting → IsSent a c still text
 sent-on a b c waiting still text s r =
@@ -156,19 +147,14 @@ stopped-on a b c waiting text rest whole ends s r =
     (stopped-more a b c waiting text [] s (subst (λ (xs : List ℕ). IsStopped b c xs) (sym (append-nil waiting)) r)) in
     subst (λ (xs : List ℕ). IsStopped a c xs) ends (stopped-longer a c text rest there)
 
--- a line that is held waits
-pub sent-held : (a b : SinkState) (waiting text held line next : List ℕ) → held ≡ line → next ≡ text ++ line → IsSent a b waiting text → IsSent a b (waiting ++ held) next
-sent-held a b waiting text held line next same is s =
-    subst (λ (xs : List ℕ). IsSent a b (waiting ++ held) xs) (ap (λ (xs : List ℕ). text ++ xs) same ∙ sym is) (sent-waits a b waiting text held s)
-
-pub sent-same : (a b : SinkState) (block held same text : List ℕ) → same ≡ held → IsSent a b (block ++ held) text → IsSent a b (block ++ same) text
-sent-same a b block held same text is s = subst (λ (xs : List ℕ). IsSent a b (block ++ xs) text) (sym is) s
-
 -- lines that are held go to the block
 pub sent-passed : (a b : SinkState) (block held bytes after left : List ℕ) → bytes ≡ held → left ≡ [] → IsSent a b after (block ++ bytes) → IsSent a b (after ++ left) (block ++ held)
 sent-passed a b block held bytes after left is none s =
     subst (λ (xs : List ℕ). IsSent a b xs (block ++ held)) (sym (ap (λ (xs : List ℕ). after ++ xs) none ∙ append-nil after))
     (subst (λ (xs : List ℕ). IsSent a b after (block ++ xs)) is s)
+
+pub sent-put : (a b : SinkState) (block held bytes after : List ℕ) → bytes ≡ held → IsSent a b after (block ++ bytes) → IsSent a b after (block ++ held)
+sent-put a b block held bytes after is s = subst (λ (xs : List ℕ). IsSent a b after (block ++ xs)) is s
 
 pub stopped-passed : (a b : SinkState) (block held bytes : List ℕ) → bytes ≡ held → IsStopped a b (block ++ bytes) → IsStopped a b (block ++ held)
 stopped-passed a b block held bytes is s = subst (λ (xs : List ℕ). IsStopped a b (block ++ xs)) is s

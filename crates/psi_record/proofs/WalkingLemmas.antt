@@ -1,5 +1,5 @@
 -- What a run tells of its regions gives the words of their lines.
-use Rattle.std.proofs.Common.{◌≡◌, ℕ, suc, ◌+◌, ◌-◌, ◌<◌, List, ◌++◌, Bool, true, Option, Some, None, IfSome, IsSome, if◌then◌else◌, refl, sym, ◌∙◌, ap, subst, add-one}
+use Rattle.std.proofs.Common.{◌≡◌, ℕ, suc, ◌+◌, ◌-◌, ◌<◌, ◌≤◌, List, ◌++◌, Bool, true, Option, Some, None, IfSome, if◌then◌else◌, refl, sym, ◌∙◌, ap, subst, add-one, arith}
 use Rattle.psi_state.specs.State.{Corners, IsBelow}
 use Rattle.psi_state.specs.Hull.{corners}
 use Rattle.psi_state.specs.declared.outcome.Step.{Step}
@@ -8,11 +8,13 @@ use Rattle.psi_rate.specs.Composition.{Parts, system_functions}
 use Rattle.psi_region.specs.Region.{Area, ShowsBox}
 use Rattle.psi_horizon.specs.Planned.{Running, Planned, onward}
 use Rattle.psi_horizon.specs.Runs.{region_after}
+use Rattle.psi_lines.specs.declared.header.Header.{Header}
 use Rattle.psi_lines.specs.Log.{Region, in_box, in_set}
 use Rattle.psi_lines.specs.Text.{region_words, next_words, step_text}
 use Rattle.psi_record.specs.Recorded.{region_of}
 use Rattle.psi_replay.specs.Verdict.{event_numbers}
-use Rattle.psi_record.specs.Walking.{box_words, IsTold, step_line, line_of, IsToldAfter, IsAmpleAfter}
+use Rattle.psi_record.specs.Walking.{box_words, IsTold, step_line, line_of, line_in, IsToldAfter, IsAmpleAfter, IsWalking}
+use Rattle.psi_record.proofs.TextLemmas.{line_at-step}
 
 -- the region whose box is told is that box, and one that is split is its set
 pub region_of-box : (a : Area) (b : Corners) → ShowsBox a (Some b) → IsBelow b.lo b.hi → region_of a ≡ in_box b
@@ -119,72 +121,57 @@ line-set function system words (Some r) s states front line number event told sa
 if_some-at : {A : Type 0} (P : A → Type 0) (o : Option A) (a : A) → o ≡ Some a → IfSome o P → P a
 if_some-at P o a is some = subst (λ v. IfSome v P) is some
 
-if_some-of : {A : Type 0} (P : A → Type 0) (o : Option A) (a : A) → o ≡ Some a → P a → IfSome o P
-if_some-of P o a is here = subst (λ v. IfSome v P) (sym is) here
-
 -- what is so of a system and words is so of the same ones
 same-both : {A B : Type 0} (P : A → B → Type 0) (s t : A) (v w : B) → s ≡ t → v ≡ w → P s v → P t w
 same-both P s t v w first second is = subst (λ a. P a w) first (subst (λ b. P s b) second is)
 
--- a plan of which so many steps of the run of a horizon are done, and what is told of its region; its system and its words are those that it had at first
-pub record IsWalking {E P : Type 0} (function : E → List ℕ → List ℕ) (words : P → ℕ → ℕ) (first now : Planned E P) (horizon done : ℕ) (told : Option Corners) : Type 0 where
-  pub run : now.run ≡ Some (record { horizon = horizon; done = done })
-  pub system : now.system ≡ first.system
-  pub same_words : words now.past ≡ words first.past
-  pub region : IsToldAfter function first.system (words first.past) horizon done told
+pub line-same : {E : Type 0} (function : E → List ℕ → List ℕ) (s t : Parts E) (v w : ℕ → ℕ) (h : Header) (state : List ℕ) (place : ℕ) (old new : List ℕ) → s ≡ t → v ≡ w
+    → new ≡ old ++ line_in function s v h state place → new ≡ old ++ line_in function t w h state place
+line-same {E} function s t v w h state place old new first second is =
+    same-both (λ (p : Parts E) (x : ℕ → ℕ). new ≡ old ++ line_in function p x h state place) s t v w first second is
 
--- as a step of it wants it
-pub walking-before : {E P : Type 0} (function : E → List ℕ → List ℕ) (words : P → ℕ → ℕ) (first now : Planned E P) (horizon done : ℕ) (told : Option Corners)
-    → IsWalking function words first now horizon done told → IfSome now.run (λ r. IsToldAfter function now.system (words now.past) r.horizon r.done told)
-walking-before {E} {P} function words first now horizon done told walk =
-    if_some-of (λ r. IsToldAfter function now.system (words now.past) r.horizon r.done told) now.run (record { horizon = horizon; done = done }) walk.run
-    (same-both (λ (s : Parts E) (w : ℕ → ℕ). IsToldAfter function s w horizon done told) first.system now.system (words first.past) (words now.past)
-    (sym walk.system) (sym walk.same_words) walk.region)
+-- a run of which so many steps are done
+abbrev some-run : ℕ → ℕ → Option Running
+some-run horizon done = Some (record { horizon = horizon; done = done })
 
-pub walking-begun : {E P : Type 0} (function : E → List ℕ → List ℕ) (words : P → ℕ → ℕ) (first now : Planned E P) (horizon done : ℕ) (told : Option Corners)
-    → IsWalking function words first now horizon done told → IsSome now.run
-walking-begun function words first now horizon done told walk = subst (λ (o : Option Running). IsSome o) (sym walk.run) refl
+-- the line of a step
+pub walking-line : {E P : Type 0} (function : E → List ℕ → List ℕ) (words : P → ℕ → ℕ) (now : Planned E P) (h : Header) (state : List ℕ) (place : ℕ) (told : Option Corners) (old new : List ℕ)
+    → 2 ≤ place → place - 2 < h.horizon → IsWalking function words now h.horizon place told
+    → IfSome now.run (λ r. new ≡ old ++ line_of function now.system (words now.past) r.horizon r.done)
+    → new ≡ old ++ line_in function now.system (words now.past) h state place
+walking-line {E} {P} function words now h state place told old new low small walk is =
+    let system = now.system in
+    let f = system_functions function system (words now.past) in
+    let done = place - 2 in
+    let e : suc (suc done) ≡ place = omega arith in
+    if_some-at (λ r. new ≡ old ++ line_of function system (words now.past) r.horizon r.done) now.run (record { horizon = h.horizon; done = done }) (walk.begun low (omega arith)) is
+    ∙ ap (λ (t : List ℕ). old ++ t)
+    (sym (line_at-step system.split f system.caps (event_numbers system (words now.past)) h state done small)
+    ∙ ap (λ n. line_in function system (words now.past) h state n) e)
 
-pub walking-left : {E P : Type 0} (function : E → List ℕ → List ℕ) (words : P → ℕ → ℕ) (first now : Planned E P) (horizon done : ℕ) (told : Option Corners)
-    → IsWalking function words first now horizon done told → done < horizon → IfSome now.run (λ r. r.done < r.horizon)
-walking-left function words first now horizon done told walk small =
-    if_some-of (λ r. r.done < r.horizon) now.run (record { horizon = horizon; done = done }) walk.run small
-
--- and after the step
-pub walking-next : {E P : Type 0} (function : E → List ℕ → List ℕ) (words : P → ℕ → ℕ) (first now new : Planned E P) (horizon done : ℕ) (before after : Option Corners)
-    → IsWalking function words first now horizon done before → new ≡ record now { run = onward now.run }
-    → IfSome now.run (λ r. IsToldAfter function now.system (words now.past) r.horizon (suc r.done) after) → IsWalking function words first new horizon (done + 1) after
-walking-next {E} {P} function words first now new horizon done before after walk is told =
+-- and where the plan is after it
+pub walking-step : {E P : Type 0} (function : E → List ℕ → List ℕ) (words : P → ℕ → ℕ) (now new : Planned E P) (horizon place : ℕ) (before after : Option Corners)
+    → 2 ≤ place → place - 2 < horizon → IsWalking function words now horizon place before → new ≡ record now { run = onward now.run }
+    → IfSome now.run (λ r. IsToldAfter function now.system (words now.past) r.horizon (suc r.done) after) → IsWalking function words new horizon (suc place) after
+walking-step {E} {P} function words now new horizon place before after low small walk is told =
+    let done = place - 2 in
+    let e : suc done ≡ suc place - 2 = omega arith in
+    let more : done + 1 ≡ suc place - 2 = omega arith in
+    let run = walk.begun low (omega arith) in
     let here : IsToldAfter function now.system (words now.past) horizon (suc done) after =
-    if_some-at (λ r. IsToldAfter function now.system (words now.past) r.horizon (suc r.done) after) now.run (record { horizon = horizon; done = done }) walk.run told in
+    if_some-at (λ r. IsToldAfter function now.system (words now.past) r.horizon (suc r.done) after) now.run (record { horizon = horizon; done = done }) run told in
     record {
-      run = ap (λ (p : Planned E P). p.run) is ∙ ap (λ (o : Option Running). onward o) walk.run;
-      system = ap (λ (p : Planned E P). p.system) is ∙ walk.system;
-      same_words = ap (λ (p : Planned E P). words p.past) is ∙ walk.same_words;
-      region = subst (λ n. IsToldAfter function first.system (words first.past) horizon n after) (sym (add-one done))
-          (same-both (λ (s : Parts E) (w : ℕ → ℕ). IsToldAfter function s w horizon (suc done) after) now.system first.system (words now.past) (words first.past)
-          walk.system walk.same_words here);
+      begun = λ least most. ap (λ (p : Planned E P). p.run) is ∙ (ap (λ (o : Option Running). onward o) run
+          ∙ ap (λ n. some-run horizon n) more);
+      region = λ least most. subst (λ (p : Planned E P). IsToldAfter function p.system (words p.past) horizon (suc place - 2) after) (sym is)
+          (subst (λ n. IsToldAfter function now.system (words now.past) horizon n after) e here);
     }
 
--- the line of the step
-pub walking-line : {E P : Type 0} (function : E → List ℕ → List ℕ) (words : P → ℕ → ℕ) (first now : Planned E P) (horizon done : ℕ) (told : Option Corners) (front line : List ℕ)
-    → IsWalking function words first now horizon done told → IfSome now.run (λ r. line ≡ front ++ line_of function now.system (words now.past) r.horizon r.done)
-    → line ≡ front ++ line_of function first.system (words first.past) horizon done
-walking-line {E} {P} function words first now horizon done told front line walk is =
-    if_some-at (λ r. line ≡ front ++ line_of function now.system (words now.past) r.horizon r.done) now.run (record { horizon = horizon; done = done }) walk.run is
-    ∙ (ap (λ (s : Parts E). front ++ line_of function s (words now.past) horizon done) walk.system
-    ∙ ap (λ (w : ℕ → ℕ). front ++ line_of function first.system w horizon done) walk.same_words)
-
--- the same of the same plan
-pub walking-same : {E P : Type 0} (function : E → List ℕ → List ℕ) (words : P → ℕ → ℕ) (first now new : Planned E P) (horizon done : ℕ) (told : Option Corners)
-    → new ≡ now → IsWalking function words first now horizon done told → IsWalking function words first new horizon done told
-walking-same {E} {P} function words first now new horizon done told same walk =
-    subst (λ (p : Planned E P). IsWalking function words first p horizon done told) (sym same) walk
-
--- what holds of the run of such a plan
-pub walking-run : {E P : Type 0} (function : E → List ℕ → List ℕ) (words : P → ℕ → ℕ) (first now : Planned E P) (horizon done left room : ℕ) (told : Option Corners)
-    → IsWalking function words first now horizon done told → IfSome now.run (λ r. IsAmpleAfter function now.system (words now.past) left room r.horizon r.done)
-    → IsAmpleAfter function first.system (words first.past) left room horizon done
-walking-run {E} {P} function words first now horizon done left room told walk is =
-    same-both (λ (s : Parts E) (w : ℕ → ℕ). IsAmpleAfter function s w left room horizon done) now.system first.system (words now.past) (words first.past) walk.system walk.same_words
-    (if_some-at (λ r. IsAmpleAfter function now.system (words now.past) left room r.horizon r.done) now.run (record { horizon = horizon; done = done }) walk.run is)
+-- what leaves room for the lines from a place on
+pub walking-ample : {E P : Type 0} (function : E → List ℕ → List ℕ) (words : P → ℕ → ℕ) (now : Planned E P) (horizon place room : ℕ) (told : Option Corners)
+    → 2 ≤ place → place ≤ horizon + 2 → IsWalking function words now horizon place told
+    → IfSome now.run (λ r. IsAmpleAfter function now.system (words now.past) (horizon - (place - 2)) room r.horizon r.done)
+    → IsAmpleAfter function now.system (words now.past) (horizon - (place - 2)) room horizon (place - 2)
+walking-ample {E} {P} function words now horizon place room told low high walk is =
+    if_some-at (λ r. IsAmpleAfter function now.system (words now.past) (horizon - (place - 2)) room r.horizon r.done) now.run (record { horizon = horizon; done = place - 2 })
+    (walk.begun low high) is

@@ -14,7 +14,7 @@ use Rattle.psi_state.specs.Boxes.{IsBetween}
 use Rattle.psi_state.proofs.BoxesLemmas.{below-through}
 use Rattle.psi_state.proofs.HullLemmas.{corners-tight}
 use Rattle.psi_state.specs.declared.outcome.Step.{Step}
-use Rattle.psi_rate.specs.Composition.{AreClosed, Parts}
+use Rattle.psi_rate.specs.Composition.{AreClosed}
 use Rattle.psi_region.specs.Region.{Area}
 use Rattle.psi_region.proofs.RegionLemmas.{tight-high}
 use Rattle.psi_horizon.specs.Runs.{region_after}
@@ -204,9 +204,6 @@ module _ (split : ℕ) (f : ℕ → List ℕ → List ℕ) (caps : List ℕ) (ev
       let at : length (step_line split f caps events h.horizon (more + done)) ≡ length (step_line split f caps events horizon (more + done)) = ap (λ t. length (step_line split f caps events t (more + done))) same in
       let all : suc more * width ≡ width + more * width = times-more more width in
       omega arith
-
-pub roomy-same : {E : Type 0} (s t : Parts E) (left room : ℕ) → s ≡ t → IsRoomy s.caps s.split left room → IsRoomy t.caps t.split left room
-roomy-same {E} s t left room same roomy = subst (λ (p : Parts E). IsRoomy p.caps p.split left room) same roomy
 
 -- the text of the whole log
 pub log-wide : (split : ℕ) (f : ℕ → List ℕ → List ℕ) (caps : List ℕ) (events : ℕ → ℕ) (h : Header) (state : List ℕ) (done room : ℕ) → AreCapacities caps → AreClosed caps f

@@ -1,21 +1,72 @@
 //! The lines of a run, one after another.
 
-ghost use Rattle.std.specs.Prelude.{◌≡◌, ◌^◌, ◌<◌, ◌≤◌, ◌++◌, suc, Some, length, IsSome, IfSome};
+ghost use Rattle.std.specs.Prelude.{◌≡◌, ◌+◌, ◌^◌, ◌<◌, ◌≤◌, ◌++◌, suc, Some, length, IsSome, IfSome};
 ghost use Rattle.psi_state.specs.State.{IsBelow};
 ghost use Rattle.psi_region.specs.Region.{start};
 ghost use Rattle.psi_lines.specs.Text.{begin_text, step_text};
 ghost use Rattle.psi_horizon.specs.Planned.{onward};
 ghost use Rattle.psi_record.specs.Recorded.{region_of};
-ghost use Rattle.psi_record.specs.Walking.{box_words, line_of, IsToldAfter};
+ghost use Rattle.psi_record.specs.Walking.{box_words, line_of, line_in, most_held, IsToldAfter, IsWalking};
 
 use psi_event::EventLaw;
 use psi_horizon::Plan;
-use psi_lines::LineBuf;
+use psi_lines::{Header, LineBuf};
 use psi_past::Past;
-use psi_state::{Bounds, Step};
+use psi_state::{Bounds, State, Step};
 
-/// Begins the run of a horizon, and holds the line of the box at which it begins, which is the answer.
-pub(crate) fn begin_line<E: EventLaw, P: Past + Drop>(
+// How many bytes of lines are held before they are put into the block.
+const MANY: usize = 8_192;
+
+/// Puts what stands at a place of the log of the header's run behind the lines that are held: the header's lines at 0,
+/// the line of the begin at 1, those of the steps, and behind them that of the end. The run goes on by the step.
+/// Behind those that are held only the line of a step is put; they have at most 8,192 bytes then.
+///
+/// `told` is the box of the region before the step, where it isn't split, and the answer is that of the region after
+/// it.
+pub(crate) fn next_line<E: EventLaw, P: Past + Drop>(
+    plan: &mut Plan<'_, E, P>,
+    header: &Header,
+    state: &State,
+    place: u64,
+    told: Option<Bounds>,
+    line: &mut LineBuf,
+) -> Option<Bounds>
+    requires some { 1 ≤ header.now.horizon }
+    requires most { header.now.horizon ≤ 2 ^ plan.old.system.limit }
+    requires place { place ≤ header.now.horizon + 2 }
+    requires walking { IsWalking E.function P.words plan.old header.now.horizon place told }
+    requires held { length line.old ≤ most_held header.now.horizon place }
+    ensures line { line.new ≡ line.old ++ line_in E.function plan.old.system (P.words plan.old.past) header.now state.now place }
+    ensures walking { IsWalking E.function P.words plan.new header.now.horizon (suc place) result }
+    ensures system { plan.new.system ≡ plan.old.system }
+    ensures words { P.words plan.new.past ≡ P.words plan.old.past }
+{
+    if place == 0 {
+        line.header(header);
+        return None;
+    }
+    if place == 1 {
+        return begin_line(plan, header.horizon, line);
+    }
+    if place - 2 < header.horizon as u64 {
+        return step_line(plan, told, line);
+    }
+    line.end(state);
+    None
+}
+
+/// How many bytes may be held where the lines of a place are put behind them.
+pub(crate) fn most_held(horizon: u32, place: u64) -> usize
+    ensures { result ≡ most_held horizon place }
+{
+    if place < 2 || place - 2 >= horizon as u64 {
+        return 0;
+    }
+    MANY
+}
+
+// Begins the run of a horizon, and holds the line of the box at which it begins, which is the answer.
+fn begin_line<E: EventLaw, P: Past + Drop>(
     plan: &mut Plan<'_, E, P>,
     horizon: u32,
     line: &mut LineBuf,
@@ -34,10 +85,10 @@ pub(crate) fn begin_line<E: EventLaw, P: Past + Drop>(
     Some(whole)
 }
 
-/// Does the next step of the run, and puts its line behind those that are held, which have at most 8,192 bytes.
-/// `before` is the box of the region before the step, where it isn't split, and the answer is that of the region
-/// after it.
-pub(crate) fn next_line<E: EventLaw, P: Past + Drop>(
+// Does the next step of the run, and puts its line behind those that are held, which have at most 8,192 bytes.
+// `before` is the box of the region before the step, where it isn't split, and the answer is that of the region
+// after it.
+fn step_line<E: EventLaw, P: Past + Drop>(
     plan: &mut Plan<'_, E, P>,
     before: Option<Bounds>,
     line: &mut LineBuf,

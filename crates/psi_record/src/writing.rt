@@ -5,11 +5,11 @@ ghost use Rattle.psi_io.specs.Counts.{Rose};
 ghost use Rattle.psi_io.specs.Sink.{appended, GrewByPrefix};
 ghost use Rattle.psi_record.specs.Recorded.{log_of};
 ghost use Rattle.psi_record.specs.Sending.{Sends};
-ghost use Rattle.psi_record.specs.Walking.{IsRoomy, IsToldAfter, IsAmpleAfter};
+ghost use Rattle.psi_record.specs.Walking.{text_in, IsRoomy, IsToldAfter, IsAmpleAfter, IsWalking};
 ghost use Rattle.psi_lines.specs.Text.{log_text};
 
 use crate::block::Block;
-use crate::steps::{begin_line, next_line};
+use crate::steps::{most_held, next_line};
 use psi_event::EventLaw;
 use psi_horizon::Plan;
 use psi_io::{Sink, SinkFault};
@@ -19,9 +19,6 @@ use psi_state::{Bounds, State};
 
 // The greatest number of bytes of a log.
 const MOST: usize = 33_554_432;
-
-// Lines that have more bytes are put into the block.
-const MANY: usize = 8_192;
 
 /// Whether the log of the run of the header's horizon, with this state at its end, has at most 33,554,432
 /// bytes, so that it may be written.
@@ -44,45 +41,47 @@ pub fn log_fits<E: EventLaw, P: Past + Drop>(
     ensures system { plan.new.system ≡ plan.old.system }
     ensures words { P.words plan.new.past ≡ P.words plan.old.past }
 {
-    room_left(plan, header, state, line).is_some()
+    let mut room = MOST;
+    let mut told = None;
+    for place in 0..header.horizon as u64 + 3 {
+        if surely_fits(plan, header, state, place, &told, room) {
+            return true;
+        }
+        line.clear();
+        told = next_line(plan, header, state, place, told, line);
+        match room.checked_sub(line.bytes().len()) {
+            Some(left) => room = left,
+            None => return false,
+        }
+    }
+    true
 }
 
-// Nothing where the log has more bytes than it may have.
-fn room_left<E: EventLaw, P: Past + Drop>(
+// Whether the lines from a place on surely fit in the room, by what is known of the region before them.
+fn surely_fits<E: EventLaw, P: Past + Drop>(
     plan: &mut Plan<'_, E, P>,
     header: &Header,
     state: &State,
-    line: &mut LineBuf,
-) -> Option<()>
-    requires some { 1 ≤ header.now.horizon }
+    place: u64,
+    told: &Option<Bounds>,
+    room: usize,
+) -> bool
     requires most { header.now.horizon ≤ 2 ^ plan.old.system.limit }
     requires version { header.now.version ≡ 2 }
-    ensures room { let text = log_text (log_of E.function plan.old.system (P.words plan.old.past) header.now state.now) in
-        MatchOption result (33554432 < length text) (λ _. length text ≤ 33554432) }
-    ensures system { plan.new.system ≡ plan.old.system }
-    ensures words { P.words plan.new.past ≡ P.words plan.old.past }
+    requires place { place ≤ header.now.horizon + 2 }
+    requires walking { IsWalking E.function P.words plan.old header.now.horizon place told.now }
+    ensures fits { let words = P.words plan.old.past in
+        IsTrue result → length (log_text (log_of E.function plan.old.system words header.now state.now)) ≤ length (text_in E.function plan.old.system words header.now state.now place) + room }
+    ensures same { plan.new ≡ plan.old }
 {
+    if place < 2 {
+        return false;
+    }
     // Called for their clauses: the system's parts fit each other, and the range of the state's length.
     let _limit = plan.limit();
     let _queues = state.len();
-    line.header(header);
-    let mut room = MOST.checked_sub(line.bytes().len())?;
-    let mut before = begin_line(plan, header.horizon, line);
-    room = room.checked_sub(line.bytes().len())?;
-    for done in 0..header.horizon {
-        if is_roomy(plan, header.horizon - done, room) {
-            return Some(());
-        }
-        if is_ample(plan, &before, header.horizon - done, room) {
-            return Some(());
-        }
-        line.clear();
-        before = next_line(plan, before, line);
-        room = room.checked_sub(line.bytes().len())?;
-    }
-    line.end(state);
-    let _rest = room.checked_sub(line.bytes().len())?;
-    Some(())
+    let left = header.horizon - (place - 2) as u32;
+    is_roomy(plan, left, room) || is_ample(plan, told, left, room)
 }
 
 // Whether the lines of so many steps, and the last line, surely fit in the room, whatever regions these have. It is
@@ -224,28 +223,40 @@ fn write_lines<E: EventLaw, P: Past + Drop, O: Sink>(
     ensures words { P.words plan.new.past ≡ P.words plan.old.past }
 {
     block.clear();
-    line.header(header);
-    block.put(line.bytes(), out)?;
-    let mut before = begin_line(plan, header.horizon, line);
-    for _ in 0..header.horizon {
-        pass_on(line, block, out)?;
-        before = next_line(plan, before, line);
+    line.clear();
+    let mut told = None;
+    for place in 0..header.horizon as u64 + 3 {
+        pass_on(line, most_held(header.horizon, place), block, out)?;
+        told = next_line(plan, header, state, place, told, line);
     }
-    block.put(line.bytes(), out)?;
-    line.end(state);
+    put_last(line, block, out)
+}
+
+// Puts the lines that are held into the block, and all that waits there into the sink.
+fn put_last<O: Sink>(line: &LineBuf, block: &mut Block, out: &mut O) -> Result<(), SinkFault>
+    ensures { Sends result
+        (record { held = O.held out.old; faults = O.faults out.old; takes = O.takes out.old })
+        (record { held = O.held out.new; faults = O.faults out.new; takes = O.takes out.new })
+        [] (block.old ++ line.now) }
+{
     block.put(line.bytes(), out)?;
     block.flush(out)
 }
 
-// Puts the lines that are held into the block once they are many, so that a further one has room behind them.
-fn pass_on<O: Sink>(line: &mut LineBuf, block: &mut Block, out: &mut O) -> Result<(), SinkFault>
+// Puts the lines that are held into the block where they have more bytes than may be held.
+fn pass_on<O: Sink>(
+    line: &mut LineBuf,
+    most: usize,
+    block: &mut Block,
+    out: &mut O,
+) -> Result<(), SinkFault>
     ensures sent { Sends result
         (record { held = O.held out.old; faults = O.faults out.old; takes = O.takes out.old })
         (record { held = O.held out.new; faults = O.faults out.new; takes = O.takes out.new })
         (block.new ++ line.new) (block.old ++ line.old) }
-    ensures short { OnOk result (length line.new ≤ 8192) }
+    ensures short { OnOk result (length line.new ≤ most) }
 {
-    if line.bytes().len() <= MANY {
+    if line.bytes().len() <= most {
         return Ok(());
     }
     block.put(line.bytes(), out)?;

@@ -1,37 +1,45 @@
 -- Answers in the proof of `next_line`.
-use Rattle.std.proofs.Common.{◌≤◌, length, Some, None, refl, ap, arith}
-use Rattle.psi_horizon.specs.Planned.{Planned}
-use Rattle.psi_record.proofs.WalkingLemmas.{told-next, states-next, line-box, line-set}
+use Rattle.std.proofs.Common.{arith}
+use Rattle.psi_rate.specs.Composition.{system_functions}
+use Rattle.psi_replay.specs.Verdict.{event_numbers}
+use Rattle.psi_record.proofs.TextLemmas.{line-header, line-begin, line-end}
+use Rattle.psi_record.proofs.WalkingLemmas.{walking-line, walking-step}
 use Rattle.psi_record.proofs.steps.next_line.Goals as goal
 
-pub add_step_set-requires : goal.add_step_set-requires
-add_step_set-requires g c =
-    let few : length c.states.result.now ≤ c.advance.new.self.system.split = c.states.ensures.few in
-    let same = ap (λ (p : Planned g.row.E.Denot g.row.P.Denot). p.system.split) (c.in_ok-step.ensures.run refl) in
-    let most = c.limit-limit.ensures.fit.most_split in
-    let room = c.requires.room in
-    omega arith
+pub returns-then-place-eq0-clause-line : goal.returns-then-place-eq0-clause-line
+returns-then-place-eq0-clause-line g c =
+    let system = c.args.plan.now.system in
+    let words = g.P.Past.words c.args.plan.now.past in
+    line-header system.split (system_functions g.E.EventLaw.function system words) system.caps (event_numbers system words) c.args.header.now c.args.state.now _ _ c.args.place
+    c.if-place-eq0.true c.requires.held c.header.ensures
 
-pub returns-in-Some-clause-told : goal.returns-in-Some-clause-told
-returns-in-Some-clause-told g c =
-    told-next g.E.EventLaw.function g.P.Past.words c.args.plan.now c.advance.new.self (Some c.in-Some.after) (c.in_ok-step.ensures.run refl)
-    c.in-Some.ensures.shown c.in-Some.ensures.ordered c.in-Some.ensures.within
+pub returns-then-place-eq1-clause-line : goal.returns-then-place-eq1-clause-line
+returns-then-place-eq1-clause-line g c =
+    let system = c.args.plan.now.system in
+    let words = g.P.Past.words c.args.plan.now.past in
+    line-begin system.split (system_functions g.E.EventLaw.function system words) system.caps (event_numbers system words) c.args.header.now c.args.state.now _ _ c.args.place
+    c.if-place-eq1.true c.requires.held c.begin_line.ensures.line
 
-pub returns-in-Some-clause-line : goal.returns-in-Some-clause-line
-returns-in-Some-clause-line g c =
-    let plan = c.args.plan.now in
-    line-box g.E.EventLaw.function plan.system (g.P.Past.words plan.past) plan.run c.in_ok-step.step c.args.before c.in-Some.after c.args.line.now c.box_line.new.line
-    c.in_ok-step.ensures.time c.in_ok-step.ensures.event c.requires.before (returns-in-Some-clause-told g c) c.box_line.ensures
+pub returns-then-place-header-clause-line : goal.returns-then-place-header-clause-line
+returns-then-place-header-clause-line g c =
+    let none = c.if-place-eq0.false in
+    let one = c.if-place-eq1.false in
+    walking-line g.E.EventLaw.function g.P.Past.words c.args.plan.now c.args.header.now c.args.state.now c.args.place c.args.told c.args.line.now _ (omega arith)
+    c.if-place-header.true c.requires.walking c.step_line.ensures.line
 
-pub returns-in-None-clause-told : goal.returns-in-None-clause-told
-returns-in-None-clause-told g c =
-    told-next g.E.EventLaw.function g.P.Past.words c.args.plan.now c.advance.new.self None (c.in_ok-step.ensures.run refl)
-    c.in-None.ensures.shown c.in-None.ensures.ordered c.in-None.ensures.within
+pub returns-then-place-header-clause-walking : goal.returns-then-place-header-clause-walking
+returns-then-place-header-clause-walking g c =
+    let none = c.if-place-eq0.false in
+    let one = c.if-place-eq1.false in
+    walking-step g.E.EventLaw.function g.P.Past.words c.args.plan.now c.step_line.new.plan c.args.header.now.horizon c.args.place c.args.told c.step_line.result (omega arith)
+    c.if-place-header.true c.requires.walking c.step_line.ensures.run c.step_line.ensures.told
 
-pub returns-in-None-clause-line : goal.returns-in-None-clause-line
-returns-in-None-clause-line g c =
-    let plan = c.args.plan.now in
-    line-set g.E.EventLaw.function plan.system (g.P.Past.words plan.past) plan.run c.in_ok-step.step c.states.result.now c.args.line.now c.add_step_set.new.self
-    c.in_ok-step.ensures.time c.in_ok-step.ensures.event (returns-in-None-clause-told g c)
-    (states-next g.E.EventLaw.function g.P.Past.words plan c.advance.new.self c.states.result.now (c.in_ok-step.ensures.run refl) c.states.ensures.states)
-    c.add_step_set.ensures
+pub returns-clause-line : goal.returns-clause-line
+returns-clause-line g c =
+    let system = c.args.plan.now.system in
+    let words = g.P.Past.words c.args.plan.now.past in
+    let none = c.if-place-eq0.false in
+    let one = c.if-place-eq1.false in
+    let past = c.if-place-header.false in
+    line-end system.split (system_functions g.E.EventLaw.function system words) system.caps (event_numbers system words) c.args.header.now c.args.state.now _ _ c.args.place
+    (omega arith) c.requires.held c.end.ensures

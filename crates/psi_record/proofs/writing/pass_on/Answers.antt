@@ -4,8 +4,8 @@ use Rattle.psi_record.specs.Sending.{SinkState}
 use Rattle.psi_record.proofs.SendingLemmas.{sent-nothing, sent-passed, stopped-passed, sends-stopped}
 use Rattle.psi_record.proofs.writing.pass_on.Goals as goal
 
-pub returns-then-bytes-le-MANY-clause-sent : goal.returns-then-bytes-le-MANY-clause-sent
-returns-then-bytes-le-MANY-clause-sent g c = sent-nothing _ _ _ refl
+pub returns-then-bytes-most-clause-sent : goal.returns-then-bytes-most-clause-sent
+returns-then-bytes-most-clause-sent g c = sent-nothing _ _ _ refl
 
 pub returns-in_err-put-clause-sent : goal.returns-in_err-put-clause-sent
 returns-in_err-put-clause-sent g c =
