@@ -3,6 +3,7 @@
 #![tactic(auto)]
 
 mod line_list;
+mod room;
 mod state_list;
 
 pub use line_list::{Kept, Line, LineList};

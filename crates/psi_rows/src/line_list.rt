@@ -4,6 +4,7 @@ ghost use Rattle.std.specs.Prelude.{◌≡◌, ◌∷◌, [], ◌++◌, ◌<◌,
 ghost use Rattle.std.specs.List.{slice_get};
 ghost use Rattle.psi_rows.specs.Placed.{line_of, IsPlaced};
 
+use crate::room::make_room;
 use psi_state::{Bounds, Step};
 use std::alloc::{AllocError, Global};
 use std::marker::Model;
@@ -40,8 +41,8 @@ struct Slot {
     region: Place,
 }
 
-/// A list of lines; it is seen as them. A line takes 24 bytes, and 132 more where the region after it is a box, and
-/// another one than the last box before it.
+/// A list of lines; it is seen as them. A line takes 32 bytes, and 132 more where the region after it is a box, and
+/// another one than the last box before it; of each the list has room for up to an eighth more.
 #[derive(Drop)]
 pub struct LineList {
     slots: Vec<Slot>,
@@ -71,7 +72,7 @@ fn place_of(boxes: &mut Vec<Bounds>, bounds: &Bounds) -> Result<usize, AllocErro
     if count > 0 && boxes[count - 1] == *bounds {
         return Ok(count - 1);
     }
-    boxes.reserve(1)?;
+    make_room(boxes, 1)?;
     boxes.push_reserved(*bounds);
     Ok(count)
 }
@@ -118,7 +119,7 @@ impl LineList {
         ensures kept { OnErr result (self.new ≡ self.old) }
     {
         let slot = slot_of(&mut self.boxes, line)?;
-        self.slots.reserve(1)?;
+        make_room(&mut self.slots, 1)?;
         self.slots.push_reserved(slot);
         Ok(())
     }

@@ -7,6 +7,7 @@ ghost use Rattle.std.specs.List.{slice_get};
 ghost use Rattle.psi_state.specs.State.{IsBelow};
 ghost use Rattle.psi_rows.specs.Rows.{States, rows};
 
+use crate::room::make_room;
 use psi_state::State;
 use std::alloc::{AllocError, Global};
 use std::marker::Model;
@@ -37,7 +38,7 @@ fn push_numbers(numbers: &mut Vec<u16>, x: &State) -> Result<(), AllocError>
     ensures kept { OnErr result (numbers.new.items ≡ numbers.old.items) }
 {
     let queues = x.len();
-    numbers.reserve(queues as usize)?;
+    make_room(numbers, queues as usize)?;
     for queue in 0..queues {
         numbers.push_reserved(x.get(queue));
     }

@@ -12,19 +12,19 @@ returns-in_err-slot-clause-kept c =
     let same = lines_kept c.self.inside.boxes.items c.slot_of.new.boxes.items c.in_err-slot.ensures.front c.self.inside.slots.items c.self.invariant ∙ c.self.view_is in
     grind (arith, common_steps)
 
-pub returns-in_err-reserve-clause-kept : goal.returns-in_err-reserve-clause-kept
-returns-in_err-reserve-clause-kept c =
-    let same = ap (map (line_of c.slot_of.new.boxes.items)) c.in_err-reserve.ensures.items
+pub returns-in_err-make_room-clause-kept : goal.returns-in_err-make_room-clause-kept
+returns-in_err-make_room-clause-kept c =
+    let same = ap (map (line_of c.slot_of.new.boxes.items)) c.in_err-make_room.ensures.elements
     ∙ lines_kept c.self.inside.boxes.items c.slot_of.new.boxes.items c.in_ok-slot.ensures.front c.self.inside.slots.items c.self.invariant ∙ c.self.view_is in
     grind (arith, common_steps)
 
 pub invariant_of-self-2 : goal.invariant_of-self-2
 invariant_of-self-2 c =
     placed_more c.self.inside.boxes.items c.slot_of.new.boxes.items c.in_ok-slot.ensures.front c.self.inside.slots.items c.push_reserved.new.self.items c.in_ok-slot.slot c.self.invariant
-    (c.push_reserved.ensures.items ∙ ap (λ (ss : List Slot). ss ++ c.in_ok-slot.slot ∷ []) c.in_ok-reserve.ensures.items) c.in_ok-slot.ensures.placed
+    (c.push_reserved.ensures.items ∙ ap (λ (ss : List Slot). ss ++ c.in_ok-slot.slot ∷ []) c.in_ok-make_room.ensures.elements) c.in_ok-slot.ensures.placed
 
 pub returns-clause-lines : goal.returns-clause-lines
 returns-clause-lines c =
     lines_more c.self.inside.boxes.items c.slot_of.new.boxes.items c.in_ok-slot.ensures.front c.self.inside.slots.items c.push_reserved.new.self.items c.in_ok-slot.slot c.args.line.now c.self.invariant
-    (c.push_reserved.ensures.items ∙ ap (λ (ss : List Slot). ss ++ c.in_ok-slot.slot ∷ []) c.in_ok-reserve.ensures.items) c.in_ok-slot.ensures.line
+    (c.push_reserved.ensures.items ∙ ap (λ (ss : List Slot). ss ++ c.in_ok-slot.slot ∷ []) c.in_ok-make_room.ensures.elements) c.in_ok-slot.ensures.line
     ∙ ap (λ (ls : List Line). ls ++ c.args.line.now ∷ []) c.self.view_is
