@@ -2,3 +2,4 @@
 pub mod ChoiceLemmas
 pub mod IdleLemmas
 pub mod LawLemmas
+pub mod NumbersLemmas

@@ -1,5 +1,6 @@
 -- The definitions of this crate, and the laws that clauses rest on.
 pub mod Law
+pub mod Numbers
 pub mod Choice
 pub mod Idle
 pub mod IdleLaws

@@ -2,3 +2,4 @@
 pub mod Region
 pub mod Held
 pub mod Covering
+pub mod Followed

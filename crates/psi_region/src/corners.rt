@@ -1,0 +1,71 @@
+//! Runs of monotone networks: of all states only the least and the greatest are followed, and the others stay
+//! between the two (Propp and Wilson 1996).
+
+ghost use Rattle.std.specs.Prelude.{◌≡◌, All, length, map};
+ghost use Rattle.psi_state.specs.State.{zeros};
+ghost use Rattle.psi_event.specs.Law.{IsMonotone};
+ghost use Rattle.psi_event.specs.Numbers.{follow_numbers, AreEvents};
+ghost use Rattle.psi_region.specs.Followed.{followed, IsOne, ending_of};
+
+use crate::course::Course;
+use crate::follower::{Follower, one_of};
+use psi_event::EventLaw;
+use psi_state::State;
+use std::marker::Model;
+
+/// A follower of a monotone network: by the least and the greatest state, through the events themselves.
+///
+/// It is seen as the network that it stands for. No call takes memory.
+#[derive(Drop)]
+pub struct Corners<'n, E: EventLaw> {
+    course: Course<'n, E>,
+}
+
+impl<'n, E: EventLaw> Model for Corners<'n, E> {
+    ghost use Rattle.std.specs.Prelude.{All, map};
+    ghost use Rattle.psi_event.specs.Law.{IsMonotone};
+    ghost use Rattle.psi_region.specs.Followed.{Network};
+
+    ghost Value = { Network E };
+
+    ghost view = { λ c. c.course };
+
+    ghost invariant = { λ c. All (λ f. IsMonotone c.course.caps f) (map E.function c.course.events) };
+}
+
+impl<'n, E: EventLaw> Corners<'n, E> {
+    /// A follower of this network, whose events are monotone.
+    pub fn new(course: Course<'n, E>) -> Corners<'n, E>
+        requires { All (λ f. IsMonotone course.caps f) (map E.function course.events) }
+        ensures { result ≡ course.entry }
+    {
+        Corners { course }
+    }
+}
+
+impl<'n, E: EventLaw> Follower for Corners<'n, E> {
+    ghost stands_for = { λ n. followed E.function n };
+
+    fn ending(&mut self, numbers: &[u16]) -> Option<State> {
+        // Called for its clause: each event makes states of states.
+        let _caps = self.course.caps();
+        meeting(&self.course, numbers)
+    }
+}
+
+// The state in which the least and the greatest state have met after the events of the numbers, the last first, if
+// they have.
+fn meeting<E: EventLaw>(course: &Course<'_, E>, numbers: &[u16]) -> Option<State>
+    requires { AreEvents (length (map E.function course.now.events)) numbers.now }
+    ensures { let functions = map E.function course.now.events in
+        IsOne (follow_numbers functions numbers.now (zeros course.now.caps)) (follow_numbers functions numbers.now course.now.caps) result }
+{
+    let mut greatest = course.caps();
+    let mut least = State::zero(greatest.len());
+    for place in (0..numbers.len()).rev() {
+        let event = course.event(numbers[place]);
+        event.apply(&mut least);
+        event.apply(&mut greatest);
+    }
+    one_of(least, greatest)
+}
