@@ -11,6 +11,7 @@ use crate::answers::Coupled;
 use psi_event::EventLaw;
 use psi_horizon::Plan;
 use psi_past::Past;
+use psi_region::Follower;
 use psi_state::{Outcome, State};
 
 /// The least horizon from 1 to 2 to the power `limit` whose region run ends with one state, with that
@@ -25,7 +26,9 @@ use psi_state::{Outcome, State};
 ///
 /// The plan's system and its past's words stay as they were. Afterwards [`Plan::advance`] answers `None`
 /// until the next run is begun. The call takes no memory.
-pub fn least_horizon<E: EventLaw, P: Past + Drop>(plan: &mut Plan<'_, E, P>) -> Coupled
+pub fn least_horizon<E: EventLaw, P: Past + Drop, F: Follower + Drop>(
+    plan: &mut Plan<'_, E, P, F>,
+) -> Coupled
     ensures answer { let f = system_functions E.function plan.old.system (P.words plan.old.past) in
         result ≡ coupled_within (ending_at plan.old.system.split f plan.old.system.caps) plan.old.system.limit }
     ensures least { let f = system_functions E.function plan.old.system (P.words plan.old.past) in
@@ -51,8 +54,8 @@ pub fn least_horizon<E: EventLaw, P: Past + Drop>(plan: &mut Plan<'_, E, P>) -> 
 
 // The least horizon whose run ends with one state, where the run of `met` ends with this one and no run of
 // a horizon up to half of it ends with one state.
-fn least_up_to<E: EventLaw, P: Past + Drop>(
-    plan: &mut Plan<'_, E, P>,
+fn least_up_to<E: EventLaw, P: Past + Drop, F: Follower + Drop>(
+    plan: &mut Plan<'_, E, P, F>,
     met: u32,
     state: State,
 ) -> u32

@@ -14,6 +14,7 @@ use crate::running::run_whole;
 use psi_event::EventLaw;
 use psi_horizon::Plan;
 use psi_past::Past;
+use psi_region::Follower;
 use psi_reward::{Reward, RewardLaw};
 use psi_state::{Bounds, State};
 
@@ -30,8 +31,8 @@ use psi_state::{Bounds, State};
 ///
 /// The plan's system and its past's words stay as they were. Afterwards [`Plan::advance`] answers `None`
 /// until the next run is begun. The call takes no memory.
-pub fn value_horizon<E: EventLaw, P: Past + Drop>(
-    plan: &mut Plan<'_, E, P>,
+pub fn value_horizon<E: EventLaw, P: Past + Drop, F: Follower + Drop>(
+    plan: &mut Plan<'_, E, P, F>,
     reward: &Reward,
 ) -> Valued
     requires { reward_caps reward.now ≡ plan.old.system.caps }
@@ -58,8 +59,8 @@ pub fn value_horizon<E: EventLaw, P: Past + Drop>(
 }
 
 // The value that all states have with which the run of a horizon ends, if they have one.
-fn value_after<E: EventLaw, P: Past + Drop>(
-    plan: &mut Plan<'_, E, P>,
+fn value_after<E: EventLaw, P: Past + Drop, F: Follower + Drop>(
+    plan: &mut Plan<'_, E, P, F>,
     reward: &Reward,
     horizon: u32,
 ) -> Option<i64>

@@ -1,9 +1,8 @@
 -- A region that is followed through the events of the numbers that are kept ends with the states of the run over all places.
-use Rattle.std.specs.Prelude.{◌≡◌, ℕ, zero, suc, ◌-◌, ◌<◌, ◌≤◌, List, [], ◌∷◌, ◌++◌, length, slice_index, slice_index_or, Bool, true, false, nat_le, if◌then◌else◌, Option, refl}
-use Rattle.std.proofs.Common.{inl, inr, ap, sym, ◌∙◌, take, arith}
+use Rattle.std.specs.Prelude.{◌≡◌, ℕ, zero, suc, ◌-◌, List, [], ◌∷◌, ◌++◌, length, slice_index_or, Bool, true, false, nat_le, if◌then◌else◌, Option, refl}
+use Rattle.std.proofs.Common.{inl, inr, ap, sym, ◌∙◌, arith}
 use Rattle.std.proofs.lemmas.Bool.{cases_lt, lt-ltb, le-ltb, or_parts, true≢false}
 use Rattle.std.proofs.lemmas.List.{get_or_past, append-nil}
-use Rattle.std.proofs.Math.Seq.{take-suc}
 use Rattle.psi_state.specs.State.{IsBelow, box, zeros}
 use Rattle.psi_state.specs.Sets.{image, single}
 use Rattle.psi_state.specs.Hull.{lows, highs, hull}
@@ -17,30 +16,11 @@ use Rattle.psi_event.specs.Law.{Function, IsClosed}
 use Rattle.psi_rate.specs.Rates.{event_of}
 use Rattle.psi_rate.specs.Composition.{function_at, picked, AreClosed}
 use Rattle.psi_region.specs.Region.{Area, start, splits, settled, next, step, IsArea}
+use Rattle.psi_region.specs.Followed.{follow_areas}
+use Rattle.psi_region.proofs.FollowedLemmas.{follow_areas-append}
 use Rattle.psi_region.proofs.RegionLemmas.{start-area, step-area, step-split, step-box, image-length}
 use Rattle.psi_horizon.specs.Runs.{follow, ending_at}
 use Rattle.psi_horizon.specs.Numbers.{numbers_below}
-use Rattle.psi_horizon.specs.Areas.{follow_areas}
-
-pub follow_areas-append : (split : ℕ) (functions : List Function) (xs ys : List ℕ) (a : Area)
-    → follow_areas split functions (xs ++ ys) a ≡ follow_areas split functions xs (follow_areas split functions ys a)
-follow_areas-append split functions [] ys a = refl
-follow_areas-append split functions (n ∷ xs) ys a =
-    ap (λ (b : Area). step split (slice_index_or functions n (λ x. x)) b) (follow_areas-append split functions xs ys a)
-
--- the step of one number takes it off the end
-pub follow_areas-take : (split : ℕ) (functions : List Function) (numbers : List ℕ) (i : ℕ) (a b end : Area) → 1 ≤ i → i ≤ length numbers
-    → b ≡ step split (slice_index_or functions (slice_index numbers (i - 1)) (λ x. x)) a → follow_areas split functions (take i numbers) a ≡ end
-    → follow_areas split functions (take (i - 1) numbers) b ≡ end
-follow_areas-take split functions numbers i a b end some within stepped is =
-    let last = i - 1 in
-    let e : suc last ≡ i = omega arith in
-    let small : last < length numbers = omega arith in
-    ap (λ (c : Area). follow_areas split functions (take last numbers) c) stepped
-    ∙ sym (follow_areas-append split functions (take last numbers) (slice_index numbers last ∷ []) a)
-    ∙ ap (λ (ns : List ℕ). follow_areas split functions ns a) (sym (take-suc numbers last 0 small))
-    ∙ ap (λ n. follow_areas split functions (take n numbers) a) e
-    ∙ is
 
 -- a region that isn't split has the states of a box
 pub record IsBoxed (a : Area) : Type 0 where

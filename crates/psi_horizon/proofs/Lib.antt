@@ -2,10 +2,6 @@
 pub mod RunsLemmas
 pub mod AgreeingLemmas
 pub mod SampleLemmas
-mod BoxesLemmas
-mod CornersLemmas
 mod NumbersLemmas
 mod AreasLemmas
-mod SetsLemmas
 mod Running
-mod MonotoneLemmas

@@ -1,18 +1,14 @@
--- A run over the numbers that are kept is the run over all places.
-use Rattle.std.specs.Prelude.{◌≡◌, ℕ, zero, suc, ◌-◌, ◌+◌, ◌<◌, ◌≤◌, List, [], ◌∷◌, ◌++◌, length, map, slice_get, slice_index, slice_index_or, option_map, All, Bool, true, false, not, nat_eq, nat_lt, if◌then◌else◌, Option, Some, None, refl}
+-- The numbers that are kept, of one place more and of fewer places.
+use Rattle.std.specs.Prelude.{◌≡◌, ℕ, zero, suc, ◌-◌, ◌+◌, ◌<◌, ◌≤◌, List, [], ◌∷◌, ◌++◌, length, All, Bool, true, false, not, nat_eq, nat_lt, if◌then◌else◌, refl}
 use Rattle.std.proofs.Common.{inl, inr, ap, ap₂, sym, ◌∙◌, subst, take, arith, eq-eqb, ne_eqb}
 use Rattle.std.proofs.lemmas.Bool.{cases_lt, lt-ltb, le-ltb, ltb-true}
-use Rattle.std.proofs.lemmas.List.{get_or_past, length-append, append-nil, take-append-le}
+use Rattle.std.proofs.lemmas.List.{length-append, append-nil, take-append-le}
 use Rattle.std.proofs.lemmas.List.Elements.{All-nil, All-cons, All-append}
-use Rattle.std.proofs.lemmas.Option.{get_or_from_slice_get, slice_get_within, slice_get-map}
 use mir.Val.{bool_byte}
-use Rattle.std.proofs.Math.Seq.{take-suc, take-length, take-append_seam}
-use Rattle.psi_state.specs.State.{zeros}
+use Rattle.std.proofs.Math.Seq.{take-length, take-append_seam}
+use Rattle.psi_event.specs.Numbers.{AreEvents}
 use Rattle.psi_rate.specs.Rates.{event_of}
-use Rattle.psi_rate.specs.Composition.{compose, function_at, picked, AreClosed, AreMonotone}
-use Rattle.psi_horizon.specs.Runs.{ending_at}
-use Rattle.psi_horizon.specs.Numbers.{unless_idle, numbers_below, follow_numbers, AreEvents, IsOne}
-use Rattle.psi_horizon.proofs.CornersLemmas.{corners-ending, corners-more}
+use Rattle.psi_horizon.specs.Numbers.{unless_idle, numbers_below}
 
 -- there is at most one number for each place
 one_if-length : (b : Bool) (n : ℕ) → length (if b then n ∷ [] else []) ≤ 1
@@ -71,79 +67,6 @@ pub numbers-events : (rates : List ℕ) (words : ℕ → ℕ) (t count : ℕ) (n
 numbers-events rates words t count numbers same is =
     subst (λ (ns : List ℕ). AreEvents count ns) (sym is)
     (subst (λ n. AreEvents n (numbers_below rates words t)) same (record { each = λ i small. numbers-all rates words t i 0 small }))
-
--- what the event of a number is
-pub event-read : {E : Type 0} (function : E → List ℕ → List ℕ) (events : List E) (number : ℕ) (event : E) → slice_get events number ≡ Some event
-    → slice_index_or (map function events) number (λ x. x) ≡ function event
-event-read function events number event is =
-    get_or_from_slice_get (map function events) number (function event) (λ x. x)
-    (slice_get-map function events number ∙ ap (λ o. option_map function o) is)
-
-pub event-caps : {E : Type 0} (capacities : E → List ℕ) (events : List E) (caps : List ℕ) (number : ℕ) (event : E)
-    → All (λ e. capacities e ≡ caps) events → slice_get events number ≡ Some event → capacities event ≡ caps
-event-caps capacities events caps number event each is =
-    ap capacities (sym (get_or_from_slice_get events number event event is)) ∙ each number event (slice_get_within events number event is)
-
-pub follow_numbers-append : (functions : List (List ℕ → List ℕ)) (xs ys : List ℕ) (x : List ℕ)
-    → follow_numbers functions (xs ++ ys) x ≡ follow_numbers functions xs (follow_numbers functions ys x)
-follow_numbers-append functions [] ys x = refl
-follow_numbers-append functions (n ∷ xs) ys x =
-    ap (λ (z : List ℕ). slice_index_or functions n (λ y. y) z) (follow_numbers-append functions xs ys x)
-
--- the step of one number takes it off the end
-pub follow_numbers-take : (functions : List (List ℕ → List ℕ)) (numbers : List ℕ) (i : ℕ) (x y end : List ℕ) → 1 ≤ i → i ≤ length numbers
-    → y ≡ slice_index_or functions (slice_index numbers (i - 1)) (λ z. z) x → follow_numbers functions (take i numbers) x ≡ end
-    → follow_numbers functions (take (i - 1) numbers) y ≡ end
-follow_numbers-take functions numbers i x y end some within stepped is =
-    let last = i - 1 in
-    let e : suc last ≡ i = omega arith in
-    let small : last < length numbers = omega arith in
-    ap (λ (z : List ℕ). follow_numbers functions (take last numbers) z) stepped
-    ∙ sym (follow_numbers-append functions (take last numbers) (slice_index numbers last ∷ []) x)
-    ∙ ap (λ (ns : List ℕ). follow_numbers functions ns x) (sym (take-suc numbers last 0 small))
-    ∙ ap (λ n. follow_numbers functions (take n numbers) x) e
-    ∙ is
-
--- idle is the identity
-follow-unless_idle : (functions : List (List ℕ → List ℕ)) (number : ℕ) (x : List ℕ)
-    → follow_numbers functions (unless_idle (length functions) number) x ≡ slice_index_or functions number (λ y. y) x
-follow-unless_idle functions number x = elim (cases_lt number (length functions)) [
-  | inl small ↦ ap (λ (b : Bool). follow_numbers functions (if b then number ∷ [] else []) x) (lt-ltb number (length functions) small)
-  | inr past ↦ ap (λ (b : Bool). follow_numbers functions (if b then number ∷ [] else []) x) (le-ltb number (length functions) past)
-      ∙ sym (ap (λ (f : List ℕ → List ℕ). f x) (get_or_past functions number (λ y. y) past))
-]
-
--- so a run over the numbers is the run over all places
-pub numbers-compose : (functions : List (List ℕ → List ℕ)) (rates : List ℕ) (words : ℕ → ℕ) (t : ℕ) (x : List ℕ) → length rates ≡ length functions
-    → follow_numbers functions (numbers_below rates words t) x ≡ compose (function_at functions rates words) t x
-numbers-compose functions rates words zero x same = refl
-numbers-compose functions rates words (suc t) x same =
-    let number = event_of rates (words t) in
-    let place : suc t - 1 ≡ t = omega arith in
-    follow_numbers-append functions (numbers_below rates words t) (unless_idle (length rates) number) x
-    ∙ ap (λ (z : List ℕ). follow_numbers functions (numbers_below rates words t) z)
-    (ap (λ n. follow_numbers functions (unless_idle n number) x) same ∙ follow-unless_idle functions number x
-    ∙ ap (λ n. picked functions rates (words n) x) (sym place))
-    ∙ numbers-compose functions rates words t (function_at functions rates words (suc t) x) same
-
--- where the least and the greatest state have met after the events of the numbers, the run of the horizon ends with that state alone
-pub numbers-ending : (split : ℕ) (caps : List ℕ) (functions : List (List ℕ → List ℕ)) (rates : List ℕ) (words : ℕ → ℕ) (t : ℕ) (numbers : List ℕ)
-    (o : Option (List ℕ)) → length rates ≡ length functions → numbers ≡ numbers_below rates words t
-    → AreClosed caps (function_at functions rates words) → AreMonotone caps (function_at functions rates words)
-    → IsOne (follow_numbers functions numbers (zeros caps)) (follow_numbers functions numbers caps) o
-    → o ≡ ending_at split (function_at functions rates words) caps t
-numbers-ending split caps functions rates words t numbers o same is closed mono one = last o one
-  where
-    runs : (x : List ℕ) → follow_numbers functions numbers x ≡ compose (function_at functions rates words) t x
-    runs x = ap (λ (ns : List ℕ). follow_numbers functions ns x) is ∙ numbers-compose functions rates words t x same
-
-    last : (o : Option (List ℕ)) → IsOne (follow_numbers functions numbers (zeros caps)) (follow_numbers functions numbers caps) o
-        → o ≡ ending_at split (function_at functions rates words) caps t
-    last None apart =
-        corners-more split caps (function_at functions rates words) t (follow_numbers functions numbers (zeros caps)) (follow_numbers functions numbers caps)
-        closed mono (runs (zeros caps)) (runs caps) apart
-    last (Some s) met =
-        corners-ending split caps (function_at functions rates words) t s s closed mono (met.0 ∙ runs (zeros caps)) (met.1 ∙ runs caps) refl
 
 pub bool_byte-most : (b : Bool) → bool_byte b ≤ 1
 bool_byte-most true = omega arith

@@ -8,8 +8,8 @@ use Rattle.psi_state.specs.Sets.{single}
 use Rattle.psi_past.specs.Keeping.{Keeping}
 use Rattle.psi_rate.specs.Composition.{Parts, AreClosed}
 use Rattle.psi_region.specs.Region.{Area, Regional, step, ShowsBox, IsArea}
+use Rattle.psi_region.specs.Followed.{Followed}
 use Rattle.psi_horizon.specs.declared.numbers.Numbers.{Numbers}
-use Rattle.psi_horizon.specs.declared.doubling.Means.{Means}
 use Rattle.psi_horizon.specs.declared.plan.Progress.{Progress}
 use Rattle.psi_horizon.specs.Planned.{Planned}
 use Rattle.psi_horizon.specs.Invariant.{running_of, IsUnderway, IsPlan}
@@ -39,19 +39,19 @@ if_some-both P Q X None each some first second = absurd (false≢true some)
 if_some-both P Q X (Some a) each some first second = each a first second
 
 underway-seen : {E P : Type 0} (gs : List (List ℕ → List ℕ)) (f : ℕ → List ℕ → List ℕ) (system : Parts E) (words : Keeping P) (region : Regional)
-    (past : ℕ → ℕ) (numbers : Numbers) (means : Means) (progress : Option Progress) → IsPlan gs f past system words region numbers means progress
+    (past : ℕ → ℕ) (numbers : Numbers) (network : Followed) (progress : Option Progress) → IsPlan gs f past system words region numbers network progress
     → IfSome (running_of progress) (λ r. region.area ≡ region_after system.split f system.caps r.horizon r.done)
-underway-seen gs f system words region past numbers means None is = tt
-underway-seen gs f system words region past numbers means (Some r) is = is.run.area
+underway-seen gs f system words region past numbers network None is = tt
+underway-seen gs f system words region past numbers network (Some r) is = is.run.area
 
 -- the region of a plan is that of the run that was begun, after the steps that are done
 pub region-seen : {E P : Type 0} (gs : List (List ℕ → List ℕ)) (functions : Parts E → P → ℕ → List ℕ → List ℕ) (system : Parts E) (words : Keeping P) (region : Regional)
-    (past : ℕ → ℕ) (numbers : Numbers) (means : Means) (progress : Option Progress) (now : Planned E P) → record { system = system; past = words.past; run = running_of progress } ≡ now
-    → IsPlan gs (functions system words.past) past system words region numbers means progress
+    (past : ℕ → ℕ) (numbers : Numbers) (network : Followed) (progress : Option Progress) (now : Planned E P) → record { system = system; past = words.past; run = running_of progress } ≡ now
+    → IsPlan gs (functions system words.past) past system words region numbers network progress
     → IfSome now.run (λ r. region.area ≡ region_after now.system.split (functions now.system now.past) now.system.caps r.horizon r.done)
-region-seen {E} {P} gs functions system words region past numbers means progress now seen is =
+region-seen {E} {P} gs functions system words region past numbers network progress now seen is =
     subst (λ (plan : Planned E P). IfSome plan.run (λ r. region.area ≡ region_after plan.system.split (functions plan.system plan.past) plan.system.caps r.horizon r.done))
-    seen (underway-seen gs (functions system words.past) system words region past numbers means progress is)
+    seen (underway-seen gs (functions system words.past) system words region past numbers network progress is)
 
 -- it is a region
 pub underway-area : (f : ℕ → List ℕ → List ℕ) (split : ℕ) (caps : List ℕ) (count : ℕ) (region : Regional) (progress : Option Progress) (r : Progress)
@@ -70,11 +70,11 @@ seen-area f now region closed some seen =
 
 -- as a plan keeps it
 pub plan-area : {E P : Type 0} (gs : List (List ℕ → List ℕ)) (functions : Parts E → P → ℕ → List ℕ → List ℕ) (system : Parts E) (words : Keeping P) (region : Regional)
-    (past : ℕ → ℕ) (numbers : Numbers) (means : Means) (progress : Option Progress) (now : Planned E P) → record { system = system; past = words.past; run = running_of progress } ≡ now
-    → IsPlan gs (functions system words.past) past system words region numbers means progress
+    (past : ℕ → ℕ) (numbers : Numbers) (network : Followed) (progress : Option Progress) (now : Planned E P) → record { system = system; past = words.past; run = running_of progress } ≡ now
+    → IsPlan gs (functions system words.past) past system words region numbers network progress
     → AreClosed now.system.caps (functions now.system now.past) → IsSome now.run → IsArea now.system.caps region.area
-plan-area gs functions system words region past numbers means progress now seen is closed some =
-    seen-area (functions now.system now.past) now region closed some (region-seen gs functions system words region past numbers means progress now seen is)
+plan-area gs functions system words region past numbers network progress now seen is closed some =
+    seen-area (functions now.system now.past) now region closed some (region-seen gs functions system words region past numbers network progress now seen is)
 
 -- the upper corner of a region's box is within the capacities
 pub shown-within : (caps : List ℕ) (a : Area) (o : Option Corners) → IsArea caps a → ShowsBox a o → IfSome o (λ b. IsBelow b.lo b.hi)

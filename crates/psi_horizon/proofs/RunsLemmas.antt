@@ -1,5 +1,5 @@
 -- What a run ends with says where all states have met, and longer runs are within shorter ones.
-use Rattle.std.specs.Prelude.{◌≡◌, ℕ, zero, suc, ◌+◌, ◌-◌, ◌^◌, ◌≤◌, List, [], ◌∷◌, length, Bool, true, false, nat_le, Option, Some, None, nat_eq, refl}
+use Rattle.std.specs.Prelude.{◌≡◌, ℕ, zero, suc, ◌+◌, ◌-◌, ◌^◌, ◌≤◌, List, [], ◌∷◌, length, true, false, nat_le, Option, Some, None, nat_eq, refl}
 use Rattle.std.specs.Cmp.Lexicographic.{pointwise}
 use Rattle.std.proofs.Common.{inl, inr, ap, sym, ◌∙◌, subst, arith}
 use Rattle.std.proofs.lemmas.Bool.{cases_Bool, le-leb, or_right}
@@ -10,17 +10,17 @@ use Rattle.psi_state.specs.Members.{In}
 use Rattle.psi_state.specs.Boxes.{IsBetween}
 use Rattle.psi_state.proofs.BoxesLemmas.{In-of_all_states, In-all_states, same-from_below, zeros-below, below-itself}
 use Rattle.psi_state.specs.Sets.{image, single}
-use Rattle.psi_state.proofs.SetsLemmas.{single-each, single-apart, In-image, In-of_image}
+use Rattle.psi_state.proofs.SetsLemmas.{single-each, single-apart}
 use Rattle.psi_state.proofs.StatesLemmas.{In-zeros, same-from_eq, apart-from_eq}
 use Rattle.psi_state.specs.Ascending.{IsRising}
-use Rattle.psi_state.proofs.AscendingLemmas.{rising-distinct, image-rising, image-image, image-agree, image-identity}
-use Rattle.psi_event.specs.Law.{IsClosed, IsMonotone}
+use Rattle.psi_state.proofs.AscendingLemmas.{image-rising, image-image, image-agree, image-identity}
 use Rattle.psi_rate.specs.Composition.{compose, image_at, AreClosed, AreMonotone, IsReached}
 use Rattle.psi_rate.specs.Outcomes.{meeting_at, IsOutcome, ReachesOutcome}
 use Rattle.psi_rate.proofs.CompositionLemmas.{reached-later, corners-meet, corners-apart}
 use Rattle.psi_rate.proofs.OutcomesLemmas.{outcome-agree}
-use Rattle.psi_region.specs.Region.{Area, start, splits, next, step, IsArea, IsWithin}
-use Rattle.psi_region.proofs.RegionLemmas.{start-area, step-area, step-within, within-start, step-has, step-split, hull-between, image-length}
+use Rattle.psi_region.specs.Region.{Area, start, step, IsArea, IsWithin}
+use Rattle.psi_region.proofs.RegionLemmas.{start-area, step-area, step-within, within-start, step-has, step-split}
+use Rattle.psi_region.proofs.FollowedLemmas.{rising-same_each, step-between}
 use Rattle.psi_horizon.specs.Runs.{follow, region_at, ending_at, region_after, AreOrdered, DecidesRuns, AreExact}
 
 pub follow-area : (split : ℕ) (caps : List ℕ) (f : ℕ → List ℕ → List ℕ) (t : ℕ) (a : Area) → AreClosed caps f → IsArea caps a → IsArea caps (follow split f t a)
@@ -57,14 +57,6 @@ run-among split caps f t (suc d) x closed member =
     let e : suc d + t ≡ suc (d + t) = omega arith in
     let longer : In x (region_at split f caps (suc (d + t))).states = subst (λ n. In x (region_at split f caps n).states) e member in
     run-among split caps f t d x closed (((run-within split caps f closed).each (d + t)).states.each x longer)
-
--- an ascending list whose members are all one has that one alone
-pub rising-same_each : (xs : List (List ℕ)) (x s : List ℕ) → IsRising xs → In x xs → ((y : List ℕ) → In y xs → y ≡ s) → xs ≡ s ∷ []
-rising-same_each [] x s rising member each = absurd member
-rising-same_each (y ∷ []) x s rising member each = ap (λ (z : List ℕ). z ∷ []) (each y (inl refl))
-rising-same_each (y ∷ z ∷ ys) x s rising member each =
-    let same : y ≡ z = each y (inl refl) ∙ sym (each z (inr (inl refl))) in
-    absurd ((rising-distinct (y ∷ z ∷ ys) rising).0 (inl same))
 
 -- a run that ends with one state does so at every longer horizon, with the same state
 pub met-later : (split : ℕ) (caps : List ℕ) (f : ℕ → List ℕ → List ℕ) (t later : ℕ) (s : List ℕ) → AreClosed caps f → t ≤ later
@@ -115,31 +107,7 @@ pub outcome-reached : (split : ℕ) (caps : List ℕ) (f : ℕ → List ℕ → 
 outcome-reached split caps f limit (Met t s) closed is = ending-reached split caps f t s closed is.answer
 outcome-reached split caps f limit (NotMet l) closed is = tt
 
--- under a monotone event a region stays between what the event makes of two corners
-next-between : (caps : List ℕ) (f : List ℕ → List ℕ) (xs : List (List ℕ)) (z l h : List ℕ) (b : Bool) → IsClosed caps f → IsMonotone caps f → In z xs
-    → ((x : List ℕ) → In x xs → IsBelow x caps) → IsBelow h caps → ((x : List ℕ) → In x xs → IsBetween l h x)
-    → (x : List ℕ) → In x (next b f xs).states → IsBetween (f l) (f h) x
-next-between caps f xs z l h b closed mono member within top each = last b
-  where
-    made : (x : List ℕ) → In x (image f xs) → IsBetween (f l) (f h) x
-    made x found = (let old = In-of_image f x xs found in
-        let between : IsBetween l h old.0 = each old.0 old.1 in
-        subst (λ (y : List ℕ). IsBetween (f l) (f h) y) (sym old.2) (record {
-          low = mono.each l old.0 (within old.0 old.1) between.low;
-          high = mono.each old.0 h top between.high;
-        }))
-
-    last : (b : Bool) → (x : List ℕ) → In x (next b f xs).states → IsBetween (f l) (f h) x
-    last true x found = made x found
-    last false x found =
-        hull-between (length caps) (f z) (image f xs) (f l) (f h) (image-length caps f xs closed within) (In-image f z xs member) made x found
-
-step-between : (split : ℕ) (caps : List ℕ) (f : List ℕ → List ℕ) (a : Area) (l h : List ℕ) → IsClosed caps f → IsMonotone caps f → IsArea caps a → IsBelow h caps
-    → ((x : List ℕ) → In x a.states → IsBetween l h x) → (x : List ℕ) → In x (step split f a).states → IsBetween (f l) (f h) x
-unfolding step
-step-between split caps f a l h closed mono is top each =
-    next-between caps f a.states is.some.0 l h (splits split a) closed mono is.some.1 is.within top each
-
+-- under monotone events a region stays between what they make of two corners
 follow-between : (split : ℕ) (caps : List ℕ) (f : ℕ → List ℕ → List ℕ) (t : ℕ) (a : Area) (l h : List ℕ) → AreClosed caps f → AreMonotone caps f → IsArea caps a
     → IsBelow h caps → ((x : List ℕ) → In x a.states → IsBetween l h x)
     → (x : List ℕ) → In x (follow split f t a).states → IsBetween (compose f t l) (compose f t h) x

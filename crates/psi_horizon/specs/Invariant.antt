@@ -3,13 +3,12 @@ use Rattle.std.specs.Prelude.{◌≡◌, ℕ, ◌≤◌, ◌^◌, List, Option, 
 use Rattle.psi_past.specs.Keeping.{Keeping}
 use Rattle.psi_rate.specs.Composition.{Functions, Parts}
 use Rattle.psi_region.specs.Region.{Regional}
+use Rattle.psi_region.specs.Followed.{Followed}
 use Rattle.psi_horizon.specs.declared.plan.Progress.{Progress}
 use Rattle.psi_horizon.specs.Runs.{region_after}
 use Rattle.psi_horizon.specs.Planned.{Running}
 use Rattle.psi_horizon.specs.declared.numbers.Numbers.{Numbers}
 use Rattle.psi_horizon.specs.Keeping.{KeepsNumbers}
-use Rattle.psi_horizon.specs.declared.doubling.Means.{Means}
-use Rattle.psi_horizon.specs.Sets.{AreMeans}
 
 -- the run that was begun, as its plan is seen
 abbrev pub running_of : Option Progress → Option Running
@@ -22,12 +21,12 @@ pub record IsUnderway (f : Functions) (split : ℕ) (caps : List ℕ) (count : �
   pub area : region.area ≡ region_after split f caps r.horizon r.done
 
 -- there is room for the words of the greatest horizon, which no run passes, and for a split region; the numbers that are kept are those of the
--- words; runs are followed by means that are made for the events' functions
+-- words; the follower of its runs stands for the network
 pub record IsPlan {E P : Type 0} (functions : List (List ℕ → List ℕ)) (f : Functions) (past : ℕ → ℕ) (system : Parts E) (words : Keeping P) (region : Regional)
-    (numbers : Numbers) (means : Means) (progress : Option Progress) : Type 0 where
+    (numbers : Numbers) (network : Followed) (progress : Option Progress) : Type 0 where
   pub room : 2 ^ system.limit ≤ words.most
   pub split : region.split ≡ system.split
   pub kept : KeepsNumbers system.rates past (2 ^ system.limit) numbers
-  pub made : AreMeans system.caps functions system.split means
+  pub follower : network ≡ record { caps = system.caps; functions = functions; split = system.split }
   pub within : IfSome progress (λ r. r.horizon ≤ 2 ^ system.limit)
   pub run : IfSome progress (λ r. IsUnderway f system.split system.caps words.count region r)

@@ -5,7 +5,4 @@ pub mod Sample
 pub mod Planned
 pub mod Numbers
 pub mod Keeping
-pub mod Areas
-pub mod Forms
-pub mod Sets
 pub mod Invariant

@@ -1,6 +1,12 @@
 -- What a plan is.
-use Rattle.std.specs.Prelude.{◌≡◌, ℕ, ◌+◌, Option, Some, None, option_map}
+use Rattle.std.specs.Prelude.{◌≡◌, ℕ, ◌+◌, map, Option, Some, None, option_map}
+use Rattle.psi_event.specs.Law.{Function}
 use Rattle.psi_rate.specs.Composition.{Parts}
+use Rattle.psi_region.specs.Followed.{Followed}
+
+-- the network that a follower of its runs stands for
+abbrev pub network_of : {E : Type 0} → (E → Function) → Parts E → Followed
+network_of function system = record { caps = system.caps; functions = map function system.events; split = system.split }
 
 -- a run that was begun: its horizon, and how many of its steps are done
 pub record Running : Type 0 where

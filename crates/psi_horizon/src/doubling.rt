@@ -6,62 +6,38 @@ ghost use Rattle.psi_rate.specs.Composition.{picked, system_functions};
 ghost use Rattle.psi_rate.specs.Outcomes.{IsOutcome};
 ghost use Rattle.psi_region.specs.Region.{step, IsArea};
 ghost use Rattle.psi_horizon.specs.Runs.{ending_at};
-ghost use Rattle.psi_horizon.specs.Sets.{AreMeans};
+ghost use Rattle.psi_horizon.specs.Planned.{network_of};
 ghost use Rattle.psi_horizon.specs.Keeping.{KeepsNumbers};
 
-use crate::corners::meeting;
-use crate::form::Form;
 use crate::numbers::Numbers;
-use crate::sets::{SetForm, set_ending};
 use psi_event::EventLaw;
 use psi_past::{Kept, Past};
 use psi_rate::System;
-use psi_region::Region;
+use psi_region::{Follower, Region};
 use psi_state::{Outcome, State};
-
-/// How the runs of a network are followed.
-pub(crate) enum Means {
-    /// By the least and the greatest state, where each event is monotone.
-    Corners(Form),
-    /// By regions.
-    Areas(SetForm),
-}
-
-// By hand, so that the end of these means is a call where they end, and not all of its steps.
-impl Drop for Means {
-    fn drop(self) {
-        match self {
-            Means::Corners(_form) => {}
-            Means::Areas(_form) => {}
-        }
-    }
-}
 
 // The least horizon among 1, 2, 4, .., 2^limit whose run ends with one state, with that state. The numbers of the events
 // of one horizon are kept for the next, so that each word is picked once.
-pub(crate) fn first_ending<E: EventLaw, P: Past + Drop>(
+pub(crate) fn first_ending<E: EventLaw, P: Past + Drop, F: Follower>(
     system: &System<'_, E>,
     words: &mut Kept<P>,
     numbers: &mut Numbers,
-    region: &mut Region,
-    means: &mut Means,
+    follower: &mut F,
 ) -> Outcome
     requires room { 2 ^ system.now.limit ≤ words.old.most }
     requires kept { KeepsNumbers system.now.rates (P.words words.old.past) (2 ^ system.now.limit) numbers.old }
-    requires split { region.old.split ≡ system.now.split }
-    requires means { AreMeans system.now.caps (map E.function system.now.events) system.now.split means.old }
+    requires follower { F.stands_for follower.old ≡ network_of E.function system.now }
     ensures least { let f = system_functions E.function system.now (P.words words.old.past) in
         IsOutcome (ending_at system.now.split f system.now.caps) system.now.limit result }
     ensures kept { KeepsNumbers system.now.rates (P.words words.old.past) (2 ^ system.now.limit) numbers.new }
-    ensures means { AreMeans system.now.caps (map E.function system.now.events) system.now.split means.new }
+    ensures follower { F.stands_for follower.new ≡ F.stands_for follower.old }
     ensures words { P.words words.new.past ≡ P.words words.old.past }
     ensures most { words.new.most ≡ words.old.most }
-    ensures split { region.new.split ≡ region.old.split }
 {
     let limit = system.limit();
     for exponent in 0..limit + 1 {
         let horizon = 1 << exponent;
-        let found = ending(system, words, numbers, region, means, horizon);
+        let found = ending(system, words, numbers, follower, horizon);
         if let Some(state) = found {
             return Outcome::Met { horizon, state };
         }
@@ -71,34 +47,28 @@ pub(crate) fn first_ending<E: EventLaw, P: Past + Drop>(
 
 // The one state with which the run of a horizon ends, if it ends with one. The run goes over the
 // numbers of the events of its places.
-pub(crate) fn ending<E: EventLaw, P: Past + Drop>(
+pub(crate) fn ending<E: EventLaw, P: Past + Drop, F: Follower>(
     system: &System<'_, E>,
     words: &mut Kept<P>,
     numbers: &mut Numbers,
-    region: &mut Region,
-    means: &mut Means,
+    follower: &mut F,
     horizon: u32,
 ) -> Option<State>
     requires room { horizon ≤ words.old.most }
     requires most { horizon ≤ 2 ^ system.now.limit }
     requires kept { KeepsNumbers system.now.rates (P.words words.old.past) (2 ^ system.now.limit) numbers.old }
-    requires split { region.old.split ≡ system.now.split }
-    requires means { AreMeans system.now.caps (map E.function system.now.events) system.now.split means.old }
+    requires follower { F.stands_for follower.old ≡ network_of E.function system.now }
     ensures ending { result ≡ ending_at system.now.split (system_functions E.function system.now (P.words words.old.past)) system.now.caps horizon }
     ensures kept { KeepsNumbers system.now.rates (P.words words.old.past) (2 ^ system.now.limit) numbers.new }
-    ensures means { AreMeans system.now.caps (map E.function system.now.events) system.now.split means.new }
+    ensures follower { F.stands_for follower.new ≡ F.stands_for follower.old }
     ensures words { P.words words.new.past ≡ P.words words.old.past }
     ensures most { words.new.most ≡ words.old.most }
-    ensures split { region.new.split ≡ region.old.split }
 {
     // Called for its clause: the events fit the capacities.
     let _caps = system.caps();
     numbers.extend_to(system, words, horizon);
     let run = numbers.below(system, words, horizon);
-    match means {
-        Means::Corners(form) => meeting(system, form, run),
-        Means::Areas(form) => set_ending(system, region, form, run),
-    }
+    follower.ending(run)
 }
 
 // Follows the region through the event of a word, and tells the event's number.

@@ -14,22 +14,16 @@ ghost use Rattle.psi_rate.specs.System.{IsSystem};
 ghost use Rattle.psi_region.specs.Region.{ShowsBox};
 ghost use Rattle.psi_horizon.specs.Runs.{region_at, ending_at, region_after, AreOrdered, AreExact};
 ghost use Rattle.psi_horizon.specs.Sample.{IsSample};
-ghost use Rattle.psi_horizon.specs.Sets.{AreMeans};
-ghost use Rattle.psi_horizon.specs.Planned.{IsOver, onward};
+ghost use Rattle.psi_horizon.specs.Planned.{IsOver, onward, network_of};
 ghost use Rattle.psi_horizon.specs.contracts.plan.Plan.{the_row};
 ghost use mir.Syntax.{named};
 
-use crate::corners::are_monotone;
-use crate::doubling::{Means, ending, first_ending, follow_word};
-use crate::form::form_of;
+use crate::doubling::{ending, first_ending, follow_word};
 use crate::numbers::Numbers;
-use crate::sets::set_form_of;
 use psi_event::EventLaw;
 use psi_past::{Kept, Past};
-use psi_piecewise::PiecewiseLaw;
 use psi_rate::System;
-use psi_region::Region;
-use psi_route::RouteLaw;
+use psi_region::{Follower, Region};
 use psi_state::{Bounds, Outcome, State, Step};
 use std::alloc::{AllocError, Global};
 use std::marker::Model;
@@ -64,20 +58,20 @@ struct Progress {
 }
 
 /// A network with the past that its samples are drawn from, the room for the words of the greatest
-/// horizon and for the numbers of their events, and the room for a split region.
+/// horizon and for the numbers of their events, the room for a split region, and the follower of its runs.
 ///
 /// It is seen as the network, the past, and the run that was begun, if one was.
-pub struct Plan<'n, E: EventLaw, P: Past + Drop> {
+pub struct Plan<'n, E: EventLaw, P: Past + Drop, F: Follower + Drop> {
     system: System<'n, E>,
     words: Kept<P>,
     region: Region,
     // The numbers of the events of the words, as far as they were picked.
     numbers: Numbers,
-    means: Means,
+    follower: F,
     run: Option<Progress>,
 }
 
-impl<'n, E: EventLaw, P: Past + Drop> Model for Plan<'n, E, P> {
+impl<'n, E: EventLaw, P: Past + Drop, F: Follower + Drop> Model for Plan<'n, E, P, F> {
     ghost use Rattle.std.specs.Prelude.{map};
     ghost use Rattle.psi_rate.specs.Composition.{system_functions};
     ghost use Rattle.psi_horizon.specs.Planned.{Planned};
@@ -89,52 +83,52 @@ impl<'n, E: EventLaw, P: Past + Drop> Model for Plan<'n, E, P> {
 
     ghost invariant = { λ p.
         IsPlan (map E.function p.system.events) (system_functions E.function p.system (P.words p.words.past)) (P.words p.words.past) p.system p.words p.region
-        p.numbers p.means p.run };
+        p.numbers (F.stands_for p.follower) p.run };
 }
 
 // By hand, so that the end of a plan is a call where it ends, and not all of its steps.
-impl<'n, E: EventLaw, P: Past + Drop> Drop for Plan<'n, E, P> {
+impl<'n, E: EventLaw, P: Past + Drop, F: Follower + Drop> Drop for Plan<'n, E, P, F> {
     fn drop(self) {
         let Plan {
             system: _,
             words: _,
             region: _,
             numbers: _,
-            means: _,
+            follower: _,
             run: _,
         } = self;
     }
 }
 
-impl<'n, E: PiecewiseLaw + RouteLaw, P: Past + Drop> Plan<'n, E, P> {
-    /// The plan to sample the network from this past. It takes the room for the 2 to the power `limit`
-    /// words of the greatest horizon, of 4 bytes each, for the numbers of their events, of 2 bytes each, for
-    /// a region of `split` states, and for the events on packed states; where some event isn't monotone, also
-    /// for `split` packed states. In a network whose customers join the queue with the least key, the keys take
-    /// the place of the events on packed states: 4 bytes for each target and each number of customers from 0 to
-    /// its capacity, or up to twice that, and 8 bytes for each event. No other call takes memory.
+impl<'n, E: EventLaw, P: Past + Drop, F: Follower + Drop> Plan<'n, E, P, F> {
+    /// The plan to sample the network from this past, whose runs this follower follows: it stands for the network. It takes
+    /// the room for the 2 to the power `limit` words of the greatest horizon, of 4 bytes each, for the numbers of their events,
+    /// of 2 bytes each, and for a region of `split` states. No other call takes memory.
     ///
     /// `OutOfMemory` is the answer where there is no memory for it; no clause says when that is.
-    pub fn new(alloc: Global, system: System<'n, E>, past: P) -> Result<Plan<'n, E, P>, OutOfMemory>
+    pub fn new(
+        alloc: Global,
+        system: System<'n, E>,
+        past: P,
+        follower: F,
+    ) -> Result<Plan<'n, E, P, F>, OutOfMemory>
+        requires { F.stands_for follower ≡ network_of E.function system }
         ensures { IfOk result (λ plan. plan ≡ record { system = system.entry; past = past; run = None }) }
     {
         let most = 1 << system.limit();
         let words = Kept::reserve(alloc, past, most)?;
         let region = Region::reserve(alloc, system.split())?;
         let numbers = Numbers::reserve(alloc, most)?;
-        let means = means_of(alloc, &system)?;
         Ok(Plan {
             system,
             words,
             region,
             numbers,
-            means,
+            follower,
             run: None,
         })
     }
-}
 
-impl<'n, E: EventLaw, P: Past + Drop> Plan<'n, E, P> {
     /// The sample: the least horizon among 1, 2, 4, .., 2 to the power `limit` whose region run ends with one
     /// state, with that state, which is within the capacities. Every state that starts there or earlier is in
     /// it at time zero. It isn't met exactly where none of these runs ends with one state.
@@ -146,7 +140,7 @@ impl<'n, E: EventLaw, P: Past + Drop> Plan<'n, E, P> {
     ///
     /// Where every event is monotone, and also where there are at most `split` states, it is met exactly
     /// where all states have met at one of these horizons, and at the least of them. Under monotone events
-    /// no region is followed: all states have met exactly where the least and the greatest state have.
+    /// all states have met exactly where the least and the greatest state have.
     /// Afterwards no run is begun.
     pub fn sample(&mut self) -> Outcome
         ensures outcome { let f = system_functions E.function self.old.system (P.words self.old.past) in
@@ -169,15 +163,13 @@ impl<'n, E: EventLaw, P: Past + Drop> Plan<'n, E, P> {
             &self.system,
             &mut self.words,
             &mut self.numbers,
-            &mut self.region,
-            &mut self.means,
+            &mut self.follower,
         )
     }
 
     /// The one state with which the region run of this horizon, 1 to 2 to the power `limit` steps, ends;
     /// `None` exactly where it ends with more. The state is within the capacities.
     ///
-    /// Where every event is monotone no region is followed, but the least and the greatest state alone.
     /// Afterwards no run is begun.
     pub fn ending(&mut self, horizon: u32) -> Option<State>
         requires some { 1 ≤ horizon }
@@ -196,8 +188,7 @@ impl<'n, E: EventLaw, P: Past + Drop> Plan<'n, E, P> {
             &self.system,
             &mut self.words,
             &mut self.numbers,
-            &mut self.region,
-            &mut self.means,
+            &mut self.follower,
             horizon,
         )
     }
@@ -331,24 +322,10 @@ impl<'n, E: EventLaw, P: Past + Drop> Plan<'n, E, P> {
         ensures rising { IsRising result.now }
         ensures some { 1 ≤ length result.now }
         ensures few { length result.now ≤ self.old.system.split }
-        ensures* same { sem 𝓛 (follows_so (the_row (record { mir = named 0; lft = [] }) E.row P.row E.EventLaw P.Past) (the_row (record { mir = named 0; lft = [] }) E.row P.row E.EventLaw P.Past) self.entry.ghost_name none (λ _ _. ⊤) (λ v. v ≡ self.old)) }
+        ensures* same { sem 𝓛 (follows_so (the_row (record { mir = named 0; lft = [] }) E.row P.row F.row E.EventLaw P.Past F.Follower) (the_row (record { mir = named 0; lft = [] }) E.row P.row F.row E.EventLaw P.Past F.Follower) self.entry.ghost_name none (λ _ _. ⊤) (λ v. v ≡ self.old)) }
     {
         // Called for its clause: the events fit the capacities.
         let _caps = self.system.caps();
         self.region.states()
-    }
-}
-
-// By the corners where each event is monotone, and otherwise by regions, each on packed states where the network's fit.
-fn means_of<E: PiecewiseLaw + RouteLaw>(
-    alloc: Global,
-    system: &System<'_, E>,
-) -> Result<Means, AllocError>
-    ensures { IfOk result (λ means. AreMeans system.now.caps (map E.function system.now.events) system.now.split means) }
-{
-    if are_monotone(system) {
-        Ok(Means::Corners(form_of(alloc, system)?))
-    } else {
-        Ok(Means::Areas(set_form_of(alloc, system)?))
     }
 }

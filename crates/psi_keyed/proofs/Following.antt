@@ -2,8 +2,8 @@
 use Rattle.std.specs.Prelude.{◌≡◌, ℕ, ◌-◌, ◌<◌, ◌≤◌, List, length, slice_index, slice_index_or}
 use Rattle.std.proofs.Common.{ap, sym, ◌∙◌, drop, arith}
 use Rattle.std.proofs.Math.Seq.{drop-length}
-use Rattle.psi_packed.specs.Programs.{follow_numbers}
-use Rattle.psi_packed.proofs.Following.{follow_numbers-drop}
+use Rattle.psi_event.specs.Numbers.{follow_numbers}
+use Rattle.psi_event.proofs.NumbersLemmas.{follow_numbers-drop}
 use Rattle.psi_keyed.specs.Steps.{IsMade}
 use Rattle.psi_keyed.specs.Keyed.{Keying, Follows}
 use Rattle.psi_keyed.specs.declared.step.Step.TheVariants.{Still}

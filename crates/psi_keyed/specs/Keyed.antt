@@ -2,7 +2,7 @@
 use Rattle.std.specs.Prelude.{◌≡◌, ℕ, ◌<◌, List, length, slice_index_or}
 use Rattle.psi_state.specs.State.{IsBelow}
 use Rattle.psi_event.specs.Law.{Function, IsClosed}
-use Rattle.psi_packed.specs.Programs.{follow_numbers}
+use Rattle.psi_event.specs.Numbers.{follow_numbers}
 use Rattle.psi_keyed.specs.Keys.{Keys}
 use Rattle.psi_keyed.specs.Steps.{IsStep, DoesStep}
 use Rattle.psi_keyed.specs.declared.step.Step.{Step}

@@ -4,9 +4,11 @@
 #![tactic(auto)]
 
 mod board;
+mod corners;
 mod filling;
 mod keyed;
 mod marked;
 mod step;
 
+pub use corners::KeyedCorners;
 pub use keyed::Keyed;

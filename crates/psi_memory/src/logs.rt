@@ -3,6 +3,7 @@
 ghost use Rattle.std.specs.Prelude.{◌≡◌, ◌≤◌, ◌^◌};
 
 use psi_event::EventLaw;
+use psi_follow::plan_of;
 use psi_horizon::Plan;
 use psi_io::MemorySink;
 use psi_lines::{Header, LineBuf};
@@ -10,6 +11,7 @@ use psi_log::{Form, Log, read_log};
 use psi_net::Net;
 use psi_past::{Past, SeedPast};
 use psi_record::{Block, log_fits, write_log};
+use psi_region::Follower;
 use psi_replay::verdict;
 use psi_state::{Bounds, Outcome, State, Step};
 use std::alloc::Global;
@@ -85,7 +87,7 @@ fn make_log(alloc: Global, calls: bool, net: &Net, limit: u8) -> Option<()>
     requires { limit ≤ 22 }
 {
     let system = net.system().with_limit(limit);
-    let Ok(mut plan) = Plan::new(alloc, net.system().with_limit(limit), SeedPast::new(0, 0)) else {
+    let Ok(mut plan) = plan_of(alloc, net.system().with_limit(limit), SeedPast::new(0, 0)) else {
         return None;
     };
     let mut writing = room_to_write(alloc)?;
@@ -102,7 +104,10 @@ fn make_log(alloc: Global, calls: bool, net: &Net, limit: u8) -> Option<()>
 }
 
 // The header of the longest run of a plan over so many queues.
-fn header_of<E: EventLaw, P: Past + Drop>(plan: &Plan<'_, E, P>, queues: u8) -> Header
+fn header_of<E: EventLaw, P: Past + Drop, F: Follower + Drop>(
+    plan: &Plan<'_, E, P, F>,
+    queues: u8,
+) -> Header
     ensures some { 1 ≤ result.horizon }
     ensures most { result.horizon ≤ 2 ^ plan.now.system.limit }
     ensures version { result.version ≡ 2 }
@@ -117,8 +122,8 @@ fn header_of<E: EventLaw, P: Past + Drop>(plan: &Plan<'_, E, P>, queues: u8) -> 
 }
 
 // The log of the longest run, with the state of the sample at its end, where the sample is met, and else the full one.
-fn write<E: EventLaw, P: Past + Drop>(
-    plan: &mut Plan<'_, E, P>,
+fn write<E: EventLaw, P: Past + Drop, F: Follower + Drop>(
+    plan: &mut Plan<'_, E, P, F>,
     full: &State,
     writing: &mut Writing,
 ) {

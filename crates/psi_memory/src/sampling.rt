@@ -5,15 +5,17 @@ ghost use Rattle.psi_network.specs.Network.{caps_of};
 
 use psi_couple::{least_horizon, value_horizon};
 use psi_event::EventLaw;
+use psi_follow::plan_of;
 use psi_horizon::Plan;
 use psi_kinds::Event;
 use psi_net::Net;
 use psi_past::{Past, SeedPast};
+use psi_region::Follower;
 use std::alloc::Global;
 
 /// Makes a plan, and calls it or not; `None` where memory is wanting.
 pub(crate) fn make(alloc: Global, calls: bool, net: &Net) -> Option<()> {
-    let Ok(mut plan) = Plan::new(alloc, net.system(), SeedPast::new(0, 0)) else {
+    let Ok(mut plan) = plan_of(alloc, net.system(), SeedPast::new(0, 0)) else {
         return None;
     };
     if calls {
@@ -25,7 +27,7 @@ pub(crate) fn make(alloc: Global, calls: bool, net: &Net) -> Option<()> {
 }
 
 // A sample, the state with which a run ends, and a run of one step with its region.
-fn call_plan<E: EventLaw, P: Past + Drop>(plan: &mut Plan<'_, E, P>)
+fn call_plan<E: EventLaw, P: Past + Drop, F: Follower + Drop>(plan: &mut Plan<'_, E, P, F>)
     ensures { plan.new.system ≡ plan.old.system }
 {
     let _outcome = plan.sample();
@@ -44,7 +46,7 @@ fn call_plan<E: EventLaw, P: Past + Drop>(plan: &mut Plan<'_, E, P>)
 }
 
 // The least horizon, and the first at which each reward has one value.
-fn call_couple<P: Past + Drop>(plan: &mut Plan<'_, Event, P>, net: &Net)
+fn call_couple<P: Past + Drop, F: Follower + Drop>(plan: &mut Plan<'_, Event, P, F>, net: &Net)
     requires { plan.old.system.caps ≡ caps_of net.now }
 {
     let _coupled = least_horizon(plan);

@@ -6,12 +6,13 @@ use Rattle.std.proofs.Math.Seq.{drop-length}
 use Rattle.psi_state.specs.State.{IsBelow}
 use Rattle.psi_state.proofs.BoxesLemmas.{below-through}
 use Rattle.psi_event.specs.Law.{Function}
+use Rattle.psi_event.specs.Numbers.{follow_numbers}
+use Rattle.psi_event.proofs.NumbersLemmas.{follow_numbers-drop}
 use Rattle.psi_packed.specs.Packed.{packed}
 use Rattle.psi_packed.specs.Moves.{IsMoved, no_move}
-use Rattle.psi_packed.specs.Programs.{Prepared, Prepares, follow_numbers}
+use Rattle.psi_packed.specs.Programs.{Prepared, Prepares}
 use Rattle.psi_packed.specs.Boxes.{AreCorners, AreFollowed, AreMonotoneUnhalted, box_from, halts_at}
 use Rattle.psi_packed.proofs.Moving.{program-moves}
-use Rattle.psi_packed.proofs.Following.{follow_numbers-drop}
 
 -- where it isn't told that a box has few states, it has many
 pub many-told : (told : Bool) (total most : ℕ) → IsTrue told ↔ total ≤ most → told ≡ false → most < total

@@ -1,26 +1,18 @@
 -- Runs over numbers of events, from the last number on.
-use Rattle.std.specs.Prelude.{◌≡◌, ℕ, suc, ◌-◌, ◌<◌, ◌≤◌, List, [], ◌∷◌, length, map, slice_index, slice_index_or}
-use Rattle.std.proofs.Common.{inl, inr, ap, sym, ◌∙◌, subst, drop, drop-cons, arith}
+use Rattle.std.specs.Prelude.{◌≡◌, ℕ, ◌-◌, ◌<◌, ◌≤◌, List, [], ◌∷◌, length, map, slice_index, slice_index_or}
+use Rattle.std.proofs.Common.{inl, inr, ap, sym, ◌∙◌, subst, drop, arith}
 use Rattle.std.proofs.lemmas.Bool.{cases_lt}
 use Rattle.std.proofs.lemmas.List.{get_or_past, get_or-map, length-map}
 use Rattle.std.proofs.Math.Seq.{drop-length}
 use Rattle.psi_state.specs.State.{IsBelow}
 use Rattle.psi_event.specs.Law.{Function}
+use Rattle.psi_event.specs.Numbers.{follow_numbers}
+use Rattle.psi_event.proofs.NumbersLemmas.{follow_numbers-drop}
 use Rattle.psi_packed.specs.Packed.{packed}
 use Rattle.psi_packed.specs.Moves.{Moving, IsMoved, no_move}
-use Rattle.psi_packed.specs.Programs.{Prepared, Prepares, follow_numbers, Follows}
+use Rattle.psi_packed.specs.Programs.{Prepared, Prepares, Follows}
 use Rattle.psi_packed.specs.declared.moves.Moves.{Moves}
 use Rattle.psi_packed.proofs.Moving.{program-moves}
-
--- one number more is one step more
-pub follow_numbers-drop : (functions : List Function) (numbers : List ℕ) (i : ℕ) (x : List ℕ) → 1 ≤ i → i ≤ length numbers
-    → follow_numbers functions (drop (i - 1) numbers) x
-    ≡ slice_index_or functions (slice_index numbers (i - 1)) (λ z. z) (follow_numbers functions (drop i numbers) x)
-follow_numbers-drop functions numbers i x some within =
-    let last = i - 1 in
-    let e : suc last ≡ i = omega arith in
-    ap (λ (ns : List ℕ). follow_numbers functions ns x) (drop-cons numbers last 0 (omega arith))
-    ∙ ap (λ n. slice_index_or functions (slice_index numbers last) (λ z. z) (follow_numbers functions (drop n numbers) x)) e
 
 -- a run stays within the capacities
 pub follow_numbers-within : (count : ℕ) (caps : List ℕ) (functions : List Function) (p : Prepared) → Prepares count caps functions p → (numbers : List ℕ) (x : List ℕ)

@@ -3,8 +3,9 @@
 use Rattle.std.specs.Prelude.{◌≡◌, ℕ, suc, ◌*◌, ◌-◌, ◌<◌, ◌≤◌, ◌⊎◌, ◌↔◌, List, [], ◌∷◌, length, drop, slice_index, slice_index_or, Bool, true, false, IsTrue}
 use Rattle.psi_state.specs.State.{IsBelow, box}
 use Rattle.psi_event.specs.Law.{Function, IsMonotone}
+use Rattle.psi_event.specs.Numbers.{follow_numbers}
 use Rattle.psi_packed.specs.Packed.{Packing, packed}
-use Rattle.psi_packed.specs.Programs.{Prepared, Prepares, follow_numbers}
+use Rattle.psi_packed.specs.Programs.{Prepared, Prepares}
 
 -- how many lists have at each place at most the number of this list
 abbrev pub widths : List ℕ → ℕ

@@ -2,6 +2,7 @@
 use Rattle.std.specs.Prelude.{◌≡◌, ℕ, ◌<◌, List, [], ◌∷◌, length, slice_index_or, Bool, IsTrue}
 use Rattle.psi_state.specs.State.{IsBelow}
 use Rattle.psi_event.specs.Law.{Function, IsClosed}
+use Rattle.psi_event.specs.Numbers.{follow_numbers}
 use Rattle.psi_piecewise.specs.declared.piecewise.Piecewise.{Piecewise}
 use Rattle.psi_piecewise.specs.Piecewise.{Does}
 use Rattle.psi_packed.specs.Packed.{Packing, IsPacking, packed}
@@ -33,11 +34,6 @@ pub record IsTwice (count : ℕ) (p : Packing) (lows highs : List Moving) (first
   pub packing : IsPacking count p
   pub same : highs ≡ lows
   pub alone : IsTrue first_alone → (i : ℕ) → i < length lows → ChangesNothing count (slice_index_or lows i no_move).second
-
--- what the events of these numbers make of a state: that of the last number comes first
-abbrev pub follow_numbers : List Function → List ℕ → List ℕ → List ℕ
-follow_numbers functions [] x = x
-follow_numbers functions (number ∷ numbers) x = slice_index_or functions number (λ y. y) (follow_numbers functions numbers x)
 
 -- words become those of the state that the functions of these numbers make of the state whose words they were
 abbrev pub Follows : ℕ → Prepared → List ℕ → List ℕ → List ℕ → Type 0

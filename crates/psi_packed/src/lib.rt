@@ -1,13 +1,16 @@
 //! States packed into a few words of 64 bits, and events of pieces as masks on them: an event tests the bounds of all
 //! queues by one addition a word, and changes all queues by another.
+//! `PackedCorners` follows the least and the greatest state of a monotone network so.
 #![tactic(auto)]
 
 mod boxes;
+mod corners;
 mod layout;
 mod moves;
 mod pairs;
 mod program;
 
+pub use corners::PackedCorners;
 pub use layout::{Layout, Packed};
 pub use moves::{Masks, Moves};
 pub use pairs::{Pair, Pairs};

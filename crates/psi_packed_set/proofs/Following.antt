@@ -1,5 +1,5 @@
 -- Words that hold the states of a set, and what events make of them.
-use Rattle.std.specs.Prelude.{◌≡◌, ℕ, zero, suc, ◌-◌, ◌<◌, ◌≤◌, List, [], ◌∷◌, ◌++◌, length, map, take, drop, get_or, slice_set, Some, None, slice_index, slice_index_or}
+use Rattle.std.specs.Prelude.{◌≡◌, ℕ, zero, suc, ◌-◌, ◌<◌, ◌≤◌, List, [], ◌∷◌, length, map, take, drop, get_or, slice_set, Some, None, slice_index}
 use Rattle.std.proofs.Common.{inl, inr, ap, ap₂, sym, subst, ◌∙◌, refl, arith, take-append-drop}
 use Rattle.psi_state.specs.State.{IsBelow}
 use Rattle.psi_state.specs.Members.{In}
@@ -8,9 +8,11 @@ use Rattle.psi_state.specs.Ascending.{HaveSame}
 use Rattle.psi_state.specs.Sets.{image, single}
 use Rattle.psi_state.proofs.SetsLemmas.{In-image, single-image, single-apart}
 use Rattle.psi_event.specs.Law.{Function}
+use Rattle.psi_event.specs.Numbers.{follow_numbers}
+use Rattle.psi_event.proofs.NumbersLemmas.{follow_numbers-append, follow_numbers-drop}
 use Rattle.psi_packed.specs.Packed.{Packing, packed}
-use Rattle.psi_packed.specs.Programs.{Prepared, Follows, AllFollow, follow_numbers}
-use Rattle.psi_packed.proofs.Following.{follow_numbers-within, follow_numbers-drop}
+use Rattle.psi_packed.specs.Programs.{Prepared, Follows, AllFollow}
+use Rattle.psi_packed.proofs.Following.{follow_numbers-within}
 use Rattle.psi_packed.specs.Views.{lows, highs, pair_at}
 use Rattle.psi_packed.specs.declared.pairs.Pairs.{Pairs}
 use Rattle.psi_packed_set.specs.Halves.{halves, AreAll, AreTwo}
@@ -122,10 +124,6 @@ pub set-more : (count : ℕ) (p : Prepared) (numbers : List ℕ) (i : ℕ) (befo
 set-more count p numbers i before middle after some within one other =
     set-then count p (drop i numbers) (slice_index numbers (i - 1) ∷ []) (drop (i - 1) numbers) before middle after
     (λ functions x. follow_numbers-drop functions numbers i x some within) one other
-
-follow_numbers-append : (functions : List Function) (first second x : List ℕ) → follow_numbers functions (first ++ second) x ≡ follow_numbers functions first (follow_numbers functions second x)
-follow_numbers-append functions [] second x = refl
-follow_numbers-append functions (n ∷ first) second x = ap (slice_index_or functions n (λ (y : List ℕ). y)) (follow_numbers-append functions first second x)
 
 -- the numbers that are left
 pub set-rest : (count : ℕ) (p : Prepared) (numbers : List ℕ) (i : ℕ) (before middle after : List (List ℕ))

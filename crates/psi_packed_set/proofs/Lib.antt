@@ -2,3 +2,6 @@
 mod Halving
 mod Following
 mod Packing
+mod HaltsLemmas
+mod SetsLemmas
+mod BoxesLemmas

@@ -4,8 +4,9 @@ use Rattle.psi_state.specs.State.{IsBelow}
 use Rattle.psi_state.specs.Members.{In}
 use Rattle.psi_state.specs.Ascending.{HaveSame}
 use Rattle.psi_event.specs.Law.{Function}
+use Rattle.psi_event.specs.Numbers.{follow_numbers}
 use Rattle.psi_packed.specs.Packed.{Packing, packed}
-use Rattle.psi_packed.specs.Programs.{Prepared, Prepares, follow_numbers}
+use Rattle.psi_packed.specs.Programs.{Prepared, Prepares}
 
 -- the words are those of these states, in any order and as often as may be, and the states are within the capacities
 pub record Holds (count : ℕ) (p : Packing) (words states : List (List ℕ)) : Type 0 where

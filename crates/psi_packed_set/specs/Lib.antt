@@ -2,3 +2,5 @@
 pub mod Halves
 pub mod Room
 pub mod Holding
+pub mod Sets
+pub mod Machines

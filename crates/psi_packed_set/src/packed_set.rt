@@ -4,7 +4,8 @@ ghost use Rattle.std.specs.Prelude.{◌≡◌, ◌<◌, ◌≤◌, ℕ, List, If
 ghost use Rattle.psi_state.specs.State.{IsBelow, box};
 ghost use Rattle.psi_state.specs.Sets.{image, single};
 ghost use Rattle.psi_event.specs.Law.{Function};
-ghost use Rattle.psi_packed.specs.Programs.{Prepares, follow_numbers};
+ghost use Rattle.psi_event.specs.Numbers.{follow_numbers};
+ghost use Rattle.psi_packed.specs.Programs.{Prepares};
 
 use crate::lists::Lists;
 use psi_packed::Program;

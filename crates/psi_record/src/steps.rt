@@ -12,6 +12,7 @@ use psi_event::EventLaw;
 use psi_horizon::Plan;
 use psi_lines::{Header, LineBuf};
 use psi_past::Past;
+use psi_region::Follower;
 use psi_state::{Bounds, State, Step};
 
 // How many bytes of lines are held before they are put into the block.
@@ -23,8 +24,8 @@ const MANY: usize = 8_192;
 ///
 /// `told` is the box of the region before the step, where it isn't split, and the answer is that of the region after
 /// it.
-pub(crate) fn next_line<E: EventLaw, P: Past + Drop>(
-    plan: &mut Plan<'_, E, P>,
+pub(crate) fn next_line<E: EventLaw, P: Past + Drop, F: Follower + Drop>(
+    plan: &mut Plan<'_, E, P, F>,
     header: &Header,
     state: &State,
     place: u64,
@@ -66,8 +67,8 @@ pub(crate) fn most_held(horizon: u32, place: u64) -> usize
 }
 
 // Begins the run of a horizon, and holds the line of the box at which it begins, which is the answer.
-fn begin_line<E: EventLaw, P: Past + Drop>(
-    plan: &mut Plan<'_, E, P>,
+fn begin_line<E: EventLaw, P: Past + Drop, F: Follower + Drop>(
+    plan: &mut Plan<'_, E, P, F>,
     horizon: u32,
     line: &mut LineBuf,
 ) -> Option<Bounds>
@@ -88,8 +89,8 @@ fn begin_line<E: EventLaw, P: Past + Drop>(
 // Does the next step of the run, and puts its line behind those that are held, which have at most 8,192 bytes.
 // `before` is the box of the region before the step, where it isn't split, and the answer is that of the region
 // after it.
-fn step_line<E: EventLaw, P: Past + Drop>(
-    plan: &mut Plan<'_, E, P>,
+fn step_line<E: EventLaw, P: Past + Drop, F: Follower + Drop>(
+    plan: &mut Plan<'_, E, P, F>,
     before: Option<Bounds>,
     line: &mut LineBuf,
 ) -> Option<Bounds>

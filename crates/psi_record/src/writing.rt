@@ -15,6 +15,7 @@ use psi_horizon::Plan;
 use psi_io::{Sink, SinkFault};
 use psi_lines::{Header, LineBuf};
 use psi_past::Past;
+use psi_region::Follower;
 use psi_state::{Bounds, State};
 
 // The greatest number of bytes of a log.
@@ -28,8 +29,8 @@ const MOST: usize = 33_554_432;
 /// lines are added up until those that are left surely fit; no line is kept. The plan's network and its past's
 /// words stay as they were. The call takes no memory. What a checker says of the log is told at
 /// [`logs_are_accepted`](crate::logs_are_accepted).
-pub fn log_fits<E: EventLaw, P: Past + Drop>(
-    plan: &mut Plan<'_, E, P>,
+pub fn log_fits<E: EventLaw, P: Past + Drop, F: Follower + Drop>(
+    plan: &mut Plan<'_, E, P, F>,
     header: &Header,
     state: &State,
     line: &mut LineBuf,
@@ -58,8 +59,8 @@ pub fn log_fits<E: EventLaw, P: Past + Drop>(
 }
 
 // Whether the lines from a place on surely fit in the room, by what is known of the region before them.
-fn surely_fits<E: EventLaw, P: Past + Drop>(
-    plan: &mut Plan<'_, E, P>,
+fn surely_fits<E: EventLaw, P: Past + Drop, F: Follower + Drop>(
+    plan: &mut Plan<'_, E, P, F>,
     header: &Header,
     state: &State,
     place: u64,
@@ -86,7 +87,11 @@ fn surely_fits<E: EventLaw, P: Past + Drop>(
 
 // Whether the lines of so many steps, and the last line, surely fit in the room, whatever regions these have. It is
 // asked at each 64th step, and answered by the queues, the digits of the capacities and the split number.
-fn is_roomy<E: EventLaw, P: Past + Drop>(plan: &Plan<'_, E, P>, left: u32, room: usize) -> bool
+fn is_roomy<E: EventLaw, P: Past + Drop, F: Follower + Drop>(
+    plan: &Plan<'_, E, P, F>,
+    left: u32,
+    room: usize,
+) -> bool
     ensures { IsTrue result → IsRoomy plan.now.system.caps plan.now.system.split left room }
 {
     if left % 64 != 0 {
@@ -141,8 +146,8 @@ fn count_digits(n: u16) -> u8
 
 // Whether the lines of the steps that are left, and the last line, surely fit in the room, since the run's region
 // is a set: its lines get no longer. It is asked at each 64th step, and answered by the number of its states.
-fn is_ample<E: EventLaw, P: Past + Drop>(
-    plan: &mut Plan<'_, E, P>,
+fn is_ample<E: EventLaw, P: Past + Drop, F: Follower + Drop>(
+    plan: &mut Plan<'_, E, P, F>,
     told: &Option<Bounds>,
     left: u32,
     room: usize,
@@ -174,8 +179,8 @@ fn is_ample<E: EventLaw, P: Past + Drop>(
 ///
 /// [`SinkFault::Failed`] only where the sink's count rose in this call or stands at the greatest u64. What the
 /// sink holds then grew by a prefix of the log.
-pub fn write_log<E: EventLaw, P: Past + Drop, O: Sink>(
-    plan: &mut Plan<'_, E, P>,
+pub fn write_log<E: EventLaw, P: Past + Drop, F: Follower + Drop, O: Sink>(
+    plan: &mut Plan<'_, E, P, F>,
     header: &Header,
     state: &State,
     line: &mut LineBuf,
@@ -204,8 +209,8 @@ pub fn write_log<E: EventLaw, P: Past + Drop, O: Sink>(
 }
 
 // Writes the log, line by line.
-fn write_lines<E: EventLaw, P: Past + Drop, O: Sink>(
-    plan: &mut Plan<'_, E, P>,
+fn write_lines<E: EventLaw, P: Past + Drop, F: Follower + Drop, O: Sink>(
+    plan: &mut Plan<'_, E, P, F>,
     header: &Header,
     state: &State,
     line: &mut LineBuf,

@@ -10,7 +10,8 @@ ghost use Rattle.psi_reply.specs.Ended.{ending_of};
 use crate::ending::Ending;
 use psi_command::Status;
 use psi_couple::{Coupled, least_horizon};
-use psi_horizon::{OutOfMemory, Plan};
+use psi_follow::plan_of;
+use psi_horizon::OutOfMemory;
 use psi_network::Net;
 use psi_past::SeedPast;
 use psi_texts::coupling_text;
@@ -26,7 +27,7 @@ fn coupling_of(alloc: Global, net: &Net, seed: u64, stream: u64) -> Result<Coupl
     let system = net.system();
     // Called for its clause: the limit is at most 22.
     let _limit = system.limit();
-    let mut plan = Plan::new(alloc, system, SeedPast::new(seed, stream))?;
+    let mut plan = plan_of(alloc, system, SeedPast::new(seed, stream))?;
     let coupled = least_horizon(&mut plan);
     drop(plan);
     Ok(coupled)

@@ -13,7 +13,8 @@ use crate::ending::Ending;
 use psi_command::Status;
 use psi_couple::{Coupled, least_horizon};
 use psi_exact::{MapRefusal, MapTable, Meeting, Survey, survey};
-use psi_horizon::{OutOfMemory, Plan};
+use psi_follow::plan_of;
+use psi_horizon::OutOfMemory;
 use psi_network::Net;
 use psi_past::SeedPast;
 use psi_state::Bounds;
@@ -55,7 +56,7 @@ fn region_of(
     // Called for its clause: the network is one that can be sampled.
     let _queues = net.queues();
     let system = net.system().with_limit(h);
-    let mut plan = Plan::new(alloc, system, SeedPast::new(seed, stream))?;
+    let mut plan = plan_of(alloc, system, SeedPast::new(seed, stream))?;
     let coupled = least_horizon(&mut plan);
     drop(plan);
     Ok(coupled)

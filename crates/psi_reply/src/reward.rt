@@ -12,7 +12,8 @@ ghost use Rattle.psi_reply.specs.Ended.{ending_of};
 use crate::ending::Ending;
 use psi_command::Status;
 use psi_couple::{Valued, value_horizon};
-use psi_horizon::{OutOfMemory, Plan};
+use psi_follow::plan_of;
+use psi_horizon::OutOfMemory;
 use psi_network::Net;
 use psi_past::SeedPast;
 use psi_reward::Reward;
@@ -50,7 +51,7 @@ fn value_of(
     let system = net.system();
     // Called for its clause: the limit is at most 22.
     let _limit = system.limit();
-    let mut plan = Plan::new(alloc, system, SeedPast::new(seed, stream))?;
+    let mut plan = plan_of(alloc, system, SeedPast::new(seed, stream))?;
     let valued = value_horizon(&mut plan, reward);
     drop(plan);
     Ok(valued)

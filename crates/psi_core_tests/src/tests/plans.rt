@@ -5,7 +5,7 @@ ghost use Rattle.psi_state.specs.State.{AreCapacities};
 
 use super::queues::{capacities, holding, joining as joining_part, leaving as leaving_part};
 use psi_event::EventLaw;
-use psi_horizon::Plan;
+use psi_follow::plan_of;
 use psi_kinds::Event;
 use psi_past::ListPast;
 use psi_rate::{System, Wheel};
@@ -43,7 +43,7 @@ fn other_words_serve_the_same_plan(rt: HostRuntime) -> Result<(), Fail> {
     let events = [joining(caps, 0, 2)?, leaving(caps, 0, 2, 1)?];
     let wheel = Wheel::new(alloc, &[1, 2])?;
     let system = System::new(caps, &events, &wheel, 2, 2);
-    let mut plan = Plan::new(alloc, system, ListPast::new([2, 0, 0, 3].to_vec(alloc)?))?;
+    let mut plan = plan_of(alloc, system, ListPast::new([2, 0, 0, 3].to_vec(alloc)?))?;
     assert_eq!(rt; plan.advance(), None);
     assert_eq!(rt; plan.sample(), met(4, 1));
     assert_eq!(rt; plan.advance(), None);

@@ -16,12 +16,14 @@ use crate::files::network_at;
 use crate::writing::finish;
 use psi_command::Status;
 use psi_event::EventLaw;
+use psi_follow::plan_of;
 use psi_horizon::Plan;
 use psi_io::{Shelf, Sink};
 use psi_log::{Header, LineBuf};
 use psi_net::Net;
 use psi_past::{Past, SeedPast};
 use psi_record::{Block, log_fits, write_log};
+use psi_region::Follower;
 use psi_reply::{Ending, unmet_ending};
 use psi_state::{Outcome, State};
 use std::alloc::Global;
@@ -29,9 +31,9 @@ use std::alloc::Global;
 // Writes the log of the run of the header's horizon, which ends with this state, or the line on one that is
 // too long. The memory is taken first; then the run is done once for the length of its log, and once more
 // for its text, which is written as the lines come.
-fn write_run<L: EventLaw, P: Past + Drop, O: Sink, E: Sink>(
+fn write_run<L: EventLaw, P: Past + Drop, F: Follower + Drop, O: Sink, E: Sink>(
     alloc: Global,
-    plan: &mut Plan<'_, L, P>,
+    plan: &mut Plan<'_, L, P, F>,
     header: &Header,
     state: &State,
     out: &mut O,
@@ -80,7 +82,7 @@ fn write_sample<O: Sink, E: Sink>(
     let system = net.system();
     // Called for its clause: the limit is at most 22.
     let _limit = system.limit();
-    let Ok(mut plan) = Plan::new(alloc, system, SeedPast::new(seed, stream)) else {
+    let Ok(mut plan) = plan_of(alloc, system, SeedPast::new(seed, stream)) else {
         return finish(&Ending::OutOfMemory, out, err);
     };
     let outcome = plan.sample();

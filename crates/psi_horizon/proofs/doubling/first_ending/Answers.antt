@@ -32,10 +32,9 @@ loop-exponent-preserved g c =
     record {
       earlier = none-next (run_of (g.P.Past.words c.args.words.now.past)) c.loop-exponent.exponent (omega arith) c.loop-exponent.invariant.earlier none;
       kept = subst (λ (w : ℕ → ℕ). KeepsNumbers system.rates w (2 ^ system.limit) c.ending-found.new.numbers) (sym c.ending-found.ensures.words) c.ending-found.ensures.kept;
-      means = c.ending-found.ensures.means;
+      follower = c.ending-found.ensures.follower ∙ c.loop-exponent.invariant.follower;
       words = c.ending-found.ensures.words ∙ c.loop-exponent.invariant.words;
       most = c.ending-found.ensures.most ∙ c.loop-exponent.invariant.most;
-      split = c.ending-found.ensures.split ∙ c.loop-exponent.invariant.split;
     }
 
 pub returns-clause-least : goal.returns-clause-least

@@ -17,7 +17,7 @@ invariant_of-result g c =
       room = omega (arith, room, most);
       split = ap (λ (region : Regional). region.split) c.in_ok-region.ensures ∙ c.split.ensures.value;
       kept = subst (λ n. KeepsNumbers system.rates words n c.in_ok-numbers.numbers) most (c.in_ok-numbers.ensures system.rates words);
-      made = c.in_ok-means.ensures;
+      follower = c.requires;
       within = tt;
       run = tt;
     }

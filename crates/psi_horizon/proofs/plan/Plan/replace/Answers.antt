@@ -12,7 +12,7 @@ invariant_of-self g c =
       room = omega (arith, kept.room, most);
       split = kept.split;
       kept = c.clear.ensures system.rates (g.P.Past.words c.replace.new.self.past) (g.P.Past.words c.self.inside.words.past) (2 ^ system.limit) kept.kept;
-      made = kept.made;
+      follower = kept.follower;
       within = tt;
       run = tt;
     }

@@ -1,0 +1,10 @@
+-- Answers in the proof of `KeyedCorners::ending`.
+use Rattle.std.proofs.Common.{◌≡◌, subst}
+use Rattle.psi_region.specs.Followed.{Network, followed, ending_of}
+use Rattle.psi_region.proofs.FollowedLemmas.{corners-ending}
+use Rattle.psi_keyed.proofs.corners.KeyedCornersFollower.ending.Goals as goal
+
+pub returns-clause-ending : goal.returns-clause-ending
+returns-clause-ending g c =
+    subst (λ (n : Network g.row.E.Denot). c.meeting.result ≡ ending_of (followed g.E.EventLaw.function n) c.args.numbers.now) c.self.view_is
+    (corners-ending (followed g.E.EventLaw.function c.self.inside.course) c.args.numbers.now c.meeting.result c.caps-caps.ensures.closed c.self.invariant.1 c.meeting.ensures)
