@@ -9,4 +9,5 @@ pub mod RunsLemmas
 pub mod DiagramLemmas
 pub mod StatesLemmas
 pub mod PlanLemmas
+pub mod FollowLemmas
 mod Worked

@@ -125,11 +125,3 @@ outcome-of caps k f limit (NotMet l) is = tt
 pub run-begins : (caps : List ℕ) (k : ℕ) (f : ℕ → List ℕ → List ℕ) (t : ℕ) → closed_after caps k f t (total_states caps k) ≡ closed_run caps k f t
 unfolding closed_run
 run-begins caps k f t = refl
-
--- a step takes the oldest function off it
-pub after-step : (caps : List ℕ) (k : ℕ) (f : ℕ → List ℕ → List ℕ) (t : ℕ) (old new end : List (List ℕ)) → 1 ≤ t → closed_after caps k f t old ≡ end
-    → new ≡ arc_hull caps k (image (f t) old) → closed_after caps k f (t - 1) new ≡ end
-after-step caps k f zero old new end some left stepped = absurd (omega arith)
-after-step caps k f (suc t) old new end some left stepped =
-    let e : suc t - 1 ≡ t = omega arith in
-    ap (λ n. closed_after caps k f n new) e ∙ (ap (λ (xs : List (List ℕ)). closed_after caps k f t xs) stepped ∙ left)

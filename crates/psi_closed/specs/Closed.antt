@@ -1,7 +1,7 @@
 -- Closed networks: a fixed number of customers, and the runs over the states that hold so many. A set of them is followed as
 -- the arcs of its states, one for each queue, as the arcs of a decision diagram (Bryant 1986); coupling from the past is that of
 -- Propp and Wilson 1996.
-use Rattle.std.specs.Prelude.{◌≡◌, ℕ, zero, suc, ◌^◌, ◌≤◌, List, [], ◌∷◌, length, take, filter, slice_index, map, Bool, ◌&&◌, nat_eq, Option, None, if◌then◌else◌}
+use Rattle.std.specs.Prelude.{◌≡◌, ℕ, zero, suc, ◌^◌, ◌≤◌, List, [], ◌∷◌, length, take, filter, slice_index, slice_index_or, map, Bool, ◌&&◌, nat_eq, Option, None, if◌then◌else◌}
 use Rattle.std.specs.List.{list_any, list_all, flat_map}
 use Rattle.psi_state.specs.declared.Outcome.{Outcome}
 use Rattle.psi_state.specs.declared.Outcome.TheVariants.{Met, NotMet}
@@ -61,6 +61,11 @@ each_once (a ∷ arcs) = if has_arc arcs a then each_once arcs else a ∷ each_o
 -- the number of different arcs that the states of a list have
 unfoldable pub arc_count : List (List ℕ) → ℕ
 arc_count xs = length (each_once (all_arcs xs))
+
+-- what the functions of these numbers make of a list of states, that of the last number first: each step replaces it by the arc hull of its image
+abbrev pub follow_closed : List ℕ → ℕ → List (List ℕ → List ℕ) → List ℕ → List (List ℕ) → List (List ℕ)
+follow_closed caps k functions [] xs = xs
+follow_closed caps k functions (n ∷ ns) xs = arc_hull caps k (image (slice_index_or functions n (λ x. x)) (follow_closed caps k functions ns xs))
 
 -- the closed runs over the states with k customers, under these functions
 module _ (caps : List ℕ) (k : ℕ) (f : Functions) where

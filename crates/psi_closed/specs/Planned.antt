@@ -7,6 +7,8 @@ use Rattle.psi_kinds.specs.declared.moves.Move.{Move}
 use Rattle.psi_kinds.specs.Moves.{moved, IsMove}
 use Rattle.psi_rate.specs.Composition.{Functions, function_at}
 use Rattle.psi_rate.specs.Outcomes.{IsOutcome, ReachesFrom}
+use Rattle.psi_rate.specs.declared.numbers.Numbers.{Numbers}
+use Rattle.psi_rate.specs.Keeping.{KeepsNumbers}
 use Rattle.psi_closed.specs.Closed.{IsOfTotal, closed_ending, DecidesRuns, MeetsOfTotal}
 use Rattle.psi_closed.specs.Diagram.{Shown, IsTotal}
 
@@ -23,6 +25,11 @@ pub record Planned (P : Type 0) : Type 0 where
   pub network : Network
   pub past : P
 
+-- a closed network with the words that its samples are drawn from
+pub record Drawn : Type 0 where
+  pub network : Network
+  pub words : ℕ → ℕ
+
 -- the functions of moves by the time before zero, under these words; idle changes nothing
 abbrev pub functions_of : List ℕ → List Move → List ℕ → (ℕ → ℕ) → Functions
 functions_of caps moves rates words = function_at (map (λ m. moved caps m) moves) rates words
@@ -35,14 +42,16 @@ network_functions network words = functions_of network.caps network.moves networ
 abbrev pub AreMoves : List ℕ → List Move → Type 0
 AreMoves caps moves = All (λ m. IsMove caps m) moves
 
--- what every plan keeps: its parts fit each other, and there is room for the words of the greatest horizon
-pub record IsPlan {P : Type 0} (diagram : Shown) (events : List Move) (rates : List ℕ) (limit : ℕ) (words : Keeping P) : Type 0 where
+-- what every plan keeps: its parts fit each other, there is room for the words of the greatest horizon and for the numbers of their events, and those that are kept are those of the
+-- words
+pub record IsPlan {P : Type 0} (diagram : Shown) (events : List Move) (rates : List ℕ) (limit : ℕ) (past : ℕ → ℕ) (words : Keeping P) (numbers : Numbers) : Type 0 where
   pub valid : AreCapacities diagram.caps
   pub fits : IsTotal diagram.caps diagram.total
   pub moves : AreMoves diagram.caps events
   pub same_count : length rates ≡ length events
   pub most : limit ≤ 22
   pub room : 2 ^ limit ≤ words.most
+  pub kept : KeepsNumbers rates past (2 ^ limit) numbers
 
 -- an outcome is that of coupling from the past (Propp and Wilson 1996) over the arc hulls of the states with k customers, for these functions
 pub record IsClosedSample (caps : List ℕ) (k : ℕ) (f : Functions) (limit : ℕ) (outcome : Outcome) : Type 0 where

@@ -8,9 +8,9 @@
 
 mod arcs;
 mod diagram;
-mod doubling;
 mod memory;
 mod plan;
+mod runs;
 
 pub use diagram::Diagram;
 pub use memory::OutOfMemory;

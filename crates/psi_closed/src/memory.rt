@@ -1,5 +1,7 @@
 //! Want of memory.
 
+use std::alloc::AllocError;
+
 /// Memory ran out.
 #[derive(Clone, Copy, Debug, PartialEq, Eq)]
 pub struct OutOfMemory;
@@ -12,6 +14,12 @@ impl From<psi_arcs::OutOfMemory> for OutOfMemory {
 
 impl From<psi_past::OutOfMemory> for OutOfMemory {
     fn from(_error: psi_past::OutOfMemory) -> OutOfMemory {
+        OutOfMemory
+    }
+}
+
+impl From<AllocError> for OutOfMemory {
+    fn from(_error: AllocError) -> OutOfMemory {
         OutOfMemory
     }
 }

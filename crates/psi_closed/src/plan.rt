@@ -7,17 +7,17 @@ ghost use Rattle.psi_closed.specs.Closed.{closed_ending, AreOrdered};
 ghost use Rattle.psi_closed.specs.Diagram.{IsTotal};
 ghost use Rattle.psi_closed.specs.Planned.{network_functions, AreMoves, IsClosedSample};
 
-use crate::doubling::first_ending;
+use crate::runs::ending;
 use crate::{Diagram, OutOfMemory};
 use psi_kinds::Move;
 use psi_past::{Kept, Past};
-use psi_rate::Wheel;
+use psi_rate::{Answers, Numbers, Wheel, first_answer, outcome_of};
 use psi_state::{Outcome, State};
 use std::alloc::Global;
 use std::marker::Model;
 
 /// A closed network, the number of its customers, and the past that its samples are drawn from, with the room for a
-/// diagram and for the words of the greatest horizon.
+/// diagram, for the words of the greatest horizon and for the numbers of their events.
 ///
 /// It is seen as the network, its number of customers with it, and the past.
 pub struct ClosedPlan<'n, P: Past + Drop> {
@@ -26,6 +26,8 @@ pub struct ClosedPlan<'n, P: Past + Drop> {
     wheel: &'n Wheel,
     limit: u8,
     words: Kept<P>,
+    // The numbers of the events of the words, as far as they were picked.
+    numbers: Numbers,
 }
 
 impl<'n, P: Past + Drop> Model for ClosedPlan<'n, P> {
@@ -38,7 +40,7 @@ impl<'n, P: Past + Drop> Model for ClosedPlan<'n, P> {
       past = p.words.past;
     } };
 
-    ghost invariant = { λ p. IsPlan p.diagram p.moves.now p.wheel.now p.limit p.words };
+    ghost invariant = { λ p. IsPlan p.diagram p.moves.now p.wheel.now p.limit (P.words p.words.past) p.words p.numbers };
 }
 
 // By hand, so that the end of a plan is a call where it ends, and not all of its steps.
@@ -50,6 +52,7 @@ impl<'n, P: Past + Drop> Drop for ClosedPlan<'n, P> {
             wheel: _,
             limit: _,
             words: _,
+            numbers: _,
         } = self;
     }
 }
@@ -60,8 +63,8 @@ impl<'n, P: Past + Drop> ClosedPlan<'n, P> {
     /// network, and it wants from 1 to its source's capacity of customers there. `limit` is the exponent of the
     /// greatest horizon, 0 to 22.
     ///
-    /// It takes the room for a diagram and for the 2 to the power `limit` words of the greatest horizon, of 4 bytes
-    /// each; `sample` takes no memory. `OutOfMemory` is the answer where there is no memory for it; no clause says
+    /// It takes the room for a diagram, for the 2 to the power `limit` words of the greatest horizon, of 4 bytes each,
+    /// and for the numbers of their events, of 2 bytes each; `sample` takes no memory. `OutOfMemory` is the answer where there is no memory for it; no clause says
     /// when that is.
     pub fn new(
         alloc: Global,
@@ -84,6 +87,7 @@ impl<'n, P: Past + Drop> ClosedPlan<'n, P> {
     {
         let most = 1 << limit;
         let words = Kept::reserve(alloc, past, most)?;
+        let numbers = Numbers::reserve(alloc, most)?;
         let diagram = Diagram::reserve(alloc, caps, total)?;
         Ok(ClosedPlan {
             diagram,
@@ -91,6 +95,7 @@ impl<'n, P: Past + Drop> ClosedPlan<'n, P> {
             wheel,
             limit,
             words,
+            numbers,
         })
     }
 
@@ -113,12 +118,36 @@ impl<'n, P: Past + Drop> ClosedPlan<'n, P> {
         ensures network { self.new.network ≡ self.old.network }
         ensures words { P.words self.new.past ≡ P.words self.old.past }
     {
-        first_ending(
+        let limit = self.limit;
+        outcome_of(limit, first_answer(self, limit))
+    }
+}
+
+/// A plan answers the one state with which the closed run of a horizon ends, at most 2 to the power `limit` steps
+/// before time zero, if it ends with one.
+impl<'n, P: Past + Drop> Answers for ClosedPlan<'n, P> {
+    ghost use Rattle.std.specs.Prelude.{◌≤◌, ◌^◌};
+    ghost use Rattle.psi_closed.specs.Closed.{closed_ending};
+    ghost use Rattle.psi_closed.specs.Planned.{Drawn, network_functions};
+
+    type Answer = State;
+
+    ghost Standing = { Drawn };
+
+    ghost standing = { λ plan. record { network = plan.network; words = P.words plan.past } };
+
+    ghost answer_at = { λ d. closed_ending d.network.caps d.network.total (network_functions d.network d.words) };
+
+    ghost Allows = { λ d horizon. horizon ≤ 2 ^ d.network.limit };
+
+    fn answer(&mut self, horizon: u32) -> Option<State> {
+        ending(
             self.moves,
             self.wheel,
-            self.limit,
             &mut self.words,
+            &mut self.numbers,
             &mut self.diagram,
+            horizon,
         )
     }
 }

@@ -8,5 +8,6 @@ pub mod LeastLemmas
 pub mod FunctionsLemmas
 pub mod OutcomesLemmas
 pub mod TableLemmas
+pub mod NumbersLemmas
 mod Dealt
 mod Worked

@@ -8,3 +8,5 @@ pub mod Least
 pub mod Refusal
 pub mod System
 pub mod Outcomes
+pub mod Numbers
+pub mod Keeping

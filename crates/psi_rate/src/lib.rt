@@ -6,9 +6,13 @@
 //! (`specs/Outcomes.antt`).
 #![tactic(auto)]
 
+mod doubling;
+mod numbers;
 mod system;
 mod table;
 mod wheel;
 
+pub use doubling::{Answers, first_answer, outcome_of};
+pub use numbers::Numbers;
 pub use system::System;
 pub use wheel::{RateRefusal, Wheel};

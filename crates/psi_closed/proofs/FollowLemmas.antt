@@ -1,0 +1,85 @@
+-- A run over the numbers of the events, without those that are idle, is the closed run over all places.
+use Rattle.std.specs.Prelude.{◌≡◌, ℕ, zero, suc, ◌-◌, ◌≤◌, ◌<◌, List, [], ◌∷◌, ◌++◌, length, slice_index, slice_index_or, map, Bool, if◌then◌else◌, refl}
+use Rattle.std.proofs.Common.{inl, inr, ap, sym, ◌∙◌, take, arith}
+use Rattle.std.proofs.lemmas.Bool.{cases_lt, lt-ltb, le-ltb}
+use Rattle.std.proofs.lemmas.List.{get_or_past, append-nil}
+use Rattle.std.proofs.Math.Seq.{take-suc}
+use Rattle.psi_state.specs.Sets.{image, single}
+use Rattle.psi_kinds.specs.declared.moves.Move.{Move}
+use Rattle.psi_kinds.specs.Moves.{moved}
+use Rattle.psi_rate.specs.Rates.{event_of}
+use Rattle.psi_rate.specs.Composition.{function_at, picked}
+use Rattle.psi_rate.specs.Numbers.{numbers_below}
+use Rattle.psi_closed.specs.Closed.{total_states, arc_hull, IsHull, closed_after, closed_ending, follow_closed}
+use Rattle.psi_closed.proofs.HullLemmas.{total-hull, hull-hull, hull-rests}
+use Rattle.psi_closed.proofs.RunsLemmas.{run-begins}
+
+module _ (caps : List ℕ) (k : ℕ) (functions : List (List ℕ → List ℕ)) where
+  follow_closed-append : (ns ms : List ℕ) (xs : List (List ℕ)) → follow_closed caps k functions (ns ++ ms) xs ≡ follow_closed caps k functions ns (follow_closed caps k functions ms xs)
+  follow_closed-append [] ms xs = refl
+  follow_closed-append (n ∷ ns) ms xs =
+      ap (λ (ys : List (List ℕ)). arc_hull caps k (image (slice_index_or functions n (λ x. x)) ys)) (follow_closed-append ns ms xs)
+
+  -- the step of one number takes it off the end
+  pub follow_closed-take : (numbers : List ℕ) (i : ℕ) (old new end : List (List ℕ)) → 1 ≤ i → i ≤ length numbers
+      → new ≡ arc_hull caps k (image (slice_index_or functions (slice_index numbers (i - 1)) (λ x. x)) old) → follow_closed caps k functions (take i numbers) old ≡ end
+      → follow_closed caps k functions (take (i - 1) numbers) new ≡ end
+  follow_closed-take numbers i old new end some within stepped is =
+      let last = i - 1 in
+      let e : suc last ≡ i = omega arith in
+      let small : last < length numbers = omega arith in
+      ap (λ (ys : List (List ℕ)). follow_closed caps k functions (take last numbers) ys) stepped
+      ∙ sym (follow_closed-append (take last numbers) (slice_index numbers last ∷ []) old)
+      ∙ ap (λ (ns : List ℕ). follow_closed caps k functions ns old) (sym (take-suc numbers last 0 small))
+      ∙ ap (λ n. follow_closed caps k functions (take n numbers) old) e
+      ∙ is
+
+  -- an idle step changes nothing
+  numbers-after : (rates : List ℕ) (words : ℕ → ℕ) (t : ℕ) (xs : List (List ℕ)) → length rates ≡ length functions → IsHull caps k xs
+      → follow_closed caps k functions (numbers_below rates words t) xs ≡ closed_after caps k (function_at functions rates words) t xs
+  numbers-after rates words zero xs same hull = refl
+  numbers-after rates words (suc t) xs same hull =
+      let f = function_at functions rates words in
+      let number = event_of rates (words t) in
+      let before = numbers_below rates words t in
+      let place : suc t - 1 ≡ t = omega arith in
+      let now : f (suc t) ≡ slice_index_or functions number (λ x. x) = ap (λ n. picked functions rates (words n)) place in
+      elim (cases_lt number (length rates)) [
+        | inl small ↦
+            (let next = arc_hull caps k (image (f (suc t)) xs) in
+            ap (λ (b : Bool). follow_closed caps k functions (before ++ (if b then number ∷ [] else [])) xs) (lt-ltb number (length rates) small)
+            ∙ follow_closed-append before (number ∷ []) xs
+            ∙ ap (λ (g : List ℕ → List ℕ). follow_closed caps k functions before (arc_hull caps k (image g xs))) (sym now)
+            ∙ numbers-after rates words t next same (hull-hull caps k (image (f (suc t)) xs)))
+        | inr past ↦
+            (let idle : slice_index_or functions number (λ x. x) ≡ (λ x. x) = get_or_past functions number (λ x. x) (omega (arith, same, past)) in
+            ap (λ (b : Bool). follow_closed caps k functions (before ++ (if b then number ∷ [] else [])) xs) (le-ltb number (length rates) past)
+            ∙ ap (λ (ns : List ℕ). follow_closed caps k functions ns xs) (append-nil before)
+            ∙ numbers-after rates words t xs same hull
+            ∙ ap (λ (ys : List (List ℕ)). closed_after caps k f t ys)
+            (sym (ap (λ (g : List ℕ → List ℕ). arc_hull caps k (image g xs)) (now ∙ idle) ∙ hull-rests caps k xs hull)))
+      ]
+
+  -- so it ends with one state exactly where that run does
+  pub numbers-ending : (rates : List ℕ) (words : ℕ → ℕ) (t : ℕ) (numbers : List ℕ) → length rates ≡ length functions → numbers ≡ numbers_below rates words t
+      → single (follow_closed caps k functions numbers (total_states caps k)) ≡ closed_ending caps k (function_at functions rates words) t
+  numbers-ending rates words t numbers same is =
+      ap (λ (ns : List ℕ). single (follow_closed caps k functions ns (total_states caps k))) is
+      ∙ ap (λ (ys : List (List ℕ)). single ys)
+      (numbers-after rates words t (total_states caps k) same (total-hull caps k) ∙ run-begins caps k (function_at functions rates words) t)
+
+-- the function of the move of a number
+read-map : {A B : Type 0} (f : A → B) (xs : List A) (n : ℕ) (d : A) (e : B) → n < length xs → slice_index_or (map f xs) n e ≡ f (slice_index_or xs n d)
+read-map f [] n d e small = absurd (omega arith)
+read-map f (x ∷ xs) zero d e small = refl
+read-map f (x ∷ xs) (suc n) d e small = read-map f xs n d e (omega arith)
+
+-- a step by a move is one by the function of its number
+pub step-is : (caps room : List ℕ) (k total : ℕ) (moves : List Move) (n : ℕ) (d : Move) (old new : List (List ℕ)) → n < length moves → room ≡ caps → total ≡ k
+    → new ≡ arc_hull room total (image (moved room (slice_index_or moves n d)) old)
+    → new ≡ arc_hull caps k (image (slice_index_or (map (λ m. moved caps m) moves) n (λ x. x)) old)
+step-is caps room k total moves n d old new small first second stepped =
+    stepped
+    ∙ ap (λ (top : List ℕ). arc_hull top total (image (moved top (slice_index_or moves n d)) old)) first
+    ∙ ap (λ j. arc_hull caps j (image (moved caps (slice_index_or moves n d)) old)) second
+    ∙ ap (λ (g : List ℕ → List ℕ). arc_hull caps k (image g old)) (sym (read-map (λ m. moved caps m) moves n d (λ x. x) small))

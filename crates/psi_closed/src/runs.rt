@@ -1,0 +1,57 @@
+//! The closed run of a horizon.
+
+ghost use Rattle.std.specs.Prelude.{◌≡◌, ◌<◌, ◌≤◌, ℕ, All, length, map};
+ghost use Rattle.psi_state.specs.Sets.{single};
+ghost use Rattle.psi_kinds.specs.Moves.{moved};
+ghost use Rattle.psi_rate.specs.Keeping.{KeepsNumbers};
+ghost use Rattle.psi_closed.specs.Closed.{total_states, follow_closed, closed_ending};
+ghost use Rattle.psi_closed.specs.Planned.{functions_of, AreMoves};
+
+use crate::Diagram;
+use psi_kinds::Move;
+use psi_past::{Kept, Past};
+use psi_rate::{Numbers, Wheel};
+use psi_state::State;
+
+// The one state with which the closed run of a horizon ends, if it ends with one. The diagram goes through the numbers
+// of the events of its places, which are kept for the next run.
+pub(crate) fn ending<P: Past + Drop>(
+    moves: &[Move],
+    wheel: &Wheel,
+    words: &mut Kept<P>,
+    numbers: &mut Numbers,
+    diagram: &mut Diagram,
+    horizon: u32,
+) -> Option<State>
+    requires moves { AreMoves diagram.old.caps moves.now }
+    requires same_count { length wheel.now ≡ length moves.now }
+    requires room { horizon ≤ words.old.most }
+    requires kept { KeepsNumbers wheel.now (P.words words.old.past) horizon numbers.old }
+    ensures ending { result ≡ closed_ending diagram.old.caps diagram.old.total (functions_of diagram.old.caps moves.now wheel.now (P.words words.old.past)) horizon }
+    ensures kept { (most : ℕ) → KeepsNumbers wheel.now (P.words words.old.past) most numbers.old → KeepsNumbers wheel.now (P.words words.old.past) most numbers.new }
+    ensures words { P.words words.new.past ≡ P.words words.old.past }
+    ensures most { words.new.most ≡ words.old.most }
+    ensures caps { diagram.new.caps ≡ diagram.old.caps }
+    ensures total { diagram.new.total ≡ diagram.old.total }
+{
+    numbers.extend_to(wheel, words, horizon);
+    let run = numbers.below(wheel, words, horizon);
+    follow_numbers(moves, run, diagram)
+}
+
+// The one state with which the diagram ends that begins with all states of the total and goes through the moves of
+// these numbers, the last one first, if it ends with one.
+fn follow_numbers(moves: &[Move], numbers: &[u16], diagram: &mut Diagram) -> Option<State>
+    requires moves { AreMoves diagram.old.caps moves.now }
+    requires numbers { All (λ n. n < length moves.now) numbers.now }
+    ensures ending { let functions = map (λ m. moved diagram.old.caps m) moves.now in
+        result ≡ single (follow_closed diagram.old.caps diagram.old.total functions numbers.now (total_states diagram.old.caps diagram.old.total)) }
+    ensures caps { diagram.new.caps ≡ diagram.old.caps }
+    ensures total { diagram.new.total ≡ diagram.old.total }
+{
+    diagram.start();
+    for place in (0..numbers.len()).rev() {
+        diagram.advance(&moves[numbers[place] as usize]);
+    }
+    diagram.single()
+}

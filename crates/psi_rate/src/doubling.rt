@@ -1,0 +1,68 @@
+//! The doubling of horizons.
+
+ghost use Rattle.std.specs.Prelude.{◌≡◌, ℕ, ◌≤◌, ◌^◌, Option};
+ghost use Rattle.psi_rate.specs.Doubling.{TellsFirst};
+ghost use Rattle.psi_rate.specs.Outcomes.{outcome_of};
+
+use psi_state::{Outcome, State};
+
+/// What has an answer at each horizon, or none there: the one state with which a run ends, say, if it ends with one.
+///
+/// It stands for something that no call changes, and the answers are those of what it stands for.
+pub trait Answers {
+    /// What an answer is.
+    type Answer: Copy;
+
+    // What it may stand for.
+    ghost Standing: { Type 0 };
+
+    // What it stands for.
+    ghost standing: { Self → Standing };
+
+    // The answer at each horizon, if there is one.
+    ghost answer_at: { Standing → ℕ → Option Self.Answer };
+
+    // The horizons that may be asked for.
+    ghost Allows: { Standing → ℕ → Type 0 };
+
+    // What holds after a call, if there is more to say.
+    ghost IsAsked: { Self → Type 0 } = { λ _. Unit {0} };
+
+    /// The answer at a horizon, in steps before time zero, if there is one.
+    fn answer(&mut self, horizon: u32) -> Option<Self::Answer>
+        requires { Allows (standing self.old) horizon }
+        ensures value { result ≡ answer_at (standing self.old) horizon }
+        ensures same { standing self.new ≡ standing self.old }
+        ensures asked { IsAsked self.new };
+}
+
+/// The first answer among those at the horizons 1, 2, 4, .., 2 to the power `limit`, with its horizon; nothing exactly
+/// where none of these has one. The horizons are doubled as those of coupling from the past (Propp and Wilson 1996).
+/// `limit` is at most 22.
+///
+/// What it stands for is the same afterwards. The call takes no memory but what the answers take.
+pub fn first_answer<R: Answers>(run: &mut R, limit: u8) -> Option<(u32, R::Answer)>
+    requires most { limit ≤ 22 }
+    requires allowed { (exponent : ℕ) → exponent ≤ limit → R.Allows (R.standing run.old) (2 ^ exponent) }
+    ensures first { TellsFirst (R.answer_at (R.standing run.old)) limit result }
+    ensures same { R.standing run.new ≡ R.standing run.old }
+    ensures asked { R.IsAsked run.new }
+{
+    for exponent in 0..limit + 1 {
+        let horizon = 1 << exponent;
+        if let Some(answer) = run.answer(horizon) {
+            return Some((horizon, answer));
+        }
+    }
+    None
+}
+
+/// The first answer of runs that answer the state with which they end, told as an outcome.
+pub fn outcome_of(limit: u8, found: Option<(u32, State)>) -> Outcome
+    ensures { result ≡ outcome_of limit found }
+{
+    match found {
+        Some((horizon, state)) => Outcome::Met { horizon, state },
+        None => Outcome::NotMet { limit },
+    }
+}
