@@ -9,4 +9,5 @@ mod plans;
 mod pools;
 mod queues;
 mod refusals;
+mod reports;
 mod states;
