@@ -5,7 +5,6 @@ use Rattle.std.proofs.Common.{get_or, ap, sym, ◌∙◌, subst, append_assoc, i
 use Rattle.std.proofs.lemmas.Bool.{cases_order, lt-leb}
 use Rattle.std.proofs.lemmas.List.{take_all, length-take-le, take-append-drop, drop_more, drop_all, map_more, map-append, append-nil}
 use Rattle.std.specs.declared.alloc.Global.{Global}
-use Rattle.psi_io.specs.Counts.{Rose}
 use Rattle.psi_io.specs.Shelf.{Read}
 use Rattle.psi_io.proofs.CountsLemmas.{rose-over}
 use Rattle.psi_reports.specs.Contents.{Contents}
@@ -17,7 +16,7 @@ use Rattle.psi_merge.specs.declared.ending.Ending.{Ending}
 use Rattle.psi_merge.specs.declared.ending.Ending.TheVariants.{Merged, Usage, Refused, OtherNetwork, TooLarge, Unread, OutOfMemory}
 use Rattle.psi_merge.specs.Reports.{report_in}
 use Rattle.psi_merge.specs.Reply.{Reply, report_reply, report_at, merge_reply, go_on, with_file, with_files, whole_of, is_file, are_files, whole_reply, reply_to, text_reply}
-use Rattle.psi_merge.specs.Seen.{ShelfSeen, IsUnread, read_of, HasAsked, IsNext, HasAskedTo, IsNeeded}
+use Rattle.psi_merge.specs.Seen.{ShelfSeen, IsUnread, read_of, HasAsked, IsNext}
 use Rattle.psi_merge.specs.Ended.{MayEnd, MayBe, MayReply, IsUnreadOf, IsTold, IsMissed, AreMissed, AreRead, IsFound, AreFound, IsCaused, IsEnding}
 use Rattle.psi_merge.specs.Spared.{AreNextGiven, AreGiven, HasRead}
 

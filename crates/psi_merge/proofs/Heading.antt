@@ -1,5 +1,5 @@
 -- The reports of lists of samples of one network, merged.
-use Rattle.std.specs.Prelude.{◌≡◌, ℕ, ◌≤◌, List, [], ◌∷◌, ◌++◌, length, Option, Some, None, IfSome, Ok, true, ◌⊎◌, refl}
+use Rattle.std.specs.Prelude.{◌≡◌, ℕ, List, [], ◌∷◌, ◌++◌, length, Option, Some, None, IfSome, Ok, true, ◌⊎◌, refl}
 use Rattle.std.proofs.Common.{inl, inr, ap, sym, ◌∙◌, subst, append_assoc, arith}
 use Rattle.std.proofs.lemmas.Bool.{le-leb}
 use Rattle.std.proofs.lemmas.List.{append-nil, length-append}
@@ -11,6 +11,7 @@ use Rattle.psi_reports.proofs.OutcomesLemmas.{report_text-contents}
 use Rattle.psi_reports.proofs.SampleLemmas.{of-left, of-right}
 use Rattle.psi_reports.proofs.SampleLaws.{samples-read, samples-merged}
 use Rattle.psi_reports.proofs.SoundLaws.{report-sound}
+use Rattle.psi_reports.proofs.ShortLaws.{reports-short}
 use Rattle.psi_merge.specs.declared.status.Status.{Status}
 use Rattle.psi_merge.specs.declared.status.Status.TheVariants.{OutOfMemory}
 use Rattle.psi_merge.specs.Status.{IsReplied}
@@ -36,14 +37,15 @@ few-right net outcomes others are = record {
 -- ---- the files
 
 -- the report of samples is what is found in it
-report-found : (net : Network) (outcomes : List Outcome) → AreFewOf net outcomes → length (report_text net outcomes) ≤ 1048576 → report_in (report_text net outcomes) ≡ Ok (contents_of net outcomes)
+report-found : (net : Network) (outcomes : List Outcome) → AreFewOf net outcomes → report_in (report_text net outcomes) ≡ Ok (contents_of net outcomes)
 unfolding report_in
-report-found net outcomes are short =
-    rw (le-leb (length (report_text net outcomes)) 1048576 short, samples-read net outcomes are.samples are.few, report-sound net outcomes are.samples) refl
+report-found net outcomes are =
+    let short = reports-short net outcomes are.samples are.few in
+    rw (le-leb (length (report_text net outcomes)) 1048576 (omega arith), samples-read net outcomes are.samples are.few, report-sound net outcomes are.samples) refl
 
 report-told : (net : Network) (told : List ℕ → Option (List ℕ)) (word : List ℕ) (outcomes : List Outcome) → AreFewOf net outcomes → told word ≡ Some (report_text net outcomes)
-    → length (report_text net outcomes) ≤ 1048576 → report_at told word ≡ Some (Ok (contents_of net outcomes))
-report-told net told word outcomes are there short = rw (there, report-found net outcomes are short) refl
+    → report_at told word ≡ Some (Ok (contents_of net outcomes))
+report-told net told word outcomes are there = rw (there, report-found net outcomes are) refl
 
 files-merged : (net : Network) (told : List ℕ → Option (List ℕ)) (words : List (List ℕ)) (lists : List (List Outcome)) (before : List Outcome) → AreReports net told words lists
     → AreFewOf net (before ++ all_of lists) → with_files told (contents_of net before) words ≡ Some (Ok (contents_of net (before ++ all_of lists)))
@@ -56,8 +58,8 @@ files-merged net told (word ∷ words) (outcomes ∷ lists) before are samples =
     let both : AreFewOf net ((before ++ outcomes) ++ all_of lists) = subst (AreFewOf net) joined samples in
     let first = few-left net (before ++ outcomes) (all_of lists) both in
     let own = few-right net before outcomes first in
-    rw (report-told net told word outcomes own are.0 are.1, samples-merged net before outcomes first.samples first.few)
-    (files-merged net told words lists (before ++ outcomes) are.2 both ∙ ap (λ os. Some (Ok (contents_of net os))) (sym joined))
+    rw (report-told net told word outcomes own are.0, samples-merged net before outcomes first.samples first.few)
+    (files-merged net told words lists (before ++ outcomes) are.1 both ∙ ap (λ os. Some (Ok (contents_of net os))) (sym joined))
 
 whole-merged : (net : Network) (told : List ℕ → Option (List ℕ)) (words : List (List ℕ)) (lists : List (List Outcome)) → are_files words ≡ true → AreReports net told words lists
     → AreFewOf net (all_of lists) → whole_of told words ≡ Some (Ok (contents_of net (all_of lists)))
@@ -65,7 +67,7 @@ unfolding are_files
 whole-merged net told [] lists files are samples = absurd cc
 whole-merged net told (word ∷ words) [] files are samples = absurd are
 whole-merged net told (word ∷ words) (outcomes ∷ lists) files are samples =
-    rw (report-told net told word outcomes (few-left net outcomes (all_of lists) samples) are.0 are.1) (files-merged net told words lists outcomes are.2 samples)
+    rw (report-told net told word outcomes (few-left net outcomes (all_of lists) samples) are.0) (files-merged net told words lists outcomes are.1 samples)
 
 reply-merged : (net : Network) (told : List ℕ → Option (List ℕ)) (words : List (List ℕ)) (lists : List (List Outcome)) → are_files words ≡ true → AreReports net told words lists
     → AreFewOf net (all_of lists) → reply_to told words ≡ Some (text_reply (report_text net (all_of lists)))

@@ -1,5 +1,5 @@
 -- What a call of the program is seen to do.
-use Rattle.std.specs.Prelude.{◌≡◌, ℕ, ◌<◌, ◌≤◌, ◌^◌, List, [], ◌∷◌, length, Option, Some, IfSome, true, false, ◌⊎◌}
+use Rattle.std.specs.Prelude.{◌≡◌, ℕ, ◌<◌, ◌^◌, List, [], ◌∷◌, length, Option, Some, IfSome, true, false, ◌⊎◌}
 use Rattle.std.specs.List.{flat_map}
 use Rattle.psi_state.specs.declared.Outcome.{Outcome}
 use Rattle.psi_network.specs.Network.{Network}
@@ -74,11 +74,11 @@ pub record IsRun (call : Call) (result : Status) : Type 0 where
   pub silent_out : IsReported result → IsUnchanged call.out
   pub silent_err : result ≡ Done → IsUnchanged call.err
 
--- the shelf tells of each word the report of its list of samples of the network, which has at most 1,048,576 bytes
+-- the shelf tells of each word the report of its list of samples of the network
 abbrev pub AreReports : Network → (List ℕ → Option (List ℕ)) → List (List ℕ) → List (List Outcome) → Type 0
 AreReports net told [] [] = Unit {0}
 AreReports net told (word ∷ words) (outcomes ∷ lists) =
-    (told word ≡ Some (report_text net outcomes)) × (length (report_text net outcomes) ≤ 1048576) × AreReports net told words lists
+    (told word ≡ Some (report_text net outcomes)) × AreReports net told words lists
 AreReports net told words lists = ⊥
 
 -- the lists, one behind the other

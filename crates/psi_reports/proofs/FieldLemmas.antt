@@ -53,10 +53,10 @@ fields-more a b v rows first second third behind_it rest =
     ∙ ap (λ (rows : List (List (List ℕ))). row a b v ∷ rows) (behind_it rest)
 
 -- a literal of bytes as they stand in names
-literal : (word : List ℕ) → list_all is_name_byte word ≡ true → All IsPlain word
+pub literal : (word : List ℕ) → list_all is_name_byte word ≡ true → All IsPlain word
 literal word are = name-bytes-plain word are
 
-item-plain : (item : Item) → All IsPlain (item_text item)
+pub item-plain : (item : Item) → All IsPlain (item_text item)
 item-plain Sum = literal (codes "sum") refl
 item-plain Least = literal (codes "least") refl
 item-plain Greatest = literal (codes "greatest") refl

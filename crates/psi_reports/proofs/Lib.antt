@@ -36,3 +36,4 @@ mod WrongLines
 pub mod WrongLaws
 pub mod NetworkLaws
 pub mod StandLaws
+pub mod ShortLaws

@@ -32,3 +32,7 @@ pub record AreOf (net : Network) (outcomes : List Outcome) : Type 0 where
 -- the report of less than 2^64 of them is read as what it tells
 abbrev pub SamplesAreRead : Type 0
 SamplesAreRead = (net : Network) (outcomes : List Outcome) → AreOf net outcomes → length outcomes < 2 ^ 64 → read (report_text net outcomes) ≡ Ok (contents_of net outcomes)
+
+-- and it has at most 32,768 bytes
+abbrev pub ReportsAreShort : Type 0
+ReportsAreShort = (net : Network) (outcomes : List Outcome) → AreOf net outcomes → length outcomes < 2 ^ 64 → length (report_text net outcomes) ≤ 32768

@@ -3,7 +3,7 @@
 ghost use Rattle.psi_reports.specs.Outcomes.{ReportIsText};
 ghost use Rattle.psi_reports.specs.Reading.{ReadIsText, TextIsRead};
 ghost use Rattle.psi_reports.specs.Small.{ReportIsRead};
-ghost use Rattle.psi_reports.specs.Samples.{SamplesAreRead};
+ghost use Rattle.psi_reports.specs.Samples.{SamplesAreRead, ReportsAreShort};
 ghost use Rattle.psi_reports.specs.Merging.{ReportsAreMerged, SamplesAreMerged};
 ghost use Rattle.psi_reports.specs.Sound.{ReportIsSound, SumsAreReached};
 ghost use Rattle.psi_reports.specs.Reached.{QueueReportsAreReached};
@@ -26,6 +26,11 @@ pub fn text_is_read()
 pub fn report_is_read()
     ensures measured { ReportIsRead }
     ensures sampled { SamplesAreRead }
+{}
+
+/// The report of less than 2^64 samples of a network that a file may describe has at most 32,768 bytes.
+pub fn reports_are_short()
+    ensures { ReportsAreShort }
 {}
 
 /// The reports of two lists of samples of one network, less than 2^32 together, whose values have 64 bits, are merged

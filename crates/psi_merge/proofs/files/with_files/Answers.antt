@@ -1,5 +1,5 @@
 -- Answers in the proof of `with_files`.
-use Rattle.std.specs.Prelude.{string_bytes, map}
+use Rattle.std.specs.Prelude.{string_bytes}
 use Rattle.std.proofs.Common.{◌∙◌, refl, sym, arith}
 use Rattle.std.proofs.lemmas.List.{append-nil}
 use Rattle.psi_merge.proofs.Finding.{has-none, has-more, all-missed, next-at, has-all, asked-next, asked-all, missed-at}
