@@ -29,6 +29,7 @@ use Rattle.psi_state.specs.declared.Outcome.{Outcome}
 use Rattle.psi_reports.specs.Samples.{AreNames, IsDescribed, AreOf}
 use Rattle.psi_reports.proofs.SampleLaws.{samples-read, samples-merged}
 use Rattle.psi_reports.proofs.SoundLaws.{report-sound}
+use Rattle.psi_reports.proofs.ShortLaws.{reports-short}
 use Rattle.psi_report_laws.specs.Described.{NetworksAreDescribed, AreCounted, ReportsAreReadBack, ReportsAreMerged}
 use Rattle.psi_report_laws.proofs.NameLemmas.{names-push}
 
@@ -200,7 +201,9 @@ samples-of : (bytes : List ℕ) (net : Network) (outcomes : List Outcome) → ne
 samples-of bytes net outcomes is are = record { network = networks-described bytes net is; samples = are.each }
 
 pub reports-read : ReportsAreReadBack
-reports-read bytes net outcomes is are = (let own = samples-of bytes net outcomes is are in record { reading = samples-read net outcomes own are.few; right = report-sound net outcomes own })
+reports-read bytes net outcomes is are =
+    let own = samples-of bytes net outcomes is are in
+    record { reading = samples-read net outcomes own are.few; right = report-sound net outcomes own; short = reports-short net outcomes own are.few }
 
 pub reports-merged : ReportsAreMerged
 reports-merged bytes net outcomes others is are = samples-merged net outcomes others (samples-of bytes net (outcomes ++ others) is are) are.few

@@ -2,3 +2,4 @@
 mod NameLemmas
 mod DescribedLaws
 mod GeneratedLaws
+mod PrintedLaws

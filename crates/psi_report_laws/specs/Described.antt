@@ -1,5 +1,5 @@
 -- What reports show of the networks that there are: those that files describe, and those that trials make of numbers.
-use Rattle.std.specs.Prelude.{◌≡◌, ℕ, ◌^◌, ◌<◌, List, ◌++◌, length, All, None, Ok}
+use Rattle.std.specs.Prelude.{◌≡◌, ℕ, ◌^◌, ◌<◌, ◌≤◌, List, ◌++◌, length, All, None, Ok}
 use Rattle.psi_state.specs.declared.Outcome.{Outcome}
 use Rattle.psi_network.specs.Network.{Network}
 use Rattle.psi_network.specs.Generated.{generated_network}
@@ -25,10 +25,11 @@ pub record AreCounted (net : Network) (outcomes : List Outcome) : Type 0 where
   pub each : All (IsSampleOf net) outcomes
   pub few : length outcomes < 2 ^ 64
 
--- their report is read as what it tells, and no line of it is wrong
+-- their report is read as what it tells, no line of it is wrong, and it has at most 32,768 bytes
 pub record IsReadBack (net : Network) (outcomes : List Outcome) : Type 0 where
   pub reading : read (report_text net outcomes) ≡ Ok (contents_of net outcomes)
   pub right : flaw_of (contents_of net outcomes) ≡ None
+  pub short : length (report_text net outcomes) ≤ 32768
 
 -- so it is with each network of a file
 abbrev pub ReportsAreReadBack : Type 0
