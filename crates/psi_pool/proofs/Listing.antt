@@ -1,8 +1,8 @@
 -- The states of nodes are listed in ascending order, and lists are merged into nodes.
-use Rattle.std.proofs.Common.{◌≡◌, ◌⊎◌, ℕ, zero, suc, ◌+◌, ◌-◌, ◌<◌, ◌≤◌, List, [], ◌∷◌, ◌++◌, ◌==◌, false, length, get_or, slice_set, inl, inr, ap, sym, ◌∙◌, subst, arith, refl, length-set, length-append, get_or-set_same, get_or-set_other}
+use Rattle.std.proofs.Common.{◌≡◌, ◌⊎◌, ℕ, zero, suc, ◌+◌, ◌-◌, ◌<◌, ◌≤◌, List, [], ◌∷◌, ◌++◌, ◌==◌, false, length, get_or, slice_set, inl, inr, ap, sym, ◌∙◌, subst, arith, refl, length-set, get_or-set_same, get_or-set_other}
 use Rattle.std.specs.declared.cmp.Ordering.TheVariants.{Less, Equal, Greater}
 use Rattle.std.proofs.lemmas.Bool.{cases_eq, cases_lt}
-use Rattle.std.proofs.lemmas.List.{get_or_default, get_or_append_left}
+use Rattle.std.proofs.lemmas.List.{get_or_default}
 use Rattle.psi_state.specs.Members.{In}
 use Rattle.psi_state.proofs.MembersLemmas.{In-append, In-append_left, In-append_right}
 use Rattle.psi_state.specs.Sets.{state_cmp, ascending}
@@ -11,7 +11,7 @@ use Rattle.psi_state.specs.Ascending.{IsRising, HaveSame}
 use Rattle.psi_state.proofs.AscendingLemmas.{cmp-through, cmp-back, ascending-own, ascending-members}
 use Rattle.psi_pool.specs.declared.nodes.Node.{Node}
 use Rattle.psi_pool.specs.Nodes.{node_at, states}
-use Rattle.psi_pool.proofs.Places.{StandsIn, node-read, place-of, In-at, states-next, states-same}
+use Rattle.psi_pool.proofs.Places.{StandsIn, node-read, place-of, In-at, states-next}
 use Rattle.psi_pool.proofs.Keeping.{members-inserted}
 use Rattle.psi_pool.proofs.Counting.{positive}
 
@@ -59,13 +59,6 @@ rising-more (y ∷ xs) x rising above = (
   rising-more xs x rising.1 (λ z here. above z (inr here)),
 )
 
--- a state that is there already changes no set
-pub members-there : (xs : List (List ℕ)) (x : List ℕ) → In x xs → HaveSame xs (x ∷ xs)
-members-there xs x member = record {
-  there = λ z found. inr found;
-  back = λ z found. elim found [ inl e ↦ subst (λ (w : List ℕ). In w xs) (sym e) member | inr t ↦ t ];
-}
-
 -- a state more, among those that are listed
 pub listed-more : (more xs ys all : List (List ℕ)) (x : List ℕ) → HaveSame more (x ∷ xs) → HaveSame (xs ++ ys) all → HaveSame (more ++ ys) (all ++ x ∷ [])
 listed-more more xs ys all x first second = record {
@@ -112,16 +105,6 @@ pub record IsListing (nodes old : List Node) (out : List (List ℕ)) (aside plac
   pub waiting : (i : ℕ) → place ≤ i → node_at nodes i ≡ node_at old i
   pub same : length nodes ≡ length old
   pub still : aside ≡ 0 → nodes ≡ old
-
-pub listing-start : (nodes : List Node) → IsListing nodes nodes [] 0 0
-listing-start nodes = record {
-  rising = tt;
-  members = record { there = λ z member. member; back = λ z member. member };
-  fewer = omega arith;
-  waiting = λ i above. refl;
-  same = refl;
-  still = λ none. refl;
-}
 
 -- the next node's state is listed
 pub listing-listed : (nodes old : List Node) (out more : List (List ℕ)) (aside place : ℕ) (x : List ℕ) → IsListing nodes old out aside place → place < length old
@@ -190,22 +173,6 @@ same-through xs ys zs first second = record {
   there = λ z member. second.there z (first.there z member);
   back = λ z member. first.back z (second.back z member);
 }
-
--- the list is as long as the nodes, so nothing was set aside
-pub same-listed : (nodes old : List Node) (count aside : ℕ) → length nodes ≡ length old → count + aside ≤ length old → count ≡ length nodes → (aside ≡ 0 → nodes ≡ old)
-    → HaveSame (states nodes (count + aside)) (states old (length old))
-same-listed nodes old count aside long fewer all still =
-    let none : aside ≡ 0 = omega arith in
-    let whole : length old ≡ count + aside = omega arith in
-    subst (λ (ns : List Node). HaveSame (states nodes (count + aside)) (states ns (length old))) (still none)
-    (subst (λ n. HaveSame (states nodes n) (states nodes (length old))) whole (record { there = λ z member. member; back = λ z member. member }))
-
--- the first nodes, where other nodes come behind them
-pub states-front : (nodes rest : List Node) (n : ℕ) → n ≤ length nodes → states (nodes ++ rest) n ≡ states nodes n
-states-front nodes rest n within =
-    let long = length-append nodes rest in
-    states-same nodes (nodes ++ rest) n within (omega arith)
-    (λ i small. ap (λ (m : Node). m.state) (get_or_append_left nodes rest (record { state = []; next = 4096 }) i (omega arith)))
 
 -- z is one of the first states of a list
 abbrev pub ListedIn : List (List ℕ) → ℕ → List ℕ → Type 0
