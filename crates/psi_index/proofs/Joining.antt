@@ -1,5 +1,5 @@
 -- Two stretches that overlap make a longer one.
-use Rattle.std.proofs.Common.{Result, IfOk, ◌≡◌, ℕ, zero, suc, ◌+◌, ◌-◌, ◌*◌, ◌<◌, ◌≤◌, List, [], ◌∷◌, ◌^◌, length, map, min, take, drop, slice_index, slice_range, inl, inr, ap, sym, ◌∙◌, subst, arith, refl, length-drop}
+use Rattle.std.proofs.Common.{Result, IfOk, ◌≡◌, ℕ, zero, suc, ◌+◌, ◌-◌, ◌*◌, ◌<◌, ◌≤◌, List, [], ◌∷◌, ◌^◌, length, map, min, take, drop, slice_index, slice_range, inl, inr, ap, sym, ◌∙◌, subst, arith, length-drop}
 use Rattle.std.proofs.lemmas.Bool.{cases_lt}
 use Rattle.std.proofs.lemmas.Nat.{pow-add}
 use Rattle.std.proofs.lemmas.Result.{IfOk-weaker}
@@ -7,12 +7,6 @@ use Rattle.std.proofs.lemmas.List.{get_or-take, get_or-drop, drop-map, take-map,
 use Rattle.psi_index.specs.Extremes.{complement, greatest_of, least_of, AreLeast, IsLeast, IsValueList}
 use Rattle.psi_index.specs.Levels.{IsJoined}
 use Rattle.psi_index.specs.declared.level.Level.{Level}
-
-pub least-one : (values : List ℕ) (first : ℕ) → IsLeast values first (first + 1) (slice_index values first)
-least-one values first = record {
-  below = λ k low high. (let e : k ≡ first = omega arith in let same : slice_index values k ≡ slice_index values first = ap (λ j. slice_index values j) e in omega arith);
-  reached = (first, omega arith, omega arith, refl);
-}
 
 pub least-join : (values : List ℕ) (a b c d m n : ℕ) → IsLeast values a b m → IsLeast values c d n → a ≤ c → c ≤ b → b ≤ d → IsLeast values a d (min m n)
 least-join values a b c d m n left right low meet high = record {

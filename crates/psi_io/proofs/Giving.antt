@@ -1,16 +1,9 @@
 -- A name that a shelf in memory gives: no read of it fails, and no count rises.
-use Rattle.std.proofs.Common.{◌≡◌, ℕ, List, length, Result, Ok, Err, Option, None, Some, [], inl, inr, refl, sym, ◌∙◌, ap, arith}
+use Rattle.std.proofs.Common.{◌≡◌, ℕ, List, length, Result, Ok, Err, Option, inl, inr, refl, sym, ◌∙◌, ap, arith}
 use Rattle.std.specs.Prelude.{◌↔◌, OnOk, IsErrOf}
 use Rattle.psi_io.specs.MemoryShelf.{ShelfContents, told_of, faults_of, FailsToRead, Gives, after_read, after_failed_read}
 use Rattle.psi_io.specs.declared.shelf.ShelfFault.{ShelfFault}
 use Rattle.psi_io.specs.declared.shelf.ShelfFault.TheVariants.{Failed, OutOfMemory}
-
--- a shelf gives what it tells, where no number of a read is to fail
-pub gives-told : (shelf : ShelfContents) (name bytes : List ℕ) → told_of shelf name ≡ Some bytes → shelf.fails ≡ [] → Gives shelf name
-gives-told shelf name bytes told none = record {
-  there = λ absent. (let clash : ◌≡◌ {A = Option (List ℕ)} None (Some bytes) = sym absent ∙ told in absurd cc);
-  no_fails = none;
-}
 
 -- no read of such a name is to fail
 gives-no_fault : (shelf : ShelfContents) (name : List ℕ) → Gives shelf name → FailsToRead shelf name → ⊥

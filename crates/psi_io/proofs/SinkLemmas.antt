@@ -14,14 +14,6 @@ pub appended-twice :
 appended-twice None first second = refl
 appended-twice (Some bytes) first second = ap Some (append_assoc bytes first second)
 
--- what didn't grow grew by a prefix of any text
-pub grew-nothing : (before : Option (List ℕ)) (text : List ℕ) → GrewByPrefix before before text
-grew-nothing before text = record { front = []; back = text; whole = refl; grew = sym (appended-nothing before) }
-
--- a whole text is a prefix of itself
-pub grew-whole : (before after : Option (List ℕ)) (text : List ℕ) → after ≡ appended before text → GrewByPrefix before after text
-grew-whole before after text grew = record { front = text; back = []; whole = append-nil text; grew = grew }
-
 -- a prefix of a text is a prefix of that text with more behind it
 pub grew-longer :
     (before after : Option (List ℕ)) (first second : List ℕ) → GrewByPrefix before after first → GrewByPrefix before after (first ++ second)
