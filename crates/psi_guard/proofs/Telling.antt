@@ -69,21 +69,6 @@ module _ (caps : List ℕ) (parts : List Part) where
         | inr other ↦ absurd (no-both (exact caps parts q) (before.none refl q (omega arith)) out)
       ]
 
-  -- two queues that aren't exact
-  pub telling-again : (n : ℕ) → IsTelling n true → exact caps parts n ≡ false → n < length caps → AreTold caps parts (length caps) → ⊥
-  telling-again n before is small told =
-      let found = before.one refl in
-      let less : found.0 < n = found.1 in
-      let same = told.alone found.0 n (omega arith) small found.2 is in
-      omega arith
-
-  -- one that is neither
-  pub telling-neither : (n : ℕ) → exact caps parts n ≡ false → clipped caps parts n ≡ false → n < length caps → AreTold caps parts (length caps) → ⊥
-  telling-neither n is clip small told = elim (told.each n small) [
-    | inl own ↦ no-both (exact caps parts n) own is
-    | inr own ↦ no-both (clipped caps parts n) own clip
-  ]
-
 -- ---- the pieces
 
 long-empty : (n m : ℕ) (p : Piece) → p ≡ empty_piece m → m ≡ n → IsLong n p
