@@ -27,6 +27,8 @@ from psi_tools.completion import kinds_of, options_of
 
 TOP = pathlib.Path(__file__).resolve().parent.parent
 ITEM = re.compile(r"( *)(-|\d+\.) +")
+# The name of another page, which isn't broken over two lines.
+PAGE = re.compile(r"psi-[a-z]+\(\d\)")
 INLINE = re.compile(r"`([^`]+)`|\*\*(.+?)\*\*|\*(.+?)\*|!?\[((?:[^\]`]|`[^`]*`)*)\]\(([^)\s]*)\)")
 # So many signs may a table have beside one another.
 MOST_WIDE = 64
@@ -43,7 +45,8 @@ STATUS = """| Status | Means |
 | 0 | The answer is written. |
 | 1 | None of the streams is coupled, or work failed. |
 | 2 | A word or an input isn't what it should be. |
-| 3, 6, 11, 12 | As psi(1), where that doesn't take the network. |
+| 3, 11, 12 | As psi(1), where that doesn't take the network. |
+| 6 | A file can't be read. |
 | 7 | The answer can't be written, which is looked at before the work. |
 | 8 | There isn't enough memory. |
 | 130 | Ctrl-C ended it. |
@@ -70,8 +73,17 @@ def escaped(text):
 
 
 def plain(text):
-    """A text in sentences: a hyphen there isn't a sign of code."""
-    return escaped(text).replace("\\-", "-")
+    """A text in sentences: a hyphen there isn't a sign of code, but for names of other pages."""
+    parts, end = [], 0
+    for found in PAGE.finditer(text):
+        parts += [escaped(text[end : found.start()]).replace("\\-", "-"), whole(found[0])]
+        end = found.end()
+    return "".join(parts) + escaped(text[end:]).replace("\\-", "-")
+
+
+def whole(code):
+    """Code whose words aren't divided at the end of a line."""
+    return " ".join(f"\\%{escaped(word)}" for word in code.split(" "))
 
 
 def inline(text):
@@ -81,7 +93,7 @@ def inline(text):
         code, bold, italic, link, target = found.groups()
         parts.append(plain(text[end : found.start()]))
         if code is not None:
-            parts.append(f"\\fB{escaped(of_package(code))}\\fP")
+            parts.append(f"\\fB{whole(of_package(code))}\\fP")
         elif bold is not None:
             parts.append(f"\\fB{inline(bold)}\\fP")
         elif italic is not None:

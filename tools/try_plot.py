@@ -3,10 +3,10 @@
 
 Reads what tools/psi-plot draws, and compares it with its inputs, which are read here once more and
 plainly: logs of both versions, with sets and with boxes, of one queue and of 32, some of which the
-program writes; reports, one and several; texts of exact. In each picture no text is cut off, and no
-two overlap. The same input is the same picture. Broken inputs have to be refused, each by one line,
-with status 2 and without a picture. It also looks at docs/TOUR.md: that the pictures are there, and
-what mean_values.py prints.
+program writes; reports, one and several; texts of exact; forward runs of some networks of the
+gallery. In each picture no text is cut off, and no two overlap. The same input is the same picture.
+Broken inputs have to be refused, each by one line, with status 2 and without a picture. It also
+looks at docs/TOUR.md: that the pictures are there, and what mean_values.py prints.
 
 It tells each thing that is wrong; the last line says how many were looked at. The exit status is 1
 where one is wrong.
@@ -27,10 +27,12 @@ import xml.etree.ElementTree
 import matplotlib.backends.backend_agg
 import matplotlib.legend
 import matplotlib.text
+import numpy
 
 import packaged  # noqa: F401
 from plot_inputs import EXACT, REPORT, SMALL_LOG, broken_inputs, exact_of, report_of, wide_log
-from psi_tools.plotting import draw_coupling, draw_exact, draw_report, style
+from psi_tools.forward import forward_of
+from psi_tools.plotting import draw_coupling, draw_exact, draw_forward, draw_report, style
 from psi_tools.plotting.read_exact import read_exact
 from psi_tools.plotting.read_log import names_of, read_log
 from psi_tools.plotting.read_report import read_report
@@ -335,6 +337,27 @@ def try_exact(tried, program):
     try_svg(tried, figure, "exact", ["images", "line", "constant"])
 
 
+def try_forward(tried, program):
+    """Pictures of forward runs: the lines and bars have the laws, and no text is cut off."""
+    for name, words in (
+        ("single-server", ("8", "32", "128")), ("first", ("1",)), ("call-centre", ()),
+        ("short-past", ("5", "4194304")),
+    ):
+        found = forward_of(program, TOP / f"examples/{name}.toml", words)
+        figure = draw_forward.draw_forward(found, "A title " * 20 if name == "first" else "")
+        parts = figure.axes[: len(found.after)]
+        for axes, (steps, ends) in zip(parts, found.after.items()):
+            lines = gids(axes, "")
+            drawn = [lines[f"after-{steps}-from-{k}"].get_ydata() for k in range(len(ends))]
+            tried.hold((numpy.array(drawn) == ends).all(), f"forward of {name}: {steps} steps")
+            is_law = (lines[f"law-{steps}"].get_ydata() == found.law).all()
+            tried.hold(is_law, f"forward of {name}: the law")
+        bars = [bar.get_height() for bar in figure.axes[len(found.after)].patches]
+        tried.hold(bars == [*found.met], f"forward of {name}: where all meet")
+        try_texts(tried, figure, f"forward of {name}")
+    try_svg(tried, figure, "forward", ["after-5-from-0", "law-5", "law-met", "met-0"])
+
+
 def answer(words, room):
     """The status of a call, and both its texts."""
     done = subprocess.run([PLOT, *words], cwd=room, capture_output=True, timeout=SECONDS)
@@ -387,7 +410,7 @@ def try_tour(tried):
     text = (TOP / "docs/TOUR.md").read_text()
     shown = re.findall(r"!\[[^\]]+\]\(pictures/([^)]+)\)", text)
     there = {path.name: path for path in (TOP / "docs/pictures").iterdir()}
-    tried.hold(len(shown) == 8 and {*shown} == {*there}, "the tour doesn't show all pictures")
+    tried.hold(len(shown) == 9 and {*shown} == {*there}, "the tour doesn't show all pictures")
     for name, path in there.items():
         tried.hold(path.stat().st_size < MOST_BYTES_SHOWN, f"{name} is too great")
         xml.etree.ElementTree.parse(path)
@@ -407,6 +430,7 @@ def main():
     try_logs(tried, program)
     try_reports(tried, program)
     try_exact(tried, program)
+    try_forward(tried, program)
     try_tour(tried)
     print(f"{tried.count} things of pictures were looked at, {tried.wrong} are wrong")
     return 1 if tried.wrong else 0

@@ -14,7 +14,7 @@ from psi_tools.words import Words, give, number, run
 
 COMMAND, MOST_TOTAL, MOST_COUNT = "closed_report", 256, 2**20
 ABOUT = """Prints the report of the samples of a closed network: those of the streams 0 to COUNT - 1
-and the seed 0. psi-many with --closed draws those of other seeds and streams too, and keeps them."""
+and the seed 0. psi-many with --closed draws other seeds and streams too, and keeps them."""
 
 SAMPLE = re.compile(rb"met (\d+)\nstate (\d+(?:,\d+)*)\n|not coupled within \d+\n")
 

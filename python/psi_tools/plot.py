@@ -1,4 +1,4 @@
-"""psi-plot: draws what psi prints, as pictures for a lecture or a page."""
+"""psi-plot: draws what psi prints, and forward runs, as pictures for a lecture or a page."""
 
 import importlib
 import os
@@ -9,12 +9,13 @@ from psi_tools.plotting.read_exact import read_exact
 from psi_tools.plotting.read_log import names_of, read_log
 from psi_tools.plotting.read_report import Report, Spread, read_report
 from psi_tools.plotting.refused import Refused, need
+from psi_tools.told import Told
 from psi_tools.words import Words, run, tell
 
 COMMAND = "psi-plot"
 # The most bytes that are read of a file: one more than a log may have.
 LONGEST, MOST_REPORTS, FORMATS = 33_554_433, 8, ("svg", "png", "pdf")
-ABOUT = """Draws what psi prints, as pictures for a lecture or a page.
+ABOUT = """Draws what psi prints, and forward runs, as pictures for a lecture or a page.
 
 psi-plot coupling LOG [NET] -o FILE    a log of `psi sample NET SEED STREAM log`: where all states
                                        may be, until one is left; NET is a network file, whose names
@@ -22,6 +23,10 @@ psi-plot coupling LOG [NET] -o FILE    a log of `psi sample NET SEED STREAM log`
 psi-plot report CSV.. -o FILE          reports of `psi report`, at most eight, side by side; of a
                                        folder of psi-many the 95 % intervals of the means, too
 psi-plot exact TEXT -o FILE            what `psi exact` prints: how the image of all states shrinks
+psi-plot forward NET [STEPS..] -o FILE a network of one queue: where forward runs of so many steps
+                                       end, from each state, and where all of them meet, computed
+                                       and beside the law of a sample; 8, 32 and 128 steps where
+                                       they aren't given
 
 The exit status is 0 where the picture is drawn; 2 where a word or an input isn't what it should be,
 as one line on standard error tells; 1 where the picture can't be drawn or written."""
@@ -37,8 +42,15 @@ def reader():
     words.add_argument(
         "-t", "--title", metavar="TITLE", default="", help="a title in place of the picture's own"
     )
-    words.add_argument("what", nargs="?", metavar="WHAT", help="coupling, report or exact")
-    words.add_argument("files", nargs="*", metavar="FILE", help="what psi has printed")
+    words.add_argument(
+        "--psi", metavar="PSI",
+        help="the built program, which forward asks whether it takes NET; crates/psi/out/psi, or "
+        "psi on the PATH, where it isn't given",
+    )
+    words.add_argument("what", nargs="?", metavar="WHAT", help="coupling, report, exact or forward")
+    words.add_argument(
+        "files", nargs="*", metavar="FILE", help="what psi has printed; of forward NET and STEPS"
+    )
     return words
 
 
@@ -63,7 +75,7 @@ def read(reader_of, path):
         raise Refused(f"{path}: {why}") from None
 
 
-def coupling(path, *net):
+def coupling(words, path, *net):
     """The log, named by the network file if there is one."""
     need(len(net) <= 1, "coupling is told one LOG, and one NET at most")
     log = read(read_log, path)
@@ -72,7 +84,7 @@ def coupling(path, *net):
     return log
 
 
-def reports(*paths):
+def reports(words, *paths):
     """The reports, each with the name of its file."""
     need(len(paths) <= MOST_REPORTS, f"report is told more than {MOST_REPORTS} files")
     return [(path, report_of(path)) for path in paths]
@@ -99,19 +111,31 @@ def report_of(path):
     return Report(sum(batches.samples), batches.uncoupled, horizons, *spreads.values())
 
 
-def exact(path, *others):
+def exact(words, path, *others):
     """The text of exact."""
     need(not others, "exact is told more than one file")
     return read(read_exact, path)
 
 
+def forward(words, path, *steps):
+    """The forward runs of a network."""
+    from psi_tools.forward import forward_of
+
+    try:
+        return forward_of(words.psi, path, steps)
+    except Refused:
+        raise
+    except Told as told:
+        raise Refused(f"{path}: {told}") from None
+
+
 # What reads the files of a command, and what draws it: matplotlib is wanted only for that.
-DRAWN = {"coupling": coupling, "report": reports, "exact": exact}
+DRAWN = {"coupling": coupling, "report": reports, "exact": exact, "forward": forward}
 
 
 def draw(words):
     """Draws the picture."""
-    found = DRAWN[words.what](*words.files)
+    found = DRAWN[words.what](words, *words.files)
     drawing = importlib.import_module(f"psi_tools.plotting.draw_{words.what}")
     figure = getattr(drawing, f"draw_{words.what}")(found, words.title)
     return drawing.style.saved(figure, words.out.rpartition(".")[2].lower())

@@ -26,8 +26,8 @@ SET_UP = """set -e; cd; umask 077; mkdir -p .psi-many/{digest}; cd .psi-many
 part=part.$(uname -n).$$; mkdir "$part"; tar -xf - -C "$part"
 mv -f "$part/net.toml" "$part/psi" {digest}/; rmdir "$part"
 {digest}/psi check {digest}/net.toml >/dev/null; nproc"""
-# Tells that a block is begun, by its place among those of the round: so that one that is begun twice
-# is known. On a host this is done before ssh, which has none of these variables.
+# Tells that a block is begun, by its place among those of the round, so that it is known which are
+# begun twice. On a host this is done before ssh, since there are none of these variables there.
 BEGIN = 'echo "$PARALLEL_SEQ" >>"$PSI_MANY_BEGUN"; '
 BEGIN_HERE = f'[ -z "$PSI_MANY_BEGUN" ] || {BEGIN}'
 # What draws one block: {1} is its number, {2} its first stream, and {3} how many streams it has; of

@@ -1,0 +1,116 @@
+"""psi-plot forward: where forward runs end, beside plain events and a solved chain."""
+
+import numpy
+import pytest
+from conftest import TOP
+from plain_network import Network as Plain
+from solving import law_of
+
+from psi_tools.forward import forward_of
+from psi_tools.networks import Network
+
+GUARDED = """version = 2
+[[queue]]
+name = "desk"
+capacity = 6
+servers = 3
+[[event]]
+name = "come"
+kind = "arrival"
+rate = 5
+to = ["desk"]
+[[event]]
+name = "serve"
+kind = "service"
+rate = 2
+from = "desk"
+[[event]]
+name = "leave"
+kind = "guarded"
+rate = 3
+part = [{ queue = "desk", least = 2, shift = -2, floor = 1 }]
+"""
+
+
+def plain_of(text_or_path):
+    """The network, the plain events with the share of the words of each, that of idle, and
+    the states."""
+    net = Network.read(text_or_path)
+    plain = Plain({**net.heads, **net.table})
+    shares = [(event.rate / plain.modulus, event) for event in plain.events]
+    return net, shares, plain.idle / plain.modulus, range(plain.caps[0] + 1)
+
+
+def after(shares, idle, law):
+    """The law after one step, from that before."""
+    found = idle * law
+    for number, probability in enumerate(law):
+        for share, event in shares:
+            found[event.after((number,))[0]] += share * probability
+    return found
+
+
+def met(shares, idle, states):
+    """The law of the first single state, followed by the sets of all runs, 5,000 steps long."""
+    laws, found = {frozenset(states): 1.0}, numpy.zeros(len(states))
+    for _ in range(5_000):
+        following = {}
+        for runs, probability in laws.items():
+            following[runs] = following.get(runs, 0) + idle * probability
+            for share, event in shares:
+                image = frozenset(event.after((number,))[0] for number in runs)
+                if len(image) == 1:
+                    found[min(image)] += share * probability
+                else:
+                    following[image] = following.get(image, 0) + share * probability
+        laws = following
+    return found
+
+
+@pytest.mark.parametrize("name", ["single-server", "first", "call-centre", "guarded"])
+def test_forward_runs_end_as_the_plain_events_say(program, tmp_path, name):
+    path = TOP / f"examples/{name}.toml"
+    if name == "guarded":
+        path = tmp_path / "guarded.toml"
+        path.write_text(GUARDED)
+    net, shares, idle, states = plain_of(path)
+    found = forward_of(program, path, ("1", "9"))
+    assert [*found.after] == [1, 9]
+    for begin in states:
+        law = numpy.eye(len(states))[begin]
+        for steps in range(1, 10):
+            law = after(shares, idle, law)
+            if steps in found.after:
+                assert found.after[steps][begin] == pytest.approx(law, abs=1e-12)
+    assert found.law == pytest.approx(law_of(net)[1], abs=1e-9)
+    assert found.met == pytest.approx(met(shares, idle, states), abs=1e-9)
+
+
+def test_a_distance_is_the_greatest_error_of_an_event(program):
+    found = forward_of(program, TOP / "examples/single-server.toml", ())
+    gaps = found.after[32] - found.law
+    worst = max(numpy.maximum(gap, 0).sum() for gap in gaps)
+    assert found.distance(32) == pytest.approx(worst)
+
+
+@pytest.mark.parametrize("words, said", [
+    ([TOP / "examples/tandem-blocking.toml"], "a network of one queue"),
+    ([TOP / "examples/batch-arrivals.toml"], "no event such as"),
+    ([TOP / "examples/single-server.toml", "0"], "isn't a number of steps"),
+    ([TOP / "examples/single-server.toml", "4194305"], "isn't a number of steps"),
+    ([TOP / "examples/single-server.toml", "1", "2", "3", "4"], "at most 3 numbers"),
+    (["absent"], "can't be read"), (["refused.toml"], "network refused"),
+    (["apart.toml"], "several laws"), (["swapped.toml"], "all monotone"), ([], "is told no file"),
+])
+def test_what_cannot_be_drawn_is_refused(tool, tmp_path, words, said):
+    (tmp_path / "refused.toml").write_text("version = 1\n")
+    head, part = GUARDED.split("[[event]]\nname = \"come\"")[0], "kind = \"guarded\"\nrate = 1\n"
+    event = f'[[event]]\nname = "swap"\n{part}'
+    apart = 'part = [{ queue = "desk", least = 3, shift = -1, floor = 3 }]\n'
+    swapped = 'part = [{ queue = "desk", most = 0, shift = 6 }]\n'
+    down = event.replace("swap", "down") + 'part = [{ queue = "desk", least = 1, shift = -1 }]\n'
+    (tmp_path / "apart.toml").write_text(head + event + apart)
+    (tmp_path / "swapped.toml").write_text(head + event + swapped + down)
+    status, out, error = tool("psi-plot", "forward", *words, "-o", "drawn.svg")
+    assert (status, out) == (2, "") and said in error and error.count("\n") == 1, error
+    assert not (tmp_path / "drawn.svg").exists()
