@@ -103,7 +103,8 @@ def broken_inputs():
     ]
     reports = [
         "", REPORT[:-1], REPORT + "\n", REPORT + REPORT, "trial 0\n" + REPORT, "item,name,value\n",
-        REPORT.replace("\n", "\r\n"), REPORT.replace("a", "\u00e4"),
+        REPORT.replace("\n", "\r\n", 1), REPORT.replace("\n", "\r"),
+        REPORT.replace("a", "\u00e4"),
         *(changed(REPORT, *pair) for pair in (
             ("met,-,9", "met,-,8"), ("samples,-,10", "samples,-,0"), ("horizon,4,3", "horizon,5,3"),
             ("horizon,4,3", "horizon,16,3"), ("horizon,4,3", "horizon,4,4"),

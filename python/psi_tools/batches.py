@@ -80,6 +80,14 @@ def figures_of(report, place):
     return tuple(figure.value for figure in report.figures[3 * place : 3 * place + 3])
 
 
+def as_printed(data):
+    """A report as psi prints it, where a spreadsheet has saved it with CR LF at the end of each of
+    its lines; any other text as it is."""
+    ends = data.count(b"\r\n")
+    every = ends == data.count(b"\n") == data.count(b"\r")
+    return data.replace(b"\r\n", b"\n") if every else data
+
+
 def read_report(data, path):
     """The report in some bytes; raises Told with the file and the line where it is none."""
     try:
@@ -101,7 +109,7 @@ def read_files(paths):
         except (OSError, ValueError) as fault:
             said = getattr(fault, "strerror", None) or fault
             raise Told(f"{path} can't be read: {said}", 6) from None
-        reports.append(read_report(data, path))
+        reports.append(read_report(as_printed(data), path))
     return batches_of(reports)
 
 

@@ -3,7 +3,7 @@
 import importlib
 import os
 
-from psi_tools.batches import interval_or_none, read_folder
+from psi_tools.batches import as_printed, interval_or_none, read_folder
 from psi_tools.intervals import LEAST_BATCHES
 from psi_tools.plotting.read_exact import read_exact
 from psi_tools.plotting.read_log import names_of, read_log
@@ -94,7 +94,7 @@ def report_of(path):
     """The report of a file, or of all blocks of a folder of psi-many, with intervals where there
     are enough of them."""
     if not os.path.isdir(path):
-        return read(read_report, path)
+        return read(lambda data: read_report(as_printed(data)), path)
     batches, wanted = read_folder(path)
     need(len(batches.samples) == wanted, f"{path}: not all of its blocks are finished")
     horizons = {}

@@ -84,3 +84,23 @@ def test_a_picture_with_intervals(tool, tmp_path, folder):
     status, _, error = tool("psi-plot", "report", folder, "-o", "means.svg")
     assert (status, error) == (0, "")
     assert 'id="interval-0-jobs"' in (tmp_path / "means.svg").read_text()
+
+
+def test_reports_that_a_spreadsheet_has_saved(tool, tmp_path, folder):
+    blocks = sorted((tmp_path / folder / "blocks").iterdir())
+    saved = [tmp_path / f"{place}.csv" for place in range(len(blocks))]
+    for block, path in zip(blocks, saved):
+        path.write_bytes(block.read_bytes().replace(b"\n", b"\r\n"))
+    assert tool("psi-means", *saved) == tool("psi-means", *blocks)
+    pictures = [tmp_path / name for name in ("saved.png", "own.png")]
+    (tmp_path / "own").mkdir()
+    (tmp_path / "own/0.csv").write_bytes(blocks[0].read_bytes())
+    for path, picture in zip(("0.csv", "own/0.csv"), pictures):
+        assert tool("psi-plot", "report", path, "-o", picture)[0] == 0
+    assert pictures[0].read_bytes() == pictures[1].read_bytes()
+    assert tool("merge_reports.py", *saved[:2]) == (
+        3, "", f"merge_reports: refused 1 Row line 2 {saved[0]}\n"
+    )
+    saved[0].write_bytes(blocks[0].read_bytes().replace(b"\n", b"\r\n", 3))
+    status, _, error = tool("psi-means", *saved)
+    assert status == 2 and error == f"psi-means: {saved[0]} is no report: refused 1 Row line 2\n"
