@@ -9,6 +9,7 @@ import re
 import tomllib
 
 import mean_values
+from forward_laws import law_of_meeting, moves_of, worst
 from psi_tools.plotting.read_exact import read_exact
 from psi_tools.plotting.read_log import read_log
 from psi_tools.plotting.read_report import read_report
@@ -371,9 +372,28 @@ def claim_forward(document, clone):
     document.hold(wall == room, f"the band closes at {wall}")
     document.claim(f"at the upper wall, with {wall} customers")
     document.claim(f"one of them is stopped, at {room} or at 0.")
-    law = desk_law(rate, service, room)
+    document.claim(f"the desk has only {states} states")
+    claim_ends(document, moves_of(rate, service, room), desk_law(rate, service, room))
+
+
+def claim_ends(document, moves, law):
+    """Where forward runs of the desk end, beside its law."""
+    drawn = re.search(rf"^tools/psi-plot forward {DESK} ([\d ]+) -o", document.text, re.M)
+    steps = [int(number) for number in drawn[1].split()]
+    first, second, third = steps
+    document.claim(f"![After {first}, {second} and {third} steps, and when all have met,")
+    met = law_of_meeting(moves)
+    document.hold(abs(met[0] + met[-1] - 1) < 1e-6, f"they meet elsewhere: {met}")
+    document.claim(f"empty in {100 * met[0]:.0f} of 100 runs, full in the others, and never")
     document.claim(
-        f"it is empty for {100 * law[0]:.0f} % of the time, and full for {100 * law[-1]:.0f} %."
+        f"By the formula for M/M/1/K the desk is empty for {100 * law[0]:.0f} % of the time, and "
+        f"full for {100 * law[-1]:.0f} %."
+    )
+    off = [f"{worst(moves, law, number):.3f}" for number in steps]
+    document.claim(
+        f"after {first} steps the law of the worst of them is off by {off[0]}, which is the most "
+        f"that a probability can be wrong, after {second} by {off[1]}, after {third} still by "
+        f"{off[2]}, and never by nothing."
     )
 
 

@@ -1,6 +1,7 @@
 """psi-new: a network file from a few words."""
 
 import argparse
+import os
 import re
 import textwrap
 from fractions import Fraction
@@ -21,6 +22,10 @@ by that, if at all, is told and stands in the file's comment. Lists have commas 
 `psi-new KIND --help` tells the options of a kind."""
 RATE = re.compile(r"\d{1,9}(?:\.\d{1,9})?(?:/[1-9]\d{0,8})?|\.\d{1,9}")
 WIDTH = 98
+# What the file is called in its comment where its own name isn't of this form, or isn't known.
+NAME, UNNAMED = re.compile(r"[A-Za-z0-9_.-]{1,60}\.toml"), "net.toml"
+# A report of so many streams is shown where the first one is met at such a horizon.
+SHOWN, MOST_STEPS = 1_000, 8_192
 
 
 class Rate(Fraction):
@@ -173,21 +178,40 @@ def text_of(words):
     """The text of the file, and by how much a rate is off at most."""
     made = KINDS[words.kind][0](words)
     factor, off = models.made_whole(made.net)
-    return comment_of(made, factor, off) + made.net.toml(), off
+    comment, net = comment_of(made, factor, off), made.net.toml()
+    return comment + shown(words, (comment + net).encode()) + net, off
 
 
-def is_taken(words, text):
-    """Refuses a network that psi doesn't take; where there is no psi it isn't asked."""
+def shown(words, data):
+    """What psi prints of the network, as lines of its comment; refuses one that psi doesn't take.
+    Where there is no psi it isn't asked."""
     try:
         psi = Psi(words.psi)
     except Told:
         if words.psi:
             raise
         tell(COMMAND, "there is no psi that looks at the file; --psi says where it is")
-        return
-    answer = psi.call("check", text.encode())
+        return ""
+    answer = psi.call("check", data)
     if answer.status:
         raise Told(f"psi doesn't take it: {answer.line.removeprefix('psi: ')}", answer.status)
+    if words.kind == "closed":
+        return run_of(psi, words, data, "closed", 0, 0, words.customers)
+    sample = run_of(psi, words, data, "sample", 0, 0)
+    met = re.search(r"met (\d+)$", sample, re.M)
+    if met and int(met[1]) <= MOST_STEPS:
+        return sample + run_of(psi, words, data, "report", 0, 0, SHOWN)
+    return sample
+
+
+def run_of(psi, words, data, command, *numbers):
+    """One call of psi, as lines of the comment."""
+    name = os.path.basename(words.out or "")
+    name = name if NAME.fullmatch(name) else UNNAMED
+    called = " ".join(map(str, ["psi", command, name, *numbers]))
+    answer = psi.ask(command, data, *numbers, statuses=(0, 1))
+    lines = [f"#     {line}" for line in answer.out.splitlines()]
+    return "\n".join(["#", f"# `{called}` prints", "#", *lines, ""])
 
 
 def work(arguments):
@@ -196,7 +220,6 @@ def work(arguments):
         raise Told(f"a kind is wanted: {', '.join(KINDS)}; `psi-new --help` tells more")
     look_at(words.out)
     text, off = text_of(words)
-    is_taken(words, text)
     give(text, words.out)
     if off:
         tell(COMMAND, f"the rates are rounded: one is off by at most {float(off):.1e} of itself")

@@ -44,8 +44,8 @@ def reader():
     )
     words.add_argument(
         "--psi", metavar="PSI",
-        help="the built program, which forward asks whether it takes NET; crates/psi/out/psi, or "
-        "psi on the PATH, where it isn't given",
+        help="the built program; crates/psi/out/psi, or psi on the PATH, where it isn't given; only "
+        "forward wants it",
     )
     words.add_argument("what", nargs="?", metavar="WHAT", help="coupling, report, exact or forward")
     words.add_argument(

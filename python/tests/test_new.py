@@ -1,9 +1,12 @@
 """psi-new: each kind is a file that psi takes, and means what it says."""
 
 import re
+import shutil
+import subprocess
 from fractions import Fraction
 
 import pytest
+from conftest import TOP
 from solving import means_of
 
 from psi_tools.models import made_whole
@@ -127,3 +130,39 @@ def test_words_that_are_not_right(tool, words):
     status, out, error = tool("psi-new", *words.split())
     assert (status, out) == (2, "")
     assert error.startswith("psi-new: ") and error.count("\n") == 1
+
+
+SHOWN = re.compile(r"^# `psi ([^`]*)` prints\n#\n((?:#     .*\n)+)", re.M)
+
+
+@pytest.mark.parametrize("kind", KIND_WORDS)
+def test_the_comment_shows_what_psi_prints(tool, program, tmp_path, kind):
+    made(tool, tmp_path, kind, KIND_WORDS[kind])
+    runs = SHOWN.findall((tmp_path / "net.toml").read_text())
+    commands = ["closed"] if kind == "closed" else ["sample", "report"]
+    assert [words.split()[0] for words, _ in runs] == commands
+    for words, text in runs:
+        done = subprocess.run([program, *words.split()], cwd=tmp_path, capture_output=True, text=True)
+        wanted = "".join(line.removeprefix("#     ") for line in text.splitlines(True))
+        assert (done.returncode, done.stdout) == (0, wanted)
+
+
+def test_the_comment_of_what_does_not_couple(tool, program, tmp_path):
+    words = "--arrival 1000 --service 1 --servers 1023 --places 65535 -o".split()
+    assert tool("psi-new", "mmck", *words, "odd name")[0] == 0
+    [(words, text)] = SHOWN.findall((tmp_path / "odd name").read_text())
+    assert (words, text) == ("sample net.toml 0 0", "#     not coupled within 262144\n")
+
+
+def test_without_psi_nothing_is_shown(environment, tmp_path):
+    words = "mm1k --arrival 1 --service 2 --places 3".split()
+    # The package is read elsewhere, where no program is built.
+    shutil.copytree(TOP / "python", tmp_path / "python")
+    code = "import sys; from psi_tools.new import main; sys.exit(main(sys.argv[1:]))"
+    call = ["/usr/bin/python3", "-c", code, *words]
+    done = subprocess.run(
+        call, cwd=tmp_path / "python", capture_output=True, text=True,
+        env={**environment, "PATH": "/usr/bin:/bin"},
+    )
+    assert done.returncode == 0 and done.stderr.startswith("psi-new: there is no psi that looks")
+    assert "` prints" not in done.stdout and "version = 1\n" in done.stdout

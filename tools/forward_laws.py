@@ -1,0 +1,52 @@
+"""Forward runs of M/M/1/K in plain Python, for doc_claims.py: a step is a word, whose number modulo
+the least power of two from the sum of the rates on tells whether one comes, is served, or neither."""
+
+
+def moves_of(rate, service, room):
+    """What a step may make of each number, with its share of the words."""
+    modulus = 1
+    while modulus < rate + service:
+        modulus *= 2
+    numbers = range(room + 1)
+    return [
+        (rate / modulus, [min(number + 1, room) for number in numbers]),
+        (service / modulus, [max(number - 1, 0) for number in numbers]),
+        (1 - (rate + service) / modulus, [*numbers]),
+    ]
+
+
+def law_after(moves, begin, steps):
+    """The law of the number after so many steps."""
+    law = [float(number == begin) for number in range(len(moves[0][1]))]
+    for _ in range(steps):
+        following = [0.0] * len(law)
+        for share, after in moves:
+            for number, probability in enumerate(law):
+                following[after[number]] += share * probability
+        law = following
+    return law
+
+
+def worst(moves, law, steps):
+    """How far the law after so many steps is from another at most, over all beginnings."""
+    return max(
+        sum(abs(one - other) for one, other in zip(law_after(moves, begin, steps), law)) / 2
+        for begin in range(len(law))
+    )
+
+
+def law_of_meeting(moves, steps=5_000):
+    """The law of the number at which the least and the greatest run are one for the first time."""
+    last = len(moves[0][1]) - 1
+    apart, met = {(0, last): 1.0}, [0.0] * (last + 1)
+    for _ in range(steps):
+        following = {}
+        for (low, high), probability in apart.items():
+            for share, after in moves:
+                pair = after[low], after[high]
+                if pair[0] == pair[1]:
+                    met[pair[0]] += share * probability
+                else:
+                    following[pair] = following.get(pair, 0) + share * probability
+        apart = following
+    return met
