@@ -373,10 +373,10 @@ def claim_forward(document, clone):
     document.claim(f"at the upper wall, with {wall} customers")
     document.claim(f"one of them is stopped, at {room} or at 0.")
     document.claim(f"the desk has only {states} states")
-    claim_ends(document, moves_of(rate, service, room), desk_law(rate, service, room))
+    claim_forward_ends(document, moves_of(rate, service, room), desk_law(rate, service, room))
 
 
-def claim_ends(document, moves, law):
+def claim_forward_ends(document, moves, law):
     """Where forward runs of the desk end, beside its law."""
     drawn = re.search(rf"^tools/psi-plot forward {DESK} ([\d ]+) -o", document.text, re.M)
     steps = [int(number) for number in drawn[1].split()]
