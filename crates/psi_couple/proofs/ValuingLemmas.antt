@@ -126,7 +126,7 @@ valued_within-only run limit (At t v) is = valued_within-at run limit t v is
 valued_within-only run limit (NotAt l) is = ap (λ n. NotAt n) is.0 ∙ valued_within-none run limit is.1
 
 -- every state has the value with which a run ends, from its horizon on: a longer run's states are among a shorter run's
-value-reached : (value : List ℕ → ℤ) (split : ℕ) (caps : List ℕ) (f : ℕ → List ℕ → List ℕ) (t : ℕ) (v : ℤ) → AreClosed caps f
+pub value-reached : (value : List ℕ → ℤ) (split : ℕ) (caps : List ℕ) (f : ℕ → List ℕ → List ℕ) (t : ℕ) (v : ℤ) → AreClosed caps f
     → value_at value split f caps t ≡ Some v → IsValueReached value f caps t v
 value-reached value split caps f t v closed is = record {
   each = λ x earlier within order.
