@@ -37,3 +37,4 @@ pub mod WrongLaws
 pub mod NetworkLaws
 pub mod StandLaws
 pub mod ShortLaws
+pub mod ShownLaws

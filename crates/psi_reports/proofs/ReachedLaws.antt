@@ -32,10 +32,10 @@ use Rattle.psi_reports.proofs.OutcomesLemmas.{report_text-contents}
 
 -- ---- what isn't wrong
 
-record IsRight (c : Contents) : Type 0 where
-  few : c.met ≤ c.samples
-  horizons : horizons_flaw 0 None c.met c.horizons ≡ None
-  figures : figures_flaw c.met c.figures ≡ None
+pub record IsRight (c : Contents) : Type 0 where
+  pub few : c.met ≤ c.samples
+  pub horizons : horizons_flaw 0 None c.met c.horizons ≡ None
+  pub figures : figures_flaw c.met c.figures ≡ None
 
 no-first : (j k : Option ℕ) → first_of j k ≡ None → j ≡ None
 no-first None k is = refl
@@ -50,7 +50,7 @@ no-rows-line : (c : Contents) (k : Option ℕ) → rows_line c k ≡ None → (k
 no-rows-line c None is = (refl, no-first (figures_flaw c.met c.figures) (varying_reward c.figures) (no-line c (first_flaw c.met c.figures) is))
 no-rows-line c (Some k) is = absurd cc
 
-right : (c : Contents) → flaw_of c ≡ None → IsRight c
+pub right : (c : Contents) → flaw_of c ≡ None → IsRight c
 unfolding flaw_of
 right c is = go (nat_lt c.samples c.met) refl is
   where

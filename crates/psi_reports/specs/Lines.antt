@@ -1,9 +1,10 @@
 -- The lines of a report by which it is judged, and what merging says of the names that reports show.
-use Rattle.std.specs.Prelude.{◌≡◌, ◌≢◌, ℕ, ◌+◌, ◌-◌, ◌^◌, ◌<◌, List, ◌∷◌, map, length, take, drop, Bool, false, ◌||◌, Option, Some, None, Result, Err, if◌then◌else◌}
+use Rattle.std.specs.Prelude.{◌≡◌, ◌≢◌, ℕ, ◌+◌, ◌-◌, ◌^◌, ◌<◌, List, ◌∷◌, ◌++◌, map, length, take, drop, Bool, false, ◌||◌, Option, Some, None, Result, Err, if◌then◌else◌}
 use Rattle.std.specs.List.{slice_split, slice_get}
 use Rattle.std.specs.Str.{bytes_eq}
 use Rattle.psi_state.specs.declared.Outcome.{Outcome}
-use Rattle.psi_network.specs.Network.{Network}
+use Rattle.psi_network.specs.Network.{Network, NamedReward}
+use Rattle.psi_network.specs.declared.entries.Queue.{Queue}
 use Rattle.psi_report.specs.Report.{report_text}
 use Rattle.psi_reports.specs.declared.figure.Item.{Item}
 use Rattle.psi_reports.specs.declared.figure.Item.TheVariants.{Sum, RewardSum}
@@ -15,7 +16,7 @@ use Rattle.psi_reports.specs.Contents.{Contents}
 use Rattle.psi_reports.specs.Text.{item_text, figure_row, count_row, contents_rows, text_of}
 use Rattle.psi_reports.specs.Outcomes.{contents_of}
 use Rattle.psi_reports.specs.Reading.{is_feed, IsReport}
-use Rattle.psi_reports.specs.Samples.{AreOf}
+use Rattle.psi_reports.specs.Samples.{IsDescribed, AreOf}
 use Rattle.psi_reports.specs.Sound.{horizon_line, figure_line, flaw_of}
 use Rattle.psi_reports.specs.Merging.{sums_of, line_of_sum, merged}
 
@@ -70,6 +71,20 @@ WrongLinesAreNone = (c : Contents) (line : ℕ) → IsNumbered c → flaw_of c �
 -- what a report shows of its network: of each queue and each reward that it is one, and its name
 abbrev pub shown : Contents → List (Item × List ℕ)
 shown c = map (λ (f : Figure). (f.item, f.name)) (sums_of c.figures)
+
+-- and what a network shows in its reports
+abbrev pub shown_of : Network → List (Item × List ℕ)
+shown_of net = map (λ (q : Queue). (Sum, q.name)) net.queues ++ map (λ (r : NamedReward). (RewardSum, r.name)) net.rewards
+
+-- a network that a file may describe shows what the report does
+pub record ShowsNetwork (c : Contents) : Type 0 where
+  pub net : Network
+  pub described : IsDescribed net
+  pub same : shown c ≡ shown_of net
+
+-- so it is with each report in which no line is wrong
+abbrev pub ReportsShowNetworks : Type 0
+ReportsShowNetworks = (c : Contents) → IsReport c → flaw_of c ≡ None → ShowsNetwork c
 
 -- two reports show the same, unless the answer to their merging is that they are of other networks
 abbrev pub TellsNetwork : Contents → Contents → Result Contents MergeError → Type 0

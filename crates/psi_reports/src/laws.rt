@@ -7,7 +7,7 @@ ghost use Rattle.psi_reports.specs.Samples.{SamplesAreRead, ReportsAreShort};
 ghost use Rattle.psi_reports.specs.Merging.{ReportsAreMerged, SamplesAreMerged};
 ghost use Rattle.psi_reports.specs.Sound.{ReportIsSound, SumsAreReached};
 ghost use Rattle.psi_reports.specs.Reached.{QueueReportsAreReached};
-ghost use Rattle.psi_reports.specs.Lines.{RowsStandOnLines, WrongLinesAreNone, NetworksAreTold, OtherLinesAreNone};
+ghost use Rattle.psi_reports.specs.Lines.{RowsStandOnLines, WrongLinesAreNone, ReportsShowNetworks, NetworksAreTold, OtherLinesAreNone};
 
 /// The report of samples of a network is the text of what it tells.
 pub fn report_is_text()
@@ -57,6 +57,12 @@ pub fn sums_are_reached()
 /// are a network that a file may describe and samples of it whose report it is.
 pub fn queue_reports_are_reached()
     ensures { QueueReportsAreReached }
+{}
+
+/// Each report of which [`Report::flaw`](crate::Report::flaw) answers none, with rewards or without, shows the queues and
+/// the rewards of a network that a file may describe: so many of each, under such names.
+pub fn reports_show_networks()
+    ensures { ReportsShowNetworks }
 {}
 
 /// The lines that are told of horizons, figures and sums are those on which their rows stand.
