@@ -309,9 +309,8 @@ def fill_closed():
 def silence(stream):
     """What wasn't written to a stream is given up, so that nothing is said of it again."""
     try:
-        nowhere = os.open(os.devnull, os.O_WRONLY)
-        if stream is not None:
-            os.dup2(nowhere, stream.fileno())
-        os.close(nowhere)
+        with open(os.devnull, "wb") as nowhere:
+            if stream is not None:
+                os.dup2(nowhere.fileno(), stream.fileno())
     except (OSError, ValueError):
         pass

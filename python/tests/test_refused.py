@@ -1,0 +1,102 @@
+"""Each file of the cases that psi refuses is refused by every tool that reads networks, by one line;
+and an answer that fits on no disk is told. The tools are called in this process."""
+
+import re
+import resource
+import signal
+import subprocess
+
+import case_files
+import pytest
+from conftest import SECONDS, TOP
+
+from psi_tools import closed, law, many, mean_values, plot, sweep, where, why
+
+NET = TOP / "examples/single-server.toml"
+# Of each tool its work, and words that are right but for the file.
+CALLS = {
+    "psi-law": (law, ["{}", "a", "--count", "2"]),
+    "psi-sweep": (sweep, ["{}", "a.capacity=1,2", "--count", "2"]),
+    "psi-why": (why, ["{}"]),
+    "psi-many": (many, ["{}", "0", "0", "2"]),
+    "psi-plot": (plot, ["forward", "{}", "-o", "drawn.svg"]),
+    "mean_values": (mean_values, ["{}", "1"]),
+    "closed_report": (closed, ["{}", "1", "1"]),
+}
+# Words that write an answer, with a place for where it goes.
+WRITES = {
+    "psi-law": (law, [NET, "desk", "--count", "20", "-o", "{}"]),
+    "psi-law with a picture": (law, [NET, "desk", "--count", "20", "--picture", "{}.svg"]),
+    "psi-sweep": (sweep, [NET, "desk.capacity=2,3", "--count", "20", "-o", "{}"]),
+    "psi-sweep with a picture": (
+        sweep, [NET, "desk.capacity=2,3", "--count", "20", "--picture", "{}.svg"]
+    ),
+    "psi-why": (why, [NET, "--seconds", "1", "-o", "{}"]),
+    "psi-where": (where, [NET, "-o", "{}"]),
+    "psi-many": (many, [NET, "0", "0", "20", "-o", "{}"]),
+    "psi-plot": (plot, ["forward", NET, "-o", "{}.svg"]),
+}
+
+
+
+@pytest.fixture
+def here(environment, tmp_path, monkeypatch):
+    """A folder of its own, in which psi is on the PATH; signals are handled as before in the end."""
+    monkeypatch.chdir(tmp_path)
+    monkeypatch.setenv("PATH", environment["PATH"])
+    signals = signal.SIGINT, signal.SIGTERM, signal.SIGHUP
+    before = [signal.getsignal(one) for one in signals]
+    yield tmp_path
+    for one, handler in zip(signals, before):
+        signal.signal(one, handler)
+
+
+def refused():
+    """The networks of the cases that psi refuses, each once."""
+    found = {}
+    for file in sorted(case_files.DATA.glob("*.cases")):
+        for case in case_files.cases(file.name):
+            if case.status == 3 and case.words[1:] and case.words[1] in case.files:
+                found[case.files[case.words[1]]] = case.name
+    return list(found)
+
+
+@pytest.mark.parametrize("name", CALLS)
+def test_refused_files(here, capsys, name):
+    tool, words = CALLS[name]
+    files = refused()
+    assert len(files) > 40
+    for data in files:
+        (here / "net.toml").write_bytes(data)
+        status = tool.main([word.format("net.toml") for word in words])
+        out, error = capsys.readouterr()
+        assert status == (2 if name == "psi-plot" else 3) and out == "", (data, status)
+        line = rf"{name}: (net\.toml: )?network refused [^\n]*\n"
+        assert re.fullmatch(line, error), (data, error)
+    assert [*here.iterdir()] == [here / "net.toml"]
+
+
+@pytest.mark.parametrize("name", WRITES)
+def test_an_answer_that_fits_on_no_disk(here, capsys, name):
+    tool, words = WRITES[name]
+    for ending in ("", ".svg"):
+        (here / f"full{ending}").symlink_to("/dev/full")
+    status = tool.main([str(word).format("full") for word in words])
+    out, error = capsys.readouterr()
+    assert (status, out) == (1 if name == "psi-plot" else 7, ""), error
+    last = error.splitlines()[-1]
+    assert last.startswith(f"{name.split()[0]}: ") and last.endswith("No space left on device")
+
+
+@pytest.mark.parametrize("name", ["psi-law", "psi-sweep", "psi-why", "psi-many"])
+def test_files_that_take_no_more(tool, environment, tmp_path, name):
+    words = [str(word).format("answer") for word in WRITES[name][1]]
+    done = subprocess.run(
+        [TOP / "tools" / name, *words], cwd=tmp_path, capture_output=True, text=True,
+        timeout=SECONDS, env=environment,
+        preexec_fn=lambda: resource.setrlimit(resource.RLIMIT_FSIZE, (100, 100)),
+    )
+    assert (done.returncode, done.stdout) == (7, ""), done.stderr
+    last = done.stderr.splitlines()[-1]
+    assert re.fullmatch(rf"{name}: \S+ can't be written: File too large", last), done.stderr
+    assert "Traceback" not in done.stderr and not (tmp_path / "answer").exists()
