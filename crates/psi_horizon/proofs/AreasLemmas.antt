@@ -1,6 +1,6 @@
 -- A region that is followed through the events of the numbers that are kept ends with the states of the run over all places.
 use Rattle.std.specs.Prelude.{◌≡◌, ℕ, zero, suc, ◌-◌, List, [], ◌∷◌, ◌++◌, length, slice_index_or, Bool, true, false, nat_le, if◌then◌else◌, Option, refl}
-use Rattle.std.proofs.Common.{inl, inr, ap, sym, ◌∙◌, arith}
+use Rattle.std.proofs.Common.{inl, inr, ap, sym, ◌∙◌, subst, arith}
 use Rattle.std.proofs.lemmas.Bool.{cases_lt, lt-ltb, le-ltb, or_parts, true≢false}
 use Rattle.std.proofs.lemmas.List.{get_or_past, append-nil}
 use Rattle.psi_state.specs.State.{IsBelow, box, zeros}
@@ -13,6 +13,7 @@ use Rattle.psi_state.proofs.HullLemmas.{corners-tight}
 use Rattle.psi_state.proofs.SetsLemmas.{In-image}
 use Rattle.psi_state.proofs.BoxesLemmas.{zeros-below, below-through}
 use Rattle.psi_event.specs.Law.{Function, IsClosed}
+use Rattle.psi_event.specs.Numbers.{AreEvents}
 use Rattle.psi_rate.specs.Rates.{event_of}
 use Rattle.psi_rate.specs.Composition.{function_at, picked, AreClosed}
 use Rattle.psi_region.specs.Region.{Area, start, splits, settled, next, step, IsArea}
@@ -20,7 +21,8 @@ use Rattle.psi_region.specs.Followed.{follow_areas}
 use Rattle.psi_region.proofs.FollowedLemmas.{follow_areas-append}
 use Rattle.psi_region.proofs.RegionLemmas.{start-area, step-area, step-split, step-box, image-length}
 use Rattle.psi_horizon.specs.Runs.{follow, ending_at}
-use Rattle.psi_horizon.specs.Numbers.{numbers_below}
+use Rattle.psi_rate.specs.Numbers.{numbers_below}
+use Rattle.psi_rate.proofs.NumbersLemmas.{numbers-all}
 
 -- a region that isn't split has the states of a box
 pub record IsBoxed (a : Area) : Type 0 where
@@ -106,6 +108,13 @@ numbers-follow split caps functions rates words (suc t) a same closed is whole =
           ∙ ap (λ (ns : List ℕ). (follow_areas split functions ns a).states) (sym (append-nil before))
           ∙ ap (λ (b : Bool). (follow_areas split functions (before ++ (if b then number ∷ [] else [])) a).states) (sym (le-ltb number (length rates) past)))
     ]
+
+-- each of the numbers is an event's
+pub numbers-events : (rates : List ℕ) (words : ℕ → ℕ) (t count : ℕ) (numbers : List ℕ) → length rates ≡ count → numbers ≡ numbers_below rates words t
+    → AreEvents count numbers
+numbers-events rates words t count numbers same is =
+    subst (λ (ns : List ℕ). AreEvents count ns) (sym is)
+    (subst (λ n. AreEvents n (numbers_below rates words t)) same (record { each = λ i small. numbers-all rates words t i 0 small }))
 
 -- and with one state exactly where that run does
 pub areas-ending : (split : ℕ) (caps : List ℕ) (functions : List Function) (rates : List ℕ) (words : ℕ → ℕ) (t : ℕ) (numbers : List ℕ) (o : Option (List ℕ))

@@ -2,6 +2,5 @@
 pub mod RunsLemmas
 pub mod AgreeingLemmas
 pub mod SampleLemmas
-mod NumbersLemmas
 mod AreasLemmas
 mod Running

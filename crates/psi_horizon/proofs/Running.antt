@@ -9,7 +9,7 @@ use Rattle.psi_past.specs.Keeping.{Keeping}
 use Rattle.psi_rate.specs.Composition.{Parts, AreClosed}
 use Rattle.psi_region.specs.Region.{Area, Regional, step, ShowsBox, IsArea}
 use Rattle.psi_region.specs.Followed.{Followed}
-use Rattle.psi_horizon.specs.declared.numbers.Numbers.{Numbers}
+use Rattle.psi_rate.specs.declared.numbers.Numbers.{Numbers}
 use Rattle.psi_horizon.specs.declared.plan.Progress.{Progress}
 use Rattle.psi_horizon.specs.Planned.{Planned}
 use Rattle.psi_horizon.specs.Invariant.{running_of, IsUnderway, IsPlan}

@@ -7,8 +7,8 @@ use Rattle.psi_region.specs.Followed.{Followed}
 use Rattle.psi_horizon.specs.declared.plan.Progress.{Progress}
 use Rattle.psi_horizon.specs.Runs.{region_after}
 use Rattle.psi_horizon.specs.Planned.{Running}
-use Rattle.psi_horizon.specs.declared.numbers.Numbers.{Numbers}
-use Rattle.psi_horizon.specs.Keeping.{KeepsNumbers}
+use Rattle.psi_rate.specs.declared.numbers.Numbers.{Numbers}
+use Rattle.psi_rate.specs.Keeping.{KeepsNumbers}
 
 -- the run that was begun, as its plan is seen
 abbrev pub running_of : Option Progress → Option Running

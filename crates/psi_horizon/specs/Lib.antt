@@ -3,6 +3,4 @@ pub mod Runs
 pub mod Agreeing
 pub mod Sample
 pub mod Planned
-pub mod Numbers
-pub mod Keeping
 pub mod Invariant

@@ -19,6 +19,11 @@ pub record Planned (E P : Type 0) : Type 0 where
   pub past : P
   pub run : Option Running
 
+-- a network with the words that its samples are drawn from
+pub record Drawn (E : Type 0) : Type 0 where
+  pub system : Parts E
+  pub words : ℕ → ℕ
+
 -- no step is left: all are done, or no run was begun
 abbrev pub IsOver : Option Running → Type 0
 IsOver None = Unit {0}

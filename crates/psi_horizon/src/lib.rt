@@ -3,8 +3,7 @@
 //! matter of a `Follower`, which tells with which state such a region ends.
 #![tactic(auto)]
 
-mod doubling;
-mod numbers;
 mod plan;
+mod runs;
 
 pub use plan::{OutOfMemory, Plan};

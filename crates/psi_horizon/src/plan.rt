@@ -18,11 +18,10 @@ ghost use Rattle.psi_horizon.specs.Planned.{IsOver, onward, network_of};
 ghost use Rattle.psi_horizon.specs.contracts.plan.Plan.{the_row};
 ghost use mir.Syntax.{named};
 
-use crate::doubling::{ending, first_ending, follow_word};
-use crate::numbers::Numbers;
+use crate::runs::{ending, follow_word};
 use psi_event::EventLaw;
 use psi_past::{Kept, Past};
-use psi_rate::System;
+use psi_rate::{Answers, Numbers, System, first_answer, outcome_of};
 use psi_region::{Follower, Region};
 use psi_state::{Bounds, Outcome, State, Step};
 use std::alloc::{AllocError, Global};
@@ -156,15 +155,8 @@ impl<'n, E: EventLaw, P: Past + Drop, F: Follower + Drop> Plan<'n, E, P, F> {
         ensures words { P.words self.new.past ≡ P.words self.old.past }
         ensures run { self.new.run ≡ None }
     {
-        // Called for its clause: the events fit the capacities.
-        let _caps = self.system.caps();
-        self.run = None;
-        first_ending(
-            &self.system,
-            &mut self.words,
-            &mut self.numbers,
-            &mut self.follower,
-        )
+        let limit = self.limit();
+        outcome_of(limit, first_answer(self, limit))
     }
 
     /// The one state with which the region run of this horizon, 1 to 2 to the power `limit` steps, ends;
@@ -327,5 +319,30 @@ impl<'n, E: EventLaw, P: Past + Drop, F: Follower + Drop> Plan<'n, E, P, F> {
         // Called for its clause: the events fit the capacities.
         let _caps = self.system.caps();
         self.region.states()
+    }
+}
+
+/// A plan answers the one state with which the region run of a horizon ends, if it ends with one, as
+/// [`ending`](Plan::ending) does.
+impl<'n, E: EventLaw, P: Past + Drop, F: Follower + Drop> Answers for Plan<'n, E, P, F> {
+    ghost use Rattle.std.specs.Prelude.{◌≡◌, ◌≤◌, ◌^◌, None};
+    ghost use Rattle.psi_rate.specs.Composition.{system_functions};
+    ghost use Rattle.psi_horizon.specs.Runs.{ending_at};
+    ghost use Rattle.psi_horizon.specs.Planned.{Drawn};
+
+    type Answer = State;
+
+    ghost Standing = { Drawn E };
+
+    ghost standing = { λ plan. record { system = plan.system; words = P.words plan.past } };
+
+    ghost answer_at = { λ d. ending_at d.system.split (system_functions E.function d.system d.words) d.system.caps };
+
+    ghost Allows = { λ d horizon. (1 ≤ horizon) × (horizon ≤ 2 ^ d.system.limit) };
+
+    ghost IsAsked = { λ plan. plan.run ≡ None };
+
+    fn answer(&mut self, horizon: u32) -> Option<State> {
+        self.ending(horizon)
     }
 }

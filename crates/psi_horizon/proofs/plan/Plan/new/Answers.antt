@@ -3,7 +3,7 @@ use Rattle.std.proofs.Common.{◌≡◌, ◌*◌, ◌^◌, ◌%◌, ap, ◌∙�
 use Rattle.psi_past.specs.Keeping.{Keeping}
 use Rattle.psi_rate.proofs.DoublingLemmas.{shift-power}
 use Rattle.psi_region.specs.Region.{Regional}
-use Rattle.psi_horizon.specs.Keeping.{KeepsNumbers}
+use Rattle.psi_rate.specs.Keeping.{KeepsNumbers}
 use Rattle.psi_horizon.proofs.plan.Plan.new.Goals as goal
 
 pub invariant_of-result : goal.invariant_of-result

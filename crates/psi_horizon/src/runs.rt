@@ -1,52 +1,21 @@
-//! The doubling of horizons, and the run of each.
+//! The run of a horizon.
 
 ghost use Rattle.std.specs.Prelude.{◌≡◌, ◌^◌, ◌≤◌, length, map};
 ghost use Rattle.psi_rate.specs.Rates.{event_of};
 ghost use Rattle.psi_rate.specs.Composition.{picked, system_functions};
-ghost use Rattle.psi_rate.specs.Outcomes.{IsOutcome};
+ghost use Rattle.psi_rate.specs.Keeping.{KeepsNumbers};
 ghost use Rattle.psi_region.specs.Region.{step, IsArea};
 ghost use Rattle.psi_horizon.specs.Runs.{ending_at};
 ghost use Rattle.psi_horizon.specs.Planned.{network_of};
-ghost use Rattle.psi_horizon.specs.Keeping.{KeepsNumbers};
 
-use crate::numbers::Numbers;
 use psi_event::EventLaw;
 use psi_past::{Kept, Past};
-use psi_rate::System;
+use psi_rate::{Numbers, System};
 use psi_region::{Follower, Region};
-use psi_state::{Outcome, State};
+use psi_state::State;
 
-// The least horizon among 1, 2, 4, .., 2^limit whose run ends with one state, with that state. The numbers of the events
-// of one horizon are kept for the next, so that each word is picked once.
-pub(crate) fn first_ending<E: EventLaw, P: Past + Drop, F: Follower>(
-    system: &System<'_, E>,
-    words: &mut Kept<P>,
-    numbers: &mut Numbers,
-    follower: &mut F,
-) -> Outcome
-    requires room { 2 ^ system.now.limit ≤ words.old.most }
-    requires kept { KeepsNumbers system.now.rates (P.words words.old.past) (2 ^ system.now.limit) numbers.old }
-    requires follower { F.stands_for follower.old ≡ network_of E.function system.now }
-    ensures least { let f = system_functions E.function system.now (P.words words.old.past) in
-        IsOutcome (ending_at system.now.split f system.now.caps) system.now.limit result }
-    ensures kept { KeepsNumbers system.now.rates (P.words words.old.past) (2 ^ system.now.limit) numbers.new }
-    ensures follower { F.stands_for follower.new ≡ F.stands_for follower.old }
-    ensures words { P.words words.new.past ≡ P.words words.old.past }
-    ensures most { words.new.most ≡ words.old.most }
-{
-    let limit = system.limit();
-    for exponent in 0..limit + 1 {
-        let horizon = 1 << exponent;
-        let found = ending(system, words, numbers, follower, horizon);
-        if let Some(state) = found {
-            return Outcome::Met { horizon, state };
-        }
-    }
-    Outcome::NotMet { limit }
-}
-
-// The one state with which the run of a horizon ends, if it ends with one. The run goes over the
-// numbers of the events of its places.
+// The one state with which the run of a horizon ends, if it ends with one. The run goes over the numbers of the events
+// of its places, which are kept for the next run.
 pub(crate) fn ending<E: EventLaw, P: Past + Drop, F: Follower>(
     system: &System<'_, E>,
     words: &mut Kept<P>,
@@ -66,8 +35,9 @@ pub(crate) fn ending<E: EventLaw, P: Past + Drop, F: Follower>(
 {
     // Called for its clause: the events fit the capacities.
     let _caps = system.caps();
-    numbers.extend_to(system, words, horizon);
-    let run = numbers.below(system, words, horizon);
+    let wheel = system.wheel();
+    numbers.extend_to(wheel, words, horizon);
+    let run = numbers.below(wheel, words, horizon);
     follower.ending(run)
 }
 
