@@ -2,12 +2,14 @@
 use Rattle.std.proofs.Common.{◌≡◌, ℕ, zero, suc, ◌+◌, ◌-◌, ◌<◌, ◌≤◌, List, [], ◌∷◌, ◌++◌, length, Bool, map, if◌then◌else◌, refl, sym, ◌∙◌, ap, subst, append_assoc, append-nil, arith}
 use Rattle.std.proofs.lemmas.Bool.{lt-ltb, le-ltb}
 use Rattle.psi_state.specs.State.{numbers_from}
+use Rattle.psi_rate.specs.Composition.{Parts, system_functions}
 use Rattle.psi_region.specs.Region.{start}
 use Rattle.psi_horizon.specs.Runs.{region_after}
 use Rattle.psi_lines.specs.declared.header.Header.{Header}
 use Rattle.psi_lines.specs.Text.{header_text, begin_text, end_text, entries_text, log_text}
-use Rattle.psi_record.specs.Recorded.{region_of, entry_after, recorded}
-use Rattle.psi_record.specs.Walking.{step_line, front_text, most_held, line_at, text_before}
+use Rattle.psi_replay.specs.Verdict.{event_numbers}
+use Rattle.psi_record.specs.Recorded.{region_of, entry_after, recorded, log_of}
+use Rattle.psi_record.specs.Walking.{step_line, front_text, most_held, line_at, text_before, line_in, text_in}
 
 module _ (split : ℕ) (f : ℕ → List ℕ → List ℕ) (caps : List ℕ) (events : ℕ → ℕ) where
   -- the lines of n steps from one on, and then of the next
@@ -137,3 +139,29 @@ module _ (split : ℕ) (f : ℕ → List ℕ → List ℕ) (caps : List ℕ) (ev
       let done = place - 2 in
       line-alone h state old new (end_text state) place (suc (suc done)) (omega arith)
       (ap (λ (b : Bool). if b then 8192 else 0) (le-ltb done h.horizon (omega arith))) held (line_at-end h state done (omega arith)) is
+
+-- the same of a network's runs under these words
+module _ {E : Type 0} (function : E → List ℕ → List ℕ) (system : Parts E) (words : ℕ → ℕ) (h : Header) (state : List ℕ) where
+  pub text_in-none : text_in function system words h state 0 ≡ []
+  text_in-none = text_before-none system.split (system_functions function system words) system.caps (event_numbers system words) h state
+
+  pub text_in-more : (place : ℕ) → text_in function system words h state (suc place) ≡ text_in function system words h state place ++ line_in function system words h state place
+  text_in-more place = text_before-more system.split (system_functions function system words) system.caps (event_numbers system words) h state place
+
+  pub text_in-whole : (place : ℕ) → h.version ≡ 2 → place ≡ h.horizon + 3 → text_in function system words h state place ≡ log_text (log_of function system words h state)
+  text_in-whole place version last = text_before-whole system.split (system_functions function system words) system.caps (event_numbers system words) h state place version last
+
+  pub text_in-rest : (place : ℕ) → h.version ≡ 2 → place ≤ h.horizon + 3
+      → (rest : List ℕ) × (text_in function system words h state place ++ rest ≡ log_text (log_of function system words h state))
+  text_in-rest place version order = text_before-rest system.split (system_functions function system words) system.caps (event_numbers system words) h state place version order
+
+-- what is so of a system and words is so of the same ones
+pub same-both : {A B : Type 0} (P : A → B → Type 0) (s t : A) (v w : B) → s ≡ t → v ≡ w → P s v → P t w
+same-both P s t v w first second is = subst (λ a. P a w) first (subst (λ b. P s b) second is)
+
+-- the line that is held, where nothing was held before it
+pub line-only : {E : Type 0} (function : E → List ℕ → List ℕ) (s t : Parts E) (v w : ℕ → ℕ) (h : Header) (state : List ℕ) (place : ℕ) (old new bytes : List ℕ) → s ≡ t → v ≡ w → old ≡ []
+    → new ≡ old ++ line_in function s v h state place → bytes ≡ new → bytes ≡ line_in function t w h state place
+line-only {E} function s t v w h state place old new bytes first second none is held =
+    same-both (λ (p : Parts E) (x : ℕ → ℕ). bytes ≡ line_in function p x h state place) s t v w first second
+    (held ∙ is ∙ ap (λ (xs : List ℕ). xs ++ line_in function s v h state place) none)

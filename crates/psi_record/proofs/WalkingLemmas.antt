@@ -14,7 +14,7 @@ use Rattle.psi_lines.specs.Text.{region_words, next_words, step_text}
 use Rattle.psi_record.specs.Recorded.{region_of}
 use Rattle.psi_replay.specs.Verdict.{event_numbers}
 use Rattle.psi_record.specs.Walking.{box_words, IsTold, step_line, line_of, line_in, IsToldAfter, IsAmpleAfter, IsWalking}
-use Rattle.psi_record.proofs.TextLemmas.{line_at-step}
+use Rattle.psi_record.proofs.TextLemmas.{line_at-step, same-both}
 
 -- the region whose box is told is that box, and one that is split is its set
 pub region_of-box : (a : Area) (b : Corners) → ShowsBox a (Some b) → IsBelow b.lo b.hi → region_of a ≡ in_box b
@@ -121,10 +121,7 @@ line-set function system words (Some r) s states front line number event told sa
 if_some-at : {A : Type 0} (P : A → Type 0) (o : Option A) (a : A) → o ≡ Some a → IfSome o P → P a
 if_some-at P o a is some = subst (λ v. IfSome v P) is some
 
--- what is so of a system and words is so of the same ones
-same-both : {A B : Type 0} (P : A → B → Type 0) (s t : A) (v w : B) → s ≡ t → v ≡ w → P s v → P t w
-same-both P s t v w first second is = subst (λ a. P a w) first (subst (λ b. P s b) second is)
-
+-- a line that is put behind others
 pub line-same : {E : Type 0} (function : E → List ℕ → List ℕ) (s t : Parts E) (v w : ℕ → ℕ) (h : Header) (state : List ℕ) (place : ℕ) (old new : List ℕ) → s ≡ t → v ≡ w
     → new ≡ old ++ line_in function s v h state place → new ≡ old ++ line_in function t w h state place
 line-same {E} function s t v w h state place old new first second is =

@@ -14,7 +14,11 @@ use Rattle.psi_state.specs.Boxes.{IsBetween}
 use Rattle.psi_state.proofs.BoxesLemmas.{below-through}
 use Rattle.psi_state.proofs.HullLemmas.{corners-tight}
 use Rattle.psi_state.specs.declared.outcome.Step.{Step}
-use Rattle.psi_rate.specs.Composition.{AreClosed}
+use Rattle.psi_event.specs.Law.{IsClosed}
+use Rattle.psi_rate.specs.Composition.{Parts, AreClosed, system_functions}
+use Rattle.psi_rate.specs.System.{IsSystem}
+use Rattle.psi_rate.proofs.FunctionsLemmas.{functions-closed}
+use Rattle.psi_rate.proofs.PowersLemmas.{pow-order}
 use Rattle.psi_region.specs.Region.{Area}
 use Rattle.psi_region.proofs.RegionLemmas.{tight-high}
 use Rattle.psi_horizon.specs.Runs.{region_after}
@@ -23,10 +27,12 @@ use Rattle.psi_lines.specs.Log.{Region, in_box, in_set}
 use Rattle.psi_lines.specs.Text.{numbers_text, region_words, differs, change_to, change_text, move_words, next_words, step_text, end_text, log_text}
 use Rattle.psi_lines.specs.Room.{spaced_words, picked}
 use Rattle.psi_lines.proofs.JoinedLemmas.{spaced-append, one_word, picked-append, moved}
-use Rattle.psi_record.specs.Recorded.{region_of, recorded}
-use Rattle.psi_record.specs.Walking.{step_line, front_text, IsRoomy}
+use Rattle.psi_replay.specs.Verdict.{event_numbers}
+use Rattle.psi_record.specs.Recorded.{region_of, recorded, log_of}
+use Rattle.psi_record.specs.Walking.{step_line, front_text, text_in, IsRoomy}
 use Rattle.psi_record.proofs.WalkingLemmas.{next-set}
-use Rattle.psi_record.proofs.TextLemmas.{front_text-more, log_text-recorded}
+use Rattle.psi_record.proofs.TextLemmas.{front_text-more, log_text-recorded, text_before-front}
+use Rattle.psi_record.proofs.AcceptedLemmas.{events-few}
 use Rattle.psi_record.proofs.RegionLemmas.{IsKept, kept-after, state-below, region_of-plain}
 use Rattle.psi_record.proofs.BoundLemmas.{HasFew, few-next, step-short, end-short, times-more}
 
@@ -218,4 +224,32 @@ log-wide split f caps events h state done room valid closed most named version o
     let end = end-short state vector in
     let count : length (log_text (recorded split f caps events h state)) ≡ length (front_text split f caps events h h.horizon) + length (end_text state) =
     ap (λ (t : List ℕ). length t) (log_text-recorded split f caps events h state) ∙ length-append (front_text split f caps events h h.horizon) (end_text state) in
+    omega arith
+
+-- what both ways to know that the lines that are left fit ask of a network's run
+pub record IsShort {E : Type 0} (function : E → List ℕ → List ℕ) (system : Parts E) (words : ℕ → ℕ) (horizon : ℕ) : Type 0 where
+  pub closed : AreClosed system.caps (system_functions function system words)
+  pub most : horizon < 10 ^ 7
+  pub named : (t : ℕ) → event_numbers system words t < 10 ^ 4
+
+pub run-short : {E : Type 0} (capacities : E → List ℕ) (function : E → List ℕ → List ℕ) (system : Parts E) (words : ℕ → ℕ) (horizon : ℕ)
+    → ((event : E) → IsClosed (capacities event) (function event)) → IsSystem capacities system → horizon ≤ 2 ^ system.limit → IsShort function system words horizon
+run-short capacities function system words horizon law fit most =
+    let powered : 2 ^ system.limit ≤ 2 ^ 22 = pow-order system.limit 22 fit.most_limit in
+    record {
+      closed = functions-closed capacities function system words law fit.same_caps;
+      most = omega arith;
+      named = λ t. (let few = events-few system words t fit.rated.few in omega arith);
+    }
+
+-- what is left of the whole text from the place of a step or of the end on
+pub whole-fits : {E : Type 0} (function : E → List ℕ → List ℕ) (system : Parts E) (words : ℕ → ℕ) (h : Header) (state : List ℕ) (place room : ℕ) → 2 ≤ place → place ≤ h.horizon + 2
+    → h.version ≡ 2
+    → length (log_text (log_of function system words h state))
+    ≤ length (front_text system.split (system_functions function system words) system.caps (event_numbers system words) h (place - 2)) + room
+    → length (log_text (log_of function system words h state)) ≤ length (text_in function system words h state place) + room
+whole-fits function system words h state place room low high version fits =
+    let e : place ≡ suc (suc (place - 2)) = omega arith in
+    let front = ap (λ (t : List ℕ). length t) (ap (λ n. text_in function system words h state n) e
+    ∙ text_before-front system.split (system_functions function system words) system.caps (event_numbers system words) h state (place - 2) version (omega arith)) in
     omega arith
