@@ -38,3 +38,4 @@ pub mod NetworkLaws
 pub mod StandLaws
 pub mod ShortLaws
 pub mod ShownLaws
+pub mod FittingLemmas

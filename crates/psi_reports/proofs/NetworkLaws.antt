@@ -78,7 +78,7 @@ sums-in f fs is = rw is refl
 pub sums-out : (f : Figure) (fs : List Figure) → is_sum f.item ≡ false → sums_of (f ∷ fs) ≡ sums_of fs
 sums-out f fs is = rw is refl
 
-sums-are : (fs : List Figure) → AreSums (sums_of fs)
+pub sums-are : (fs : List Figure) → AreSums (sums_of fs)
 sums-are [] = tt
 sums-are (f ∷ fs) = go (is_sum f.item) refl (sums-are fs)
   where
@@ -86,7 +86,7 @@ sums-are (f ∷ fs) = go (is_sum f.item) refl (sums-are fs)
     go true is rest = rw (sums-in f fs is) (is, rest)
     go false is rest = rw (sums-out f fs is) rest
 
-shown-none : (k : ℕ) (fs gs : List Figure) → AreSums fs → map shown_by fs ≡ map shown_by gs → difference k fs gs ≡ None
+pub shown-none : (k : ℕ) (fs gs : List Figure) → AreSums fs → map shown_by fs ≡ map shown_by gs → difference k fs gs ≡ None
 shown-none k [] [] are same = refl
 shown-none k [] (g ∷ gs) are same = absurd cc
 shown-none k (f ∷ fs) [] are same = absurd cc

@@ -1,5 +1,5 @@
 -- The lines of a report by which it is judged, and what merging says of the names that reports show.
-use Rattle.std.specs.Prelude.{◌≡◌, ◌≢◌, ℕ, ◌+◌, ◌-◌, ◌^◌, ◌<◌, List, ◌∷◌, ◌++◌, map, length, take, drop, Bool, false, ◌||◌, Option, Some, None, Result, Err, if◌then◌else◌}
+use Rattle.std.specs.Prelude.{◌≡◌, ◌≢◌, ℕ, ◌+◌, ◌-◌, ◌^◌, ◌<◌, List, ◌∷◌, ◌++◌, map, length, take, drop, Bool, false, ◌||◌, Option, Some, None, Result, Ok, Err, if◌then◌else◌}
 use Rattle.std.specs.List.{slice_split, slice_get}
 use Rattle.std.specs.Str.{bytes_eq}
 use Rattle.psi_state.specs.declared.Outcome.{Outcome}
@@ -18,7 +18,7 @@ use Rattle.psi_reports.specs.Outcomes.{contents_of}
 use Rattle.psi_reports.specs.Reading.{is_feed, IsReport}
 use Rattle.psi_reports.specs.Samples.{IsDescribed, AreOf}
 use Rattle.psi_reports.specs.Sound.{horizon_line, figure_line, flaw_of}
-use Rattle.psi_reports.specs.Merging.{sums_of, line_of_sum, merged}
+use Rattle.psi_reports.specs.Merging.{sums_of, line_of_sum, joined, merged}
 
 -- the lines of a text; the last is what stands behind the last line feed
 abbrev pub lines_of : List ℕ → List (List ℕ)
@@ -100,3 +100,13 @@ abbrev pub OtherLinesAreNone : Type 0
 OtherLinesAreNone = (a b : Contents) (line : ℕ) → IsNumbered b → flaw_of b ≡ None → merged a b ≡ Err (OtherNetwork line)
     → (net : Network) (outcomes others : List Outcome) → AreOf net outcomes → AreOf net others → length others < 2 ^ 64 → contents_of net outcomes ≡ a
     → BeginAlike line (text_of b) (report_text net others) → ⊥
+
+-- ---- what is merged
+
+-- the report of two reports is one: each of its numbers can be told
+abbrev pub MergedIsReport : Type 0
+MergedIsReport = (a b c : Contents) → IsReport a → IsReport b → merged a b ≡ Ok c → IsReport c
+
+-- and two that show the same are merged where what they tell together can be told
+abbrev pub FittingAreMerged : Type 0
+FittingAreMerged = (a b : Contents) → shown a ≡ shown b → IsReport (joined a b) → merged a b ≡ Ok (joined a b)

@@ -7,7 +7,7 @@ ghost use Rattle.psi_reports.specs.Samples.{SamplesAreRead, ReportsAreShort};
 ghost use Rattle.psi_reports.specs.Merging.{ReportsAreMerged, SamplesAreMerged};
 ghost use Rattle.psi_reports.specs.Sound.{ReportIsSound, SumsAreReached};
 ghost use Rattle.psi_reports.specs.Reached.{QueueReportsAreReached};
-ghost use Rattle.psi_reports.specs.Lines.{RowsStandOnLines, WrongLinesAreNone, ReportsShowNetworks, NetworksAreTold, OtherLinesAreNone};
+ghost use Rattle.psi_reports.specs.Lines.{RowsStandOnLines, WrongLinesAreNone, ReportsShowNetworks, NetworksAreTold, OtherLinesAreNone, MergedIsReport, FittingAreMerged};
 
 /// The report of samples of a network is the text of what it tells.
 pub fn report_is_text()
@@ -87,4 +87,12 @@ pub fn networks_are_told()
 /// network, no samples of this network have a report with the second one's lines up to it.
 pub fn other_lines_are_none()
     ensures { OtherLinesAreNone }
+{}
+
+/// What [`Report::merged`](crate::Report::merged) gives of two reports is a report, whose text is read as it; and two that
+/// show the same queues and rewards are merged wherever what they tell together is one: `TooLarge` is the answer exactly
+/// where it would have a count of 2^64 or more, or a figure whose magnitude is 10^37 or more.
+pub fn merged_are_reports()
+    ensures told { MergedIsReport }
+    ensures whole { FittingAreMerged }
 {}

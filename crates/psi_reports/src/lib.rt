@@ -27,9 +27,10 @@ mod varying;
 pub use error::{MergeError, ReadError};
 pub use figure::{Figure, HorizonCount, Item};
 pub use laws::{
-    networks_are_told, other_lines_are_none, queue_reports_are_reached, report_is_read,
-    report_is_sound, report_is_text, reports_are_merged, reports_are_short, reports_show_networks,
-    rows_stand_on_lines, sums_are_reached, text_is_read, wrong_lines_are_none,
+    merged_are_reports, networks_are_told, other_lines_are_none, queue_reports_are_reached,
+    report_is_read, report_is_sound, report_is_text, reports_are_merged, reports_are_short,
+    reports_show_networks, rows_stand_on_lines, sums_are_reached, text_is_read,
+    wrong_lines_are_none,
 };
 pub use psi_network::OutOfMemory;
 pub use reading::read;
