@@ -22,9 +22,6 @@ pub record IsPut (level : ℕ) (P : ℕ → ℕ → Type 0) (first now : List Ar
   pub own : (s v : ℕ) → low ≤ s → s < n → Listed now level s v ↔ P s v
   pub rest : (l s v : ℕ) → (l ≡ level → low ≤ s → s < n → ⊥) → Listed now l s v ↔ Listed first l s v
 
-pub put-none : (level : ℕ) (P : ℕ → ℕ → Type 0) (first : List Arc) (low : ℕ) → IsPut level P first first low low
-put-none level P first low = record { own = λ s v above less. absurd (omega arith); rest = λ l s v other. (λ member. member, λ member. member) }
-
 pub put-more : (level : ℕ) (P : ℕ → ℕ → Type 0) (first now new : List Arc) (low n : ℕ) → IsPut level P first now low n → low ≤ n → ((v : ℕ) → Listed new level n v ↔ P n v)
     → ((l s v : ℕ) → (l ≡ level → s ≡ n → ⊥) → Listed new l s v ↔ Listed now l s v) → IsPut level P first new low (n + 1)
 put-more level P first now new low n before order own others = record {
@@ -54,9 +51,6 @@ put-all level P first now low n done ranged small s v =
 pub record AreDone (low : ℕ) (Q : ℕ → ℕ → ℕ → Type 0) (first now : List Arc) (n : ℕ) : Type 0 where
   pub own : (l s v : ℕ) → low ≤ l → l < n → Listed now l s v ↔ Q l s v
   pub rest : (l s v : ℕ) → (low ≤ l → l < n → ⊥) → Listed now l s v ↔ Listed first l s v
-
-pub done-none : (low : ℕ) (Q : ℕ → ℕ → ℕ → Type 0) (first : List Arc) → AreDone low Q first first low
-done-none low Q first = record { own = λ l s v above less. absurd (omega arith); rest = λ l s v other. (λ member. member, λ member. member) }
 
 pub done-more : (low : ℕ) (Q : ℕ → ℕ → ℕ → Type 0) (first now new : List Arc) (n : ℕ) → AreDone low Q first now n → low ≤ n → ((s v : ℕ) → Listed new n s v ↔ Q n s v)
     → ((l s v : ℕ) → (l ≡ n → ⊥) → Listed new l s v ↔ Listed now l s v) → AreDone low Q first new (n + 1)

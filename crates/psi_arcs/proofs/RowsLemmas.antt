@@ -1,6 +1,6 @@
 -- Arcs by their rows.
 use Rattle.std.proofs.Common.{◌≡◌, ◌⊎◌, ◌↔◌, ℕ, zero, suc, ◌+◌, ◌*◌, ◌/◌, ◌%◌, ◌<◌, ◌≤◌, Bool, true, false, cond, List, [], ◌∷◌, ◌++◌, length, get_or, take, drop, slice_set, inl, inr, ap, sym, ◌∙◌, subst, arith, refl, length-set, get_or-set_same, get_or-set_other}
-use Rattle.std.proofs.lemmas.List.{get_or_default, get_or_push, get_or_append_left}
+use Rattle.std.proofs.lemmas.List.{get_or_default}
 use Rattle.std.proofs.lemmas.Bool.{cases_eq, false≢true, and_parts, and_from, le-leb, leb-true}
 use Rattle.std.proofs.Math.Seq.{take-append_seam}
 use Rattle.psi_state.specs.Members.{In}
@@ -261,13 +261,6 @@ pub empty-more : (rows : List Sums) (n : ℕ) (row : Sums) → n < length rows �
 empty-more rows n row within bare before e t less small = elim (cases_eq e n) [
   | inl same ↦ subst (λ (x : Sums). has x t ≡ false) (sym (ap (λ k. sums_at (slice_set rows n row) k) same ∙ read-own rows n row within)) (bare t small)
   | inr other ↦ subst (λ (x : Sums). has x t ≡ false) (sym (read-other rows n e row other)) (before e t (omega arith) small)
-]
-
-pub empty-push : (rows : List Sums) (n : ℕ) (row : Sums) → length rows ≡ n → ((t : ℕ) → t < 320 → has row t ≡ false) → ((e t : ℕ) → e < n → t < 320 → has (sums_at rows e) t ≡ false)
-    → (e t : ℕ) → e < n + 1 → t < 320 → has (sums_at (rows ++ row ∷ []) e) t ≡ false
-empty-push rows n row count bare before e t less small = elim (cases_eq e n) [
-  | inl same ↦ subst (λ (x : Sums). has x t ≡ false) (sym (get_or_push rows row none e (count ∙ sym same))) (bare t small)
-  | inr other ↦ subst (λ (x : Sums). has x t ≡ false) (sym (get_or_append_left rows (row ∷ []) none e (omega arith))) (before e t (omega arith) small)
 ]
 
 -- what a vector holds once its slice was written

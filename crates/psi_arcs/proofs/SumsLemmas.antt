@@ -58,12 +58,6 @@ bit-or a b i = or-one (bit_at a i) (bit_at b i) (bit_at (bit_or a b) i) (bit_at_
 pub bit-and : (a b i : ℕ) → (bit_at (bit_and a b) i ≡ 1) ↔ ((bit_at a i ≡ 1) × (bit_at b i ≡ 1))
 bit-and a b i = and-one (bit_at a i) (bit_at b i) (bit_at (bit_and a b) i) (bit_at_and a b i) (bit_at-lt a i) (bit_at-lt b i)
 
-pub iff-trans : {P Q R : Type 0} → (P ↔ Q) → (Q ↔ R) → P ↔ R
-iff-trans first second = (λ p. second.0 (first.0 p), λ r. first.1 (second.1 r))
-
-pub iff-back : {P Q : Type 0} → (P ↔ Q) → Q ↔ P
-iff-back both = (both.1, both.0)
-
 pub has-or : (x y : Sums) (t : ℕ) → t < 320 → (has (record { words = bit_or (slice_index x.words 0) (slice_index y.words 0) ∷ bit_or (slice_index x.words 1) (slice_index y.words 1) ∷ bit_or (slice_index x.words 2) (slice_index y.words 2) ∷ bit_or (slice_index x.words 3) (slice_index y.words 3) ∷ bit_or (slice_index x.words 4) (slice_index y.words 4) ∷ [] }) t ≡ true)
     ↔ ((has x t ≡ true) ⊎ (has y t ≡ true))
 has-or x y t small =

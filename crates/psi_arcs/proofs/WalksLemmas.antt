@@ -107,10 +107,6 @@ held-useful A n t l s v x held arc =
       after = (drop (suc l) x, rest.1 ∙ count, back.1);
     }
 
-customers-append : (xs ys : List ℕ) → customers (xs ++ ys) ≡ customers xs + customers ys
-customers-append [] ys = omega arith
-customers-append (x ∷ xs) ys = (let e = customers-append xs ys in omega arith)
-
 -- a useful arc is one of a held state
 pub useful-held : (A : ℕ → ℕ → ℕ → Type 0) (n t l s v : ℕ) → Useful A n t l s v → (x : List ℕ) × Held A n t x × IsArc x l s v
 useful-held A n t l s v useful =

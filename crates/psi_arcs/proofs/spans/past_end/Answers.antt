@@ -1,5 +1,5 @@
 -- Answers in the proof of `past_end`.
-use Rattle.std.proofs.Common.{◌≡◌, ◌-◌, inl, inr, subst, arith}
+use Rattle.std.proofs.Common.{◌-◌, inl, inr, subst, arith}
 use Rattle.std.proofs.lemmas.Bool.{cases_eq}
 use Rattle.psi_arcs.specs.Held.{Listed}
 use Rattle.psi_arcs.proofs.Putting.{none-left}

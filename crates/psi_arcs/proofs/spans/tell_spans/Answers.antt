@@ -1,5 +1,5 @@
 -- Answers in the proof of `tell_spans`.
-use Rattle.std.proofs.Common.{◌≡◌, inl, inr, sym, subst, arith, slice_set, get_or-set_same, get_or-set_other}
+use Rattle.std.proofs.Common.{inl, inr, sym, subst, arith, slice_set, get_or-set_same, get_or-set_other}
 use Rattle.std.proofs.lemmas.Bool.{cases_eq}
 use Rattle.psi_arcs.specs.declared.spans.Span.{Span}
 use Rattle.psi_arcs.specs.Spans.{span_at, IsSpan}
