@@ -10,9 +10,9 @@ from psi_tools.plotting.read_log import names_of, read_log
 from psi_tools.plotting.read_report import Report, Spread, read_report
 from psi_tools.plotting.refused import Refused, need
 from psi_tools.told import Told
-from psi_tools.words import Words, run, tell
+from psi_tools.words import Words, look_at, run, tell
 
-COMMAND = "psi-plot"
+COMMAND, UNDRAWN = "psi-plot", 1
 # The most bytes that are read of a file: one more than a log may have.
 LONGEST, MOST_REPORTS, FORMATS = 33_554_433, 8, ("svg", "png", "pdf")
 ABOUT = """Draws what psi prints, and forward runs, as pictures for a lecture or a page.
@@ -60,6 +60,10 @@ def words_of(arguments):
     need(words.what in DRAWN, f"the first word is one of {', '.join(DRAWN)}")
     need(words.files, f"{words.what} is told no file")
     need(words.out.rpartition(".")[2].lower() in FORMATS, "-o names no .svg, .png or .pdf")
+    try:
+        look_at(words.out)
+    except Told as told:
+        raise Told(str(told), UNDRAWN) from None
     return words
 
 
@@ -149,7 +153,7 @@ def work(arguments):
             file.write(picture)
     except OSError as fault:
         tell(COMMAND, f"the picture can't be written: {fault.strerror or fault}")
-        return 1
+        return UNDRAWN
     return 0
 
 

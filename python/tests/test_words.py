@@ -138,6 +138,14 @@ def test_where_it_is_written_is_looked_at_first(tool, tmp_path, name):
     assert [*pathlib.Path(tmp_path).iterdir()] == []
 
 
+def test_where_a_picture_is_written_is_looked_at_first(tool, tmp_path):
+    for words in (["forward", NET], ["report", "absent"], ["coupling", "absent"]):
+        status, out, error = tool("psi-plot", *words, "-o", "none/picture.svg")
+        said = "-o none/picture.svg can't be written: No such file or directory"
+        assert (status, out, error) == (1, "", f"psi-plot: {said}\n")
+    assert [*tmp_path.iterdir()] == []
+
+
 @pytest.mark.parametrize("shell", SHELLS)
 @pytest.mark.parametrize("name", NAMES)
 def test_completion_is_of_its_shell(tmp_path, shell, name):
