@@ -1,0 +1,102 @@
+"""docs/FORMATS.md: the performance figures are those of the report and of the law of M/M/c/K; and the
+streams that somebody could choose give what is said."""
+
+import csv
+import math
+import re
+import subprocess
+
+import pytest
+from conftest import TOP
+
+GUIDE = (TOP / "docs/FORMATS.md").read_text()
+PART = GUIDE.partition("\n## Performance figures\n")[2].partition("\n## ")[0]
+FILE, CALL = TOP / "examples/service-level.toml", "report examples/service-level.toml 0 0 10000"
+SERVERS, PLACES, COME, SERVED, WITHIN = 3, 10, 5, 2, 0.5
+
+
+def in_time(found):
+    """The chance that who finds so many is answered in time."""
+    if not SERVERS <= found < PLACES:
+        return float(found < SERVERS)
+    mean = SERVERS * SERVED * WITHIN
+    many = found - SERVERS
+    return 1 - sum(math.exp(-mean) * mean**i / math.factorial(i) for i in range(many + 1))
+
+
+def means_of_law():
+    """The mean of each row of the report, by the law."""
+    law = [1.0]
+    for number in range(PLACES):
+        law.append(law[-1] * COME / (SERVED * min(number + 1, SERVERS)))
+    law = [weight / sum(law) for weight in law]
+    rewards = {
+        "calls": lambda n: n, "busy": lambda n: min(n, SERVERS),
+        "waiting": lambda n: max(0, n - SERVERS), "lost": lambda n: n == PLACES,
+        "all-busy": lambda n: n >= SERVERS, "soon": lambda n: 10**6 * in_time(n),
+    }
+    return {
+        name: sum(share * reward(n) for n, share in enumerate(law))
+        for name, reward in rewards.items()
+    }
+
+
+def means_of_report(program):
+    """The mean of each row of the report, over its samples."""
+    text = subprocess.check_output([program, *CALL.split()], cwd=TOP, text=True)
+    assert f"./psi {CALL}\n" in PART and text in PART
+    rows = [*csv.DictReader(text.splitlines())]
+    return {row["name"]: int(row["value"]) / 10_000 for row in rows if "sum" in row["item"]}
+
+
+def figures(mean):
+    """The figures of the table, in its order."""
+    entering = COME * (1 - mean["lost"])
+    soon = mean["soon"] / 10**6
+    return [
+        mean["busy"] / SERVERS, SERVED * mean["busy"], mean["lost"],
+        (mean["all-busy"] - mean["lost"]) / (1 - mean["lost"]), mean["waiting"],
+        mean["waiting"] / entering, mean["calls"] / entering, soon, soon / (1 - mean["lost"]),
+    ]
+
+
+def test_the_table_is_that_of_the_report_and_of_the_law(program):
+    rows = [[cell.strip() for cell in line.split("|")[3:5]] for line in PART.splitlines()
+            if line.startswith("| ") and not line.startswith("| Figure")]
+    here, law = figures(means_of_report(program)), figures(means_of_law())
+    assert len(rows) == len(here)
+    for shown, value, wanted in zip(rows, here, law):
+        places = len(shown[0].partition(".")[2])
+        assert shown == [f"{value:.{places}f}", f"{wanted:.{places}f}"]
+        assert value == pytest.approx(wanted, rel=0.07)
+
+
+def test_the_rates_and_rewards_are_those_of_the_file():
+    import tomllib
+
+    net = tomllib.loads(FILE.read_text())
+    queue, rates = net["queue"][0], [event["rate"] for event in net["event"]]
+    assert (queue["servers"], queue["capacity"], rates) == (SERVERS, PLACES, [COME, SERVED])
+    tables = {reward["name"]: reward.get("table") for reward in net["reward"]}
+    wanted = [round(10**6 * in_time(number)) for number in range(PLACES + 1)]
+    assert tables["soon"] == [wanted]
+
+
+def test_streams_that_could_be_chosen(program):
+    said = re.search(r"streams ([\d, and]+) of\s+`(\S+)` give ([\d, and]+) callers", GUIDE)
+    streams, states = (re.findall(r"\d+", said[place]) for place in (1, 3))
+    assert len(streams) == len(states) == 3
+    for stream, state in zip(streams, states):
+        out = subprocess.check_output([program, "sample", said[2], "0", stream], cwd=TOP, text=True)
+        assert out.splitlines()[1] == f"state {state}"
+
+
+def test_the_commitment_is_one(tmp_path):
+    said = GUIDE.partition("**A commitment**")[2]
+    block = re.search(r"^  ```\n((?:  [^\n]*\n)*?)  ```", said, re.M)
+    lines = "".join(line[2:] for line in block[1].splitlines(True))
+    done = subprocess.run(["sh", "-ec", lines], cwd=tmp_path, capture_output=True, text=True)
+    kept = (tmp_path / "kept").read_text()
+    assert re.fullmatch(r"\d{1,20} [0-9a-f]{32}\n", kept) and int(kept.split()[0]) < 2**64
+    check = subprocess.run(["sha256sum", "kept"], cwd=tmp_path, capture_output=True, text=True)
+    assert done.stdout.split()[0] == check.stdout.split()[0]
