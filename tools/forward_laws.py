@@ -1,5 +1,6 @@
 """Forward runs of M/M/1/K in plain Python, for doc_claims.py: a step is a word, whose number modulo
-the least power of two from the sum of the rates on tells whether one comes, is served, or neither."""
+the least power of two that isn't below the sum of the rates tells whether one comes, is served, or
+neither."""
 
 
 def moves_of(rate, service, room):

@@ -1,5 +1,5 @@
-"""docs/FORMATS.md: the performance figures are those of the report and of the law of M/M/c/K; and the
-streams that somebody could choose give what is said."""
+"""docs/FORMATS.md: the performance figures are those of the report and of the law of M/M/c/K; and
+the streams that somebody could choose give what is said."""
 
 import csv
 import math

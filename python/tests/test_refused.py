@@ -1,5 +1,5 @@
-"""Each file of the cases that psi refuses is refused by every tool that reads networks, by one line;
-and an answer that fits on no disk is told. The tools are called in this process."""
+"""Each file of the cases that psi refuses is refused by every tool that reads networks, by one
+line; and an answer that fits on no disk is told. The tools are called in this process."""
 
 import re
 import resource
@@ -41,7 +41,7 @@ WRITES = {
 
 @pytest.fixture
 def here(environment, tmp_path, monkeypatch):
-    """A folder of its own, in which psi is on the PATH; signals are handled as before in the end."""
+    """A folder of its own, with psi on the PATH; in the end signals are handled as before."""
     monkeypatch.chdir(tmp_path)
     monkeypatch.setenv("PATH", environment["PATH"])
     signals = signal.SIGINT, signal.SIGTERM, signal.SIGHUP
