@@ -18,10 +18,8 @@ use Rattle.psi_route.proofs.TablesLemmas.{are_tables-true}
 use Rattle.psi_route.specs.Refusals as shapes
 use Rattle.psi_route.specs.Refusals.{is_self_target, are_tables, fit_tables, is_size_off}
 use Rattle.psi_kinds.specs.declared.kinds.Kind.{Kind}
-use Rattle.psi_kinds.specs.declared.refusals.KindRefusal.{KindRefusal}
-use Rattle.psi_kinds.specs.declared.refusals.KindRefusal.TheVariants.{SelfTarget, Repeated, TableLength, SizeRange, Empty, PartRange, EmptyGuard, OutOfMemory}
 use Rattle.psi_kinds.specs.Kinds.{AreQueues}
-use Rattle.psi_kinds.specs.Refusals.{IsKindRefusal, has_given, of_parts, listed_refusal, refusal_of_guards, refusal_of_parts, refusal_of}
+use Rattle.psi_kinds.specs.Refusals.{has_given, of_parts, listed_refusal, refusal_of_guards, refusal_of_parts, refusal_of}
 
 -- ---- routes
 
@@ -82,21 +80,6 @@ table-few caps to tables i valid places is small =
     omega (arith, valid.most (slice_index to i) (places i (omega arith)))
 
 -- ---- refusals
-
-pub refusal-told : (refusal : KindRefusal) (cause : Option KindRefusal) → cause ≡ Some refusal → IsKindRefusal refusal cause
-refusal-told SelfTarget cause is = is
-refusal-told Repeated cause is = is
-refusal-told TableLength cause is = is
-refusal-told SizeRange cause is = is
-refusal-told Empty cause is = is
-refusal-told PartRange cause is = is
-refusal-told EmptyGuard cause is = is
-refusal-told OutOfMemory cause is = tt
-
-pub refused-listed : (caps : List ℕ) (kind : Kind) (refusal : KindRefusal) → listed_refusal caps kind ≡ Some refusal → IsKindRefusal refusal (refusal_of caps kind)
-unfolding refusal_of
-refused-listed caps kind refusal is =
-    refusal-told refusal (first_or (listed_refusal caps kind) (refusal_of_parts caps kind)) (ap (λ o. first_or o (refusal_of_parts caps kind)) is)
 
 -- where the lists and numbers are no cause, the parts are
 pub refusal-parts : (caps : List ℕ) (kind : Kind) → listed_refusal caps kind ≡ None → refusal_of_parts caps kind ≡ refusal_of caps kind
