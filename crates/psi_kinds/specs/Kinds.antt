@@ -52,7 +52,7 @@ abbrev pub gain_chosen : Option ℕ → ℕ → List ℕ → List ℕ
 gain_chosen None b x = x
 gain_chosen (Some q) b x = gain q b x
 
--- one customer leaves the source for the queue that was chosen; where none was, it leaves the network if the list is empty or full queues lose it
+-- one customer leaves the source, and the queue that was chosen gains b; where none was chosen, the customer leaves the network if the list of queues is empty or full queues lose it, and else stays
 abbrev pub go_on : Source → List ℕ → Full → ℕ → Option ℕ → List ℕ → List ℕ
 go_on from to full b (Some q) x = gain q b (lose from.queue 1 x)
 go_on from [] full b None x = lose from.queue 1 x
@@ -90,7 +90,7 @@ module _ (caps : List ℕ) where
   first_with_room [] b x = None
   first_with_room (q ∷ queues) b x = if has_room b x q then Some q else first_with_room queues b x
 
-  -- the queues of a list with room for b, the first of which has this place
+  -- the offers of those queues of a list that have room for b; the first queue of the list has this place, the next one the next, and a queue's table stands at its place
   abbrev pub offers : List ℕ → List (List ℕ) → ℕ → List ℕ → ℕ → List Offer
   offers [] tables b x place = []
   offers (q ∷ queues) tables b x place =

@@ -7,7 +7,7 @@ use Rattle.std.specs.List.{list_all}
 abbrev pub is_name_byte : ℕ → Bool
 is_name_byte byte = is_ascii_alphanumeric byte || (byte == 95 || byte == 45)
 
--- 1 to 32 such bytes
+-- the form of a name: 1 to 32 bytes, each an ASCII letter or digit, '_' or '-'
 unfoldable pub is_name : List ℕ → Bool
 is_name bytes = (nat_le 1 (length bytes) && nat_le (length bytes) 32) && list_all is_name_byte bytes
 
