@@ -10,14 +10,14 @@ use Rattle.psi_state.specs.Members.{In}
 use Rattle.psi_state.proofs.MembersLemmas.{In-map}
 use Rattle.psi_reward.specs.Ranges.{least, greatest, IsReached}
 use Rattle.psi_rate.specs.Composition.{compose, AreClosed}
-use Rattle.psi_rate.specs.Doubling.{HasNone, IsFirst, TellsFirst}
+use Rattle.psi_rate.specs.Doubling.{HasNone, IsFirst}
 use Rattle.psi_rate.proofs.DoublingLemmas.{first_answer-found, first_answer-none}
 use Rattle.psi_horizon.specs.Runs.{region_at}
 use Rattle.psi_horizon.proofs.RunsLemmas.{run-area, run-among, run-has}
 use Rattle.psi_couple.proofs.OptionLemmas.{none-without}
 use Rattle.psi_couple.specs.declared.answers.Valued.{Valued}
 use Rattle.psi_couple.specs.declared.answers.Valued.TheVariants.{At, NotAt}
-use Rattle.psi_couple.specs.Valuing.{common_value, value_at, valued_of, valued_within, IsValued, IsValueReached, ReachesValued, DecidesValues}
+use Rattle.psi_couple.specs.Valuing.{common_value, value_at, valued_of, valued_within, IsValued, IsValueReached, DecidesValues}
 
 abbrev is_value : (List ℕ → ℤ) → ℤ → List ℕ → Bool
 is_value value v x = int_eq (value x) v
@@ -137,11 +137,6 @@ value-reached value split caps f t v closed is = record {
       (subst (λ n. In (compose f earlier x) (region_at split f caps n).states) e own)));
 }
 
-pub valued-reached : (value : List ℕ → ℤ) (split : ℕ) (caps : List ℕ) (f : ℕ → List ℕ → List ℕ) (limit : ℕ) (o : Valued) → AreClosed caps f
-    → IsValued (value_at value split f caps) limit o → ReachesValued value f caps o
-valued-reached value split caps f limit (At t v) closed is = value-reached value split caps f t v closed is.answer
-valued-reached value split caps f limit (NotAt l) closed is = tt
-
 -- a run whose states have one value makes the states of each longer run have it
 value-later : (value : List ℕ → ℤ) (split : ℕ) (caps : List ℕ) (f : ℕ → List ℕ → List ℕ) (t later : ℕ) (v : ℤ) → AreClosed caps f → t ≤ later
     → value_at value split f caps t ≡ Some v → value_at value split f caps later ≡ Some v
@@ -161,8 +156,3 @@ valued-decides value split caps f limit (NotAt l) closed is = λ t order.
     (let longer : value_at value split f caps (2 ^ limit) ≡ Some v = value-later value split caps f t (2 ^ limit) v closed order found in
     let none : value_at value split f caps (2 ^ limit) ≡ None = is.1.each limit (omega arith) in
     absurd cc))
-
--- what is told of the first answer is told of the value
-pub valued_of-is : (run : ℕ → Option ℤ) (limit : ℕ) (found : Option (ℕ × ℤ)) → TellsFirst run limit found → IsValued run limit (valued_of limit found)
-valued_of-is run limit None tells = (refl, tells)
-valued_of-is run limit (Some found) tells = tells

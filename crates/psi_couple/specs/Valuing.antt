@@ -4,7 +4,7 @@ use Rattle.std.specs.Prelude.{◌≡◌, ℕ, suc, ℤ, ◌^◌, ◌≤◌, List
 use Rattle.std.specs.List.{list_all}
 use Rattle.std.specs.Ordering.{int_eq}
 use Rattle.psi_state.specs.State.{IsBelow}
-use Rattle.psi_rate.specs.Composition.{Functions, Parts, compose}
+use Rattle.psi_rate.specs.Composition.{Functions, compose}
 use Rattle.psi_rate.specs.Doubling.{first_answer, HasNone, IsFirst}
 use Rattle.psi_horizon.specs.Runs.{region_at}
 use Rattle.psi_couple.specs.declared.answers.Valued.{Valued}
@@ -18,14 +18,6 @@ common_value value (x ∷ xs) = if list_all (λ y. int_eq (value y) (value x)) x
 -- the value that all states have with which the run of a horizon ends, if they have one
 abbrev pub value_at : (List ℕ → ℤ) → ℕ → Functions → List ℕ → ℕ → Option ℤ
 value_at value split f caps t = common_value value (region_at split f caps t).states
-
--- what values are asked of: a network, the words of its past, the capacities of a reward and its value at each state; and which plan is asked
-pub record Asking (E : Type 0) : Type 0 where
-  pub system : Parts E
-  pub words : ℕ → ℕ
-  pub caps : List ℕ
-  pub value : List ℕ → ℤ
-  pub plan : ℕ
 
 -- the first answer of a run, told as that of a value
 abbrev pub valued_of : ℕ → Option (ℕ × ℤ) → Valued

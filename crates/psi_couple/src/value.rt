@@ -4,18 +4,16 @@ ghost use Rattle.std.specs.Prelude.{◌≡◌, ◌^◌, ◌≤◌, ℕ, List, So
 ghost use Rattle.psi_state.specs.State.{IsBelow, box};
 ghost use Rattle.psi_state.specs.Members.{In};
 ghost use Rattle.psi_rate.specs.Composition.{system_functions};
-ghost use Rattle.psi_rate.specs.Doubling.{TellsFirst};
 ghost use Rattle.psi_reward.specs.Rewards.{reward_caps, reward_kind};
 ghost use Rattle.psi_reward.specs.Worth.{worth_of};
 ghost use Rattle.psi_horizon.specs.Planned.{IsOver};
-ghost use Rattle.psi_couple.specs.Valuing.{common_value, value_at, valued_of, valued_within, IsValued, ReachesValued, DecidesValues};
+ghost use Rattle.psi_couple.specs.Valuing.{common_value, value_at, valued_within, IsValued, ReachesValued, DecidesValues};
 
 use crate::answers::Valued;
 use crate::running::run_whole;
 use psi_event::EventLaw;
 use psi_horizon::Plan;
 use psi_past::Past;
-use psi_rate::{Answers, first_answer};
 use psi_region::Follower;
 use psi_reward::{Reward, RewardLaw};
 use psi_state::{Bounds, State};
@@ -51,80 +49,13 @@ pub fn value_horizon<E: EventLaw, P: Past + Drop, F: Follower + Drop>(
     ensures over { IsOver plan.new.run }
 {
     let limit = plan.limit();
-    let mut values = Values { plan, reward };
-    let found = first_value(&mut values, limit);
-    valued_of(limit, found)
-}
-
-// The first answer told as a value.
-fn valued_of(limit: u8, found: Option<(u32, i64)>) -> Valued
-    ensures { result ≡ valued_of limit found }
-{
-    match found {
-        Some((horizon, value)) => Valued::At { horizon, value },
-        None => Valued::NotAt { limit },
+    for exponent in 0..limit + 1 {
+        let horizon = 1 << exponent;
+        if let Some(value) = value_after(plan, reward, horizon) {
+            return Valued::At { horizon, value };
+        }
     }
-}
-
-// A plan with the reward of which values are asked: it answers the value that all states have with which the run of a
-// horizon ends, if they have one.
-#[derive(Drop)]
-struct Values<'p, 'r, 'n, E: EventLaw, P: Past + Drop, F: Follower + Drop> {
-    plan: &'p mut Plan<'n, E, P, F>,
-    reward: &'r Reward,
-}
-
-impl<'p, 'r, 'n, E: EventLaw, P: Past + Drop, F: Follower + Drop> Answers
-    for Values<'p, 'r, 'n, E, P, F>
-{
-    ghost use Rattle.std.specs.Prelude.{◌≡◌, ◌≤◌, ◌^◌};
-    ghost use Rattle.psi_reward.specs.Rewards.{reward_caps, reward_kind};
-    ghost use Rattle.psi_reward.specs.Worth.{worth_of};
-    ghost use Rattle.psi_rate.specs.Composition.{system_functions};
-    ghost use Rattle.psi_horizon.specs.Planned.{IsOver};
-    ghost use Rattle.psi_couple.specs.Valuing.{Asking, value_at};
-
-    type Answer = i64;
-
-    ghost Standing = { Asking E };
-
-    ghost standing = { λ v. record {
-      system = v.plan.now.system;
-      words = P.words v.plan.now.past;
-      caps = reward_caps v.reward.now;
-      value = worth_of (reward_kind v.reward.now);
-      plan = v.plan.ghost_name;
-    } };
-
-    ghost answer_at = { λ a. value_at a.value a.system.split (system_functions E.function a.system a.words) a.system.caps };
-
-    ghost Allows = { λ a horizon. (a.caps ≡ a.system.caps) × ((1 ≤ horizon) × (horizon ≤ 2 ^ a.system.limit)) };
-
-    ghost IsAsked = { λ v. IsOver v.plan.now.run };
-
-    fn answer(&mut self, horizon: u32) -> Option<i64> {
-        let plan = &mut *self.plan;
-        value_after(plan, self.reward, horizon)
-    }
-}
-
-// The first value that is asked for, with its horizon.
-fn first_value<'p, 'r, 'n, E: EventLaw, P: Past + Drop, F: Follower + Drop>(
-    values: &mut Values<'p, 'r, 'n, E, P, F>,
-    limit: u8,
-) -> Option<(u32, i64)>
-    requires most { limit ≤ 22 }
-    requires caps { reward_caps values.old.reward.now ≡ values.old.plan.now.system.caps }
-    requires within { limit ≤ values.old.plan.now.system.limit }
-    ensures first { let system = values.old.plan.now.system in
-        let f = system_functions E.function system (P.words values.old.plan.now.past) in
-        TellsFirst (value_at (worth_of (reward_kind values.old.reward.now)) system.split f system.caps) limit result }
-    ensures system { values.new.plan.now.system ≡ values.old.plan.now.system }
-    ensures words { P.words values.new.plan.now.past ≡ P.words values.old.plan.now.past }
-    ensures over { IsOver values.new.plan.now.run }
-    ensures same_reference { values.new.plan.ghost_name ≡ values.old.plan.ghost_name }
-{
-    first_answer(values, limit)
+    Valued::NotAt { limit }
 }
 
 // The value that all states have with which the run of a horizon ends, if they have one.
