@@ -10,7 +10,7 @@ use crate::way::Way;
 use psi_event::EventLaw;
 use psi_horizon::{OutOfMemory, Plan};
 use psi_keyed::KeyedCorners;
-use psi_packed::PackedCorners;
+use psi_packed::{Layout, PackedCorners};
 use psi_packed_set::PackedSets;
 use psi_past::Past;
 use psi_piecewise::PiecewiseLaw;
@@ -68,20 +68,28 @@ fn corners_of<'n, E: PiecewiseLaw + RouteLaw>(
     requires { All (λ f. IsMonotone course.caps f) (map E.function course.events) }
     ensures { IfOk result (λ way. ⟦<Way<'n, E> as Follower>⟧.stands_for way ≡ followed E.function course.entry) }
 {
+    let caps = course.caps();
     if let Some(keyed) = KeyedCorners::new(alloc, &course)? {
         return Ok(Way::Keyed(keyed));
     }
     if let Some(corners) = PackedCorners::new(alloc, &course)? {
         return Ok(Way::CornersInOne(corners));
     }
-    if let Some(corners) = PackedCorners::new(alloc, &course)? {
-        return Ok(Way::CornersInTwo(corners));
+    // Where fewer words do, an event told no pieces there, and tells none for more.
+    if Layout::<1>::new(caps).is_none() {
+        if let Some(corners) = PackedCorners::new(alloc, &course)? {
+            return Ok(Way::CornersInTwo(corners));
+        }
     }
-    if let Some(corners) = PackedCorners::new(alloc, &course)? {
-        return Ok(Way::CornersInThree(corners));
+    if Layout::<2>::new(caps).is_none() {
+        if let Some(corners) = PackedCorners::new(alloc, &course)? {
+            return Ok(Way::CornersInThree(corners));
+        }
     }
-    if let Some(corners) = PackedCorners::new(alloc, &course)? {
-        return Ok(Way::CornersInFour(corners));
+    if Layout::<3>::new(caps).is_none() {
+        if let Some(corners) = PackedCorners::new(alloc, &course)? {
+            return Ok(Way::CornersInFour(corners));
+        }
     }
     Ok(Way::Corners(Corners::new(course)))
 }
@@ -93,17 +101,25 @@ fn sets_of<'n, E: PiecewiseLaw>(
 ) -> Result<Way<'n, E>, OutOfMemory>
     ensures { IfOk result (λ way. ⟦<Way<'n, E> as Follower>⟧.stands_for way ≡ followed E.function course.entry) }
 {
+    let caps = course.caps();
     if let Some(sets) = PackedSets::new(alloc, &course)? {
         return Ok(Way::SetsInOne(sets));
     }
-    if let Some(sets) = PackedSets::new(alloc, &course)? {
-        return Ok(Way::SetsInTwo(sets));
+    // Where fewer words do, an event told no pieces there, and tells none for more.
+    if Layout::<1>::new(caps).is_none() {
+        if let Some(sets) = PackedSets::new(alloc, &course)? {
+            return Ok(Way::SetsInTwo(sets));
+        }
     }
-    if let Some(sets) = PackedSets::new(alloc, &course)? {
-        return Ok(Way::SetsInThree(sets));
+    if Layout::<2>::new(caps).is_none() {
+        if let Some(sets) = PackedSets::new(alloc, &course)? {
+            return Ok(Way::SetsInThree(sets));
+        }
     }
-    if let Some(sets) = PackedSets::new(alloc, &course)? {
-        return Ok(Way::SetsInFour(sets));
+    if Layout::<3>::new(caps).is_none() {
+        if let Some(sets) = PackedSets::new(alloc, &course)? {
+            return Ok(Way::SetsInFour(sets));
+        }
     }
     Ok(Way::Regions(Regions::reserve(alloc, course)?))
 }
