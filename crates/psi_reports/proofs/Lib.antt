@@ -39,3 +39,4 @@ pub mod StandLaws
 pub mod ShortLaws
 pub mod ShownLaws
 pub mod FittingLemmas
+pub mod WorthReachLemmas

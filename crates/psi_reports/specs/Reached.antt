@@ -1,8 +1,11 @@
 -- Reports of queues alone, of which each without a wrong line is that of samples.
-use Rattle.std.specs.Prelude.{◌≡◌, List, All, Bool, true, false, None}
+use Rattle.std.specs.Prelude.{◌≡◌, ℕ, ◌≤◌, ℤ, unsigned_abs, List, All, Bool, true, false, None}
+use Rattle.psi_state.specs.State.{IsBelow, AreCapacities}
 use Rattle.psi_state.specs.declared.Outcome.{Outcome}
+use Rattle.psi_reward.specs.Worth.{worth_of}
+use Rattle.psi_reward.specs.declared.RewardKind.{RewardKind}
 use Rattle.psi_network.specs.Network.{Network}
-use Rattle.psi_network.specs.Valid.{IsNetwork}
+use Rattle.psi_network.specs.Valid.{IsReward, IsNetwork}
 use Rattle.psi_report.specs.Report.{report_text}
 use Rattle.psi_reports.specs.declared.figure.Item.{Item}
 use Rattle.psi_reports.specs.declared.figure.Item.TheVariants.{Sum, Least, Greatest}
@@ -12,7 +15,7 @@ use Rattle.psi_reports.specs.Text.{text_of}
 use Rattle.psi_reports.specs.Outcomes.{contents_of}
 use Rattle.psi_reports.specs.Reading.{IsReport}
 use Rattle.psi_reports.specs.Samples.{AreOf}
-use Rattle.psi_reports.specs.Sound.{flaw_of}
+use Rattle.psi_reports.specs.Sound.{is_worth, flaw_of}
 
 -- an item of a queue
 abbrev pub is_of_queue : Item → Bool
@@ -37,3 +40,19 @@ pub record IsReached (c : Contents) : Type 0 where
 -- so it is with each report of queues alone in which no line is wrong
 abbrev pub QueueReportsAreReached : Type 0
 QueueReportsAreReached = (c : Contents) → IsReport c → AreOfQueues c.figures → flaw_of c ≡ None → IsReached c
+
+-- ---- the values of rewards
+
+-- a reward of queues of some capacities has a value of no lower magnitude, at a state within them
+pub record IsWithinWorth (z : ℤ) : Type 0 where
+  pub caps : List ℕ
+  pub capacities : AreCapacities caps
+  pub kind : RewardKind
+  pub reward : IsReward caps kind
+  pub state : List ℕ
+  pub within : IsBelow state caps
+  pub most : unsigned_abs z ≤ unsigned_abs (worth_of kind state)
+
+-- so it is with each value that the least or the greatest of a reward may have
+abbrev pub WorthsAreReached : Type 0
+WorthsAreReached = (z : ℤ) → is_worth z ≡ true → IsWithinWorth z

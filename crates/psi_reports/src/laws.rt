@@ -6,7 +6,7 @@ ghost use Rattle.psi_reports.specs.Small.{ReportIsRead};
 ghost use Rattle.psi_reports.specs.Samples.{SamplesAreRead, ReportsAreShort};
 ghost use Rattle.psi_reports.specs.Merging.{ReportsAreMerged, SamplesAreMerged};
 ghost use Rattle.psi_reports.specs.Sound.{ReportIsSound, SumsAreReached};
-ghost use Rattle.psi_reports.specs.Reached.{QueueReportsAreReached};
+ghost use Rattle.psi_reports.specs.Reached.{QueueReportsAreReached, WorthsAreReached};
 ghost use Rattle.psi_reports.specs.Lines.{RowsStandOnLines, WrongLinesAreNone, ReportsShowNetworks, NetworksAreTold, OtherLinesAreNone, MergedIsReport, FittingAreMerged};
 
 /// The report of samples of a network is the text of what it tells.
@@ -51,6 +51,12 @@ pub fn report_is_sound()
 /// values that do.
 pub fn sums_are_reached()
     ensures { SumsAreReached }
+{}
+
+/// The range of a reward's least and greatest value is no wider than rewards need: a reward of some queues has a value of
+/// no lower magnitude than each that may stand there.
+pub fn worths_are_reached()
+    ensures { WorthsAreReached }
 {}
 
 /// The judgement of a report of queues alone is exact: where [`Report::flaw`](crate::Report::flaw) answers none, there

@@ -29,7 +29,7 @@ pub use figure::{Figure, HorizonCount, Item};
 pub use laws::{
     merged_are_reports, networks_are_told, other_lines_are_none, queue_reports_are_reached,
     report_is_read, report_is_sound, report_is_text, reports_are_merged, reports_are_short,
-    reports_show_networks, rows_stand_on_lines, sums_are_reached, text_is_read,
+    reports_show_networks, rows_stand_on_lines, sums_are_reached, text_is_read, worths_are_reached,
     wrong_lines_are_none,
 };
 pub use psi_network::OutOfMemory;
