@@ -44,8 +44,8 @@ def reader():
     )
     words.add_argument(
         "--psi", metavar="PSI",
-        help="the built program; crates/psi/out/psi, or psi on the PATH, where it isn't given; only "
-        "forward wants it",
+        help="the built program; crates/psi/out/psi, or psi on the PATH, where it isn't given, of "
+        "which only forward asks",
     )
     words.add_argument("what", nargs="?", metavar="WHAT", help="coupling, report, exact or forward")
     words.add_argument(

@@ -72,7 +72,8 @@ def test_a_file_that_is_removed_is_told(tool, tmp_path):
     status, _, error = tool("psi-many", *CALL, "--folder", "kept")
     assert status == 0
     first, second = lines_of(error)
-    assert first.startswith("psi-many: the streams 0 to 49 are drawn again: the file of their block")
+    again = "the streams 0 to 49 are drawn again: the file of their block isn't as it was written"
+    assert first == f"psi-many: {again}"
     assert second == "psi-many: the file of the block 9, which this call hasn't, is removed"
 
 

@@ -142,7 +142,8 @@ def test_the_comment_shows_what_psi_prints(tool, program, tmp_path, kind):
     commands = ["closed"] if kind == "closed" else ["sample", "report"]
     assert [words.split()[0] for words, _ in runs] == commands
     for words, text in runs:
-        done = subprocess.run([program, *words.split()], cwd=tmp_path, capture_output=True, text=True)
+        call = [program, *words.split()]
+        done = subprocess.run(call, cwd=tmp_path, capture_output=True, text=True)
         wanted = "".join(line.removeprefix("#     ") for line in text.splitlines(True))
         assert (done.returncode, done.stdout) == (0, wanted)
 

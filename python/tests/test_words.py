@@ -93,8 +93,8 @@ def test_the_other_tools_end_with_one_line(tool, environment, tmp_path, name):
         assert re.fullmatch(rf"{command}: [^\n]+\n", error), (words, error)
     with open("/dev/full", "wb") as full:
         done = subprocess.run(
-            [TOP / "tools" / name, closed, "6", "2"], stdout=full, stderr=subprocess.PIPE, text=True,
-            timeout=SECONDS, env=environment,
+            [TOP / "tools" / name, closed, "6", "2"], stdout=full, stderr=subprocess.PIPE,
+            text=True, timeout=SECONDS, env=environment,
         )
     assert done.returncode == 7 and "No space left on device" in done.stderr
 
