@@ -149,3 +149,15 @@ def test_a_picture(tool, tmp_path, net):
     words = ("calls.servers=2,3,4", "--count", "400", "--picture", "sweep.png")
     assert tool("psi-sweep", net, *words)[0] == 0
     assert (tmp_path / "sweep.png").read_bytes().startswith(b"\x89PNG")
+
+
+def test_more_streams_are_added(tool, tmp_path, net):
+    words = "calls.capacity=10,12", "--folder", "kept", "--count"
+    rows_of(tool, net, *words, "400")
+    before = {file: file.stat().st_mtime_ns for file in (tmp_path / "kept").rglob("*.csv")}
+    rows = rows_of(tool, net, *words, "600")
+    assert len(before) >= 40
+    assert all(file.stat().st_mtime_ns == time for file, time in before.items())
+    fresh = rows_of(tool, net, "calls.capacity=10,12", "--count", "600")
+    assert [row["mean"] for row in rows] == [row["mean"] for row in fresh]
+    assert {row["samples"] for row in rows} == {600}
