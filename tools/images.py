@@ -1,8 +1,8 @@
 #!/usr/bin/env python3
 """images.py crates/psi_sweep
 
-Writes the files of the program psi_sweep, which compares what events make of all states and of all
-boxes with tables of it: data/ with networks and their tables, args, stdout and status.
+Writes the files of the program psi_sweep, which compares what events make of all states and
+of all boxes with tables of it: data/ with networks and their tables, args, stdout and status.
 
 The networks have one to four queues with room for a few customers, and events of every kind: some
 have a few of each kind, one has routes by tables that are drawn, and the others have all events of

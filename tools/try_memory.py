@@ -43,7 +43,7 @@ USAGES = {"psi": b"psi: usage word 1\n", "psi_merge": b"psi_merge: usage: psi_me
 # The statuses that are no answer to what was asked.
 NO_ANSWERS = (2, 6, 7, 8, 13)
 
-# For each command the words that are tried on each network, and cases of crates/psi_cases/data.
+# For each command the words that are tried on each network, and cases by their files.
 COMMANDS = {
     "check": ("check NET", "rows.cases: reset-check two-servers-check unknown-kind"),
     "sample": ("sample NET 0 0", "rows.cases: first-sample split-1 not-coupled-within-the-limit"),
