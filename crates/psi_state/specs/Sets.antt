@@ -22,7 +22,7 @@ ascending (x ∷ xs) = insert_state x (ascending xs)
 abbrev pub image : (List ℕ → List ℕ) → List (List ℕ) → List (List ℕ)
 image f xs = ascending (map f xs)
 
--- the one member of a list that has one
+-- the member of a list that has exactly one, and none of an empty or a longer list
 abbrev pub single : {A : Type 0} → List A → Option A
 single [] = None
 single (x ∷ []) = Some x
