@@ -2,5 +2,5 @@
 pub mod WalksLemmas
 mod SumsLemmas
 mod RowsLemmas
-mod Marked
-mod Putting
+mod MarkedLemmas
+mod PuttingLemmas

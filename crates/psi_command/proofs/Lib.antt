@@ -1,3 +1,3 @@
 -- The lemmas of this crate.
-pub mod Numerals
-pub mod Asking
+pub mod NumeralsLemmas
+pub mod AskingLemmas

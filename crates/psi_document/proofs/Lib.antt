@@ -1,9 +1,9 @@
 -- The lemmas of this crate.
 pub mod TurnLemmas
 pub mod ReadingLemmas
-mod DistinctNames
+mod DistinctNamesLemmas
 pub mod FoundLemmas
 pub mod PigeonLemmas
 pub mod TargetLemmas
-mod Lists
-mod UnknownKeys
+mod ListsLemmas
+mod UnknownKeysLemmas

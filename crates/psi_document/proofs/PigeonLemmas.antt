@@ -3,7 +3,7 @@ use Rattle.std.proofs.Common.{◌≡◌, ℕ, ◌<◌, ◌≤◌, List, [], ◌�
 use Rattle.std.proofs.lemmas.List.Folds.{list_all-append, list_any-append}
 use Rattle.psi_state.specs.Repeats.{repeats}
 use Rattle.psi_state.proofs.RepeatsLemmas.{apart-from_repeats}
-use Rattle.psi_guard.proofs.Accepted.{few_places}
+use Rattle.psi_guard.proofs.AcceptedLemmas.{few_places}
 use Rattle.psi_document.specs.References.{is_in}
 use Rattle.psi_document.specs.Targets.{are_below, AreTargets}
 use Rattle.psi_document.proofs.FoundLemmas.{below_at}

@@ -41,7 +41,7 @@ fn is_among(keys: &[&str], key: &str) -> bool
 }
 
 // Whether the key is one of these two lists.
-#[tactic(auto, using(crate::proofs::UnknownKeys::known_either))]
+#[tactic(auto, using(crate::proofs::UnknownKeysLemmas::known_either))]
 fn is_known(common: &[&str], own: &[&str], key: &str) -> bool
     ensures { result ≡ list_any (bytes_eq key.now) (map (λ k. k.now) common.now ++ map (λ k. k.now) own.now) }
 {
@@ -53,7 +53,7 @@ fn is_known(common: &[&str], own: &[&str], key: &str) -> bool
 /// # Errors
 ///
 /// `UnknownKey` at the first other key in byte order.
-#[tactic(auto, using(crate::proofs::UnknownKeys::keys_of_table), unfolding(crate::specs::Values::no_unknown))]
+#[tactic(auto, using(crate::proofs::UnknownKeysLemmas::keys_of_table), unfolding(crate::specs::Values::no_unknown))]
 pub fn no_unknown(
     place: Place,
     common: &[&str],

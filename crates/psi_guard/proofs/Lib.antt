@@ -1,11 +1,11 @@
 -- The lemmas of this crate.
-pub mod Arrays
-pub mod Order
-pub mod Pairs
-pub mod Hulls
-pub mod Steps
-pub mod Accepted
-pub mod Intervals
+pub mod ArraysLemmas
+pub mod OrderLemmas
+pub mod PairsLemmas
+pub mod HullsLemmas
+pub mod StepsLemmas
+pub mod AcceptedLemmas
+pub mod IntervalsLemmas
 pub mod PiecesLemmas
-pub mod Telling
+pub mod TellingLemmas
 mod Worked

@@ -5,7 +5,7 @@ use Rattle.std.proofs.lemmas.Bool.{cases_lt, cases_eq, cases_Bool, lt-ltb, le-lt
 use Rattle.psi_state.specs.State.{AreCapacities, IsBelow}
 use Rattle.psi_piecewise.specs.declared.piecewise.Piecewise.{Piecewise}
 use Rattle.psi_piecewise.specs.Piecewise.{is_on, all_on, if_on, first_on, second_on, IsSum, IsPiecewise, Does}
-use Rattle.psi_piecewise.proofs.Testing.{sum-by}
+use Rattle.psi_piecewise.proofs.TestingLemmas.{sum-by}
 use Rattle.psi_guard.specs.declared.parts.Part.{Part}
 use Rattle.psi_guard.specs.declared.pieces.PiecesAt.{PiecesAt}
 use Rattle.psi_guard.specs.Guarding.{shifted, moved, guarded, part_of}

@@ -3,4 +3,4 @@ pub mod RunsLemmas
 pub mod AgreeingLemmas
 pub mod SampleLemmas
 mod AreasLemmas
-mod Running
+mod RunningLemmas

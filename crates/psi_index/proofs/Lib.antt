@@ -1,4 +1,4 @@
 -- The lemmas of this crate.
-mod Joining
-mod Rising
-mod Widths
+mod JoiningLemmas
+mod RisingLemmas
+mod WidthsLemmas

@@ -1,6 +1,6 @@
 -- The lemmas of this crate.
 pub mod CountsLemmas
 pub mod SinkLemmas
-pub mod Files
-pub mod Giving
-pub mod Growing
+pub mod FilesLemmas
+pub mod GivingLemmas
+pub mod GrowingLemmas

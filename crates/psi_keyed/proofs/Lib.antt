@@ -1,5 +1,5 @@
 -- The lemmas of this crate.
-mod Marking
-mod Routes
-pub mod Following
-mod Building
+mod MarkingLemmas
+mod RoutesLemmas
+pub mod FollowingLemmas
+mod BuildingLemmas

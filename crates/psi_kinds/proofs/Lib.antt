@@ -1,10 +1,10 @@
 -- The lemmas of this crate.
-mod Chosen
-mod Routes
-mod Guards
-mod Fitting
-mod Does
-mod Accepting
-pub mod Closing
+mod ChosenLemmas
+mod RoutesLemmas
+mod GuardsLemmas
+mod FittingLemmas
+mod DoesLemmas
+mod AcceptingLemmas
+pub mod ClosingLemmas
 pub mod MoveLemmas
 mod Worked

@@ -10,9 +10,9 @@ use Rattle.psi_kinds.specs.declared.moves.Move.{Move}
 use Rattle.psi_kinds.specs.Kinds.{lose, go_on, do_kind, IsKindOf}
 use Rattle.psi_kinds.specs.Refusals.{refusal_of}
 use Rattle.psi_kinds.specs.Moves.{moved, IsMove, move_of}
-use Rattle.psi_kinds.proofs.Accepting.{accepted-parts}
-use Rattle.psi_kinds.proofs.Does.{unrefused}
-use Rattle.psi_kinds.proofs.Routes.{absent}
+use Rattle.psi_kinds.proofs.AcceptingLemmas.{accepted-parts}
+use Rattle.psi_kinds.proofs.DoesLemmas.{unrefused}
+use Rattle.psi_kinds.proofs.RoutesLemmas.{absent}
 
 -- ---- which services are moves
 

@@ -11,7 +11,7 @@ use Rattle.psi_state.proofs.BoxesLemmas.{In-all_states, In-of_all_states}
 use Rattle.psi_state.proofs.StatesLemmas.{In-caps}
 use Rattle.psi_event.specs.Law.{IsClosed, IsMonotone}
 use Rattle.psi_kinds.specs.Kinds.{do_kind}
-use Rattle.psi_kinds.proofs.Closing.{kind-closed}
+use Rattle.psi_kinds.proofs.ClosingLemmas.{kind-closed}
 use Rattle.psi_rate.specs.Rates.{AreRates}
 use Rattle.psi_rate.specs.Composition.{Parts, Functions, function_at, Below}
 use Rattle.psi_rate.specs.System.{IsSystem}

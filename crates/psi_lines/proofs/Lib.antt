@@ -1,4 +1,4 @@
 -- The lemmas of this crate.
 pub mod JoinedLemmas
-pub mod LinePieces
+pub mod LinePiecesLemmas
 mod Worked

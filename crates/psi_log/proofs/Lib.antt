@@ -8,13 +8,13 @@ pub mod ChangedLemmas
 pub mod GivenLemmas
 pub mod LineLemmas
 pub mod HeaderLemmas
-pub mod ReadLaws
+pub mod ReadLemmas
 mod ValueLemmas
 mod NumeralLemmas
 mod PieceLemmas
-mod PieceTurns
+mod PieceTurnsLemmas
 mod CutLemmas
-mod LineWords
+mod LineWordsLemmas
 mod MovedLemmas
 pub mod ToldLemmas
 pub mod StepLemmas

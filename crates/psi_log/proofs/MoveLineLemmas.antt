@@ -13,7 +13,7 @@ use Rattle.psi_lines.specs.Log.{in_box, greatest_horizon}
 use Rattle.psi_lines.specs.Text.{numbers_text, Change, change_text, step_text}
 use Rattle.psi_lines.specs.Room.{spaced_words}
 use Rattle.psi_lines.proofs.JoinedLemmas.{then, then_words, one_word, three_pieces}
-use Rattle.psi_lines.proofs.LinePieces.{step_pieces}
+use Rattle.psi_lines.proofs.LinePiecesLemmas.{step_pieces}
 use Rattle.psi_log.specs.Refusal.{each}
 use Rattle.psi_log.specs.Words.{number_in, pieces_of}
 use Rattle.psi_log.specs.Regions.{form_of, move_form, queues_ascend, is_change, changed, read_change, read_given}

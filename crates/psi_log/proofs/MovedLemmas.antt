@@ -14,7 +14,7 @@ use Rattle.psi_log.specs.Regions.{read_change, queues_ascend, is_change, changed
 use Rattle.psi_log.specs.declared.refusals.LogError.{LogError}
 use Rattle.psi_log.specs.declared.refusals.Cause.TheVariants.{Shape}
 use Rattle.psi_log.proofs.TurnLemmas.{onto, onto_none, turn, turn_ends}
-use Rattle.psi_log.proofs.PieceTurns.{bind_refused}
+use Rattle.psi_log.proofs.PieceTurnsLemmas.{bind_refused}
 
 -- the queue behind the last change's
 abbrev pub behind_last : List Change → ℕ

@@ -12,7 +12,7 @@ use Rattle.psi_lines.specs.Log.{in_set, Entry, greatest_horizon, IsSet}
 use Rattle.psi_lines.specs.Text.{numbers_text, region_words, step_text}
 use Rattle.psi_lines.specs.Room.{spaced_words}
 use Rattle.psi_lines.proofs.JoinedLemmas.{then, then_words, one_word, three_pieces}
-use Rattle.psi_lines.proofs.LinePieces.{step_pieces}
+use Rattle.psi_lines.proofs.LinePiecesLemmas.{step_pieces}
 use Rattle.psi_log.specs.Words.{number_in}
 use Rattle.psi_log.specs.Regions.{form_of, ascends}
 use Rattle.psi_log.specs.Reading.{read_step}

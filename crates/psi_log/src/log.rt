@@ -143,7 +143,7 @@ impl Log {
 ///
 /// The first line that isn't as the grammar has it, with its first cause, as [`crate::Cause`] has them;
 /// `OutOfMemory`, and no clause says when that is.
-#[tactic(auto, using(crate::proofs::ReadLaws::read_found, crate::proofs::ReadLaws::read_only))]
+#[tactic(auto, using(crate::proofs::ReadLemmas::read_found, crate::proofs::ReadLemmas::read_only))]
 pub fn read_log(alloc: Global, bytes: &[u8]) -> Result<Log, LogError>
     ensures value { Gives (λ log. log) result (read bytes.now) }
     ensures found { IfOk result (λ log. IsLogOf bytes.now log) }

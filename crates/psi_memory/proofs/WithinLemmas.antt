@@ -5,7 +5,7 @@ use Rattle.psi_state.specs.State.{IsBelow}
 use Rattle.psi_state.specs.Members.{In}
 use Rattle.psi_state.specs.Sets.{insert_state}
 use Rattle.psi_state.proofs.BoxesLemmas.{below-itself, In-of_all_states}
-use Rattle.psi_pool.proofs.Within.{within-inserted}
+use Rattle.psi_pool.proofs.WithinLemmas.{within-inserted}
 use Rattle.psi_region.specs.Region.{Area, start}
 
 pub same_below : (x caps : List ℕ) → x ≡ caps → IsBelow x caps

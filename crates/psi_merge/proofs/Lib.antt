@@ -1,6 +1,6 @@
 -- The lemmas of this crate.
-pub mod Finding
-pub mod Written
-pub mod Running
-pub mod Sparing
-pub mod Heading
+pub mod FindingLemmas
+pub mod WrittenLemmas
+pub mod RunningLemmas
+pub mod SparingLemmas
+pub mod HeadingLemmas

@@ -103,7 +103,7 @@ fn is_name(bytes: &[u8]) -> bool
 }
 
 /// The name of bytes that have the form of one.
-#[tactic(auto, using(crate::proofs::Cells::few, crate::proofs::Cells::filled, crate::proofs::Cells::full, crate::proofs::Cells::front))]
+#[tactic(auto, using(crate::proofs::CellsLemmas::few, crate::proofs::CellsLemmas::filled, crate::proofs::CellsLemmas::full, crate::proofs::CellsLemmas::front))]
 pub fn name_from(bytes: &[u8]) -> Name
     requires { is_name bytes.now ≡ true }
     ensures { result ≡ bytes.now }

@@ -1,9 +1,9 @@
 -- The lemmas of this crate.
 pub mod FrontLemmas
 mod ErrorLemmas
-mod Texts
-mod KeptKinds
-mod KeptQueues
-mod KeptEvents
-pub mod KeptRewards
+mod TextsLemmas
+mod KeptKindsLemmas
+mod KeptQueuesLemmas
+mod KeptEventsLemmas
+pub mod KeptRewardsLemmas
 pub mod NetworkLemmas

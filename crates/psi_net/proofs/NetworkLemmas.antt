@@ -15,8 +15,8 @@ use Rattle.psi_network.specs.Valid.{IsNetwork}
 use Rattle.psi_net.specs.declared.reading.TopNumbers.{TopNumbers}
 use Rattle.psi_document.specs.declared.refusals.Cause.TheVariants.{NotToml}
 use Rattle.psi_document.proofs.ReadingLemmas.{bind_ok, ok_same, held, optional_kept, number_range, each_kept}
-use Rattle.psi_net.proofs.KeptQueues.{queues_kept}
-use Rattle.psi_net.proofs.KeptEvents.{events_kept}
+use Rattle.psi_net.proofs.KeptQueuesLemmas.{queues_kept}
+use Rattle.psi_net.proofs.KeptEventsLemmas.{events_kept}
 
 most_is : (version : ℕ) → most_limit version ≤ 22
 most_is version = grind arith

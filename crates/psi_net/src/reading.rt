@@ -101,7 +101,7 @@ fn document(alloc: Global, table: &Table) -> Result<Draft, NetError>
 }
 
 // The text of a file's bytes: not too many, and UTF-8.
-#[tactic(auto, using(crate::proofs::Texts::valid, crate::proofs::Texts::invalid), unfolding(crate::specs::Reading::file_text))]
+#[tactic(auto, using(crate::proofs::TextsLemmas::valid, crate::proofs::TextsLemmas::invalid), unfolding(crate::specs::Reading::file_text))]
 fn file_text(bytes: &[u8]) -> Result<&str, NetRefusal>
     ensures { Gives (λ text. text.now) result (file_text bytes.now) }
 {

@@ -252,7 +252,7 @@ fn reward_queues(
 }
 
 // A reward's table, with its place and the names of the rewards before it.
-#[tactic(auto, using(crate::proofs::KeptRewards::reward_kept), unfolding(crate::specs::RewardTables::reward_of))]
+#[tactic(auto, using(crate::proofs::KeptRewardsLemmas::reward_kept), unfolding(crate::specs::RewardTables::reward_of))]
 fn reward(
     alloc: Global,
     place: Place,
@@ -277,7 +277,7 @@ fn reward(
 }
 
 // One element of the array, with its number and the rewards before it.
-#[tactic(auto, using(crate::proofs::KeptRewards::named_more, crate::proofs::KeptRewards::caps_more), unfolding(crate::specs::RewardTables::reward_step))]
+#[tactic(auto, using(crate::proofs::KeptRewardsLemmas::named_more, crate::proofs::KeptRewardsLemmas::caps_more), unfolding(crate::specs::RewardTables::reward_step))]
 fn push_reward(
     alloc: Global,
     number: u32,
@@ -304,7 +304,7 @@ fn push_reward(
 }
 
 // The rewards of the array's elements.
-#[tactic(auto, using(psi_document::proofs::TurnLemmas::turn, crate::proofs::ErrorLemmas::turn_errs, psi_document::proofs::TurnLemmas::turn_ends, crate::proofs::KeptRewards::no_caps))]
+#[tactic(auto, using(psi_document::proofs::TurnLemmas::turn, crate::proofs::ErrorLemmas::turn_errs, psi_document::proofs::TurnLemmas::turn_ends, crate::proofs::KeptRewardsLemmas::no_caps))]
 fn all_rewards(
     alloc: Global,
     known: &KnownQueues,
@@ -324,7 +324,7 @@ fn all_rewards(
 }
 
 // `reward`: an array of at most 64 tables.
-#[tactic(auto, using(crate::proofs::KeptRewards::no_caps), unfolding(crate::specs::RewardTables::rewards_in))]
+#[tactic(auto, using(crate::proofs::KeptRewardsLemmas::no_caps), unfolding(crate::specs::RewardTables::rewards_in))]
 pub(crate) fn rewards(
     alloc: Global,
     known: &KnownQueues,

@@ -4,9 +4,9 @@ pub mod CopyLemmas
 pub mod KindLemmas
 pub mod RewardLemmas
 pub mod EventLemmas
-mod Servers
-mod Parts
-mod Lowered
+mod ServersLemmas
+mod PartsLemmas
+mod LoweredLemmas
 mod MoveLemmas
-mod Making
-mod KeptGenerated
+mod MakingLemmas
+mod KeptGeneratedLemmas

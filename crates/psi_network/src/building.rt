@@ -27,7 +27,7 @@ pub fn capacities(queues: &[Queue]) -> State
 }
 
 // The capacities of queues that make a state.
-#[tactic(auto, using(crate::proofs::Parts::set_more))]
+#[tactic(auto, using(crate::proofs::PartsLemmas::set_more))]
 fn all_capacities(queues: &[Queue]) -> State
     requires { AreCapacities (map (λ q. q.capacity) queues.now) }
     ensures { result ≡ map (λ q. q.capacity) queues.now }
@@ -40,7 +40,7 @@ fn all_capacities(queues: &[Queue]) -> State
 }
 
 // The events, each as what it makes of states.
-#[tactic(auto, using(crate::proofs::Parts::none_made, crate::proofs::Lowered::lowered_more, crate::proofs::Parts::all_made))]
+#[tactic(auto, using(crate::proofs::PartsLemmas::none_made, crate::proofs::LoweredLemmas::lowered_more, crate::proofs::PartsLemmas::all_made))]
 pub(crate) fn all_lowered(
     alloc: Global,
     caps: State,
@@ -66,7 +66,7 @@ pub(crate) fn rates(alloc: Global, events: &[NamedEvent]) -> Result<Vec<u32>, Al
 }
 
 // The wheel of rates that make one.
-#[tactic(auto, using(crate::proofs::Parts::some_rates, crate::proofs::Parts::nowhere_passed))]
+#[tactic(auto, using(crate::proofs::PartsLemmas::some_rates, crate::proofs::PartsLemmas::nowhere_passed))]
 pub(crate) fn wheel(alloc: Global, rates: &[u32]) -> Result<Wheel, OutOfMemory>
     requires { AreRates rates.now }
     ensures { IfOk result (λ wheel. wheel ≡ rates.now) }

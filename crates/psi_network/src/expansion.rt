@@ -31,7 +31,7 @@ pub fn source_of(kind: &Kind) -> Option<Source>
 }
 
 /// How many servers the queue of the source has, and 1 where there is no source: an event becomes as many.
-#[tactic(auto, using(crate::proofs::Servers::servers_read))]
+#[tactic(auto, using(crate::proofs::ServersLemmas::servers_read))]
 pub fn servers_at(queues: &[Queue], source: Option<Source>) -> u16
     requires { IfSome source (λ source. source.queue < length queues.now) }
     ensures { result ≡ servers_at queues.now source }
@@ -56,7 +56,7 @@ fn with_server(k: u16, source: Option<Source>) -> Option<Source>
 }
 
 // A copy of the tables.
-#[tactic(auto, using(crate::proofs::Servers::rows_more, crate::proofs::Servers::rows_all))]
+#[tactic(auto, using(crate::proofs::ServersLemmas::rows_more, crate::proofs::ServersLemmas::rows_all))]
 fn copied_tables(alloc: Global, tables: &Tables) -> Result<Tables, OutOfMemory>
     ensures { IfOk result (λ copy. copy ≡ tables.now) }
 {
@@ -134,7 +134,7 @@ pub fn push_expanded(
 }
 
 // The number of index values of tables, and None exactly where it is above the most that there may be.
-#[tactic(auto, using(crate::proofs::Servers::values_turn, crate::proofs::Servers::values_past, crate::proofs::Servers::values_whole))]
+#[tactic(auto, using(crate::proofs::ServersLemmas::values_turn, crate::proofs::ServersLemmas::values_past, crate::proofs::ServersLemmas::values_whole))]
 fn table_values(tables: &Tables) -> Option<u32>
     ensures { MatchOption result (most_index_values < total (map length tables.now)) (λ values. (values ≡ total (map length tables.now)) × (values ≤ most_index_values)) }
 {

@@ -22,7 +22,7 @@ use psi_state::{Queues, State};
 use std::alloc::Global;
 
 // The number of queues, 4 to 16.
-#[tactic(auto, using(crate::proofs::Making::count_range))]
+#[tactic(auto, using(crate::proofs::MakingLemmas::count_range))]
 fn queue_count(number: u16) -> u8
     ensures value { result ≡ queue_count number }
     ensures least { 4 ≤ result }
@@ -41,7 +41,7 @@ fn numbered(alloc: Global, letter: &str, i: u8) -> Result<Name, OutOfMemory>
 }
 
 // The i-th queue, counted from 1.
-#[tactic(auto, using(crate::proofs::Making::queue_name))]
+#[tactic(auto, using(crate::proofs::MakingLemmas::queue_name))]
 fn nth_queue(alloc: Global, number: u16, i: u8) -> Result<Queue, OutOfMemory>
     requires { i ≤ 16 }
     ensures { IfOk result (λ queue. queue ≡ nth_queue number i) }
@@ -57,7 +57,7 @@ fn nth_queue(alloc: Global, number: u16, i: u8) -> Result<Queue, OutOfMemory>
 }
 
 // All queues, `q1` first.
-#[tactic(auto, using(crate::proofs::Making::queues_more), unfolding(crate::specs::Generated::generated_queues))]
+#[tactic(auto, using(crate::proofs::MakingLemmas::queues_more), unfolding(crate::specs::Generated::generated_queues))]
 fn all_queues(alloc: Global, number: u16) -> Result<Vec<Queue>, OutOfMemory>
     ensures { IfOk result (λ queues. queues.items ≡ generated_queues number) }
 {
@@ -101,7 +101,7 @@ fn full_behind(i: u8) -> Full
 }
 
 // The service of the i-th queue: customers go on to the next one.
-#[tactic(auto, using(crate::proofs::Making::service_name))]
+#[tactic(auto, using(crate::proofs::MakingLemmas::service_name))]
 fn passing_event(alloc: Global, i: u8) -> Result<NamedEvent, OutOfMemory>
     requires some { 1 ≤ i }
     requires few { i ≤ 16 }
@@ -123,7 +123,7 @@ fn passing_event(alloc: Global, i: u8) -> Result<NamedEvent, OutOfMemory>
 }
 
 // The service of the last queue: customers leave the network.
-#[tactic(auto, using(crate::proofs::Making::service_name))]
+#[tactic(auto, using(crate::proofs::MakingLemmas::service_name))]
 fn leaving_event(alloc: Global, last: u8) -> Result<NamedEvent, OutOfMemory>
     requires some { 1 ≤ last }
     requires few { last ≤ 16 }
@@ -190,7 +190,7 @@ fn push_event(
 }
 
 // Puts the services of so many queues behind the other events.
-#[tactic(auto, using(crate::proofs::Making::none_passing, crate::proofs::Making::passing_more))]
+#[tactic(auto, using(crate::proofs::MakingLemmas::none_passing, crate::proofs::MakingLemmas::passing_more))]
 fn push_passing(
     alloc: Global,
     queues: &[Queue],
@@ -209,7 +209,7 @@ fn push_passing(
 }
 
 // Puts the events of an odd number behind the others.
-#[tactic(auto, using(crate::proofs::Making::odd_more, crate::proofs::Making::even_more))]
+#[tactic(auto, using(crate::proofs::MakingLemmas::odd_more, crate::proofs::MakingLemmas::even_more))]
 fn push_odd(
     alloc: Global,
     number: u16,
@@ -227,7 +227,7 @@ fn push_odd(
 }
 
 // All events in the order of the table of `generated`, each expanded over the servers of its source.
-#[tactic(auto, using(crate::proofs::Making::queues_count, crate::proofs::Making::all_joined))]
+#[tactic(auto, using(crate::proofs::MakingLemmas::queues_count, crate::proofs::MakingLemmas::all_joined))]
 fn all_events(alloc: Global, number: u16, queues: &[Queue]) -> Result<Vec<NamedEvent>, OutOfMemory>
     requires { queues.now ≡ generated_queues number }
     ensures { IfOk result (λ events. events.items ≡ generated_events number) }
@@ -243,7 +243,7 @@ fn all_events(alloc: Global, number: u16, queues: &[Queue]) -> Result<Vec<NamedE
 }
 
 // The first so many queues.
-#[tactic(auto, using(crate::proofs::Making::numbers_next, crate::proofs::Making::numbers_room))]
+#[tactic(auto, using(crate::proofs::MakingLemmas::numbers_next, crate::proofs::MakingLemmas::numbers_room))]
 fn first_queues(count: u8) -> Queues
     requires { count ≤ 32 }
     ensures { result ≡ numbers_from 0 count }
@@ -319,7 +319,7 @@ fn all_rewards(alloc: Global, number: u16, caps: State) -> Result<Vec<RewardEntr
 /// # Errors
 ///
 /// [`OutOfMemory`] where there is no memory for the network.
-#[tactic(auto, using(crate::proofs::KeptGenerated::queues_kept, crate::proofs::KeptGenerated::capacities_count, crate::proofs::KeptGenerated::generated_kept), unfolding(crate::specs::Generated::generated_network))]
+#[tactic(auto, using(crate::proofs::KeptGeneratedLemmas::queues_kept, crate::proofs::KeptGeneratedLemmas::capacities_count, crate::proofs::KeptGeneratedLemmas::generated_kept), unfolding(crate::specs::Generated::generated_network))]
 pub fn generated(alloc: Global, number: u16) -> Result<Net, OutOfMemory>
     ensures { IfOk result (λ net. net ≡ generated_network number) }
 {

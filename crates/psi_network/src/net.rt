@@ -181,7 +181,7 @@ impl Net {
     }
 
     /// The name of reward `r`; rewards are counted from 0.
-    #[tactic(auto, using(crate::proofs::Parts::got_named))]
+    #[tactic(auto, using(crate::proofs::PartsLemmas::got_named))]
     pub fn reward_name(&self, r: u8) -> Name
         requires { r < length self.now.rewards }
         ensures { option_map (λ v. v.name) (slice_get self.now.rewards r) ≡ Some result }
@@ -190,7 +190,7 @@ impl Net {
     }
 
     /// The reward `r`, with the network's capacities; rewards are counted from 0.
-    #[tactic(auto, using(crate::proofs::Parts::got_named))]
+    #[tactic(auto, using(crate::proofs::PartsLemmas::got_named))]
     pub fn reward(&self, r: u8) -> &Reward
         requires { r < length self.now.rewards }
         ensures kind { option_map (λ v. v.kind) (slice_get self.now.rewards r) ≡ Some (reward_kind result.now) }
@@ -201,7 +201,7 @@ impl Net {
 
     /// The network as a sample runs it: its capacities, its events in order, the wheel of their rates in
     /// that order, its limit and its split number.
-    #[tactic(auto, using(crate::proofs::Parts::made_count, crate::proofs::QueueLemmas::capacities_kept))]
+    #[tactic(auto, using(crate::proofs::PartsLemmas::made_count, crate::proofs::QueueLemmas::capacities_kept))]
     pub fn system(&self) -> System<'_, Event>
         ensures caps { result.caps ≡ caps_of self.now }
         ensures functions { EachDoes (caps_of self.now) (map ⟦<Event as EventLaw>⟧.function result.events) self.now.events }

@@ -1,13 +1,13 @@
 -- The lemmas of this crate.
-mod Digits
-mod Words
-mod Testing
-mod Holding
-mod Changes
-mod Building
-mod Moving
-mod Pairing
-mod Widths
-pub mod Following
-mod Stepping
-mod Descending
+mod DigitsLemmas
+mod WordsLemmas
+mod TestingLemmas
+mod HoldingLemmas
+mod ChangesLemmas
+mod BuildingLemmas
+mod MovingLemmas
+mod PairingLemmas
+mod WidthsLemmas
+pub mod FollowingLemmas
+mod SteppingLemmas
+mod DescendingLemmas

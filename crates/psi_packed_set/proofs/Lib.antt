@@ -1,7 +1,7 @@
 -- The lemmas of this crate.
-mod Halving
-mod Following
-mod Packing
+mod HalvingLemmas
+mod FollowingLemmas
+mod PackingLemmas
 mod HaltsLemmas
 mod SetsLemmas
 mod BoxesLemmas

@@ -1,3 +1,3 @@
 -- The lemmas of this crate.
-pub mod BlockVectors
-pub mod KeyStream
+pub mod BlockVectorsLemmas
+pub mod KeyStreamLemmas

@@ -1,11 +1,11 @@
 -- The lemmas of this crate.
-pub mod Sorting
-pub mod Places
-pub mod Linking
-pub mod Chains
-pub mod Seeking
-pub mod Relinking
-pub mod Keeping
-pub mod Counting
-pub mod Within
-pub mod Listing
+pub mod SortingLemmas
+pub mod PlacesLemmas
+pub mod LinkingLemmas
+pub mod ChainsLemmas
+pub mod SeekingLemmas
+pub mod RelinkingLemmas
+pub mod KeepingLemmas
+pub mod CountingLemmas
+pub mod WithinLemmas
+pub mod ListingLemmas

@@ -9,5 +9,5 @@ pub mod FunctionsLemmas
 pub mod OutcomesLemmas
 pub mod TableLemmas
 pub mod NumbersLemmas
-mod Dealt
+mod DealtLemmas
 mod Worked

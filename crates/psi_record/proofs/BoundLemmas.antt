@@ -15,7 +15,7 @@ use Rattle.psi_lines.specs.declared.header.Header.{Header}
 use Rattle.psi_lines.specs.Log.{in_set, IsState}
 use Rattle.psi_lines.specs.Text.{numbers_text, region_words, next_words, step_text, end_text, log_text}
 use Rattle.psi_lines.specs.Room.{spaced_words}
-use Rattle.psi_lines.proofs.LinePieces.{step_pieces, end_pieces}
+use Rattle.psi_lines.proofs.LinePiecesLemmas.{step_pieces, end_pieces}
 use Rattle.psi_record.specs.Recorded.{region_of, recorded}
 use Rattle.psi_record.specs.Walking.{step_line, front_text, IsAmple}
 use Rattle.psi_record.proofs.WalkingLemmas.{next-set}

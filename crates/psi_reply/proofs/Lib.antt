@@ -1,14 +1,14 @@
 -- The lemmas of this crate.
-pub mod Sampling
-pub mod Checking
-pub mod Reporting
-pub mod Coupling
-pub mod Surveying
-pub mod Closing
-pub mod Judging
-pub mod Certificates
-pub mod Certifying
-pub mod Replaying
-pub mod Replies
-pub mod Entries
-pub mod Marks
+pub mod SamplingLemmas
+pub mod CheckingLemmas
+pub mod ReportingLemmas
+pub mod CouplingLemmas
+pub mod SurveyingLemmas
+pub mod ClosingLemmas
+pub mod JudgingLemmas
+pub mod CertificatesLemmas
+pub mod CertifyingLemmas
+pub mod ReplayingLemmas
+pub mod RepliesLemmas
+pub mod EntriesLemmas
+pub mod MarksLemmas

@@ -1,5 +1,5 @@
 -- The lemmas of this crate.
 mod NameLemmas
-mod DescribedLaws
-mod GeneratedLaws
-mod PrintedLaws
+mod DescribedLemmas
+mod GeneratedLemmas
+mod PrintedLemmas

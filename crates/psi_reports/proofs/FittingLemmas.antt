@@ -14,9 +14,9 @@ use Rattle.psi_reports.specs.Sound.{figures_line}
 use Rattle.psi_reports.specs.Merging.{sums_of, difference, is_count, is_value, counts_fit, large_figure, too_large, joined_figure, joined_figures, joined, fitting_unless, merged_unless, merged}
 use Rattle.psi_reports.specs.Lines.{MergedIsReport, FittingAreMerged}
 use Rattle.psi_reports.proofs.FieldLemmas.{FitsCount, FitsFigure}
-use Rattle.psi_reports.proofs.HorizonReach.{passed}
+use Rattle.psi_reports.proofs.HorizonReachLemmas.{passed}
 use Rattle.psi_reports.proofs.MergeLemmas.{accepted, merged-fitting, report-fits}
-use Rattle.psi_reports.proofs.NetworkLaws.{sums-are, shown-none}
+use Rattle.psi_reports.proofs.NetworkLemmas.{sums-are, shown-none}
 
 -- ---- the horizons of both
 

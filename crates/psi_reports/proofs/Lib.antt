@@ -7,36 +7,36 @@ mod LineLemmas
 mod HoldingLemmas
 mod RowLemmas
 mod PlainLemmas
-mod RowReads
-mod ReadLaws
+mod RowReadsLemmas
+mod ReadLemmas
 pub mod SmallLemmas
 mod CountLemmas
 mod FigureLemmas
 mod MergeLemmas
-mod HorizonCounts
-mod FiguresJoined
-pub mod MergeLaws
+mod HorizonCountsLemmas
+mod FiguresJoinedLemmas
+pub mod MergeLawLemmas
 mod JudgeLemmas
 mod AllowLemmas
 mod WorthLemmas
 mod PowerLemmas
 pub mod SampleLemmas
-mod FigureLaws
+mod FigureLawLemmas
 mod VaryingLemmas
 mod ReachLemmas
 mod ColumnLemmas
 mod BetweenLemmas
-mod HorizonReach
-mod FigureReach
-pub mod SampleLaws
-pub mod SoundLaws
-pub mod ReachedLaws
+mod HorizonReachLemmas
+mod FigureReachLemmas
+pub mod SampleLawLemmas
+pub mod SoundLemmas
+pub mod ReachedLemmas
 mod FieldLemmas
-mod WrongLines
-pub mod WrongLaws
-pub mod NetworkLaws
-pub mod StandLaws
-pub mod ShortLaws
-pub mod ShownLaws
+mod WrongLinesLemmas
+pub mod WrongLemmas
+pub mod NetworkLemmas
+pub mod StandLemmas
+pub mod ShortLemmas
+pub mod ShownLemmas
 pub mod FittingLemmas
 pub mod WorthReachLemmas

@@ -25,7 +25,7 @@ use Rattle.psi_reports.specs.Reading.{read, IsReport}
 use Rattle.psi_reports.specs.Small.{IsMeasured, AreSamples, ReportIsRead}
 use Rattle.psi_reports.proofs.OutcomesLemmas.{report_text-contents}
 use Rattle.psi_reports.proofs.WorthLemmas.{least-has, greatest-has}
-use Rattle.psi_reports.proofs.ReadLaws.{text-is-read}
+use Rattle.psi_reports.proofs.ReadLemmas.{text-is-read}
 
 -- no more samples are met than there are
 states-few : (outcomes : List Outcome) → length (met_states outcomes) ≤ length outcomes

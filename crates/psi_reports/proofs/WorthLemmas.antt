@@ -11,7 +11,7 @@ use Rattle.std.proofs.lemmas.Nat.{mul-le}
 use Rattle.psi_state.specs.State.{IsBelow, AreCapacities}
 use Rattle.psi_state.specs.Repeats.{repeats}
 use Rattle.psi_state.proofs.RepeatsLemmas.{apart-from_repeats}
-use Rattle.psi_guard.proofs.Accepted.{few_places}
+use Rattle.psi_guard.proofs.AcceptedLemmas.{few_places}
 use Rattle.psi_reward.specs.declared.kinds.RewardKind.{RewardKind}
 use Rattle.psi_reward.specs.declared.kinds.RewardKind.TheVariants.{Linear, Table, Greatest, Least, Above}
 use Rattle.psi_reward.specs.Held.{held}

@@ -1,9 +1,9 @@
 -- The lemmas of this crate.
-mod Whole
-mod Extents
-mod Listing
-mod Adding
-mod Rising
-mod Fitting
-mod Accepted
+mod WholeLemmas
+mod ExtentsLemmas
+mod ListingLemmas
+mod AddingLemmas
+mod RisingLemmas
+mod FittingLemmas
+mod AcceptedLemmas
 mod Worked

@@ -2,20 +2,20 @@
 pub mod AcceptedLemmas
 pub mod ActingLemmas
 pub mod TablesLemmas
-mod Setting
-mod Witnesses
-mod Tightness
-mod Offering
-mod Judged
-mod Choosing
-mod Searching
+mod SettingLemmas
+mod WitnessesLemmas
+mod TightnessLemmas
+mod OfferingLemmas
+mod JudgedLemmas
+mod ChoosingLemmas
+mod SearchingLemmas
 mod Worked
-mod Falling
-mod OnePass
-mod Leaving
-mod ByTables
-mod Upset
-mod Monotone
-mod Plain
+mod FallingLemmas
+mod OnePassLemmas
+mod LeavingLemmas
+mod ByTablesLemmas
+mod UpsetLemmas
+mod MonotoneLemmas
+mod PlainLemmas
 pub mod PiecesLemmas
-pub mod TwoTargets
+pub mod TwoTargetsLemmas

@@ -6,7 +6,7 @@ use Rattle.std.proofs.lemmas.List.{set_past, get_or-replicate, length-replicate}
 use Rattle.psi_state.specs.State.{IsBelow, zeros}
 use Rattle.psi_state.proofs.StatesLemmas.{zeros-caps}
 use Rattle.psi_piecewise.specs.Piecewise.{is_on, all_on, first_on, second_on, IsSum, Does}
-use Rattle.psi_piecewise.proofs.Testing.{free-on, set-on, sum-by}
+use Rattle.psi_piecewise.proofs.TestingLemmas.{free-on, set-on, sum-by}
 use Rattle.psi_route.specs.Routing.{Shape, routing, act, routed, taken, HasRoom, Lacks}
 use Rattle.psi_route.specs.Acting.{NoRoom}
 use Rattle.psi_route.specs.ActingLaws.{act-idle}
@@ -14,7 +14,7 @@ use Rattle.psi_route.specs.Accepted.{IsRouteShape}
 use Rattle.psi_route.specs.Pieces.{for_source, for_target, bound_of, leaving, joining}
 use Rattle.psi_route.proofs.AcceptedLemmas.{routing-is, source-most}
 use Rattle.psi_route.proofs.ActingLemmas.{act-some, act-lost, act-stay, taken-other, taken-same, length-taken, room_or_lacks}
-use Rattle.psi_route.proofs.Plain.{first_best}
+use Rattle.psi_route.proofs.PlainLemmas.{first_best}
 
 and-true : (b : Bool) → (b && true) ≡ b
 and-true true = refl

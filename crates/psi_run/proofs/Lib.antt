@@ -1,11 +1,11 @@
 -- The lemmas of this crate.
-pub mod Endings
-pub mod Abouts
-pub mod Replaying
-pub mod Asked
-pub mod ReadFiles
-pub mod Finishing
-pub mod Certifying
-pub mod Written
-pub mod Running
-pub mod Sparing
+pub mod EndingsLemmas
+pub mod AboutsLemmas
+pub mod ReplayingLemmas
+pub mod AskedLemmas
+pub mod ReadFilesLemmas
+pub mod FinishingLemmas
+pub mod CertifyingLemmas
+pub mod WrittenLemmas
+pub mod RunningLemmas
+pub mod SparingLemmas

@@ -8,9 +8,9 @@ pub mod RepeatsLemmas
 pub mod SetsLemmas
 pub mod StatesLemmas
 pub mod VolumeLemmas
-mod Arrays
-mod Quads
-mod Counting
-mod Odometer
-mod Rows
-mod Deciding
+mod ArraysLemmas
+mod QuadsLemmas
+mod CountingLemmas
+mod OdometerLemmas
+mod RowsLemmas
+mod DecidingLemmas

@@ -1,3 +1,3 @@
 -- The lemmas of this crate.
-pub mod Listing
-pub mod Imaging
+pub mod ListingLemmas
+pub mod ImagingLemmas

@@ -36,7 +36,7 @@ fn push_customers(text: &mut Vec<u8>, customers: u16) -> Result<(), AllocError>
 }
 
 /// Appends a state's numbers in the queues' order, joined by commas.
-#[tactic(auto, using(crate::proofs::Listing::state_text_first))]
+#[tactic(auto, using(crate::proofs::ListingLemmas::state_text_first))]
 pub fn push_state(text: &mut Vec<u8>, state: &State) -> Result<(), AllocError>
     ensures { OnOk result (text.new.items ≡ text.old.items ++ state_text state.now) }
 {

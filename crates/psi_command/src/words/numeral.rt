@@ -12,7 +12,7 @@ fn are_digits(word: &[u8]) -> bool
 }
 
 // Whether the bytes are one digit or more, the first of several not being 0.
-#[tactic(auto, using(crate::proofs::Numerals::numeral_empty, crate::proofs::Numerals::numeral_zero, crate::proofs::Numerals::numeral_one, crate::proofs::Numerals::numeral_more))]
+#[tactic(auto, using(crate::proofs::NumeralsLemmas::numeral_empty, crate::proofs::NumeralsLemmas::numeral_zero, crate::proofs::NumeralsLemmas::numeral_one, crate::proofs::NumeralsLemmas::numeral_more))]
 fn is_numeral(word: &[u8]) -> bool
     ensures { result ≡ is_numeral word.now }
 {
@@ -27,7 +27,7 @@ fn is_numeral(word: &[u8]) -> bool
 
 /// The number of at most `most` that a word is, if it is one. (The reading of numbers in std takes a plus sign and
 /// zeros in front, which are none here.)
-#[tactic(auto, using(crate::proofs::Numerals::number_unread))]
+#[tactic(auto, using(crate::proofs::NumeralsLemmas::number_unread))]
 pub(crate) fn number(word: &str, most: u64) -> Option<u64>
     ensures number { result ≡ number_up_to most word.now }
     ensures bound { IfSome result (λ n. n ≤ most) }
@@ -37,7 +37,7 @@ pub(crate) fn number(word: &str, most: u64) -> Option<u64>
 }
 
 // The number of 64 bits that a word is, if it is one.
-#[tactic(auto, using(crate::proofs::Numerals::number_parsed, crate::proofs::Numerals::number_none))]
+#[tactic(auto, using(crate::proofs::NumeralsLemmas::number_parsed, crate::proofs::NumeralsLemmas::number_none))]
 fn greatest_read(word: &str) -> Option<u64>
     ensures { result ≡ number_up_to greatest_number word.now }
 {

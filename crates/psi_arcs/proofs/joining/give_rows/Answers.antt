@@ -7,7 +7,7 @@ use Rattle.psi_arcs.specs.Held.{Listed}
 use Rattle.psi_arcs.specs.Rows.{sums_at}
 use Rattle.psi_arcs.specs.Marking.{Gives}
 use Rattle.psi_arcs.proofs.RowsLemmas.{read-own, read-other}
-use Rattle.psi_arcs.proofs.Putting.{iff-trans, gives-reach}
+use Rattle.psi_arcs.proofs.PuttingLemmas.{iff-trans, gives-reach}
 use Rattle.psi_arcs.proofs.joining.give_rows.Goals as goal
 
 pub loop-before-preserved : goal.loop-before-preserved

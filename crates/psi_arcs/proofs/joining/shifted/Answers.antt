@@ -3,7 +3,7 @@ use Rattle.std.proofs.Common.{◌+◌, sym, ◌∙◌, arith}
 use Rattle.std.proofs.lemmas.Bool.{true≢false}
 use Rattle.psi_arcs.specs.Held.{Listed}
 use Rattle.psi_arcs.proofs.RowsLemmas.{arc_of}
-use Rattle.psi_arcs.proofs.Marked.{shifts-lead, shifts-ranged}
+use Rattle.psi_arcs.proofs.MarkedLemmas.{shifts-lead, shifts-ranged}
 use Rattle.psi_arcs.proofs.joining.shifted.Goals as goal
 
 pub returns-in-Some-clause-arcs : goal.returns-in-Some-clause-arcs

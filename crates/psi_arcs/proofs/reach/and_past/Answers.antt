@@ -1,6 +1,6 @@
 -- Answers in the proof of `and_past`.
 use Rattle.std.proofs.Common.{sym, ◌∙◌, arith}
-use Rattle.psi_arcs.proofs.Marked.{enters-kept, enters-skip, enters-more}
+use Rattle.psi_arcs.proofs.MarkedLemmas.{enters-kept, enters-skip, enters-more}
 use Rattle.psi_arcs.proofs.reach.and_past.Goals as goal
 
 pub returns-then-not-holds : goal.returns-then-not-holds

@@ -1,7 +1,7 @@
 -- Answers in the proof of `exits`.
 use Rattle.std.proofs.Common.{arith}
 use Rattle.std.proofs.lemmas.Bool.{not-true, not-false}
-use Rattle.psi_arcs.proofs.Marked.{exits-some, exits-none}
+use Rattle.psi_arcs.proofs.MarkedLemmas.{exits-some, exits-none}
 use Rattle.psi_arcs.proofs.reach.exits.Goals as goal
 
 pub returns-clause-some : goal.returns-clause-some

@@ -4,7 +4,7 @@ use Rattle.psi_arcs.specs.Held.{Listed}
 use Rattle.psi_arcs.specs.Joining.{Only}
 use Rattle.psi_arcs.specs.Windows.{Allows, MarkAfter}
 use Rattle.psi_arcs.proofs.RowsLemmas.{read-default}
-use Rattle.psi_arcs.proofs.Marked.{ahead-begun, ahead-previous}
+use Rattle.psi_arcs.proofs.MarkedLemmas.{ahead-begun, ahead-previous}
 use Rattle.psi_arcs.proofs.reach.mark_after.Goals as goal
 
 pub loop-level-init : goal.loop-level-init

@@ -4,7 +4,7 @@ use Rattle.psi_arcs.specs.Held.{Listed}
 use Rattle.psi_arcs.specs.Joining.{Only}
 use Rattle.psi_arcs.specs.Windows.{Allows, MarkBefore}
 use Rattle.psi_arcs.proofs.RowsLemmas.{read-default}
-use Rattle.psi_arcs.proofs.Marked.{behind-begun, behind-next}
+use Rattle.psi_arcs.proofs.MarkedLemmas.{behind-begun, behind-next}
 use Rattle.psi_arcs.proofs.reach.mark_before.Goals as goal
 
 pub loop-level-init : goal.loop-level-init

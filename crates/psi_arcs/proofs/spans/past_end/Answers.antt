@@ -2,7 +2,7 @@
 use Rattle.std.proofs.Common.{◌-◌, inl, inr, subst, arith}
 use Rattle.std.proofs.lemmas.Bool.{cases_eq}
 use Rattle.psi_arcs.specs.Held.{Listed}
-use Rattle.psi_arcs.proofs.Putting.{none-left}
+use Rattle.psi_arcs.proofs.PuttingLemmas.{none-left}
 use Rattle.psi_arcs.proofs.RowsLemmas.{arc_of}
 use Rattle.psi_arcs.proofs.spans.past_end.Goals as goal
 

@@ -1,5 +1,5 @@
 -- Answers in the proof of `array_in`.
-use Rattle.psi_document.proofs.Lists.{array_read}
+use Rattle.psi_document.proofs.ListsLemmas.{array_read}
 use Rattle.psi_document.proofs.keys.array_in.Goals as goal
 
 pub returns-in-Array : goal.returns-in-Array

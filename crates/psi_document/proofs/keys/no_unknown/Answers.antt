@@ -1,7 +1,7 @@
 -- Answers in the proof of `no_unknown`.
 use Rattle.std.proofs.Common.{◌++◌, map, sym, ◌∙◌}
 use Rattle.psi_document.specs.Values.{no_unknown}
-use Rattle.psi_document.proofs.UnknownKeys.{known_on, order_on, unknown_on}
+use Rattle.psi_document.proofs.UnknownKeysLemmas.{known_on, order_on, unknown_on}
 use Rattle.psi_document.proofs.keys.no_unknown.Goals as goal
 
 pub returns-then-not-is_known : goal.returns-then-not-is_known

@@ -4,7 +4,7 @@ use Rattle.std.specs.Prelude.{slice_get, IsTrue}
 use Rattle.std.proofs.lemmas.Option.{slice_get_read}
 use Rattle.std.proofs.lemmas.Slice.Eq.{bytes_eq-Decides}
 use Rattle.psi_name.specs.Name.{is_name}
-use Rattle.psi_document.proofs.DistinctNames.{number-here}
+use Rattle.psi_document.proofs.DistinctNamesLemmas.{number-here}
 use Rattle.psi_document.proofs.references.number_by_fingerprint.Goals as goal
 
 pub returns-then-eq : goal.returns-then-eq

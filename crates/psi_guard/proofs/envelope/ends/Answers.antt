@@ -1,5 +1,5 @@
 -- Answers in the proof of `ends`.
-use Rattle.psi_guard.proofs.Intervals.{least-greatest}
+use Rattle.psi_guard.proofs.IntervalsLemmas.{least-greatest}
 use Rattle.psi_guard.proofs.envelope.ends.Goals as goal
 
 pub returns-clause-ordered : goal.returns-clause-ordered

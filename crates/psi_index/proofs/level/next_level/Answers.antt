@@ -2,8 +2,8 @@
 use Rattle.std.proofs.Common.{rules, ◌≡◌, ℕ, ◌+◌, ◌*◌, ◌%◌, ◌^◌, List, length, sym, subst, arith}
 use Rattle.std.proofs.lemmas.Nat.{one_shl}
 use Rattle.psi_index.specs.Extremes.{AreLeast}
-use Rattle.psi_index.proofs.Joining.{level-joined}
-use Rattle.psi_index.proofs.Widths.{exponent-greatest, level-is}
+use Rattle.psi_index.proofs.JoiningLemmas.{level-joined}
+use Rattle.psi_index.proofs.WidthsLemmas.{exponent-greatest, level-is}
 use Rattle.psi_index.proofs.level.next_level.Goals as goal
 
 pub overflow_shl-half : goal.overflow_shl-half

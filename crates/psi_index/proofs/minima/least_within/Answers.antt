@@ -1,7 +1,7 @@
 -- Answers in the proof of `least_within`.
 use Rattle.std.proofs.Common.{◌+◌, ◌^◌, sym, subst, arith}
 use Rattle.psi_index.specs.Extremes.{IsLeast}
-use Rattle.psi_index.proofs.Joining.{least-two, least-slice_range}
+use Rattle.psi_index.proofs.JoiningLemmas.{least-two, least-slice_range}
 use Rattle.psi_index.proofs.minima.least_within.Goals as goal
 
 pub returns-clause-least : goal.returns-clause-least

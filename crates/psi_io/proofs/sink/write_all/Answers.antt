@@ -1,6 +1,6 @@
 -- Answers in the proof of `write_all`.
 use Rattle.std.proofs.Common.{◌≡◌, ◌-◌, length, ◌∙◌, subst, arith}
-use Rattle.psi_io.proofs.Growing.{grown_front, grown_more, length-rest, sub-sub}
+use Rattle.psi_io.proofs.GrowingLemmas.{grown_front, grown_more, length-rest, sub-sub}
 use Rattle.psi_io.proofs.sink.write_all.Goals as goal
 
 pub loop-at-preserved : goal.loop-at-preserved

@@ -1,5 +1,5 @@
 -- Answers in the proof of `step_of`.
-use Rattle.psi_keyed.proofs.Building.{leaving-for}
+use Rattle.psi_keyed.proofs.BuildingLemmas.{leaving-for}
 use Rattle.psi_keyed.proofs.keyed.step_of.Goals as goal
 
 pub returns : goal.returns

@@ -4,7 +4,7 @@ use Rattle.std.proofs.lemmas.List.{get_or-map, length-map, length_push}
 use Rattle.psi_event.specs.Law.{Function}
 use Rattle.psi_keyed.specs.Keyed.{IsStepFor}
 use Rattle.psi_keyed.specs.declared.step.Step.{Step}
-use Rattle.psi_keyed.proofs.Building.{steps-more}
+use Rattle.psi_keyed.proofs.BuildingLemmas.{steps-more}
 use Rattle.psi_keyed.proofs.keyed.steps_of.Goals as goal
 
 pub loop-at-preserved : goal.loop-at-preserved

@@ -1,6 +1,6 @@
 -- Answers in the proof of `least_of`.
 use Rattle.std.proofs.Common.{arith}
-use Rattle.psi_keyed.proofs.Marking.{least-below, least-reached}
+use Rattle.psi_keyed.proofs.MarkingLemmas.{least-below, least-reached}
 use Rattle.psi_keyed.proofs.marked.least_of.Goals as goal
 
 pub loop-i-preserved : goal.loop-i-preserved

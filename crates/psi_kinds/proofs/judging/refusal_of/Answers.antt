@@ -2,7 +2,7 @@
 use Rattle.std.proofs.Common.{sym, ap, ◌∙◌}
 use Rattle.psi_event.specs.Choice.{first_or}
 use Rattle.psi_kinds.specs.Refusals.{refusal_of, refusal_of_parts}
-use Rattle.psi_kinds.proofs.Accepting.{refusal-parts}
+use Rattle.psi_kinds.proofs.AcceptingLemmas.{refusal-parts}
 use Rattle.psi_kinds.proofs.judging.refusal_of.Goals as goal
 
 pub returns-in-Some : goal.returns-in-Some

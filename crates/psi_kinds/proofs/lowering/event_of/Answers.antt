@@ -8,8 +8,8 @@ use Rattle.psi_kinds.specs.declared.kinds.Kind.{Kind}
 use Rattle.psi_kinds.specs.Kinds.{IsKindOf}
 use Rattle.psi_kinds.specs.Refusals.{IsUnrefused}
 use Rattle.psi_kinds.specs.Forms.{fork_parts, join_parts}
-use Rattle.psi_kinds.proofs.Accepting.{shape-accepted, listed-accepted, tables-fit, table-some, table-few, other-away, parts-few}
-use Rattle.psi_kinds.proofs.Fitting.{fork-fits, join-fits}
+use Rattle.psi_kinds.proofs.AcceptingLemmas.{shape-accepted, listed-accepted, tables-fit, table-some, table-few, other-away, parts-few}
+use Rattle.psi_kinds.proofs.FittingLemmas.{fork-fits, join-fits}
 use Rattle.psi_kinds.proofs.lowering.event_of.Goals as goal
 
 pub listed_route-requires-clause-accepted : goal.listed_route-requires-clause-accepted

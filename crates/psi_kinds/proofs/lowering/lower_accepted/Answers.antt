@@ -3,8 +3,8 @@ use Rattle.std.proofs.Common.{List, ℕ, sym, subst}
 use Rattle.std.proofs.lemmas.Result.{IfOk-weaker}
 use Rattle.psi_kinds.specs.Kinds.{Does}
 use Rattle.psi_kinds.specs.Forms.{upset_of}
-use Rattle.psi_kinds.proofs.Accepting.{accepted-parts}
-use Rattle.psi_kinds.proofs.Does.{form-does, unrefused}
+use Rattle.psi_kinds.proofs.AcceptingLemmas.{accepted-parts}
+use Rattle.psi_kinds.proofs.DoesLemmas.{form-does, unrefused}
 use Rattle.psi_kinds.proofs.lowering.lower_accepted.Goals as goal
 
 pub event_of-requires-clause-unrefused : goal.event_of-requires-clause-unrefused

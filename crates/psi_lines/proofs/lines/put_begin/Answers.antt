@@ -1,6 +1,6 @@
 -- Answers in the proof of `put_begin`.
 use Rattle.psi_lines.specs.Log.{in_box}
-use Rattle.psi_lines.proofs.LinePieces.{begin_pieces}
+use Rattle.psi_lines.proofs.LinePiecesLemmas.{begin_pieces}
 use Rattle.psi_lines.proofs.JoinedLemmas.{three_pieces}
 use Rattle.psi_lines.proofs.lines.put_begin.Goals as goal
 

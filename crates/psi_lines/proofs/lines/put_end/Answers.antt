@@ -1,5 +1,5 @@
 -- Answers in the proof of `put_end`.
-use Rattle.psi_lines.proofs.LinePieces.{end_pieces}
+use Rattle.psi_lines.proofs.LinePiecesLemmas.{end_pieces}
 use Rattle.psi_lines.proofs.JoinedLemmas.{three_pieces}
 use Rattle.psi_lines.proofs.lines.put_end.Goals as goal
 

@@ -1,7 +1,7 @@
 -- Answers in the proof of `put_step_box`.
 use Rattle.psi_lines.specs.Log.{in_box}
 use Rattle.psi_lines.specs.Text.{region_words}
-use Rattle.psi_lines.proofs.LinePieces.{step_pieces}
+use Rattle.psi_lines.proofs.LinePiecesLemmas.{step_pieces}
 use Rattle.psi_lines.proofs.JoinedLemmas.{three_pieces}
 use Rattle.psi_lines.proofs.lines.put_step_box.Goals as goal
 

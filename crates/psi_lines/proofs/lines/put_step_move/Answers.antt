@@ -1,6 +1,6 @@
 -- Answers in the proof of `put_step_move`.
 use Rattle.psi_lines.specs.Text.{move_words}
-use Rattle.psi_lines.proofs.LinePieces.{step_pieces}
+use Rattle.psi_lines.proofs.LinePiecesLemmas.{step_pieces}
 use Rattle.psi_lines.proofs.JoinedLemmas.{three_pieces}
 use Rattle.psi_lines.proofs.lines.put_step_move.Goals as goal
 

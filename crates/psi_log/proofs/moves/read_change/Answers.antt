@@ -1,7 +1,7 @@
 -- Answers in the proof of `moves::read_change`.
 use Rattle.std.proofs.Common.{arith}
 use Rattle.std.proofs.lemmas.Grind.{common_steps}
-use Rattle.psi_log.proofs.PieceTurns.{change_read, queue_refused, least_refused, greatest_refused}
+use Rattle.psi_log.proofs.PieceTurnsLemmas.{change_read, queue_refused, least_refused, greatest_refused}
 use Rattle.psi_log.proofs.moves.read_change.Goals as goal
 
 pub returns-in_err-queue-clause-value : goal.returns-in_err-queue-clause-value

@@ -5,7 +5,7 @@ use Rattle.std.proofs.lemmas.List.{length-set, length-replicate}
 use Rattle.psi_log.specs.Words.{number_in, pieces_of}
 use Rattle.psi_log.specs.Regions.{read_state}
 use Rattle.psi_log.proofs.TurnLemmas.{onto_none, pieces_long}
-use Rattle.psi_log.proofs.PieceTurns.{rest_turn, piece_turn, piece_refused, pieces_end}
+use Rattle.psi_log.proofs.PieceTurnsLemmas.{rest_turn, piece_turn, piece_refused, pieces_end}
 use Rattle.psi_log.proofs.regions.read_state.Goals as goal
 
 pub loop-queue-init : goal.loop-queue-init

@@ -3,7 +3,7 @@ use Rattle.std.specs.Prelude.{◌≡◌, length, take, drop}
 use Rattle.psi_log.specs.Refusal.{each}
 use Rattle.psi_log.specs.Words.{pieces_of, number_in}
 use Rattle.psi_log.proofs.TurnLemmas.{onto}
-use Rattle.psi_log.proofs.PieceTurns.{IsRest}
+use Rattle.psi_log.proofs.PieceTurnsLemmas.{IsRest}
 use Rattle.psi_log.proofs.regions.read_state.Given as goal
 
 abbrev pub invariant-loop-queue : goal.invariant-loop-queue

@@ -4,7 +4,7 @@ use Rattle.std.specs.List.{before_first}
 use Rattle.std.proofs.lemmas.Bool.{ne_eqb, eq-eqb}
 use Rattle.std.proofs.lemmas.List.{length-map}
 use Rattle.psi_log.specs.Words.{is_feed}
-use Rattle.psi_log.proofs.LineWords.{AreKept, kept_none, kept_few, kept_byte, kept_space, kept_feed, words_end, rest_of}
+use Rattle.psi_log.proofs.LineWordsLemmas.{AreKept, kept_none, kept_few, kept_byte, kept_space, kept_feed, words_end, rest_of}
 use Rattle.psi_log.proofs.words.read_words.Goals as goal
 use Rattle.psi_log.proofs.words.read_words.Goals.{then-byte-eq32+in_ok-keep-2, else-byte-eq32}
 

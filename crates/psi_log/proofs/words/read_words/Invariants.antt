@@ -1,6 +1,6 @@
 -- Invariants of the loops of `words::read_words`.
 use Rattle.std.specs.Prelude.{map}
-use Rattle.psi_log.proofs.LineWords.{AreKept}
+use Rattle.psi_log.proofs.LineWordsLemmas.{AreKept}
 use Rattle.psi_log.proofs.words.read_words.Given as goal
 
 abbrev pub invariant-loop-at : goal.invariant-loop-at

@@ -4,7 +4,7 @@ use Rattle.psi_io.specs.declared.shelf.ShelfFault.{ShelfFault}
 use Rattle.psi_merge.specs.declared.reports.TheConstants.{MOST_BYTES}
 use Rattle.psi_merge.specs.Reply.{report_reply}
 use Rattle.psi_merge.specs.Ended.{MayEnd}
-use Rattle.psi_merge.proofs.Finding.{report-found, unread-found, told-found, told-read}
+use Rattle.psi_merge.proofs.FindingLemmas.{report-found, unread-found, told-found, told-read}
 use Rattle.psi_merge.proofs.files.report_at.Goals as goal
 
 pub returns-in-Err-Failed-clause-found : goal.returns-in-Err-Failed-clause-found

@@ -1,7 +1,7 @@
 -- Answers in the proof of `whole_of`.
 use Rattle.std.specs.Prelude.{string_bytes, map}
 use Rattle.std.proofs.Common.{◌∙◌}
-use Rattle.psi_merge.proofs.Finding.{found-all, missed-all, given-behind, next-first}
+use Rattle.psi_merge.proofs.FindingLemmas.{found-all, missed-all, given-behind, next-first}
 use Rattle.psi_merge.proofs.files.whole_of.Goals as goal
 
 pub returns-in-Ok-clause-found : goal.returns-in-Ok-clause-found

@@ -1,5 +1,5 @@
 -- Answers in the proof of `with_file`.
-use Rattle.psi_merge.proofs.Finding.{file-unmerged, file-merged, file-missed, told-found, told-read}
+use Rattle.psi_merge.proofs.FindingLemmas.{file-unmerged, file-merged, file-missed, told-found, told-read}
 use Rattle.psi_merge.proofs.files.with_file.Goals as goal
 
 pub returns-in-Err-clause-found : goal.returns-in-Err-clause-found

@@ -2,7 +2,7 @@
 use Rattle.std.specs.Prelude.{string_bytes}
 use Rattle.std.proofs.Common.{◌∙◌, refl, sym, arith}
 use Rattle.std.proofs.lemmas.List.{append-nil}
-use Rattle.psi_merge.proofs.Finding.{has-none, has-more, all-missed, next-at, has-all, asked-next, asked-all, missed-at}
+use Rattle.psi_merge.proofs.FindingLemmas.{has-none, has-more, all-missed, next-at, has-all, asked-next, asked-all, missed-at}
 use Rattle.psi_merge.proofs.files.with_files.Goals as goal
 
 pub loop-name-init : goal.loop-name-init

@@ -4,7 +4,7 @@ use Rattle.std.specs.Prelude.{string_bytes}
 use Rattle.psi_merge.specs.Reply.{with_files}
 use Rattle.psi_merge.specs.Seen.{read_of}
 use Rattle.psi_merge.specs.Spared.{AreNextGiven}
-use Rattle.psi_merge.proofs.Finding.{HasReport}
+use Rattle.psi_merge.proofs.FindingLemmas.{HasReport}
 use Rattle.psi_merge.proofs.files.with_files.Given as goal
 
 abbrev pub invariant-loop-name : goal.invariant-loop-name

@@ -5,7 +5,7 @@ use Rattle.std.proofs.lemmas.List.{length-map}
 use Rattle.psi_merge.specs.Reply.{whole_of}
 use Rattle.psi_merge.specs.Ended.{AreFound}
 use Rattle.psi_merge.specs.Spared.{AreNextGiven}
-use Rattle.psi_merge.proofs.Finding.{files-none, files-split, split-words, ended-usage, ended-memory, ended-merged, ended-missed, given-words}
+use Rattle.psi_merge.proofs.FindingLemmas.{files-none, files-split, split-words, ended-usage, ended-memory, ended-merged, ended-missed, given-words}
 use Rattle.psi_merge.proofs.files.work.Goals as goal
 
 pub returns-in_default-clause-ending : goal.returns-in_default-clause-ending

@@ -1,8 +1,8 @@
 -- Answers in the proof of `run`.
 use Rattle.std.specs.Prelude.{map, string_bytes}
-use Rattle.psi_merge.proofs.Running.{run_is}
-use Rattle.psi_merge.proofs.Heading.{merges}
-use Rattle.psi_merge.proofs.Sparing.{out-taken, err-taken, status-taken}
+use Rattle.psi_merge.proofs.RunningLemmas.{run_is}
+use Rattle.psi_merge.proofs.HeadingLemmas.{merges}
+use Rattle.psi_merge.proofs.SparingLemmas.{out-taken, err-taken, status-taken}
 use Rattle.psi_merge.proofs.program.run.Goals as goal
 
 pub returns-clause-call : goal.returns-clause-call

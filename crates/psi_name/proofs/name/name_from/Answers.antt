@@ -1,6 +1,6 @@
 -- Answers in the proof of `name_from`.
 use Rattle.std.proofs.Common.{sym}
-use Rattle.psi_name.proofs.Cells.{few, covered}
+use Rattle.psi_name.proofs.CellsLemmas.{few, covered}
 use Rattle.psi_name.proofs.name.name_from.Goals as goal
 
 pub slice_bounds-copy_from_slice-end : goal.slice_bounds-copy_from_slice-end

@@ -1,5 +1,5 @@
 -- Answers in the proof of `push_event`.
-use Rattle.psi_net.proofs.KeptEvents.{source_read}
+use Rattle.psi_net.proofs.KeptEventsLemmas.{source_read}
 use Rattle.psi_net.proofs.event_tables.push_event.Goals as goal
 
 pub servers_of-servers-requires : goal.servers_of-servers-requires

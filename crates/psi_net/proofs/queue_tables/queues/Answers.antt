@@ -2,7 +2,7 @@
 use Rattle.std.proofs.Common.{List, map, ap, sym, ◌∙◌, subst}
 use Rattle.psi_network.specs.Valid.{AreListed}
 use Rattle.psi_network.specs.declared.entries.Queue.{Queue}
-use Rattle.psi_net.proofs.KeptQueues.{queues_kept}
+use Rattle.psi_net.proofs.KeptQueuesLemmas.{queues_kept}
 use Rattle.psi_network.proofs.QueueLemmas.{names_few, names_same}
 use Rattle.psi_net.proofs.queue_tables.queues.Goals as goal
 

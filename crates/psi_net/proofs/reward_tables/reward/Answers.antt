@@ -1,5 +1,5 @@
 -- Answers in the proof of `reward`.
-use Rattle.psi_net.proofs.KeptRewards.{reward_kept}
+use Rattle.psi_net.proofs.KeptRewardsLemmas.{reward_kept}
 use Rattle.psi_net.proofs.reward_tables.reward.Goals as goal
 
 pub accepted_reward-requires-clause-kind : goal.accepted_reward-requires-clause-kind

@@ -1,5 +1,5 @@
 -- Answers in the proof of `all_lowered`.
-use Rattle.psi_network.proofs.Lowered.{lowered_more}
+use Rattle.psi_network.proofs.LoweredLemmas.{lowered_more}
 use Rattle.psi_network.proofs.building.all_lowered.Goals as goal
 
 pub loop-event-preserved : goal.loop-event-preserved

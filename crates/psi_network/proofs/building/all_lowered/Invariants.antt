@@ -1,7 +1,7 @@
 -- Invariants of the loops of `all_lowered`.
 use Rattle.std.proofs.Common.{take}
 use Rattle.psi_network.specs.Made.{AreMade}
-use Rattle.psi_network.proofs.Lowered.{capacities, function, upset_pair}
+use Rattle.psi_network.proofs.LoweredLemmas.{capacities, function, upset_pair}
 use Rattle.psi_network.proofs.building.all_lowered.Given as goal
 
 abbrev pub invariant-loop-event : goal.invariant-loop-event

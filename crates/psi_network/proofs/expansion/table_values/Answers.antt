@@ -1,6 +1,6 @@
 -- Answers in the proof of `table_values`.
 use Rattle.std.proofs.Common.{◌<◌, ◌+◌, length, arith}
-use Rattle.psi_network.proofs.Servers.{values_turn, values_past}
+use Rattle.psi_network.proofs.ServersLemmas.{values_turn, values_past}
 use Rattle.psi_network.proofs.expansion.table_values.Goals as goal
 
 pub returns-then-values : goal.returns-then-values

@@ -1,5 +1,5 @@
 -- Answers in the proof of `total_reward`.
-use Rattle.psi_network.proofs.KeptGenerated.{total_kept}
+use Rattle.psi_network.proofs.KeptGeneratedLemmas.{total_kept}
 use Rattle.psi_network.proofs.generating.total_reward.Goals as goal
 
 pub accepted_reward-requires-clause-kind : goal.accepted_reward-requires-clause-kind

@@ -1,8 +1,8 @@
 use Rattle.std.proofs.Common.{◌≡◌, ◌+◌, ◌-◌, ◌%◌, ◌^◌, ap₂, arith, length}
 use Rattle.psi_state.specs.State.{box}
 use Rattle.psi_packed.specs.Views.{lows, highs}
-use Rattle.psi_packed.proofs.Pairing.{low-at, high-at}
-use Rattle.psi_packed.proofs.Widths.{words-first, words-step, words-all, count-tells}
+use Rattle.psi_packed.proofs.PairingLemmas.{low-at, high-at}
+use Rattle.psi_packed.proofs.WidthsLemmas.{words-first, words-step, words-all, count-tells}
 use Rattle.psi_packed.proofs.boxes.has_at_most.Goals as goal
 
 pub loop-at-init : goal.loop-at-init

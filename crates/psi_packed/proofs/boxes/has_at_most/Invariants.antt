@@ -3,7 +3,7 @@ use Rattle.psi_state.specs.State.{box}
 use Rattle.psi_packed.specs.Packed.{Packing, IsPacking}
 use Rattle.psi_packed.specs.Boxes.{widths, AreCorners}
 use Rattle.psi_packed.specs.Views.{lows, highs}
-use Rattle.psi_packed.proofs.Widths.{differences, IsSoFar}
+use Rattle.psi_packed.proofs.WidthsLemmas.{differences, IsSoFar}
 use Rattle.psi_packed.proofs.boxes.has_at_most.Given as goal
 
 abbrev pub invariant-loop-at : goal.invariant-loop-at

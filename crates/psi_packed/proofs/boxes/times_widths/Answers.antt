@@ -1,6 +1,6 @@
 use Rattle.std.proofs.Common.{◌*◌, ◌≤◌, refl, arith}
 use Rattle.psi_packed.specs.Boxes.{widths}
-use Rattle.psi_packed.proofs.Widths.{part-more, part-done, part-above, shifted-smaller}
+use Rattle.psi_packed.proofs.WidthsLemmas.{part-more, part-done, part-above, shifted-smaller}
 use Rattle.psi_packed.proofs.boxes.times_widths.Goals as goal
 
 pub loop-rest-init : goal.loop-rest-init

@@ -1,7 +1,7 @@
 use Rattle.std.proofs.Common.{◌≡◌, ◌*◌, ◌^◌, ◌<◌, ℕ, List, slice_index, EachIndex}
 use Rattle.psi_packed.specs.Packed.{word_of}
 use Rattle.psi_packed.specs.Boxes.{widths}
-use Rattle.psi_packed.proofs.Widths.{IsPart}
+use Rattle.psi_packed.proofs.WidthsLemmas.{IsPart}
 use Rattle.psi_packed.proofs.boxes.times_widths.Given as goal
 
 abbrev pub invariant-loop-rest : goal.invariant-loop-rest

@@ -5,7 +5,7 @@ use Rattle.psi_state.proofs.BoxesLemmas.{below-itself}
 use Rattle.psi_state.proofs.StatesLemmas.{zeros-caps}
 use Rattle.psi_event.specs.Numbers.{follow_numbers}
 use Rattle.psi_packed.specs.Packed.{packed}
-use Rattle.psi_packed.proofs.Following.{follow_numbers-within}
+use Rattle.psi_packed.proofs.FollowingLemmas.{follow_numbers-within}
 use Rattle.psi_region.specs.Followed.{IsOne}
 use Rattle.psi_packed.proofs.corners.meeting.Goals as goal
 

@@ -1,5 +1,5 @@
 use Rattle.std.proofs.Common.{◌<◌, length, arith}
-use Rattle.psi_packed.proofs.Building.{bits-more, own-least}
+use Rattle.psi_packed.proofs.BuildingLemmas.{bits-more, own-least}
 use Rattle.psi_packed.proofs.layout.bits_of.Goals as goal
 use Rattle.psi_packed.proofs.layout.bits_of.Goals.{then-own-bits, else-own-bits}
 

@@ -1,5 +1,5 @@
 use Rattle.std.proofs.Common.{◌-◌, length, slice_index, bit_and, ◌/◌, ◌^◌}
-use Rattle.psi_packed_set.proofs.Halving.{kept}
+use Rattle.psi_packed_set.proofs.HalvingLemmas.{kept}
 use Rattle.psi_packed_set.proofs.gathering.keep.Goals as goal
 
 pub returns-clause-members : goal.returns-clause-members

@@ -1,7 +1,7 @@
 use Rattle.std.proofs.Common.{ap, ◌∙◌, arith}
 use Rattle.psi_packed.specs.Views.{lows, highs}
 use Rattle.psi_packed.specs.declared.pairs.Pairs.{Pairs}
-use Rattle.psi_packed_set.proofs.Halving.{all-more, all-same, two-differ}
+use Rattle.psi_packed_set.proofs.HalvingLemmas.{all-more, all-same, two-differ}
 use Rattle.psi_packed_set.proofs.gathering.only.Goals as goal
 
 pub returns-then-not-is : goal.returns-then-not-is

@@ -1,6 +1,6 @@
 use Rattle.std.proofs.Common.{◌≡◌, ◌*◌, ◌/◌, ◌+◌, length, ap, ◌∙◌, arith}
 use Rattle.psi_packed.specs.declared.layout.Packed.{Packed}
-use Rattle.psi_packed_set.proofs.Halving.{pairs-last}
+use Rattle.psi_packed_set.proofs.HalvingLemmas.{pairs-last}
 use Rattle.psi_packed_set.proofs.gathering.pair_up.Goals as goal
 
 pub returns-clause-members : goal.returns-clause-members

@@ -1,6 +1,6 @@
 use Rattle.std.proofs.Common.{ap, ◌∙◌, length-set, arith}
 use Rattle.psi_packed.specs.declared.layout.Packed.{Packed}
-use Rattle.psi_packed_set.proofs.Halving.{pairs-next}
+use Rattle.psi_packed_set.proofs.HalvingLemmas.{pairs-next}
 use Rattle.psi_packed_set.proofs.gathering.pair_whole.Goals as goal
 
 pub loop-at-preserved : goal.loop-at-preserved

@@ -2,7 +2,7 @@ use Rattle.std.proofs.Common.{subst}
 use Rattle.psi_packed.specs.Views.{lows, highs}
 use Rattle.psi_packed.specs.Programs.{Follows}
 use Rattle.psi_packed.specs.declared.pairs.Pairs.{Pairs}
-use Rattle.psi_packed_set.proofs.Following.{follows-first}
+use Rattle.psi_packed_set.proofs.FollowingLemmas.{follows-first}
 use Rattle.psi_packed_set.proofs.moving.follow_one.Goals as goal
 
 pub returns-clause-follows : goal.returns-clause-follows

@@ -3,7 +3,7 @@ use Rattle.psi_state.specs.State.{box}
 use Rattle.psi_state.specs.Members.{In}
 use Rattle.psi_state.proofs.BoxesLemmas.{In-of_box}
 use Rattle.psi_packed.specs.Packed.{packed}
-use Rattle.psi_packed_set.proofs.Packing.{packed-more, within-rest}
+use Rattle.psi_packed_set.proofs.PackingLemmas.{packed-more, within-rest}
 use Rattle.psi_packed_set.proofs.moving.pack_all.Goals as goal
 
 pub loop-state-init : goal.loop-state-init

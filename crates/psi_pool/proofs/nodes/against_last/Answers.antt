@@ -1,6 +1,6 @@
 -- Answers in the proof of `against_last`.
 use Rattle.std.proofs.Common.{sym, ◌∙◌}
-use Rattle.psi_pool.proofs.Listing.{above-each, there-last}
+use Rattle.psi_pool.proofs.ListingLemmas.{above-each, there-last}
 use Rattle.psi_pool.proofs.nodes.against_last.Goals as goal
 
 pub returns-clause-above : goal.returns-clause-above

@@ -3,9 +3,9 @@ use Rattle.std.proofs.Common.{◌≡◌, List, ℕ, get_or, ap, ◌∙◌, subst
 use Rattle.psi_state.specs.Members.{In}
 use Rattle.psi_pool.specs.declared.nodes.Node.{Node}
 use Rattle.psi_pool.specs.Nodes.{node_at, states}
-use Rattle.psi_pool.proofs.Places.{node-read}
-use Rattle.psi_pool.proofs.Keeping.{seek-whole, seek-absent}
-use Rattle.psi_pool.proofs.Counting.{count-next_new, count-next_there}
+use Rattle.psi_pool.proofs.PlacesLemmas.{node-read}
+use Rattle.psi_pool.proofs.KeepingLemmas.{seek-whole, seek-absent}
+use Rattle.psi_pool.proofs.CountingLemmas.{count-next_new, count-next_there}
 use Rattle.psi_pool.proofs.nodes.count_states.Goals as goal
 use Rattle.psi_pool.proofs.nodes.count_states.Goals.{then-not-stands_in, else-not-stands_in}
 

@@ -2,8 +2,8 @@
 use Rattle.std.proofs.Common.{◌∷◌, List, ℕ, sym, subst, refl}
 use Rattle.psi_state.specs.Members.{In}
 use Rattle.psi_state.specs.Ascending.{IsRising, HaveSame}
-use Rattle.psi_pool.proofs.Listing.{rising-more}
-use Rattle.psi_pool.proofs.Keeping.{more-members}
+use Rattle.psi_pool.proofs.ListingLemmas.{rising-more}
+use Rattle.psi_pool.proofs.KeepingLemmas.{more-members}
 use Rattle.psi_pool.proofs.nodes.extend.Goals as goal
 
 pub returns-in-Greater-clause-rising : goal.returns-in-Greater-clause-rising

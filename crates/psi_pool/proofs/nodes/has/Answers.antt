@@ -1,6 +1,6 @@
 -- Answers in the proof of `has`.
 use Rattle.std.proofs.Common.{length, arith, sym, ◌∙◌, refl}
-use Rattle.psi_pool.proofs.Seeking.{seek-found, seek-end}
+use Rattle.psi_pool.proofs.SeekingLemmas.{seek-found, seek-end}
 use Rattle.psi_pool.proofs.nodes.has.Goals as goal
 
 pub returns-then-eq : goal.returns-then-eq

@@ -1,6 +1,6 @@
 -- Invariants of the loops of `has`.
 use Rattle.std.proofs.Common.{◌+◌, ◌%◌, length}
-use Rattle.psi_pool.proofs.Seeking.{IsSeeking}
+use Rattle.psi_pool.proofs.SeekingLemmas.{IsSeeking}
 use Rattle.psi_pool.proofs.nodes.has.Given as goal
 
 abbrev pub invariant-loop-link : goal.invariant-loop-link

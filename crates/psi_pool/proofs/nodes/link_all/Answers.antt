@@ -1,7 +1,7 @@
 -- Answers in the proof of `link_all`.
 use Rattle.std.proofs.Common.{◌≡◌, ◌-◌, length, get_or, arith, refl, true}
 use Rattle.psi_pool.specs.Nodes.{states}
-use Rattle.psi_pool.proofs.Relinking.{relink-start, relink-more, relink-fewer, relink-end}
+use Rattle.psi_pool.proofs.RelinkingLemmas.{relink-start, relink-more, relink-fewer, relink-end}
 use Rattle.psi_pool.proofs.nodes.link_all.Goals as goal
 
 pub loop-place-init : goal.loop-place-init

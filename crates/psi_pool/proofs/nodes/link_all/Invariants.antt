@@ -1,7 +1,7 @@
 -- Invariants of the loops of `link_all`.
 use Rattle.std.proofs.Common.{◌-◌, ◌≤◌, length}
 use Rattle.psi_pool.specs.Nodes.{states}
-use Rattle.psi_pool.proofs.Relinking.{IsRelinking}
+use Rattle.psi_pool.proofs.RelinkingLemmas.{IsRelinking}
 use Rattle.psi_pool.proofs.nodes.link_all.Given as goal
 
 abbrev pub invariant-loop-place : goal.invariant-loop-place

@@ -1,6 +1,6 @@
 -- Invariants of the loops of `list_ascending`.
 use Rattle.std.proofs.Common.{◌≡◌, vec_capacity}
-use Rattle.psi_pool.proofs.Listing.{IsListing}
+use Rattle.psi_pool.proofs.ListingLemmas.{IsListing}
 use Rattle.psi_pool.proofs.nodes.list_ascending.Given as goal
 
 abbrev pub invariant-loop-place : goal.invariant-loop-place

@@ -2,7 +2,7 @@
 use Rattle.std.proofs.Common.{◌+◌, ◌++◌, List, ℕ, length, subst}
 use Rattle.psi_state.specs.Ascending.{HaveSame}
 use Rattle.psi_pool.specs.Nodes.{states}
-use Rattle.psi_pool.proofs.Listing.{listed-all, same-through}
+use Rattle.psi_pool.proofs.ListingLemmas.{listed-all, same-through}
 use Rattle.psi_pool.proofs.nodes.list_or_merge.Goals as goal
 
 pub returns-then-len-nodes-clause-listed : goal.returns-then-len-nodes-clause-listed

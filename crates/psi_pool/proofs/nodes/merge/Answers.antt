@@ -1,7 +1,7 @@
 -- Answers in the proof of `merge`.
 use Rattle.std.proofs.Common.{◌≡◌, ◌+◌, ◌-◌, ◌++◌, length, get_or, refl, subst, arith}
 use Rattle.psi_pool.specs.Nodes.{states}
-use Rattle.psi_pool.proofs.Listing.{IsMerging, merging-start, merging-end, merged-listed, merged-node}
+use Rattle.psi_pool.proofs.ListingLemmas.{IsMerging, merging-start, merging-end, merged-listed, merged-node}
 use Rattle.psi_pool.proofs.nodes.merge.Goals as goal
 
 pub loop-listed-init : goal.loop-listed-init

@@ -1,7 +1,7 @@
 -- Invariants of the loops of `merge`.
 use Rattle.std.proofs.Common.{◌+◌, ◌++◌, length}
 use Rattle.psi_pool.specs.Nodes.{states}
-use Rattle.psi_pool.proofs.Listing.{IsMerging}
+use Rattle.psi_pool.proofs.ListingLemmas.{IsMerging}
 use Rattle.psi_pool.proofs.nodes.merge.Given as goal
 
 abbrev pub invariant-loop-listed : goal.invariant-loop-listed

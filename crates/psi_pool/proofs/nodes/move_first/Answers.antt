@@ -2,7 +2,7 @@
 use Rattle.std.proofs.Common.{◌≡◌, [], ◌++◌, ◌∙◌, List, ℕ, drop, length, ap, arith, length-append}
 use Rattle.std.proofs.lemmas.List.{length-take-le, get_or-take, get_or_append_left}
 use Rattle.psi_pool.specs.declared.nodes.Node.{Node}
-use Rattle.psi_pool.proofs.Places.{states-moved}
+use Rattle.psi_pool.proofs.PlacesLemmas.{states-moved}
 use Rattle.psi_pool.proofs.nodes.move_first.Goals as goal
 
 pub returns : goal.returns

@@ -4,9 +4,9 @@ use Rattle.std.specs.List.Sorted.{IsPermutation}
 use Rattle.psi_state.specs.Sets.{ascending}
 use Rattle.psi_state.specs.Ascending.{HaveSame}
 use Rattle.psi_pool.specs.Nodes.{states}
-use Rattle.psi_pool.proofs.Sorting.{sorted-is}
-use Rattle.psi_pool.proofs.Places.{states-take}
-use Rattle.psi_pool.proofs.Listing.{same-through, same-ascending, no-states}
+use Rattle.psi_pool.proofs.SortingLemmas.{sorted-is}
+use Rattle.psi_pool.proofs.PlacesLemmas.{states-take}
+use Rattle.psi_pool.proofs.ListingLemmas.{same-through, same-ascending, no-states}
 use Rattle.psi_pool.proofs.nodes.sort_first.Goals as goal
 
 pub returns-clause-listed : goal.returns-clause-listed

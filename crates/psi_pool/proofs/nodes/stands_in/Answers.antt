@@ -1,7 +1,7 @@
 -- Answers in the proof of `stands_in`.
 use Rattle.std.proofs.Common.{length, arith, sym, ◌∙◌, refl}
-use Rattle.psi_pool.proofs.Places.{place-of}
-use Rattle.psi_pool.proofs.Seeking.{seek-found}
+use Rattle.psi_pool.proofs.PlacesLemmas.{place-of}
+use Rattle.psi_pool.proofs.SeekingLemmas.{seek-found}
 use Rattle.psi_pool.proofs.nodes.stands_in.Goals as goal
 
 pub returns-then-eq : goal.returns-then-eq

@@ -2,7 +2,7 @@
 use Rattle.std.proofs.Common.{◌∙◌}
 use Rattle.psi_state.proofs.AscendingLemmas.{ascending-members}
 use Rattle.psi_pool.specs.Tables.{held}
-use Rattle.psi_pool.proofs.Listing.{same-through}
+use Rattle.psi_pool.proofs.ListingLemmas.{same-through}
 use Rattle.psi_pool.proofs.pool.list_all.Goals as goal
 
 pub returns-then-list-clause-members : goal.returns-then-list-clause-members

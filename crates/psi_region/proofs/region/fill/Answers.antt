@@ -1,6 +1,6 @@
 -- Answers in the proof of `fill`.
 use Rattle.std.proofs.Common.{◌∙◌}
-use Rattle.psi_region.proofs.Steps.{filled-next}
+use Rattle.psi_region.proofs.StepsLemmas.{filled-next}
 use Rattle.psi_region.proofs.region.fill.Goals as goal
 
 pub loop-x-preserved : goal.loop-x-preserved

@@ -10,8 +10,8 @@ use Rattle.psi_kinds.specs.Forms.{upset_of}
 use Rattle.psi_network.specs.Network.{caps_of, marks_of}
 use Rattle.psi_network.specs.declared.entries.NamedEvent.{NamedEvent}
 use Rattle.psi_reply.specs.Check.{event_line}
-use Rattle.psi_reply.proofs.Marks.{mark-right}
-use Rattle.psi_reply.proofs.Entries.{entry_at, field_of, same_at, lines-more, all-more, and_then, and_else, is_none-from}
+use Rattle.psi_reply.proofs.MarksLemmas.{mark-right}
+use Rattle.psi_reply.proofs.EntriesLemmas.{entry_at, field_of, same_at, lines-more, all-more, and_then, and_else, is_none-from}
 use Rattle.psi_reply.proofs.check.push_events.Goals as goal
 use Rattle.psi_reply.proofs.check.push_events.Goals.{then-monotone, else-monotone}
 

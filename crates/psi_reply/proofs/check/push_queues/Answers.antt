@@ -3,7 +3,7 @@ use Rattle.std.specs.Prelude.{ℕ, List}
 use Rattle.std.proofs.Common.{ap, ◌∙◌, arith}
 use Rattle.psi_network.specs.declared.entries.Queue.{Queue}
 use Rattle.psi_reply.specs.Check.{queue_line}
-use Rattle.psi_reply.proofs.Entries.{entry_at, field_of, lines-more}
+use Rattle.psi_reply.proofs.EntriesLemmas.{entry_at, field_of, lines-more}
 use Rattle.psi_reply.proofs.check.push_queues.Goals as goal
 
 pub loop-i-preserved : goal.loop-i-preserved

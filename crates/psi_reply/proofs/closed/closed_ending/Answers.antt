@@ -1,5 +1,5 @@
 -- Answers in the proof of `closed::closed_ending`.
-use Rattle.psi_reply.proofs.Closing.{first_other-none}
+use Rattle.psi_reply.proofs.ClosingLemmas.{first_other-none}
 use Rattle.psi_reply.proofs.closed.closed_ending.Goals as goal
 
 pub returns-in-Ok : goal.returns-in-Ok

@@ -3,7 +3,7 @@ use Rattle.std.proofs.Common.{◌∙◌, ap, List, take, ◌+◌, sym, subst, ar
 use Rattle.psi_kinds.specs.declared.Move.{Move}
 use Rattle.psi_reply.specs.Closed.{AreMovesOf}
 use Rattle.psi_reply.specs.Reply.{closed_reply}
-use Rattle.psi_reply.proofs.Closing.{first_other-some, moves-more}
+use Rattle.psi_reply.proofs.ClosingLemmas.{first_other-some, moves-more}
 use Rattle.psi_reply.proofs.closed.moves_of.Goals as goal
 
 pub returns-in_default-moves-clause-none : goal.returns-in_default-moves-clause-none

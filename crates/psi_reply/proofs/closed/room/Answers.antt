@@ -1,6 +1,6 @@
 -- Answers in the proof of `closed::room`.
 use Rattle.std.proofs.Common.{arith}
-use Rattle.psi_reply.proofs.Closing.{room-more}
+use Rattle.psi_reply.proofs.ClosingLemmas.{room-more}
 use Rattle.psi_reply.proofs.closed.room.Goals as goal
 
 pub loop-i-preserved : goal.loop-i-preserved

@@ -2,7 +2,7 @@
 use Rattle.std.proofs.Common.{ℕ, List, ◌∙◌, sym, subst}
 use Rattle.psi_closed.specs.Planned.{AreMoves}
 use Rattle.psi_network.specs.Network.{caps_of}
-use Rattle.psi_reply.proofs.Closing.{each-move, sampled_of}
+use Rattle.psi_reply.proofs.ClosingLemmas.{each-move, sampled_of}
 use Rattle.psi_reply.proofs.closed.sample_of.Goals as goal
 
 pub new-requires-clause-moves : goal.new-requires-clause-moves

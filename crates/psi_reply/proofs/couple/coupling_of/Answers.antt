@@ -1,5 +1,5 @@
 -- Answers in the proof of `couple::coupling_of`.
-use Rattle.psi_reply.proofs.Coupling.{coupled_by}
+use Rattle.psi_reply.proofs.CouplingLemmas.{coupled_by}
 use Rattle.psi_reply.proofs.couple.coupling_of.Goals as goal
 
 pub returns-clause-value : goal.returns-clause-value

@@ -1,6 +1,6 @@
 -- Answers in the proof of `exact::exact_ending`.
 use Rattle.psi_reply.specs.Exact.{state_count}
-use Rattle.psi_reply.proofs.Surveying.{survey_many, surveyed_reply}
+use Rattle.psi_reply.proofs.SurveyingLemmas.{survey_many, surveyed_reply}
 use Rattle.psi_reply.proofs.exact.exact_ending.Goals as goal
 
 pub returns-in-Err-TooManyStates : goal.returns-in-Err-TooManyStates

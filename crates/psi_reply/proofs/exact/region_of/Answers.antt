@@ -1,5 +1,5 @@
 -- Answers in the proof of `exact::region_of`.
-use Rattle.psi_reply.proofs.Surveying.{region_by}
+use Rattle.psi_reply.proofs.SurveyingLemmas.{region_by}
 use Rattle.psi_reply.proofs.exact.region_of.Goals as goal
 
 pub returns : goal.returns

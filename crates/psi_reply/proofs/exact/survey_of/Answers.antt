@@ -3,7 +3,7 @@ use Rattle.std.proofs.Common.{ap}
 use Rattle.psi_past.specs.Seeded.{Seeded}
 use Rattle.psi_past.specs.SeedWord.{seed_word}
 use Rattle.psi_reply.specs.Exact.{state_count}
-use Rattle.psi_reply.proofs.Surveying.{sizes_by, meeting_by}
+use Rattle.psi_reply.proofs.SurveyingLemmas.{sizes_by, meeting_by}
 use Rattle.psi_reply.proofs.exact.survey_of.Goals as goal
 
 pub returns-clause-sizes : goal.returns-clause-sizes

@@ -1,5 +1,5 @@
 -- Answers in the proof of `replay::verdict_on`.
-use Rattle.psi_reply.proofs.Judging.{judged_by}
+use Rattle.psi_reply.proofs.JudgingLemmas.{judged_by}
 use Rattle.psi_reply.proofs.replay.verdict_on.Goals as goal
 
 pub returns : goal.returns

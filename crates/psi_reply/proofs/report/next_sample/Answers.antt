@@ -1,8 +1,8 @@
 -- Answers in the proof of `report::next_sample`.
 use Rattle.std.proofs.Common.{sym, subst}
 use Rattle.psi_report.specs.Samples.{IsSampleOf}
-use Rattle.psi_reply.proofs.Sampling.{sampled_by}
-use Rattle.psi_reply.proofs.Reporting.{sampled_counts}
+use Rattle.psi_reply.proofs.SamplingLemmas.{sampled_by}
+use Rattle.psi_reply.proofs.ReportingLemmas.{sampled_counts}
 use Rattle.psi_reply.proofs.report.next_sample.Goals as goal
 
 pub returns-clause-value : goal.returns-clause-value

@@ -2,7 +2,7 @@
 use Rattle.std.specs.Prelude.{◌≡◌}
 use Rattle.psi_report.specs.Report.{report_text}
 use Rattle.psi_reply.specs.Report.{samples_of}
-use Rattle.psi_reply.proofs.Reporting.{ok_given}
+use Rattle.psi_reply.proofs.ReportingLemmas.{ok_given}
 use Rattle.psi_reply.proofs.report.report_of.Goals as goal
 
 pub returns : goal.returns

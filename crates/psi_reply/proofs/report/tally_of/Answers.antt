@@ -4,7 +4,7 @@ use Rattle.std.proofs.Common.{sym, ap, ◌∙◌, subst, arith}
 use Rattle.psi_state.specs.declared.Outcome.{Outcome}
 use Rattle.psi_report.specs.Totals.{StandsFor}
 use Rattle.psi_reply.specs.Report.{samples_of}
-use Rattle.psi_reply.proofs.Reporting.{samples_more, samples_number, ok_given}
+use Rattle.psi_reply.proofs.ReportingLemmas.{samples_more, samples_number, ok_given}
 use Rattle.psi_reply.proofs.report.tally_of.Goals as goal
 
 pub loop-i-init : goal.loop-i-init

@@ -1,6 +1,6 @@
 -- Answers in the proof of `reward::reward_at`.
 use Rattle.std.proofs.Common.{sym}
-use Rattle.psi_reply.proofs.Coupling.{named-found, named-more}
+use Rattle.psi_reply.proofs.CouplingLemmas.{named-found, named-more}
 use Rattle.psi_reply.proofs.reward.reward_at.Goals as goal
 
 pub returns-then-eq-clause-found : goal.returns-then-eq-clause-found

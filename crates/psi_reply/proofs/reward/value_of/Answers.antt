@@ -1,6 +1,6 @@
 -- Answers in the proof of `reward::value_of`.
 use Rattle.psi_reward.specs.Rewards.{reward_kind}
-use Rattle.psi_reply.proofs.Coupling.{valued_by}
+use Rattle.psi_reply.proofs.CouplingLemmas.{valued_by}
 use Rattle.psi_reply.proofs.reward.value_of.Goals as goal
 
 pub returns-clause-value : goal.returns-clause-value

@@ -1,5 +1,5 @@
 -- Answers in the proof of `sample::sample_of`.
-use Rattle.psi_reply.proofs.Sampling.{sampled_by}
+use Rattle.psi_reply.proofs.SamplingLemmas.{sampled_by}
 use Rattle.psi_reply.proofs.sample.sample_of.Goals as goal
 
 pub returns-clause-value : goal.returns-clause-value

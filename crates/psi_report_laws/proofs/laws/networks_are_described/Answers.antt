@@ -1,6 +1,6 @@
 -- The laws in the proof of `laws::networks_are_described`.
-use Rattle.psi_report_laws.proofs.DescribedLaws.{networks-described}
-use Rattle.psi_report_laws.proofs.GeneratedLaws.{generated-described}
+use Rattle.psi_report_laws.proofs.DescribedLemmas.{networks-described}
+use Rattle.psi_report_laws.proofs.GeneratedLemmas.{generated-described}
 use Rattle.psi_report_laws.proofs.laws.networks_are_described.Goals as goal
 
 pub returns-clause-read : goal.returns-clause-read

@@ -1,5 +1,5 @@
 -- The laws in the proof of `laws::printed_reports_are_read_back`.
-use Rattle.psi_report_laws.proofs.PrintedLaws.{printed-read, printed-merged}
+use Rattle.psi_report_laws.proofs.PrintedLemmas.{printed-read, printed-merged}
 use Rattle.psi_report_laws.proofs.laws.printed_reports_are_read_back.Goals as goal
 
 pub returns-clause-read : goal.returns-clause-read

@@ -1,5 +1,5 @@
 -- The law in the proof of `laws::networks_are_told`.
-use Rattle.psi_reports.proofs.NetworkLaws.{networks-told}
+use Rattle.psi_reports.proofs.NetworkLemmas.{networks-told}
 use Rattle.psi_reports.proofs.laws.networks_are_told.Goals as goal
 
 pub returns : goal.returns

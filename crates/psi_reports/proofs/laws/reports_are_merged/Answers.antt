@@ -1,6 +1,6 @@
 -- The laws in the proof of `laws::reports_are_merged`.
-use Rattle.psi_reports.proofs.MergeLaws.{reports-merged}
-use Rattle.psi_reports.proofs.SampleLaws.{samples-merged}
+use Rattle.psi_reports.proofs.MergeLawLemmas.{reports-merged}
+use Rattle.psi_reports.proofs.SampleLawLemmas.{samples-merged}
 use Rattle.psi_reports.proofs.laws.reports_are_merged.Goals as goal
 
 pub returns : goal.returns

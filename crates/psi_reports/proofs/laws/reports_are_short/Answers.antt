@@ -1,5 +1,5 @@
 -- The law in the proof of `laws::reports_are_short`.
-use Rattle.psi_reports.proofs.ShortLaws.{reports-short}
+use Rattle.psi_reports.proofs.ShortLemmas.{reports-short}
 use Rattle.psi_reports.proofs.laws.reports_are_short.Goals as goal
 
 pub returns : goal.returns

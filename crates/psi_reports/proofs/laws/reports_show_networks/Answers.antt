@@ -1,5 +1,5 @@
 -- The law in the proof of `laws::reports_show_networks`.
-use Rattle.psi_reports.proofs.ShownLaws.{reports-show}
+use Rattle.psi_reports.proofs.ShownLemmas.{reports-show}
 use Rattle.psi_reports.proofs.laws.reports_show_networks.Goals as goal
 
 pub returns : goal.returns

@@ -1,5 +1,5 @@
 -- The laws in the proof of `laws::text_is_read`.
-use Rattle.psi_reports.proofs.ReadLaws.{read-is-text, text-is-read}
+use Rattle.psi_reports.proofs.ReadLemmas.{read-is-text, text-is-read}
 use Rattle.psi_reports.proofs.laws.text_is_read.Goals as goal
 
 pub returns : goal.returns

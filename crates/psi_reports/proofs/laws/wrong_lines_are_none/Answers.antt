@@ -1,5 +1,5 @@
 -- The law in the proof of `laws::wrong_lines_are_none`.
-use Rattle.psi_reports.proofs.WrongLaws.{wrong-lines}
+use Rattle.psi_reports.proofs.WrongLemmas.{wrong-lines}
 use Rattle.psi_reports.proofs.laws.wrong_lines_are_none.Goals as goal
 
 pub returns : goal.returns

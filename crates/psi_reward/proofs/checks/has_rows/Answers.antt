@@ -1,7 +1,7 @@
 -- Answers in the proof of `has_rows`.
 use Rattle.std.specs.Prelude.{◌≡◌, ℤ, ◌+◌, ◌-◌, List, [], length, slice_index, slice_index_or}
 use Rattle.std.proofs.Common.{ap, sym, ◌∙◌, arith}
-use Rattle.psi_reward.proofs.Fitting.{has_rows-apart, has_rows-unfit}
+use Rattle.psi_reward.proofs.FittingLemmas.{has_rows-apart, has_rows-unfit}
 use Rattle.psi_reward.proofs.checks.has_rows.Goals as goal
 
 pub returns-then-len : goal.returns-then-len

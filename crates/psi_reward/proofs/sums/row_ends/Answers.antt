@@ -4,7 +4,7 @@ use Rattle.std.specs.Int.{int_min, int_max}
 use Rattle.std.proofs.Common.{ap, ◌∙◌, arith, w32, to_z, of_z}
 use Rattle.std.proofs.lemmas.Int.{ints}
 use Rattle.psi_reward.specs.Sums.{entry}
-use Rattle.psi_reward.proofs.Adding.{span-same, span-more}
+use Rattle.psi_reward.proofs.AddingLemmas.{span-same, span-more}
 use Rattle.psi_reward.proofs.sums.row_ends.Goals as goal
 
 pub loop-number-preserved : goal.loop-number-preserved

@@ -4,7 +4,7 @@ use Rattle.std.proofs.Common.{ap, ◌∙◌, arith, w32, w64, to_z, of_z}
 use Rattle.std.proofs.lemmas.Int.{ints}
 use Rattle.psi_reward.specs.Sums.{entry}
 use Rattle.psi_reward.specs.Spans.{IsSpan}
-use Rattle.psi_reward.proofs.Adding.{span-at, spread-start, spread-step, spread-whole, spread-same}
+use Rattle.psi_reward.proofs.AddingLemmas.{span-at, spread-start, spread-step, spread-whole, spread-same}
 use Rattle.psi_reward.proofs.sums.table_range.Goals as goal
 
 pub loop-place-init : goal.loop-place-init

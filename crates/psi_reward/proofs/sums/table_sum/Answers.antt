@@ -3,7 +3,7 @@ use Rattle.std.specs.Prelude.{◌≡◌, ℤ, ◌-◌, ◌+ℤ◌, List, [], sli
 use Rattle.std.proofs.Common.{ap, ◌∙◌, arith, w32, w64, to_z, of_z}
 use Rattle.std.proofs.lemmas.Int.{ints}
 use Rattle.psi_reward.specs.Sums.{entry}
-use Rattle.psi_reward.proofs.Adding.{sum-start, sum-step}
+use Rattle.psi_reward.proofs.AddingLemmas.{sum-start, sum-step}
 use Rattle.psi_reward.proofs.sums.table_sum.Goals as goal
 
 pub loop-place-init : goal.loop-place-init

@@ -4,7 +4,7 @@ use Rattle.std.specs.Int.{int_min, int_max}
 use Rattle.std.proofs.Common.{ap, ◌∙◌, arith, w32, w64, to_z, of_z}
 use Rattle.std.proofs.lemmas.Int.{ints}
 use Rattle.psi_reward.specs.Sums.{weighted}
-use Rattle.psi_reward.proofs.Adding.{span-same, weighted-span}
+use Rattle.psi_reward.proofs.AddingLemmas.{span-same, weighted-span}
 use Rattle.psi_reward.proofs.sums.weighted_ends.Goals as goal
 
 pub returns-clause-span : goal.returns-clause-span

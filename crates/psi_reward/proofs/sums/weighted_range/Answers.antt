@@ -4,8 +4,8 @@ use Rattle.std.proofs.Common.{ap, ◌∙◌, arith, w32, w64, to_z, of_z}
 use Rattle.std.proofs.lemmas.Int.{ints}
 use Rattle.psi_reward.specs.Sums.{weighted}
 use Rattle.psi_reward.specs.Spans.{IsSpan}
-use Rattle.psi_reward.proofs.Whole.{few-step}
-use Rattle.psi_reward.proofs.Adding.{span-at, spread-start, spread-step, spread-whole, spread-same}
+use Rattle.psi_reward.proofs.WholeLemmas.{few-step}
+use Rattle.psi_reward.proofs.AddingLemmas.{span-at, spread-start, spread-step, spread-whole, spread-same}
 use Rattle.psi_reward.proofs.sums.weighted_range.Goals as goal
 
 pub loop-place-init : goal.loop-place-init

@@ -3,7 +3,7 @@ use Rattle.std.specs.Prelude.{◌≡◌, pos, ◌-◌, ◌+ℤ◌, slice_index, 
 use Rattle.std.proofs.Common.{ap, ◌∙◌, arith, w32, w64, to_z, of_z}
 use Rattle.std.proofs.lemmas.Int.{ints}
 use Rattle.psi_reward.specs.Sums.{weighted}
-use Rattle.psi_reward.proofs.Adding.{sum-step}
+use Rattle.psi_reward.proofs.AddingLemmas.{sum-step}
 use Rattle.psi_reward.proofs.sums.weighted_sum.Goals as goal
 
 pub loop-place-preserved : goal.loop-place-preserved

@@ -2,7 +2,7 @@
 use Rattle.std.proofs.Common.{◌≡◌, ◌<◌, ℕ, [], List, length, get_or, slice_index, sym, ◌∙◌, ap, arith}
 use Rattle.std.proofs.lemmas.List.{get_or_read_under}
 use Rattle.psi_route.proofs.TablesLemmas.{are_tables-count, are_tables-at, are_tables-each}
-use Rattle.psi_route.proofs.Judged.{fit_tables-some, not_empty}
+use Rattle.psi_route.proofs.JudgedLemmas.{fit_tables-some, not_empty}
 use Rattle.psi_route.proofs.judging.fit_tables.Goals as goal
 
 pub returns-then-tables-len : goal.returns-then-tables-len

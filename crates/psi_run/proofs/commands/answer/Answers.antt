@@ -3,16 +3,16 @@ use Rattle.std.specs.Prelude.{refl}
 use Rattle.psi_command.specs.Command.{sample, check, report, couple, reward, exact, closed}
 use Rattle.psi_reply.specs.Reward.{kind_named}
 use Rattle.psi_reply.specs.Closed.{first_other}
-use Rattle.psi_run.proofs.Endings.{on_net}
-use Rattle.psi_run.proofs.Sparing.{log_given}
-use Rattle.psi_run.proofs.ReadFiles.{nothing_behind}
-use Rattle.psi_reply.proofs.Sampling.{sampled_printed}
-use Rattle.psi_run.proofs.Abouts.{sample_about, check_about, report_about, couple_about, reward_about, exact_about, closed_about}
-use Rattle.psi_reply.proofs.Checking.{checked_printed}
-use Rattle.psi_reply.proofs.Reporting.{report_printed}
-use Rattle.psi_reply.proofs.Coupling.{coupling_printed, reward_printed}
-use Rattle.psi_reply.proofs.Surveying.{exact_printed}
-use Rattle.psi_reply.proofs.Closing.{closed_printed}
+use Rattle.psi_run.proofs.EndingsLemmas.{on_net}
+use Rattle.psi_run.proofs.SparingLemmas.{log_given}
+use Rattle.psi_run.proofs.ReadFilesLemmas.{nothing_behind}
+use Rattle.psi_reply.proofs.SamplingLemmas.{sampled_printed}
+use Rattle.psi_run.proofs.AboutsLemmas.{sample_about, check_about, report_about, couple_about, reward_about, exact_about, closed_about}
+use Rattle.psi_reply.proofs.CheckingLemmas.{checked_printed}
+use Rattle.psi_reply.proofs.ReportingLemmas.{report_printed}
+use Rattle.psi_reply.proofs.CouplingLemmas.{coupling_printed, reward_printed}
+use Rattle.psi_reply.proofs.SurveyingLemmas.{exact_printed}
+use Rattle.psi_reply.proofs.ClosingLemmas.{closed_printed}
 use Rattle.psi_run.proofs.commands.answer.Goals as goal
 
 pub returns-in-Sample-clause-ending : goal.returns-in-Sample-clause-ending

@@ -1,10 +1,10 @@
 -- Answers in the proof of `perform`.
 use Rattle.std.specs.Prelude.{refl}
-use Rattle.psi_run.proofs.Endings.{on_number}
-use Rattle.psi_run.proofs.Sparing.{ends-read, certify_given}
-use Rattle.psi_run.proofs.ReadFiles.{asked_trial}
-use Rattle.psi_reply.proofs.Reporting.{trial_printed}
-use Rattle.psi_run.proofs.Finishing.{finished_with, finished_as}
+use Rattle.psi_run.proofs.EndingsLemmas.{on_number}
+use Rattle.psi_run.proofs.SparingLemmas.{ends-read, certify_given}
+use Rattle.psi_run.proofs.ReadFilesLemmas.{asked_trial}
+use Rattle.psi_reply.proofs.ReportingLemmas.{trial_printed}
+use Rattle.psi_run.proofs.FinishingLemmas.{finished_with, finished_as}
 use Rattle.psi_run.proofs.commands.perform.Goals as goal
 
 pub returns-in-About-clause-finished : goal.returns-in-About-clause-finished

@@ -2,9 +2,9 @@
 use Rattle.std.proofs.Common.{◌∙◌}
 use Rattle.std.specs.Prelude.{Ok}
 use Rattle.psi_command.specs.Request.{asked}
-use Rattle.psi_run.proofs.Asked.{asked_none, ended_earlier}
-use Rattle.psi_run.proofs.Sparing.{net_given, given_on}
-use Rattle.psi_run.proofs.ReadFiles.{read_last, asked_all, asked_first}
+use Rattle.psi_run.proofs.AskedLemmas.{asked_none, ended_earlier}
+use Rattle.psi_run.proofs.SparingLemmas.{net_given, given_on}
+use Rattle.psi_run.proofs.ReadFilesLemmas.{read_last, asked_all, asked_first}
 use Rattle.psi_run.proofs.commands.work.Goals as goal
 
 pub returns-in-Ok-clause-ending : goal.returns-in-Ok-clause-ending

@@ -1,7 +1,7 @@
 -- Answers in the proof of `log_bytes`.
 use Rattle.std.proofs.Common.{refl}
 use Rattle.psi_run.specs.declared.files.TheConstants.{MOST_LOG_BYTES}
-use Rattle.psi_run.proofs.Replaying.{read_whole}
+use Rattle.psi_run.proofs.ReplayingLemmas.{read_whole}
 use Rattle.psi_run.proofs.files.log_bytes.Goals as goal
 
 pub returns-in-Ok-clause-text : goal.returns-in-Ok-clause-text

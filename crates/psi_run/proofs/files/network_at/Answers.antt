@@ -1,7 +1,7 @@
 -- Answers in the proof of `network_at`.
 use Rattle.std.proofs.Common.{refl, Ok, Err}
 use Rattle.psi_run.specs.declared.files.TheConstants.{MOST_NET_BYTES}
-use Rattle.psi_run.proofs.Endings.{judged_whole}
+use Rattle.psi_run.proofs.EndingsLemmas.{judged_whole}
 use Rattle.psi_run.proofs.files.network_at.Goals as goal
 
 pub returns-in-Ok-net_of-clause-network : goal.returns-in-Ok-net_of-clause-network

@@ -1,7 +1,7 @@
 -- Answers in the proof of `run`.
 use Rattle.std.specs.Prelude.{refl}
-use Rattle.psi_command.proofs.Asking.{sample_asked}
-use Rattle.psi_run.proofs.Finishing.{finished_words, finished_usage, finished_run, finished_means, finished_headline, finished_spared}
+use Rattle.psi_command.proofs.AskingLemmas.{sample_asked}
+use Rattle.psi_run.proofs.FinishingLemmas.{finished_words, finished_usage, finished_run, finished_means, finished_headline, finished_spared}
 use Rattle.psi_run.proofs.program.run.Goals as goal
 
 pub returns-in-Ok-clause-call : goal.returns-in-Ok-clause-call

@@ -1,5 +1,5 @@
 -- Answers in the proof of `finish`.
-use Rattle.psi_run.proofs.Finishing.{finished_whole}
+use Rattle.psi_run.proofs.FinishingLemmas.{finished_whole}
 use Rattle.psi_run.proofs.writing.finish.Goals as goal
 
 pub returns-in-Ok : goal.returns-in-Ok

@@ -1,6 +1,6 @@
 -- Answers in the proof of `write_ending`.
 use Rattle.std.proofs.Common.{refl}
-use Rattle.psi_run.proofs.Written.{line_written}
+use Rattle.psi_run.proofs.WrittenLemmas.{line_written}
 use Rattle.psi_run.proofs.writing.write_ending.Goals as goal
 
 pub returns-in-NetUnread-clause-written : goal.returns-in-NetUnread-clause-written

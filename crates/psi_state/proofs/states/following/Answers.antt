@@ -2,7 +2,7 @@
 use Rattle.std.specs.Prelude.{◌≡◌, ℕ, List, ◌∷◌, ◌+◌, ◌-◌, suc, slice_index}
 use Rattle.std.proofs.Common.{ap, sym, ◌∙◌, subst, arith}
 use Rattle.psi_state.specs.Listing.{onward}
-use Rattle.psi_state.proofs.Odometer.{IsTurned, turned-raised, turned-last}
+use Rattle.psi_state.proofs.OdometerLemmas.{IsTurned, turned-raised, turned-last}
 use Rattle.psi_state.proofs.states.following.Goals as goal
 
 pub returns-then-number-get-clause-rest : goal.returns-then-number-get-clause-rest

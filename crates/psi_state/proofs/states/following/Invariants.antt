@@ -1,5 +1,5 @@
 -- Invariants of the loops of `following`.
-use Rattle.psi_state.proofs.Odometer.{IsTurned}
+use Rattle.psi_state.proofs.OdometerLemmas.{IsTurned}
 use Rattle.psi_state.proofs.states.following.Given as goal
 
 abbrev pub invariant-loop-place : goal.invariant-loop-place

@@ -2,7 +2,7 @@
 use Rattle.std.specs.Prelude.{[], ◌∷◌, slice_index}
 use Rattle.std.specs.Fmt.{decimal}
 use Rattle.std.proofs.Common.{◌∙◌, append_assoc, arith}
-use Rattle.psi_texts.proofs.Listing.{state_text_pushed}
+use Rattle.psi_texts.proofs.ListingLemmas.{state_text_pushed}
 use Rattle.psi_texts.proofs.pieces.push_state.Goals as goal
 
 pub loop-queue-preserved : goal.loop-queue-preserved

@@ -1,6 +1,6 @@
 -- Answers in the proof of `push_image_lines`.
 use Rattle.std.proofs.Common.{arith}
-use Rattle.psi_texts.proofs.Imaging.{shift-power, image_lines_pushed}
+use Rattle.psi_texts.proofs.ImagingLemmas.{shift-power, image_lines_pushed}
 use Rattle.psi_texts.proofs.surveys.push_image_lines.Goals as goal
 
 pub loop-k-preserved : goal.loop-k-preserved

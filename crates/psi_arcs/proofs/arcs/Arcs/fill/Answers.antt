@@ -2,7 +2,7 @@
 use Rattle.std.proofs.Common.{◌∙◌, arith}
 use Rattle.psi_arcs.specs.Held.{IsAny}
 use Rattle.psi_arcs.proofs.RowsLemmas.{arc_of}
-use Rattle.psi_arcs.proofs.Putting.{done-more, done-all}
+use Rattle.psi_arcs.proofs.PuttingLemmas.{done-more, done-all}
 use Rattle.psi_arcs.proofs.arcs.Arcs.fill.Goals as goal
 
 pub loop-level-preserved : goal.loop-level-preserved

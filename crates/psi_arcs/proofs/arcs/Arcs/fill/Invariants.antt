@@ -1,7 +1,7 @@
 -- Invariants of the loops of `Arcs::fill`.
 use Rattle.std.proofs.Common.{◌≡◌}
 use Rattle.psi_arcs.specs.Held.{IsAny}
-use Rattle.psi_arcs.proofs.Putting.{AreDone}
+use Rattle.psi_arcs.proofs.PuttingLemmas.{AreDone}
 use Rattle.psi_arcs.proofs.arcs.Arcs.fill.Given as goal
 
 abbrev pub invariant-loop-level : goal.invariant-loop-level

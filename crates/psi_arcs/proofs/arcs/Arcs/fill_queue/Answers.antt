@@ -1,7 +1,7 @@
 -- Answers in the proof of `Arcs::fill_queue`.
 use Rattle.std.proofs.Common.{◌+◌, ◌≤◌, ◌∙◌, arith}
 use Rattle.psi_arcs.proofs.RowsLemmas.{arc_of}
-use Rattle.psi_arcs.proofs.Putting.{put-more, put-all, iff-trans, reached-leads}
+use Rattle.psi_arcs.proofs.PuttingLemmas.{put-more, put-all, iff-trans, reached-leads}
 use Rattle.psi_arcs.proofs.arcs.Arcs.fill_queue.Goals as goal
 
 pub loop-before-preserved : goal.loop-before-preserved

@@ -1,6 +1,6 @@
 -- Invariants of the loops of `Arcs::fill_queue`.
 use Rattle.std.proofs.Common.{◌≡◌, ◌+◌, ◌≤◌}
-use Rattle.psi_arcs.proofs.Putting.{IsPut}
+use Rattle.psi_arcs.proofs.PuttingLemmas.{IsPut}
 use Rattle.psi_arcs.proofs.arcs.Arcs.fill_queue.Given as goal
 
 abbrev pub invariant-loop-before : goal.invariant-loop-before

@@ -1,7 +1,7 @@
 -- Answers in the proof of `Arcs::first`.
 use Rattle.std.proofs.Common.{◌+◌, ◌-◌, sym, subst, arith}
 use Rattle.psi_arcs.specs.Held.{IsFirst}
-use Rattle.psi_arcs.proofs.Putting.{first-is}
+use Rattle.psi_arcs.proofs.PuttingLemmas.{first-is}
 use Rattle.psi_arcs.proofs.arcs.Arcs.first.Goals as goal
 
 pub returns-in-Some : goal.returns-in-Some

@@ -1,6 +1,6 @@
 -- Answers in the proof of `Arcs::insert`.
 use Rattle.std.proofs.Common.{arith}
-use Rattle.psi_arcs.proofs.Putting.{insert-arcs}
+use Rattle.psi_arcs.proofs.PuttingLemmas.{insert-arcs}
 use Rattle.psi_arcs.proofs.arcs.Arcs.insert.Goals as goal
 
 pub returns-clause-arcs : goal.returns-clause-arcs

@@ -2,7 +2,7 @@
 use Rattle.std.proofs.Common.{◌≡◌}
 use Rattle.psi_arcs.specs.Held.{Listed}
 use Rattle.psi_arcs.specs.Marking.{Keeps}
-use Rattle.psi_arcs.proofs.Putting.{IsPut}
+use Rattle.psi_arcs.proofs.PuttingLemmas.{IsPut}
 use Rattle.psi_arcs.proofs.arcs.Arcs.keep_level.Given as goal
 
 abbrev pub invariant-loop-before : goal.invariant-loop-before

@@ -7,8 +7,8 @@ use Rattle.psi_arcs.specs.Joining.{Only}
 use Rattle.psi_arcs.specs.Windows.{Allows}
 use Rattle.psi_arcs.proofs.RowsLemmas.{arc_of}
 use Rattle.psi_arcs.proofs.WalksLemmas.{before-zero, after-end, useful-map}
-use Rattle.psi_arcs.proofs.Marked.{tells-useful}
-use Rattle.psi_arcs.proofs.Putting.{done-more, done-next, done-all, iff-trans, keeps-same, keeps-useful}
+use Rattle.psi_arcs.proofs.MarkedLemmas.{tells-useful}
+use Rattle.psi_arcs.proofs.PuttingLemmas.{done-more, done-next, done-all, iff-trans, keeps-same, keeps-useful}
 use Rattle.psi_arcs.proofs.arcs.Arcs.keep_useful.Goals as goal
 
 pub mark-requires-clause-first : goal.mark-requires-clause-first

@@ -2,7 +2,7 @@
 use Rattle.std.proofs.Common.{◌≡◌}
 use Rattle.psi_arcs.specs.Walks.{Useful}
 use Rattle.psi_arcs.specs.Held.{Listed}
-use Rattle.psi_arcs.proofs.Putting.{AreDone}
+use Rattle.psi_arcs.proofs.PuttingLemmas.{AreDone}
 use Rattle.psi_arcs.proofs.arcs.Arcs.keep_useful.Given as goal
 
 abbrev pub invariant-loop-level : goal.invariant-loop-level

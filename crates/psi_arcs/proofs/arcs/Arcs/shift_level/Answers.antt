@@ -5,7 +5,7 @@ use Rattle.psi_arcs.specs.Sums.{has, Leads}
 use Rattle.psi_arcs.specs.Held.{Listed}
 use Rattle.psi_arcs.specs.Marking.{Gives}
 use Rattle.psi_arcs.proofs.RowsLemmas.{arc_of, read-row}
-use Rattle.psi_arcs.proofs.Putting.{put-more, put-all, iff-trans, gives-near}
+use Rattle.psi_arcs.proofs.PuttingLemmas.{put-more, put-all, iff-trans, gives-near}
 use Rattle.psi_arcs.proofs.arcs.Arcs.shift_level.Goals as goal
 
 pub loop-before-preserved : goal.loop-before-preserved

@@ -5,8 +5,8 @@ use Rattle.psi_arcs.specs.Held.{Listed}
 use Rattle.psi_arcs.specs.Joining.{IsShiftable, IsChanging, IsShort, IsFull, Joined}
 use Rattle.psi_arcs.specs.Marking.{TellsUseful}
 use Rattle.psi_arcs.specs.declared.marks.Marks.{Marks}
-use Rattle.psi_arcs.proofs.Marked.{useful-shiftable}
-use Rattle.psi_arcs.proofs.Putting.{done-more, done-next, iff-trans, gives-same, gives-joined, outside-is, outside-joined}
+use Rattle.psi_arcs.proofs.MarkedLemmas.{useful-shiftable}
+use Rattle.psi_arcs.proofs.PuttingLemmas.{done-more, done-next, iff-trans, gives-same, gives-joined, outside-is, outside-joined}
 use Rattle.psi_arcs.proofs.arcs.Arcs.step.Goals as goal
 
 pub shift_level-requires-clause-shiftable : goal.shift_level-requires-clause-shiftable

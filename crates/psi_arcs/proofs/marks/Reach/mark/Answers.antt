@@ -3,7 +3,7 @@ use Rattle.std.proofs.Common.{max, subst, arith}
 use Rattle.psi_arcs.specs.Held.{Listed}
 use Rattle.psi_arcs.specs.Joining.{IsChanging, IsShort, IsFull}
 use Rattle.psi_arcs.specs.Marking.{TellsUseful}
-use Rattle.psi_arcs.proofs.Marked.{whole-before, whole-after, tells-useful}
+use Rattle.psi_arcs.proofs.MarkedLemmas.{whole-before, whole-after, tells-useful}
 use Rattle.psi_arcs.proofs.marks.Reach.mark.Goals as goal
 
 pub mark-requires-clause-first : goal.mark-requires-clause-first

@@ -1,6 +1,6 @@
 -- Answers in the proof of `numeral::number`.
 use Rattle.std.proofs.Common.{arith}
-use Rattle.psi_command.proofs.Numerals.{number_less, number_greater}
+use Rattle.psi_command.proofs.NumeralsLemmas.{number_less, number_greater}
 use Rattle.psi_command.proofs.words.numeral.number.Goals as goal
 
 pub returns-then-number-most-clause-number : goal.returns-then-number-most-clause-number

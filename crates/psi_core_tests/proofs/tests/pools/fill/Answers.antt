@@ -1,6 +1,6 @@
 -- Answers in the proof of `pools::fill`.
 use Rattle.std.proofs.Common.{◌∙◌}
-use Rattle.psi_pool.proofs.Within.{within-box, within-next, within-first}
+use Rattle.psi_pool.proofs.WithinLemmas.{within-box, within-next, within-first}
 use Rattle.psi_core_tests.proofs.tests.pools.fill.Goals as goal
 
 pub loop-x-init : goal.loop-x-init

@@ -1,5 +1,5 @@
 -- Answers in the proof of `pools::moved`.
-use Rattle.psi_pool.proofs.Within.{within-moved}
+use Rattle.psi_pool.proofs.WithinLemmas.{within-moved}
 use Rattle.psi_core_tests.proofs.tests.pools.moved.Goals as goal
 
 pub returns-clause-below : goal.returns-clause-below

@@ -1,5 +1,5 @@
 -- Answers in the proof of `pools::put`.
-use Rattle.psi_pool.proofs.Within.{within-inserted}
+use Rattle.psi_pool.proofs.WithinLemmas.{within-inserted}
 use Rattle.psi_core_tests.proofs.tests.pools.put.Goals as goal
 
 pub returns-then-len-most-clause-below : goal.returns-then-len-most-clause-below

@@ -1,6 +1,6 @@
 -- Answers in the proof of `GuardedEventLaw::upset`.
 use Rattle.std.proofs.Common.{sym, ◌∙◌}
-use Rattle.psi_guard.proofs.Pairs.{leaps-show, rises-show, plunges-show, falls-decide, upset_of-leaps, upset_of-rises, upset_of-plunges, upset_of-falls}
+use Rattle.psi_guard.proofs.PairsLemmas.{leaps-show, rises-show, plunges-show, falls-decide, upset_of-leaps, upset_of-rises, upset_of-plunges, upset_of-falls}
 use Rattle.psi_guard.proofs.event.GuardedEventLaw.upset.Goals as goal
 
 pub returns-in-Some-clause-value : goal.returns-in-Some-clause-value

@@ -1,5 +1,5 @@
 -- Answers in the proof of `Guarded::accepted`.
-use Rattle.psi_guard.proofs.Accepted.{guards-accepted}
+use Rattle.psi_guard.proofs.AcceptedLemmas.{guards-accepted}
 use Rattle.psi_guard.proofs.guarded.Guarded.accepted.Goals as goal
 
 pub invariant_of-result : goal.invariant_of-result

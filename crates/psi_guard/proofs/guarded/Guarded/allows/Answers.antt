@@ -1,7 +1,7 @@
 -- Answers in the proof of `Guarded::allows`.
 use Rattle.std.proofs.Common.{◌<◌, ◌≤◌, ◌⊎◌, ◌≡◌, slice_index, length, inl, inr, sym, subst, arith, below_more}
 use Rattle.psi_guard.specs.declared.parts.Part.{Part}
-use Rattle.psi_guard.proofs.Steps.{all_allow-from, all_allow-out}
+use Rattle.psi_guard.proofs.StepsLemmas.{all_allow-from, all_allow-out}
 use Rattle.psi_guard.proofs.guarded.Guarded.allows.Goals as goal
 
 pub loop-i-init : goal.loop-i-init

@@ -1,7 +1,7 @@
 -- Answers in the proof of `Guarded::can_move`.
 use Rattle.std.proofs.Common.{◌<◌, inl, inr, length, subst, arith}
 use Rattle.psi_guard.specs.declared.parts.Part.{Part}
-use Rattle.psi_guard.proofs.Intervals.{PartMisses, meets-all, misses-one}
+use Rattle.psi_guard.proofs.IntervalsLemmas.{PartMisses, meets-all, misses-one}
 use Rattle.psi_guard.proofs.guarded.Guarded.can_move.Goals as goal
 
 pub returns-then-misses : goal.returns-then-misses

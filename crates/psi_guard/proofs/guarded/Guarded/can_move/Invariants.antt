@@ -1,7 +1,7 @@
 -- Invariants of the loops of `Guarded::can_move`.
 use Rattle.std.proofs.Common.{ℕ, ◌<◌}
 use Rattle.psi_guard.specs.Refusals.{at}
-use Rattle.psi_guard.proofs.Intervals.{PartMeets}
+use Rattle.psi_guard.proofs.IntervalsLemmas.{PartMeets}
 use Rattle.psi_guard.proofs.guarded.Guarded.can_move.Given as goal
 
 abbrev pub invariant-loop-i : goal.invariant-loop-i

@@ -2,7 +2,7 @@
 use Rattle.std.proofs.Common.{◌≤◌, ap, sym, arith}
 use Rattle.std.proofs.lemmas.Bool.{le-ltb}
 use Rattle.psi_guard.specs.Guarding.{part_of}
-use Rattle.psi_guard.proofs.Steps.{falls-none}
+use Rattle.psi_guard.proofs.StepsLemmas.{falls-none}
 use Rattle.psi_guard.proofs.guarded.Guarded.fall_beside.Goals as goal
 
 pub returns-else-part_of-gt0 : goal.returns-else-part_of-gt0

@@ -1,6 +1,6 @@
 -- Answers in the proof of `Guarded::first_over`.
 use Rattle.std.proofs.Common.{◌<◌, ◌≤◌, length, sym, ◌∙◌, arith, below_more}
-use Rattle.psi_guard.proofs.Steps.{queues-found, queues-none}
+use Rattle.psi_guard.proofs.StepsLemmas.{queues-found, queues-none}
 use Rattle.psi_guard.proofs.guarded.Guarded.first_over.Goals as goal
 
 pub loop-p-init : goal.loop-p-init

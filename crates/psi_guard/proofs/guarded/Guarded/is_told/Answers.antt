@@ -1,6 +1,6 @@
 -- Answers in the proof of `Guarded::is_told`.
 use Rattle.std.proofs.Common.{◌+◌, Bool, true, false, sym, ◌∙◌, subst}
-use Rattle.psi_guard.proofs.Telling.{IsTelling, telling-start, telling-exact, telling-clipped, exact-by, clipped-by}
+use Rattle.psi_guard.proofs.TellingLemmas.{IsTelling, telling-start, telling-exact, telling-clipped, exact-by, clipped-by}
 use Rattle.psi_guard.proofs.guarded.Guarded.is_told.Goals as goal
 use Rattle.psi_guard.proofs.guarded.Guarded.is_told.Goals.{then-not-is_exact+else-is_one_clipped+else-not-is_clipped, else-not-is_exact}
 

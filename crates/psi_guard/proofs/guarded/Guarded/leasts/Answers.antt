@@ -1,7 +1,7 @@
 -- Answers in the proof of `Guarded::leasts`.
 use Rattle.std.proofs.Common.{◌<◌, ◌≢◌, ℕ, List, length, slice_index, ap, ◌∙◌, arith, below_more, length-set, get_or-set_same, get_or-set_other}
 use Rattle.std.proofs.lemmas.List.{length-replicate}
-use Rattle.psi_guard.proofs.Steps.{leasts-from}
+use Rattle.psi_guard.proofs.StepsLemmas.{leasts-from}
 use Rattle.psi_guard.proofs.guarded.Guarded.leasts.Goals as goal
 
 pub loop-q-init : goal.loop-q-init

@@ -1,6 +1,6 @@
 -- Answers in the proof of `Guarded::leaving`.
 use Rattle.std.proofs.Common.{◌≡◌, length, arith}
-use Rattle.psi_guard.proofs.Intervals.{knows-end}
+use Rattle.psi_guard.proofs.IntervalsLemmas.{knows-end}
 use Rattle.psi_guard.proofs.guarded.Guarded.leaving.Goals as goal
 
 pub returns : goal.returns

@@ -1,5 +1,5 @@
 -- Invariants of the loops of `Guarded::leaving`.
-use Rattle.psi_guard.proofs.Intervals.{KnowsParts}
+use Rattle.psi_guard.proofs.IntervalsLemmas.{KnowsParts}
 use Rattle.psi_guard.proofs.guarded.Guarded.leaving.Given as goal
 
 abbrev pub invariant-loop-i : goal.invariant-loop-i

@@ -1,6 +1,6 @@
 -- Answers in the proof of `Guarded::move_each`.
 use Rattle.std.proofs.Common.{◌+◌, sym, subst, arith}
-use Rattle.psi_guard.proofs.Steps.{IsMoving, moving-start, moving-step, moving-end}
+use Rattle.psi_guard.proofs.StepsLemmas.{IsMoving, moving-start, moving-step, moving-end}
 use Rattle.psi_guard.proofs.guarded.Guarded.move_each.Goals as goal
 
 pub loop-i-init : goal.loop-i-init

@@ -1,5 +1,5 @@
 -- Invariants of the loops of `Guarded::move_each`.
-use Rattle.psi_guard.proofs.Steps.{IsMoving}
+use Rattle.psi_guard.proofs.StepsLemmas.{IsMoving}
 use Rattle.psi_guard.proofs.guarded.Guarded.move_each.Given as goal
 
 abbrev pub invariant-loop-i : goal.invariant-loop-i

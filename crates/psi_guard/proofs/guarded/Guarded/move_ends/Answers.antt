@@ -3,7 +3,7 @@ use Rattle.std.proofs.Common.{◌<◌, ◌+◌, length, sym, ◌∙◌, subst, a
 use Rattle.psi_state.specs.State.{Corners, IsBelow}
 use Rattle.psi_event.proofs.LawLemmas.{tight-corners}
 use Rattle.psi_guard.specs.Guarding.{guarded}
-use Rattle.psi_guard.proofs.Intervals.{IsEnding, ending-start, ending-step, ending-tight, part-turns, part-ends}
+use Rattle.psi_guard.proofs.IntervalsLemmas.{IsEnding, ending-start, ending-step, ending-tight, part-turns, part-ends}
 use Rattle.psi_guard.proofs.guarded.Guarded.move_ends.Goals as goal
 
 pub loop-i-init : goal.loop-i-init

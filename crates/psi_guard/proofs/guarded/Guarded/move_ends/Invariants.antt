@@ -1,5 +1,5 @@
 -- Invariants of the loops of `Guarded::move_ends`.
-use Rattle.psi_guard.proofs.Intervals.{IsEnding}
+use Rattle.psi_guard.proofs.IntervalsLemmas.{IsEnding}
 use Rattle.psi_guard.proofs.guarded.Guarded.move_ends.Given as goal
 
 abbrev pub invariant-loop-i : goal.invariant-loop-i

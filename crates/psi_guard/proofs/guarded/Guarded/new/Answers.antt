@@ -4,7 +4,7 @@ use Rattle.psi_guard.specs.declared.parts.Part.{Part}
 use Rattle.psi_guard.specs.Guarding.{guarded, upset_of}
 use Rattle.psi_guard.specs.Inverse.{no_part}
 use Rattle.psi_guard.specs.Refusals.{AreGuards, refusal_after, refusal_of, at}
-use Rattle.psi_guard.proofs.Accepted.{guards-empty, guards-push, kept-room, refusal-found, refusal-later}
+use Rattle.psi_guard.proofs.AcceptedLemmas.{guards-empty, guards-push, kept-room, refusal-found, refusal-later}
 use Rattle.psi_guard.proofs.guarded.Guarded.new.Goals as goal
 
 pub loop-part-init : goal.loop-part-init

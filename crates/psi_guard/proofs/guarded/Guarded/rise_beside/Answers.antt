@@ -2,7 +2,7 @@
 use Rattle.std.proofs.Common.{◌≤◌, ap, sym, slice_index, arith}
 use Rattle.std.proofs.lemmas.Bool.{le-ltb}
 use Rattle.psi_guard.specs.Guarding.{part_of}
-use Rattle.psi_guard.proofs.Steps.{rises-none}
+use Rattle.psi_guard.proofs.StepsLemmas.{rises-none}
 use Rattle.psi_guard.proofs.guarded.Guarded.rise_beside.Goals as goal
 
 pub returns-else-part_of-get : goal.returns-else-part_of-get

@@ -4,7 +4,7 @@ use Rattle.std.proofs.Common.{ap, sym, ◌∙◌, arith}
 use Rattle.std.proofs.lemmas.List.{length-set, length-take-le}
 use Rattle.psi_guard.specs.declared.parts.Part.{Part}
 use Rattle.psi_guard.specs.Inverse.{no_part}
-use Rattle.psi_guard.proofs.Arrays.{drop-push}
+use Rattle.psi_guard.proofs.ArraysLemmas.{drop-push}
 use Rattle.psi_guard.proofs.parts.Parts.push.Goals as goal
 
 pub invariant_of-self : goal.invariant_of-self

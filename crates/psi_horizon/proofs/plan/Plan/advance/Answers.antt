@@ -1,7 +1,7 @@
 -- Answers in the proof of `Plan::advance`.
 use Rattle.psi_rate.specs.Composition.{system_functions}
 use Rattle.psi_rate.proofs.FunctionsLemmas.{functions-closed}
-use Rattle.psi_horizon.proofs.Running.{underway-area}
+use Rattle.psi_horizon.proofs.RunningLemmas.{underway-area}
 use Rattle.psi_horizon.proofs.plan.Plan.advance.Goals as goal
 
 pub follow_word-event-requires : goal.follow_word-event-requires

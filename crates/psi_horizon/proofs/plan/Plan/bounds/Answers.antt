@@ -6,7 +6,7 @@ use Rattle.psi_rate.proofs.FunctionsLemmas.{functions-closed}
 use Rattle.psi_region.specs.Region.{Area, ShowsBox}
 use Rattle.psi_horizon.specs.Planned.{Planned}
 use Rattle.psi_horizon.specs.Runs.{region_after}
-use Rattle.psi_horizon.proofs.Running.{if_some-map, region-seen, plan-area, shown-within}
+use Rattle.psi_horizon.proofs.RunningLemmas.{if_some-map, region-seen, plan-area, shown-within}
 use Rattle.psi_horizon.proofs.plan.Plan.bounds.Goals as goal
 
 pub returns-clause-within : goal.returns-clause-within

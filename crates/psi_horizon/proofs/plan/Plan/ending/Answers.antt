@@ -6,7 +6,7 @@ use Rattle.psi_rate.proofs.FunctionsLemmas.{functions-closed}
 use Rattle.psi_horizon.specs.Planned.{Planned}
 use Rattle.psi_horizon.specs.Runs.{region_at, ending_at}
 use Rattle.psi_horizon.proofs.RunsLemmas.{run-area}
-use Rattle.psi_horizon.proofs.Running.{one-within}
+use Rattle.psi_horizon.proofs.RunningLemmas.{one-within}
 use Rattle.psi_horizon.proofs.plan.Plan.ending.Goals as goal
 
 pub returns-clause-ending : goal.returns-clause-ending

@@ -4,7 +4,7 @@ use Rattle.psi_rate.specs.Composition.{Parts, system_functions}
 use Rattle.psi_rate.specs.System.{IsSystem}
 use Rattle.psi_rate.proofs.FunctionsLemmas.{functions-closed}
 use Rattle.psi_horizon.specs.Planned.{Planned}
-use Rattle.psi_horizon.proofs.Running.{plan-area, one-within}
+use Rattle.psi_horizon.proofs.RunningLemmas.{plan-area, one-within}
 use Rattle.psi_horizon.proofs.plan.Plan.single.Goals as goal
 
 pub returns-clause-within : goal.returns-clause-within

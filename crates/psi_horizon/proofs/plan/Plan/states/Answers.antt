@@ -7,7 +7,7 @@ use Rattle.psi_rate.proofs.FunctionsLemmas.{functions-closed}
 use Rattle.psi_region.specs.Region.{Area}
 use Rattle.psi_horizon.specs.Planned.{Planned}
 use Rattle.psi_horizon.specs.Runs.{region_after}
-use Rattle.psi_horizon.proofs.Running.{if_some-map, if_some-both, region-seen, plan-area}
+use Rattle.psi_horizon.proofs.RunningLemmas.{if_some-map, if_some-both, region-seen, plan-area}
 use Rattle.psi_horizon.proofs.plan.Plan.states.Goals as goal
 
 pub states-requires : goal.states-requires

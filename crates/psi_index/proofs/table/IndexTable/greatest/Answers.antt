@@ -2,8 +2,8 @@
 use Rattle.std.proofs.Common.{ℕ, ◌+◌, List, length, ap, slice_index, ◌∙◌, subst, arith}
 use Rattle.std.proofs.lemmas.List.{get_or-map}
 use Rattle.psi_index.specs.Extremes.{IsRising, complement, greatest_of, least_of, stretch}
-use Rattle.psi_index.proofs.Joining.{greatest-complements}
-use Rattle.psi_index.proofs.Rising.{rising-order, rising-greatest}
+use Rattle.psi_index.proofs.JoiningLemmas.{greatest-complements}
+use Rattle.psi_index.proofs.RisingLemmas.{rising-order, rising-greatest}
 use Rattle.psi_index.proofs.table.IndexTable.greatest.Goals as goal
 
 pub returns-then-self-clause-value : goal.returns-then-self-clause-value

@@ -1,8 +1,8 @@
 -- Answers in the proof of `IndexTable::least`.
 use Rattle.std.proofs.Common.{ℕ, ◌+◌, List, slice_index, ◌∙◌, subst, arith}
 use Rattle.psi_index.specs.Extremes.{IsRising}
-use Rattle.psi_index.proofs.Joining.{least-slice_range}
-use Rattle.psi_index.proofs.Rising.{rising-order, rising-least}
+use Rattle.psi_index.proofs.JoiningLemmas.{least-slice_range}
+use Rattle.psi_index.proofs.RisingLemmas.{rising-order, rising-least}
 use Rattle.psi_index.proofs.table.IndexTable.least.Goals as goal
 
 pub returns-then-self-clause-value : goal.returns-then-self-clause-value

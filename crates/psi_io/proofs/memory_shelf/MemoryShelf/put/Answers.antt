@@ -1,7 +1,7 @@
 -- Answers in the proof of `MemoryShelf::put`.
 use Rattle.std.proofs.Common.{sym, ◌∙◌, ap}
 use Rattle.psi_io.specs.MemoryShelf.{ShelfContents, told_of, faults_of}
-use Rattle.psi_io.proofs.Files.{put-place, put-new, told-after_put, others-after_put, counts-after_put}
+use Rattle.psi_io.proofs.FilesLemmas.{put-place, put-new, told-after_put, others-after_put, counts-after_put}
 use Rattle.psi_io.proofs.memory_shelf.MemoryShelf.put.Goals as goal
 
 pub returns-in-Some-clause-after : goal.returns-in-Some-clause-after

@@ -1,5 +1,5 @@
 -- Answers in the proof of `MemoryShelfShelf::TheImpl`.
-use Rattle.psi_io.proofs.Giving.{no-fault-given, spared-given, gives-read}
+use Rattle.psi_io.proofs.GivingLemmas.{no-fault-given, spared-given, gives-read}
 use Rattle.psi_io.proofs.memory_shelf.MemoryShelfShelf.TheImpl.Goals as goal
 
 pub read-tells : goal.read-tells

@@ -5,7 +5,7 @@ use Rattle.std.specs.List.{list_any}
 use Rattle.psi_io.specs.Counts.{counted}
 use Rattle.psi_io.proofs.CountsLemmas.{counted-still, rose-counted}
 use Rattle.psi_io.specs.MemoryShelf.{ShelfContents, has_name, told_of, faults_of}
-use Rattle.psi_io.proofs.Files.{fail-place, fail-absent, faults-after_failed, told-after_failed, counts-after_failed, faults-at, told-at, told-none, reads-at, no-fault}
+use Rattle.psi_io.proofs.FilesLemmas.{fail-place, fail-absent, faults-after_failed, told-after_failed, counts-after_failed, faults-at, told-at, told-none, reads-at, no-fault}
 use Rattle.psi_io.proofs.memory_shelf.MemoryShelfShelf.read.Goals as goal
 
 pub returns-in-Some-clause-after_failed : goal.returns-in-Some-clause-after_failed

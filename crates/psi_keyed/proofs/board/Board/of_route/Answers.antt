@@ -3,7 +3,7 @@ use Rattle.std.proofs.Common.{◌≡◌, length, Option, None, IfSome, sym, subs
 use Rattle.psi_route.specs.Route.{shape_of}
 use Rattle.psi_keyed.specs.Rows.{AreRowsOf}
 use Rattle.psi_keyed.specs.declared.filling.Rows.{Rows}
-use Rattle.psi_keyed.proofs.Routes.{board-for, none-from}
+use Rattle.psi_keyed.proofs.RoutesLemmas.{board-for, none-from}
 use Rattle.psi_keyed.proofs.board.Board.of_route.Goals as goal
 
 pub returns : goal.returns

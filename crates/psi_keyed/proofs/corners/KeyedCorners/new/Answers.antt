@@ -12,7 +12,8 @@ invariant_of-result g c =
     let made : IsKeyed c.caps.result (map g.E.EventLaw.function c.events.result.now) keyed =
     subst (λ found. IfSome found (λ k. IsKeyed c.caps.result (map g.E.EventLaw.function c.events.result.now) k)) c.in-Some.is c.in_ok-keyed.ensures in
     subst (λ (n : Network g.row.E.Denot). IsKeyed n.caps (map g.E.EventLaw.function n.events) keyed
-    × All (λ f. IsMonotone n.caps f) (map g.E.EventLaw.function n.events)) (sym c.again.ensures)
-    (subst (λ (cs : List ℕ). IsKeyed cs (map g.E.EventLaw.function course.events) keyed) c.caps.ensures.value
-    (subst (λ (es : List g.row.E.Denot). IsKeyed c.caps.result (map g.E.EventLaw.function es) keyed) c.events.ensures.value made),
-    c.requires)
+    × All (λ f. IsMonotone n.caps f) (map g.E.EventLaw.function n.events)) (sym c.again.ensures) (
+      subst (λ (cs : List ℕ). IsKeyed cs (map g.E.EventLaw.function course.events) keyed) c.caps.ensures.value
+          (subst (λ (es : List g.row.E.Denot). IsKeyed c.caps.result (map g.E.EventLaw.function es) keyed) c.events.ensures.value made),
+      c.requires,
+    )

@@ -3,7 +3,7 @@ use Rattle.std.proofs.Common.{◌+◌, ◌%◌, ◌≤◌, ℕ, List, slice_inde
 use Rattle.psi_state.specs.State.{IsBelow}
 use Rattle.psi_state.proofs.BoxesLemmas.{set-below}
 use Rattle.psi_keyed.specs.Keys.{AreKeys}
-use Rattle.psi_keyed.proofs.Marking.{least-chosen, chosen-queue, chosen-room, joins-least, joins-none, keys-set, joined-by}
+use Rattle.psi_keyed.proofs.MarkingLemmas.{least-chosen, chosen-queue, chosen-room, joins-least, joins-none, keys-set, joined-by}
 use Rattle.psi_keyed.proofs.marked.Marked.join.Goals as goal
 
 pub returns-then-least-clause-joined : goal.returns-then-least-clause-joined

@@ -2,7 +2,7 @@
 use Rattle.std.proofs.Common.{ℕ, List, slice_set, inl, inr, sym, ◌∙◌, subst, arith, refl}
 use mir.Val.{bool_byte}
 use Rattle.psi_keyed.specs.Keys.{AreKeys}
-use Rattle.psi_keyed.proofs.Marking.{keys-set, keys-beside, left-by}
+use Rattle.psi_keyed.proofs.MarkingLemmas.{keys-set, keys-beside, left-by}
 use Rattle.psi_keyed.proofs.marked.Marked.leave.Goals as goal
 
 pub returns-then-place-lt32-clause-keys : goal.returns-then-place-lt32-clause-keys

@@ -1,6 +1,6 @@
 -- Answers in the proof of `Marked::of`.
 use Rattle.std.proofs.Common.{arith, refl}
-use Rattle.psi_keyed.proofs.Marking.{none-marked}
+use Rattle.psi_keyed.proofs.MarkingLemmas.{none-marked}
 use Rattle.psi_keyed.proofs.marked.Marked.of.Goals as goal
 
 pub loop-place-init : goal.loop-place-init

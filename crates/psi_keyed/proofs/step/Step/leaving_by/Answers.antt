@@ -1,7 +1,7 @@
 -- Answers in the proof of `Step::leaving_by`.
 use Rattle.std.proofs.Common.{◌≡◌, ℕ, List, length, Some, None, ap, sym, ◌∙◌, arith}
 use Rattle.psi_route.specs.Route.{shape_of}
-use Rattle.psi_keyed.proofs.Routes.{routed-still, routed-leaves}
+use Rattle.psi_keyed.proofs.RoutesLemmas.{routed-still, routed-leaves}
 use Rattle.psi_keyed.proofs.step.Step.leaving_by.Goals as goal
 
 pub returns-in-None : goal.returns-in-None

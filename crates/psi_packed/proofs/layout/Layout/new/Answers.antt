@@ -1,5 +1,5 @@
 use Rattle.std.proofs.Common.{arith}
-use Rattle.psi_packed.proofs.Building.{packing-needs}
+use Rattle.psi_packed.proofs.BuildingLemmas.{packing-needs}
 use Rattle.psi_packed.proofs.layout.Layout.new.Goals as goal
 
 pub returns-then-len-fields-clause-refused : goal.returns-then-len-fields-clause-refused

@@ -1,7 +1,7 @@
 use Rattle.std.proofs.Common.{◌≡◌, ◌<◌, length, sym, subst}
 use Rattle.psi_state.specs.State.{IsBelow}
 use Rattle.psi_packed.specs.Packed.{Packing, packed}
-use Rattle.psi_packed.proofs.Building.{number-is}
+use Rattle.psi_packed.proofs.BuildingLemmas.{number-is}
 use Rattle.psi_packed.proofs.layout.Layout.number.Goals as goal
 
 pub returns : goal.returns

@@ -1,8 +1,8 @@
 use Rattle.std.proofs.Common.{rules, ◌-◌, arith, ap, pow_pos, ◌∙◌}
 use Rattle.psi_packed.specs.Packed.{packed}
 use Rattle.psi_packed.specs.Moves.{guard}
-use Rattle.psi_packed.proofs.Words.{below-guard, twice-guard}
-use Rattle.psi_packed.proofs.Building.{same-mapped}
+use Rattle.psi_packed.proofs.WordsLemmas.{below-guard, twice-guard}
+use Rattle.psi_packed.proofs.BuildingLemmas.{same-mapped}
 use Rattle.psi_packed.proofs.layout.Layout.offsets.Goals as goal
 
 pub overflow_sub-guard : goal.overflow_sub-guard

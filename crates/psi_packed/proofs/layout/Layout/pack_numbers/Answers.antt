@@ -1,7 +1,7 @@
 use Rattle.std.proofs.Common.{sym, ◌∙◌, arith}
 use Rattle.std.proofs.lemmas.Grind.{same_number_lists}
 use Rattle.psi_packed.specs.Packed.{packed}
-use Rattle.psi_packed.proofs.Words.{length-packed}
+use Rattle.psi_packed.proofs.WordsLemmas.{length-packed}
 use Rattle.psi_packed.proofs.layout.Layout.pack_numbers.Goals as goal
 
 pub returns : goal.returns

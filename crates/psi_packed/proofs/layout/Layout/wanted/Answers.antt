@@ -1,8 +1,8 @@
 use Rattle.std.proofs.Common.{rules, ◌<◌, ◌^◌, arith, ap, sym, subst, ◌∙◌, slice_index}
 use Rattle.psi_packed.specs.Packed.{packed}
 use Rattle.psi_packed.specs.Moves.{wanted_of}
-use Rattle.psi_packed.proofs.Testing.{wanted_of-lt}
-use Rattle.psi_packed.proofs.Building.{same-mapped}
+use Rattle.psi_packed.proofs.TestingLemmas.{wanted_of-lt}
+use Rattle.psi_packed.proofs.BuildingLemmas.{same-mapped}
 use Rattle.psi_packed.proofs.layout.Layout.wanted.Goals as goal
 
 pub pack_numbers-requires : goal.pack_numbers-requires

@@ -1,8 +1,8 @@
 use Rattle.std.proofs.Common.{◌≡◌, ◌*◌, ◌+◌, ◌-◌, ◌^◌, ◌≤◌, length, slice_index, arith, ap, sym, subst, ◌∙◌}
 use Rattle.psi_packed.specs.Packed.{Packing, packed}
-use Rattle.psi_packed.proofs.Digits.{digits}
-use Rattle.psi_packed.proofs.Words.{Fit}
-use Rattle.psi_packed.proofs.Building.{last_fields, fit-from, word-more, word-none, word-fits, word-whole}
+use Rattle.psi_packed.proofs.DigitsLemmas.{digits}
+use Rattle.psi_packed.proofs.WordsLemmas.{Fit}
+use Rattle.psi_packed.proofs.BuildingLemmas.{last_fields, fit-from, word-more, word-none, word-fits, word-whole}
 use Rattle.psi_packed.proofs.layout.Layout.word.Goals as goal
 use Rattle.psi_packed.proofs.layout.Layout.word.Goals.{then-queue-len, else-queue-len}
 

@@ -1,6 +1,6 @@
 use Rattle.std.proofs.Common.{◌≡◌, ◌*◌}
-use Rattle.psi_packed.proofs.Digits.{digits}
-use Rattle.psi_packed.proofs.Building.{last_fields}
+use Rattle.psi_packed.proofs.DigitsLemmas.{digits}
+use Rattle.psi_packed.proofs.BuildingLemmas.{last_fields}
 use Rattle.psi_packed.proofs.layout.Layout.word.Given as goal
 
 abbrev pub invariant-loop-done : goal.invariant-loop-done

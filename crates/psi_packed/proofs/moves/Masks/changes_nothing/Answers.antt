@@ -1,7 +1,7 @@
 use Rattle.std.proofs.Common.{◌≡◌, slice_index, sym, ◌∙◌, below_more}
 use Rattle.std.proofs.lemmas.Bool.{true≢false}
 use Rattle.psi_packed.specs.Views.{lows}
-use Rattle.psi_packed.proofs.Pairing.{low-at}
+use Rattle.psi_packed.proofs.PairingLemmas.{low-at}
 use Rattle.psi_packed.proofs.moves.Masks.changes_nothing.Goals as goal
 
 pub returns-then-self-at-ne0 : goal.returns-then-self-at-ne0

@@ -1,8 +1,8 @@
 use Rattle.std.proofs.Common.{◌≡◌, arith, subst}
 use Rattle.psi_packed.specs.Views.{lows, highs, low_word, high_word, masks_by}
 use Rattle.psi_packed.specs.Moves.{holds}
-use Rattle.psi_packed.proofs.Moving.{ones}
-use Rattle.psi_packed.proofs.Pairing.{low-at, high-at, ones-more, masked-both, pairs-more}
+use Rattle.psi_packed.proofs.MovingLemmas.{ones}
+use Rattle.psi_packed.proofs.PairingLemmas.{low-at, high-at, ones-more, masked-both, pairs-more}
 use Rattle.psi_packed.proofs.moves.Moves.advance.Goals as goal
 
 pub loop-at-preserved : goal.loop-at-preserved

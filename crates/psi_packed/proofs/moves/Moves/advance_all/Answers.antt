@@ -1,7 +1,7 @@
 use Rattle.std.proofs.Common.{◌∙◌, length-set, arith}
 use Rattle.psi_packed.specs.Views.{lows, highs, low_word, high_word, moving_by}
 use Rattle.psi_packed.specs.Moves.{IsMoved}
-use Rattle.psi_packed.proofs.Stepping.{pairs-step, pairs-wait}
+use Rattle.psi_packed.proofs.SteppingLemmas.{pairs-step, pairs-wait}
 use Rattle.psi_packed.proofs.moves.Moves.advance_all.Goals as goal
 
 pub loop-x-preserved : goal.loop-x-preserved

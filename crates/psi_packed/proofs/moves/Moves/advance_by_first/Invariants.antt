@@ -1,7 +1,7 @@
 use Rattle.std.proofs.Common.{◌≡◌}
 use Rattle.psi_packed.specs.Views.{lows, highs, low_word, high_word, masks_by}
 use Rattle.psi_packed.specs.Moves.{holds}
-use Rattle.psi_packed.proofs.Moving.{ones, AreChanged}
+use Rattle.psi_packed.proofs.MovingLemmas.{ones, AreChanged}
 use Rattle.psi_packed.proofs.moves.Moves.advance_by_first.Given as goal
 
 abbrev pub invariant-loop-at : goal.invariant-loop-at

@@ -3,7 +3,7 @@ use Rattle.std.proofs.lemmas.List.{length-map}
 use Rattle.std.proofs.lemmas.Grind.{same_number_lists}
 use Rattle.psi_packed.specs.Views.{low_word, high_word}
 use Rattle.psi_packed.specs.declared.pairs.Pair.{Pair}
-use Rattle.psi_packed.proofs.Pairing.{words-set}
+use Rattle.psi_packed.proofs.PairingLemmas.{words-set}
 use Rattle.psi_packed.proofs.pairs.Pairs.of.Goals as goal
 
 pub loop-at-preserved : goal.loop-at-preserved

@@ -2,7 +2,7 @@ use Rattle.std.proofs.Common.{◌≡◌, ◌-◌, ◌<◌, ◌≤◌, length, ma
 use Rattle.psi_packed.specs.Moves.{Moving, IsMoved, no_move}
 use Rattle.psi_packed.specs.Programs.{Prepared, Follows}
 use Rattle.psi_packed.specs.Views.{lows, highs, low_word, high_word, moving_by}
-use Rattle.psi_packed.proofs.Following.{follows-none, follows-more, move-read}
+use Rattle.psi_packed.proofs.FollowingLemmas.{follows-none, follows-more, move-read}
 use Rattle.psi_packed.proofs.program.Program.follow_both.Goals as goal
 
 pub loop-place-init : goal.loop-place-init

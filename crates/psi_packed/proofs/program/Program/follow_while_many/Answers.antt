@@ -3,8 +3,8 @@ use Rattle.psi_packed.specs.Moves.{Moving, IsMoved, no_move}
 use Rattle.psi_packed.specs.Programs.{Prepared}
 use Rattle.psi_packed.specs.Boxes.{AreFollowed, Ends, box_from}
 use Rattle.psi_packed.specs.Views.{lows, highs, low_word, high_word, moving_by}
-use Rattle.psi_packed.proofs.Following.{move-read}
-use Rattle.psi_packed.proofs.Descending.{many-told, followed-none, followed-more}
+use Rattle.psi_packed.proofs.FollowingLemmas.{move-read}
+use Rattle.psi_packed.proofs.DescendingLemmas.{many-told, followed-none, followed-more}
 use Rattle.psi_packed.proofs.program.Program.follow_while_many.Goals as goal
 use Rattle.psi_packed.proofs.program.Program.follow_while_many.Goals.{then-has_at_most-via-then-has_at_most, then-has_at_most-via-else-has_at_most+then-halts-event}
 

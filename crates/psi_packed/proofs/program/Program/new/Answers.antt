@@ -6,7 +6,7 @@ use Rattle.psi_piecewise.specs.Piecewise.{Does}
 use Rattle.psi_packed.specs.Views.{low_word, high_word, moving_by}
 use Rattle.psi_packed.specs.Moves.{Moving, ChangesNothing, no_move}
 use Rattle.psi_packed.specs.Programs.{IsMoveFor}
-use Rattle.psi_packed.proofs.Moving.{moves-more, moving-push, length-more, alone-more, and-first, and-second}
+use Rattle.psi_packed.proofs.MovingLemmas.{moves-more, moving-push, length-more, alone-more, and-first, and-second}
 use Rattle.psi_packed.specs.declared.moves.Moves.{Moves}
 use Rattle.psi_packed.proofs.program.Program.new.Goals as goal
 

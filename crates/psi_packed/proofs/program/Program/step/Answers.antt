@@ -2,8 +2,8 @@ use Rattle.std.proofs.Common.{◌≡◌, map, slice_index_or, ap, sym, subst, �
 use Rattle.psi_packed.specs.Moves.{Moving, IsMoved, ChangesNothing, no_move}
 use Rattle.psi_packed.specs.Programs.{Prepared}
 use Rattle.psi_packed.specs.Views.{lows, highs, low_word, high_word, moving_by, pair_at}
-use Rattle.psi_packed.proofs.Following.{move-read}
-use Rattle.psi_packed.proofs.Stepping.{follows-one}
+use Rattle.psi_packed.proofs.FollowingLemmas.{move-read}
+use Rattle.psi_packed.proofs.SteppingLemmas.{follows-one}
 use Rattle.psi_packed.proofs.program.Program.step.Goals as goal
 
 pub advance_all_by_first-requires : goal.advance_all_by_first-requires

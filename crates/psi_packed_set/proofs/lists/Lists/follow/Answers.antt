@@ -4,7 +4,7 @@ use Rattle.std.specs.Vec.{with_items}
 use Rattle.psi_packed.specs.declared.pairs.Pairs.{Pairs}
 use Rattle.psi_packed_set.specs.Room.{held}
 use Rattle.psi_packed_set.specs.Holding.{SetFollows}
-use Rattle.psi_packed_set.proofs.Following.{set-rest, follow-end}
+use Rattle.psi_packed_set.proofs.FollowingLemmas.{set-rest, follow-end}
 use Rattle.psi_packed_set.proofs.lists.Lists.follow.Goals as goal
 
 pub returns-then-left-gt0-clause-follows : goal.returns-then-left-gt0-clause-follows

@@ -2,7 +2,7 @@ use Rattle.std.proofs.Common.{sym, ◌∙◌}
 use Rattle.psi_state.specs.State.{box}
 use Rattle.psi_event.specs.Numbers.{follow_numbers}
 use Rattle.psi_packed_set.specs.Room.{held}
-use Rattle.psi_packed_set.proofs.Following.{meets-all, meets-none}
+use Rattle.psi_packed_set.proofs.FollowingLemmas.{meets-all, meets-none}
 use Rattle.psi_packed_set.proofs.packed_set.PackedSet.meeting.Goals as goal
 
 pub returns-in_err-words-clause-meeting : goal.returns-in_err-words-clause-meeting

@@ -4,7 +4,7 @@ use Rattle.rand_chacha.specs.ChaCha.{ChaCha, key_of}
 use Rattle.psi_past.specs.declared.seed.SeedPast.TheInside.{Inside}
 use Rattle.psi_past.specs.Seeded.{Seeded}
 use Rattle.psi_past.specs.SeedWord.{key_bytes, seed_word}
-use Rattle.psi_past.proofs.KeyStream.{set_word_pos-is, next_word-is}
+use Rattle.psi_past.proofs.KeyStreamLemmas.{set_word_pos-is, next_word-is}
 use Rattle.psi_past.proofs.seed.SeedPastPast.word.Goals as goal
 use Rattle.psi_past.proofs.seed.SeedPastPast.word.Goals.{then-self-place, else-self-place}
 

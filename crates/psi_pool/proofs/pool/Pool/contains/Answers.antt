@@ -2,7 +2,7 @@
 use Rattle.std.proofs.Common.{ap}
 use Rattle.psi_pool.specs.Pooled.{Pooled}
 use Rattle.psi_pool.specs.Tables.{held}
-use Rattle.psi_pool.proofs.Keeping.{seek-set}
+use Rattle.psi_pool.proofs.KeepingLemmas.{seek-set}
 use Rattle.psi_pool.proofs.pool.Pool.contains.Goals as goal
 
 pub returns : goal.returns

@@ -4,7 +4,7 @@ use Rattle.psi_state.specs.Sets.{insert_state}
 use Rattle.psi_state.proofs.AscendingLemmas.{ascending-members}
 use Rattle.psi_pool.specs.Pooled.{Pooled}
 use Rattle.psi_pool.specs.Tables.{held}
-use Rattle.psi_pool.proofs.Keeping.{table-free, told-fresh}
+use Rattle.psi_pool.proofs.KeepingLemmas.{table-free, told-fresh}
 use Rattle.psi_pool.proofs.pool.Pool.insert.Goals as goal
 
 pub put-requires-clause-room : goal.put-requires-clause-room

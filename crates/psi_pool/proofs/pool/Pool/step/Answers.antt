@@ -4,7 +4,7 @@ use Rattle.psi_state.specs.Sets.{image}
 use Rattle.psi_state.specs.Ascending.{HaveSame}
 use Rattle.psi_pool.specs.Pooled.{Pooled}
 use Rattle.psi_pool.specs.Tables.{held}
-use Rattle.psi_pool.proofs.Keeping.{seen, states-stepped}
+use Rattle.psi_pool.proofs.KeepingLemmas.{seen, states-stepped}
 use Rattle.psi_pool.proofs.pool.Pool.step.Goals as goal
 
 pub move_on-requires-clause-below : goal.move_on-requires-clause-below

@@ -1,5 +1,5 @@
 -- Answers in the proof of `Table::count`.
-use Rattle.psi_pool.proofs.Keeping.{table-length}
+use Rattle.psi_pool.proofs.KeepingLemmas.{table-length}
 use Rattle.psi_pool.proofs.table.Table.count.Goals as goal
 
 pub returns-then-self : goal.returns-then-self

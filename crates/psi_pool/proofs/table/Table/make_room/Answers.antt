@@ -1,6 +1,6 @@
 -- Answers in the proof of `Table::make_room`.
 use Rattle.std.proofs.Common.{arith}
-use Rattle.psi_pool.proofs.Keeping.{table-full}
+use Rattle.psi_pool.proofs.KeepingLemmas.{table-full}
 use Rattle.psi_pool.proofs.table.Table.make_room.Goals as goal
 
 pub returns-then-self-len-clause-free : goal.returns-then-self-len-clause-free

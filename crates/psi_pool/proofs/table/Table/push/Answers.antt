@@ -2,7 +2,7 @@
 use Rattle.psi_pool.specs.Tables.{held}
 use Rattle.psi_pool.specs.Nodes.{states}
 use Rattle.std.proofs.Common.{◌+◌, slice_set}
-use Rattle.psi_pool.proofs.Keeping.{members-inserted, members-through}
+use Rattle.psi_pool.proofs.KeepingLemmas.{members-inserted, members-through}
 use Rattle.psi_pool.proofs.table.Table.push.Goals as goal
 
 pub returns-clause-members : goal.returns-clause-members

@@ -1,6 +1,6 @@
 -- Answers in the proof of `Table::reserve`.
 use Rattle.std.proofs.Common.{refl, arith}
-use Rattle.psi_pool.proofs.Keeping.{table-empty}
+use Rattle.psi_pool.proofs.KeepingLemmas.{table-empty}
 use Rattle.psi_pool.proofs.table.Table.reserve.Goals as goal
 
 pub returns-clause-table : goal.returns-clause-table

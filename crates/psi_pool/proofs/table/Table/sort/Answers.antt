@@ -8,7 +8,7 @@ use Rattle.psi_state.proofs.AscendingLemmas.{ascending-members}
 use Rattle.psi_pool.specs.declared.nodes.Node.{Node}
 use Rattle.psi_pool.specs.Nodes.{states}
 use Rattle.psi_pool.specs.Tables.{held}
-use Rattle.psi_pool.proofs.Listing.{same-through}
+use Rattle.psi_pool.proofs.ListingLemmas.{same-through}
 use Rattle.psi_pool.proofs.table.Table.sort.Goals as goal
 
 pub returns-clause-members : goal.returns-clause-members

@@ -1,5 +1,5 @@
 -- Answers in the proof of `Wheel::idle`.
-use Rattle.psi_rate.proofs.Dealt.{dial-below, dial-idle}
+use Rattle.psi_rate.proofs.DealtLemmas.{dial-below, dial-idle}
 use Rattle.psi_rate.proofs.wheel.Wheel.idle.Goals as goal
 
 pub overflow_sub-result : goal.overflow_sub-result

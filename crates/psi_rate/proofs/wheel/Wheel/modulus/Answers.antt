@@ -1,5 +1,5 @@
 -- Answers in the proof of `Wheel::modulus`.
-use Rattle.psi_rate.proofs.Dealt.{dial-least}
+use Rattle.psi_rate.proofs.DealtLemmas.{dial-least}
 use Rattle.psi_rate.proofs.wheel.Wheel.modulus.Goals as goal
 
 pub returns-clause-least : goal.returns-clause-least

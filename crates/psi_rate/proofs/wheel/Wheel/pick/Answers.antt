@@ -1,5 +1,5 @@
 -- Answers in the proof of `Wheel::pick`.
-use Rattle.psi_rate.proofs.Dealt.{dial-number, dial-few, number-event}
+use Rattle.psi_rate.proofs.DealtLemmas.{dial-number, dial-few, number-event}
 use Rattle.psi_rate.proofs.wheel.Wheel.pick.Goals as goal
 
 pub event-requires-clause-few : goal.event-requires-clause-few

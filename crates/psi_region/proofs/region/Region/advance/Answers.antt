@@ -1,5 +1,5 @@
 -- Answers in the proof of `Region::advance`.
-use Rattle.psi_region.proofs.Steps.{held-image, stepped-split, stepped-box, high-within}
+use Rattle.psi_region.proofs.StepsLemmas.{held-image, stepped-split, stepped-box, high-within}
 use Rattle.psi_region.proofs.region.Region.advance.Goals as goal
 
 pub invariant_of-self : goal.invariant_of-self

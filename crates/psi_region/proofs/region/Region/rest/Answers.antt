@@ -1,6 +1,6 @@
 -- Answers in the proof of `Region::rest`.
 use Rattle.std.proofs.Common.{◌∙◌}
-use Rattle.psi_region.proofs.Steps.{rested-held}
+use Rattle.psi_region.proofs.StepsLemmas.{rested-held}
 use Rattle.psi_region.proofs.region.Region.rest.Goals as goal
 
 pub returns-clause-area : goal.returns-clause-area

@@ -1,5 +1,5 @@
 -- Answers in the proof of `Region::settle`.
-use Rattle.psi_region.proofs.Steps.{held-split}
+use Rattle.psi_region.proofs.StepsLemmas.{held-split}
 use Rattle.psi_region.proofs.region.Region.settle.Goals as goal
 
 pub invariant_of-self : goal.invariant_of-self

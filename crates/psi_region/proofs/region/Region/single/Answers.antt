@@ -1,5 +1,5 @@
 -- Answers in the proof of `Region::single`.
-use Rattle.psi_region.proofs.Steps.{states-unsplit, single-same, single-two, two-unsplit}
+use Rattle.psi_region.proofs.StepsLemmas.{states-unsplit, single-same, single-two, two-unsplit}
 use Rattle.psi_region.proofs.region.Region.single.Goals as goal
 
 pub returns-then-eq-clause-value : goal.returns-then-eq-clause-value

@@ -6,8 +6,8 @@ use Rattle.psi_state.specs.State.{IsBelow, box}
 use Rattle.psi_reward.specs.Sums.{weighted, entry, added}
 use Rattle.psi_reward.specs.Spans.{IsRange}
 use Rattle.psi_reward.specs.Worth.{worth_of}
-use Rattle.psi_reward.proofs.Extents.{least-range, greatest-range}
-use Rattle.psi_reward.proofs.Accepted.{length-table, reach-table, range-linear, range-table, range-corners, spread-between, range-same}
+use Rattle.psi_reward.proofs.ExtentsLemmas.{least-range, greatest-range}
+use Rattle.psi_reward.proofs.AcceptedLemmas.{length-table, reach-table, range-linear, range-table, range-corners, spread-between, range-same}
 use Rattle.psi_reward.proofs.reward.RewardRewardLaw.range.Goals as goal
 
 pub table_range-requires-clause-lengths : goal.table_range-requires-clause-lengths

@@ -1,5 +1,5 @@
 -- Answers in the proof of `RewardRewardLaw::value`.
-use Rattle.psi_reward.proofs.Accepted.{length-table, reach-table}
+use Rattle.psi_reward.proofs.AcceptedLemmas.{length-table, reach-table}
 use Rattle.psi_reward.proofs.reward.RewardRewardLaw.value.Goals as goal
 
 pub table_sum-requires-clause-lengths : goal.table_sum-requires-clause-lengths

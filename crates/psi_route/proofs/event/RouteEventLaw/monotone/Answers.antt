@@ -2,9 +2,9 @@
 use Rattle.std.proofs.Common.{List, ℕ, Option, ◌≡◌, ◌↔◌, is_none, IsTrue, sym, ◌∙◌, ap, subst}
 use Rattle.psi_event.specs.Law.{IsMonotone}
 use Rattle.psi_route.specs.Routing.{routed, upset_of}
-use Rattle.psi_route.proofs.Upset.{monotone-is}
+use Rattle.psi_route.proofs.UpsetLemmas.{monotone-is}
 use Rattle.psi_route.specs.Route.{shape_of}
-use Rattle.psi_route.proofs.Searching.{absent-is}
+use Rattle.psi_route.proofs.SearchingLemmas.{absent-is}
 use Rattle.psi_route.proofs.event.RouteEventLaw.monotone.Goals as goal
 
 pub returns : goal.returns

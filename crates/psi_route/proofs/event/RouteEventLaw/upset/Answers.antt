@@ -2,7 +2,7 @@
 use Rattle.std.proofs.Common.{List, ℕ, Option, sym, subst}
 use Rattle.psi_event.specs.Law.{ShowsUpset}
 use Rattle.psi_route.specs.Routing.{routed}
-use Rattle.psi_route.proofs.Upset.{upset-shows}
+use Rattle.psi_route.proofs.UpsetLemmas.{upset-shows}
 use Rattle.psi_route.specs.Route.{shape_of}
 use Rattle.psi_route.proofs.event.RouteEventLaw.upset.Goals as goal
 

@@ -5,7 +5,7 @@ use Rattle.psi_piecewise.specs.Piecewise.{Does}
 use Rattle.psi_route.specs.Routing.{routed}
 use Rattle.psi_route.specs.Route.{shape_of}
 use Rattle.psi_route.proofs.PiecesLemmas.{leaving-does, joining-does}
-use Rattle.psi_route.proofs.TwoTargets.{choosing-does}
+use Rattle.psi_route.proofs.TwoTargetsLemmas.{choosing-does}
 use Rattle.psi_route.proofs.pieces.RoutePiecewiseLaw.piecewise.Goals as goal
 
 pub returns-in-0 : goal.returns-in-0

@@ -1,8 +1,8 @@
 -- Answers in the proof of `Route::broken`.
 use Rattle.std.proofs.Common.{ℕ, List, Some, None, sym, ◌∙◌, ap}
-use Rattle.psi_route.proofs.Upset.{upset-several}
+use Rattle.psi_route.proofs.UpsetLemmas.{upset-several}
 use Rattle.psi_route.specs.Route.{shape_of}
-use Rattle.psi_route.proofs.Searching.{single-is, plain-none}
+use Rattle.psi_route.proofs.SearchingLemmas.{single-is, plain-none}
 use Rattle.psi_route.proofs.route.Route.broken.Goals as goal
 
 pub returns-then-self-ge2 : goal.returns-then-self-ge2

@@ -2,7 +2,7 @@
 use Rattle.std.proofs.Common.{ℕ, Option, MatchOption, subst}
 use Rattle.psi_route.specs.Falls.{NoFall, IsFall}
 use Rattle.psi_route.specs.Route.{shape_of}
-use Rattle.psi_route.proofs.Falling.{falls-none}
+use Rattle.psi_route.proofs.FallingLemmas.{falls-none}
 use Rattle.psi_route.proofs.route.Route.earlier.Goals as goal
 
 pub returns-in-None-default : goal.returns-in-None-default

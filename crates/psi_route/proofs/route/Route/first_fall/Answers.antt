@@ -2,7 +2,7 @@
 use Rattle.std.proofs.Common.{◌≡◌, ◌<◌, List, [], ℕ, length, get_or, slice_index, refl, ap, ◌∙◌, arith}
 use Rattle.std.proofs.lemmas.List.{get_or_read_under}
 use Rattle.psi_route.specs.Route.{shape_of}
-use Rattle.psi_route.proofs.Falling.{fall-found}
+use Rattle.psi_route.proofs.FallingLemmas.{fall-found}
 use Rattle.psi_route.proofs.route.Route.first_fall.Goals as goal
 
 pub returns-clause-fall : goal.returns-clause-fall

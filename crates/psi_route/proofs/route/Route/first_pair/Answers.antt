@@ -4,7 +4,7 @@ use Rattle.std.proofs.lemmas.List.{get_or_read_under}
 use Rattle.psi_index.specs.Extremes.{IsRising}
 use Rattle.psi_route.specs.Routing.{pair_behind, first_pair}
 use Rattle.psi_route.specs.Route.{shape_of}
-use Rattle.psi_route.proofs.Searching.{search-found, search-none, none-there, none-more, rising-none}
+use Rattle.psi_route.proofs.SearchingLemmas.{search-found, search-none, none-there, none-more, rising-none}
 use Rattle.psi_route.proofs.route.Route.first_pair.Goals as goal
 use Rattle.psi_route.proofs.route.Route.first_pair.Goals.{then-not-rises+else-is_some, else-not-rises}
 

@@ -2,7 +2,7 @@
 use Rattle.std.proofs.Common.{List, ℕ, ◌≡◌, ◌+◌, ◌<◌, length, slice_index, slice_set, ap, ◌∙◌, arith}
 use Rattle.psi_route.specs.Routing.{routing, best, moved, HasRoom}
 use Rattle.psi_route.specs.Route.{shape_of}
-use Rattle.psi_route.proofs.Choosing.{moved-first, moved-none}
+use Rattle.psi_route.proofs.ChoosingLemmas.{moved-first, moved-none}
 use Rattle.psi_route.proofs.route.Route.join_first.Goals as goal
 
 pub returns-then-held-most_with_room : goal.returns-then-held-most_with_room

@@ -2,7 +2,7 @@
 use Rattle.std.proofs.Common.{Option, ℕ, ap, ◌∙◌}
 use Rattle.psi_route.specs.Routing.{routing, moved}
 use Rattle.psi_route.specs.Route.{shape_of}
-use Rattle.psi_route.proofs.Choosing.{chosen-place, chosen-room}
+use Rattle.psi_route.proofs.ChoosingLemmas.{chosen-place, chosen-room}
 use Rattle.psi_route.proofs.route.Route.join_least.Goals as goal
 
 pub join-requires-clause-place : goal.join-requires-clause-place

@@ -1,7 +1,7 @@
 -- Answers in the proof of `Route::least_key`.
 use Rattle.std.proofs.Common.{arith}
 use Rattle.psi_route.specs.Route.{shape_of}
-use Rattle.psi_route.proofs.Choosing.{leader-best}
+use Rattle.psi_route.proofs.ChoosingLemmas.{leader-best}
 use Rattle.psi_route.proofs.route.Route.least_key.Goals as goal
 
 pub returns : goal.returns

@@ -1,6 +1,6 @@
 -- Answers in the proof of `Route::least_two`.
 use Rattle.std.proofs.Common.{◌<◌, length, arith}
-use Rattle.psi_route.proofs.Offering.{two-more}
+use Rattle.psi_route.proofs.OfferingLemmas.{two-more}
 use Rattle.psi_route.proofs.route.Route.least_two.Goals as goal
 
 pub loop-i-preserved : goal.loop-i-preserved

@@ -2,7 +2,7 @@
 use Rattle.std.proofs.Common.{◌∙◌, refl}
 use Rattle.psi_route.specs.Routing.{routing, best}
 use Rattle.psi_route.specs.Route.{shape_of}
-use Rattle.psi_route.proofs.Choosing.{routed-serves, routed-idle}
+use Rattle.psi_route.proofs.ChoosingLemmas.{routed-serves, routed-idle}
 use Rattle.psi_route.proofs.route.Route.move_customers.Goals as goal
 
 pub returns-then-not-serves : goal.returns-then-not-serves

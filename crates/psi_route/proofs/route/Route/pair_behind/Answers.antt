@@ -2,7 +2,7 @@
 use Rattle.std.proofs.Common.{length, arith}
 use Rattle.psi_route.specs.Routing.{pair_between, pair_behind}
 use Rattle.psi_route.specs.Route.{shape_of}
-use Rattle.psi_route.proofs.Searching.{search-found, search-none}
+use Rattle.psi_route.proofs.SearchingLemmas.{search-found, search-none}
 use Rattle.psi_route.proofs.route.Route.pair_behind.Goals as goal
 
 pub returns-then-is_some : goal.returns-then-is_some

@@ -3,7 +3,7 @@ use Rattle.std.proofs.Common.{rules}
 use Rattle.psi_route.specs.Routing.{routing}
 use Rattle.psi_route.specs.Route.{shape_of}
 use Rattle.psi_route.specs.Offers.{IsRival}
-use Rattle.psi_route.proofs.Offering.{two-as}
+use Rattle.psi_route.proofs.OfferingLemmas.{two-as}
 use Rattle.psi_route.proofs.route.Route.rivals.Goals as goal
 
 pub returns : goal.returns

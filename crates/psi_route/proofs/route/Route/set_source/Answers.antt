@@ -4,7 +4,7 @@ use Rattle.psi_route.specs.Routing.{routing, source_queue}
 use Rattle.psi_route.specs.Route.{shape_of}
 use Rattle.psi_route.specs.Coming.{is_gone}
 use Rattle.psi_route.specs.declared.parts.Source.{Source}
-use Rattle.psi_route.proofs.Leaving.{without-ordered}
+use Rattle.psi_route.proofs.LeavingLemmas.{without-ordered}
 use Rattle.psi_route.proofs.route.Route.set_source.Goals as goal
 
 pub set-requires-clause-ordered : goal.set-requires-clause-ordered

@@ -5,8 +5,8 @@ use Rattle.psi_route.specs.Routing.{routing}
 use Rattle.psi_route.specs.Route.{shape_of}
 use Rattle.psi_route.proofs.AcceptedLemmas.{routing-is}
 use Rattle.psi_route.specs.Coming.{Comes, Misses}
-use Rattle.psi_route.proofs.Setting.{spread-below, spread-is}
-use Rattle.psi_route.proofs.Leaving.{ends-with_source, ends-idle, source-some}
+use Rattle.psi_route.proofs.SettingLemmas.{spread-below, spread-is}
+use Rattle.psi_route.proofs.LeavingLemmas.{ends-with_source, ends-idle, source-some}
 use Rattle.psi_route.proofs.route.Route.spread.Goals as goal
 
 pub set_source-requires-clause-low : goal.set_source-requires-clause-low

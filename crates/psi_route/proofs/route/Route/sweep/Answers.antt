@@ -5,10 +5,10 @@ use Rattle.psi_state.specs.State.{Corners}
 use Rattle.psi_route.specs.Routing.{routing, HasRoom, Lacks}
 use Rattle.psi_route.specs.Route.{shape_of}
 use Rattle.psi_route.specs.Ends.{AreTargetEnds}
-use Rattle.psi_route.proofs.OnePass.{target-ends_kept, ends-raised, ends-behind, ends-full, comes-more, coming-more, misses-here}
+use Rattle.psi_route.proofs.OnePassLemmas.{target-ends_kept, ends-raised, ends-behind, ends-full, comes-more, coming-more, misses-here}
 use Rattle.psi_route.proofs.AcceptedLemmas.{routing-is}
 use Rattle.psi_route.specs.Coming.{Comes, Misses}
-use Rattle.psi_route.proofs.Setting.{targets-ordered}
+use Rattle.psi_route.proofs.SettingLemmas.{targets-ordered}
 use Rattle.psi_route.proofs.route.Route.sweep.Goals as goal
 use Rattle.psi_route.proofs.route.Route.sweep.Goals.{then-least-room+else-greatest-room, else-least-room}
 

@@ -4,8 +4,8 @@ use Rattle.psi_state.specs.State.{Corners}
 use Rattle.psi_route.specs.Routing.{routing}
 use Rattle.psi_route.specs.Route.{shape_of}
 use Rattle.psi_route.specs.Ends.{AreTargetEnds}
-use Rattle.psi_route.proofs.ByTables.{both-ends, ends-weighed, coming-weighed}
-use Rattle.psi_route.proofs.Searching.{absent-is}
+use Rattle.psi_route.proofs.ByTablesLemmas.{both-ends, ends-weighed, coming-weighed}
+use Rattle.psi_route.proofs.SearchingLemmas.{absent-is}
 use Rattle.psi_route.proofs.route.Route.weigh.Goals as goal
 use Rattle.psi_route.proofs.route.Route.weigh.Goals.{then-always, else-always}
 

@@ -1,12 +1,12 @@
 -- Answers in the proof of `certify::perform`.
 use Rattle.std.specs.Prelude.{refl}
 use Rattle.psi_command.specs.Command.{certify}
-use Rattle.psi_run.proofs.Endings.{no_net, on_net}
-use Rattle.psi_run.proofs.Sparing.{ends-read}
-use Rattle.psi_run.proofs.ReadFiles.{read_last, asked_certify}
-use Rattle.psi_reply.proofs.Certifying.{certified_printed}
-use Rattle.psi_run.proofs.Abouts.{certify_about}
-use Rattle.psi_run.proofs.Finishing.{finished_as, finished_with}
+use Rattle.psi_run.proofs.EndingsLemmas.{no_net, on_net}
+use Rattle.psi_run.proofs.SparingLemmas.{ends-read}
+use Rattle.psi_run.proofs.ReadFilesLemmas.{read_last, asked_certify}
+use Rattle.psi_reply.proofs.CertifyingLemmas.{certified_printed}
+use Rattle.psi_run.proofs.AboutsLemmas.{certify_about}
+use Rattle.psi_run.proofs.FinishingLemmas.{finished_as, finished_with}
 use Rattle.psi_run.proofs.commands.certify.perform.Goals as goal
 
 pub returns-in-Ok-clause-finished : goal.returns-in-Ok-clause-finished

@@ -1,6 +1,6 @@
 -- Answers in the proof of `certify::write_run`.
 use Rattle.std.specs.Prelude.{refl}
-use Rattle.psi_run.proofs.Certifying.{log_written, log_cut}
+use Rattle.psi_run.proofs.CertifyingLemmas.{log_written, log_cut}
 use Rattle.psi_run.proofs.commands.certify.write_run.Goals as goal
 
 pub returns-in-Ok-write_log : goal.returns-in-Ok-write_log

@@ -1,7 +1,7 @@
 -- Answers in the proof of `replay::work`.
-use Rattle.psi_run.proofs.Replaying.{no_text, on_text}
-use Rattle.psi_run.proofs.Sparing.{ends-read}
-use Rattle.psi_run.proofs.ReadFiles.{read_last}
+use Rattle.psi_run.proofs.ReplayingLemmas.{no_text, on_text}
+use Rattle.psi_run.proofs.SparingLemmas.{ends-read}
+use Rattle.psi_run.proofs.ReadFilesLemmas.{read_last}
 use Rattle.psi_run.proofs.commands.replay.work.Goals as goal
 
 pub returns-in-Ok-clause-ending : goal.returns-in-Ok-clause-ending

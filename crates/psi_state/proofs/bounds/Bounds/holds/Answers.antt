@@ -1,5 +1,5 @@
 -- Answers in the proof of `Bounds::holds`.
-use Rattle.psi_state.proofs.Deciding.{holds-then, holds-else}
+use Rattle.psi_state.proofs.DecidingLemmas.{holds-then, holds-else}
 use Rattle.psi_state.proofs.bounds.Bounds.holds.Goals as goal
 
 pub returns-then-leq : goal.returns-then-leq

@@ -2,7 +2,7 @@
 use Rattle.std.specs.Prelude.{◌≡◌, slice_index}
 use Rattle.std.proofs.Common.{ap, arith}
 use Rattle.psi_state.specs.State.{Corners}
-use Rattle.psi_state.proofs.Counting.{place-between}
+use Rattle.psi_state.proofs.CountingLemmas.{place-between}
 use Rattle.psi_state.proofs.bounds.Bounds.offset.Goals as goal
 
 pub get-requires : goal.get-requires

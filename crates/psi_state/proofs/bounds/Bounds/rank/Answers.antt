@@ -2,7 +2,7 @@
 use Rattle.std.specs.Prelude.{◌+◌, ◌-◌, ◌*◌, ◌<◌, length, slice_index, refl}
 use Rattle.std.proofs.Common.{arith}
 use Rattle.psi_state.specs.State.{box}
-use Rattle.psi_state.proofs.Counting.{ranking-step, ranking-most, ranking-last}
+use Rattle.psi_state.proofs.CountingLemmas.{ranking-step, ranking-most, ranking-last}
 use Rattle.psi_state.proofs.bounds.Bounds.rank.Goals as goal
 
 pub overflow_mul-rank : goal.overflow_mul-rank

@@ -1,5 +1,5 @@
 -- Invariants of the loops of `Bounds::rank`.
-use Rattle.psi_state.proofs.Counting.{IsRanking}
+use Rattle.psi_state.proofs.CountingLemmas.{IsRanking}
 use Rattle.psi_state.proofs.bounds.Bounds.rank.Given as goal
 
 abbrev pub invariant-loop-place : goal.invariant-loop-place

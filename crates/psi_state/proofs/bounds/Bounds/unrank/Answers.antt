@@ -1,7 +1,7 @@
 -- Answers in the proof of `Bounds::unrank`.
 use Rattle.std.specs.Prelude.{◌≡◌, ℕ, List, ◌+◌, ◌-◌, ◌/◌, ◌%◌, ◌≤◌, slice_index}
 use Rattle.std.proofs.Common.{ap, sym, ◌∙◌, subst, arith}
-use Rattle.psi_state.proofs.Counting.{IsUnranking, unranking-step, unranking-last, digit-high}
+use Rattle.psi_state.proofs.CountingLemmas.{IsUnranking, unranking-step, unranking-last, digit-high}
 use Rattle.psi_state.proofs.bounds.Bounds.unrank.Goals as goal
 
 pub overflow_add-get : goal.overflow_add-get

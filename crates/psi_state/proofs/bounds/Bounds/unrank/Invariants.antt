@@ -1,5 +1,5 @@
 -- Invariants of the loops of `Bounds::unrank`.
-use Rattle.psi_state.proofs.Counting.{IsUnranking}
+use Rattle.psi_state.proofs.CountingLemmas.{IsUnranking}
 use Rattle.psi_state.proofs.bounds.Bounds.unrank.Given as goal
 
 abbrev pub invariant-loop-place : goal.invariant-loop-place

@@ -2,7 +2,7 @@
 use Rattle.std.specs.Prelude.{◌*◌, ◌≤◌, ◌+◌, length}
 use Rattle.std.proofs.Common.{arith}
 use Rattle.psi_state.specs.State.{box}
-use Rattle.psi_state.proofs.Counting.{counting-next, counting-most, counting-last}
+use Rattle.psi_state.proofs.CountingLemmas.{counting-next, counting-most, counting-last}
 use Rattle.psi_state.proofs.bounds.Bounds.volume_at_most.Goals as goal
 
 pub returns-then-count-most : goal.returns-then-count-most

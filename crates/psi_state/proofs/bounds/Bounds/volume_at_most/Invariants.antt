@@ -1,6 +1,6 @@
 -- Invariants of the loops of `Bounds::volume_at_most`.
 use Rattle.std.specs.Prelude.{◌<◌, ◌≤◌, ◌^◌}
-use Rattle.psi_state.proofs.Counting.{IsCounting}
+use Rattle.psi_state.proofs.CountingLemmas.{IsCounting}
 use Rattle.psi_state.proofs.bounds.Bounds.volume_at_most.Given as goal
 
 abbrev pub invariant-loop-place : goal.invariant-loop-place

@@ -1,5 +1,5 @@
 -- Answers in the proof of `Bounds::within`.
-use Rattle.psi_state.proofs.Deciding.{within-then, within-else}
+use Rattle.psi_state.proofs.DecidingLemmas.{within-then, within-else}
 use Rattle.psi_state.proofs.bounds.Bounds.within.Goals as goal
 
 pub returns-then-leq : goal.returns-then-leq

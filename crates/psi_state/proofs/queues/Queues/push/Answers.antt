@@ -2,7 +2,7 @@
 use Rattle.std.specs.Prelude.{◌≡◌, ◌<◌, ℕ, length}
 use Rattle.std.proofs.Common.{ap, sym, ◌∙◌, arith}
 use Rattle.std.proofs.lemmas.List.{length-set, length-take-le}
-use Rattle.psi_state.proofs.Arrays.{drop-push, slice_set-small}
+use Rattle.psi_state.proofs.ArraysLemmas.{drop-push, slice_set-small}
 use Rattle.psi_state.proofs.queues.Queues.push.Goals as goal
 
 pub invariant_of-self : goal.invariant_of-self

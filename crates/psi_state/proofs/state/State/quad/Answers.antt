@@ -1,7 +1,7 @@
 -- Answers in the proof of `State::quad`.
 use Rattle.std.proofs.Common.{ap, ◌∙◌}
 use Rattle.psi_state.specs.Hashing.{quad}
-use Rattle.psi_state.proofs.Arrays.{quad-padded}
+use Rattle.psi_state.proofs.ArraysLemmas.{quad-padded}
 use Rattle.psi_state.proofs.state.State.quad.Goals as goal
 
 pub returns : goal.returns

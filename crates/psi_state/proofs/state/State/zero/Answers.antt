@@ -1,7 +1,7 @@
 -- Answers in the proof of `State::zero`.
 use Rattle.std.proofs.Common.{refl, arith}
 use Rattle.std.proofs.lemmas.List.{drop-replicate, take-replicate}
-use Rattle.psi_state.proofs.Arrays.{slice_index-zeros}
+use Rattle.psi_state.proofs.ArraysLemmas.{slice_index-zeros}
 use Rattle.psi_state.proofs.state.State.zero.Goals as goal
 
 pub invariant_of-result : goal.invariant_of-result

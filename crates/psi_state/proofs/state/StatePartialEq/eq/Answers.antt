@@ -1,6 +1,6 @@
 -- Answers in the proof of `StatePartialEq::eq`.
 use Rattle.std.proofs.Common.{arith}
-use Rattle.psi_state.proofs.Quads.{eq-from_quads}
+use Rattle.psi_state.proofs.QuadsLemmas.{eq-from_quads}
 use Rattle.psi_state.proofs.state.StatePartialEq.eq.Goals as goal
 
 pub returns-then-len-le8 : goal.returns-then-len-le8

@@ -1,0 +1,133 @@
+-- One addition a word tells on which side of their bounds the numbers are.
+use Rattle.std.specs.Prelude.{◌≡◌, ℕ, zero, suc, ◌+◌, ◌-◌, ◌*◌, ◌/◌, ◌%◌, ◌^◌, ◌<◌, ◌≤◌, Bool, true, false, ◌&&◌, List, [], ◌∷◌, length, map, slice_index, nat_eq, nat_le, nat_lt, bit_and, if◌then◌else◌}
+use Rattle.std.proofs.Common.{refl, ap, ap₂, sym, subst, ◌∙◌, arith, pow_pos, ⊎_elim, eq-eqb, ne_eqb, le-leb, lt-ltb, le-ltb}
+use Rattle.std.proofs.lemmas.Bool.{cases_lt, lt-leb}
+use Rattle.std.proofs.lemmas.List.{get_or_past, get_or-map, length-map}
+use Rattle.std.proofs.lemmas.Nat.Bits.{and_pow}
+use Rattle.std.proofs.Math.Nat.{div-eq_of_lt, div-eq_of_lt-le}
+use Rattle.std.specs.Int.Bits.{and_zero_r}
+use Rattle.psi_piecewise.specs.Piecewise.{is_on, all_on}
+use Rattle.psi_packed.specs.Moves.{guard, guard_of, wanted_of}
+use Rattle.psi_packed.proofs.DigitsLemmas.{all_below}
+use Rattle.psi_packed.proofs.WordsLemmas.{Fit, twice-guard}
+
+-- ---- tests at places
+
+pub all_below-same : (n : ℕ) (p q : ℕ → Bool) → ((j : ℕ) → p j ≡ q j) → all_below n p ≡ all_below n q
+all_below-same zero p q same = refl
+all_below-same (suc n) p q same = ap₂ ◌&&◌ (same 0) (all_below-same n (λ j. p (suc j)) (λ j. q (suc j)) (λ j. same (suc j)))
+
+and-assoc : (a b c : Bool) → (a && (b && c)) ≡ ((a && b) && c)
+and-assoc true b c = refl
+and-assoc false b c = refl
+
+pub all_below-add : (m n : ℕ) (p : ℕ → Bool) → all_below (m + n) p ≡ (all_below m p && all_below n (λ j. p (m + j)))
+all_below-add zero n p =
+    let e : 0 + n ≡ n = omega arith in
+    ap (λ k. all_below k p) e ∙ all_below-same n p (λ j. p (0 + j)) (λ j. let same : j ≡ 0 + j = omega arith in ap p same)
+all_below-add (suc m) n p =
+    let e : suc m + n ≡ suc (m + n) = omega arith in
+    ap (λ k. all_below k p) e
+    ∙ ap (λ b. p 0 && b) (all_below-add m n (λ j. p (suc j)))
+    ∙ and-assoc (p 0) (all_below m (λ j. p (suc j))) (all_below n (λ j. p (suc (m + j))))
+    ∙ ap (λ b. (p 0 && all_below m (λ j. p (suc j))) && b)
+    (all_below-same n (λ j. p (suc (m + j))) (λ j. p (suc m + j)) (λ j. let same : suc (m + j) ≡ suc m + j = omega arith in ap p same))
+
+pub all_below-true : (n : ℕ) (p : ℕ → Bool) → ((j : ℕ) → p j ≡ true) → all_below n p ≡ true
+all_below-true zero p each = refl
+all_below-true (suc n) p each = ap₂ ◌&&◌ (each 0) (all_below-true n (λ j. p (suc j)) (λ j. each (suc j)))
+
+-- the test of the number at a place
+abbrev pub test_at : List ℕ → List ℕ → List ℕ → ℕ → Bool
+test_at sides bounds x q = is_on (slice_index sides q) (slice_index bounds q) (slice_index x q)
+
+pub all_on-is : (n : ℕ) (sides bounds x : List ℕ) → length sides ≡ length x → length bounds ≡ length x → length x ≤ n
+    → all_on sides bounds x ≡ all_below n (test_at sides bounds x)
+all_on-is n [] [] [] same long few = sym (all_below-true n (test_at [] [] []) (λ j. refl))
+all_on-is n [] [] (v ∷ x) same long few = absurd (omega arith)
+all_on-is n [] (b ∷ bounds) [] same long few = absurd (omega arith)
+all_on-is n [] (b ∷ bounds) (v ∷ x) same long few = absurd (omega arith)
+all_on-is n (s ∷ sides) [] [] same long few = absurd (omega arith)
+all_on-is n (s ∷ sides) [] (v ∷ x) same long few = absurd (omega arith)
+all_on-is n (s ∷ sides) (b ∷ bounds) [] same long few = absurd (omega arith)
+all_on-is zero (s ∷ sides) (b ∷ bounds) (v ∷ x) same long few = absurd (omega arith)
+all_on-is (suc n) (s ∷ sides) (b ∷ bounds) (v ∷ x) same long few = ap (λ t. is_on s b v && t) (all_on-is n sides bounds x (omega arith) (omega arith) (omega arith))
+
+-- ---- one field
+
+-- the guard of a number below twice the guard is up where the number is at the guard or above it
+guard-up : (bits y : ℕ) → 1 ≤ bits → y < 2 ^ bits → 2 ^ (bits - 1) ≤ y → bit_and y (2 ^ (bits - 1)) ≡ 2 ^ (bits - 1)
+guard-up bits y some small up =
+    let low : 1 * 2 ^ (bits - 1) ≤ y = omega arith in
+    let high : y < (1 + 1) * 2 ^ (bits - 1) = omega (arith, twice-guard bits some) in
+    let one : y / 2 ^ (bits - 1) ≡ 1 = div-eq_of_lt-le (2 ^ (bits - 1)) low high in
+    and_pow y (bits - 1) ∙ ap (λ n. n % 2 * 2 ^ (bits - 1)) one ∙ omega arith
+
+guard-down : (bits y : ℕ) → y < 2 ^ (bits - 1) → bit_and y (2 ^ (bits - 1)) ≡ 0
+guard-down bits y small =
+    let none : y / 2 ^ (bits - 1) ≡ 0 = div-eq_of_lt small in
+    and_pow y (bits - 1) ∙ ap (λ n. n % 2 * 2 ^ (bits - 1)) none ∙ omega arith
+
+-- a number is tested against a bound, both below the guard
+module _ (bits v b : ℕ) (some : 1 ≤ bits) (small : v < 2 ^ (bits - 1)) (bounded : b < 2 ^ (bits - 1)) where
+  raised-lt : v + (2 ^ (bits - 1) - b) < 2 ^ bits
+  raised-lt = omega (arith, twice-guard bits some)
+
+  at_least : nat_eq (bit_and (v + (2 ^ (bits - 1) - b)) (2 ^ (bits - 1))) (2 ^ (bits - 1)) ≡ nat_le b v
+  at_least = ⊎_elim
+      (λ below. let zero_is = guard-down bits (v + (2 ^ (bits - 1) - b)) (omega arith) in
+      ne_eqb _ _ (λ same. omega (arith, zero_is, same, pow_pos (bits - 1))) ∙ sym (lt-leb b v below))
+      (λ above. eq-eqb _ _ (guard-up bits (v + (2 ^ (bits - 1) - b)) some raised-lt (omega arith)) ∙ sym (le-leb b v above))
+      (cases_lt v b)
+
+  below : nat_eq (bit_and (v + (2 ^ (bits - 1) - b)) (2 ^ (bits - 1))) 0 ≡ nat_lt v b
+  below = ⊎_elim
+      (λ under. eq-eqb _ _ (guard-down bits (v + (2 ^ (bits - 1) - b)) (omega arith)) ∙ sym (lt-ltb v b under))
+      (λ above. let up = guard-up bits (v + (2 ^ (bits - 1) - b)) some raised-lt (omega arith) in
+      ne_eqb _ _ (λ same. omega (arith, up, same, pow_pos (bits - 1))) ∙ sym (le-ltb v b above))
+      (cases_lt v b)
+
+  side-test : (one two : Bool)
+      → nat_eq (bit_and (v + (2 ^ (bits - 1) - b)) (if one then 2 ^ (bits - 1) else if two then 2 ^ (bits - 1) else 0)) (if one then 2 ^ (bits - 1) else 0)
+      ≡ (if one then nat_le b v else if two then nat_lt v b else true)
+  side-test true two = at_least
+  side-test false true = below
+  side-test false false = ap (λ n. nat_eq n 0) (and_zero_r (v + (2 ^ (bits - 1) - b)))
+
+  pub field-test : (side : ℕ) → nat_eq (bit_and (v + (guard bits - b)) (guard_of bits side)) (wanted_of bits side) ≡ is_on side b v
+  field-test side = side-test (nat_eq side 1) (nat_eq side 2)
+
+-- ---- the numbers of the masks
+
+guard-lt : (bits : ℕ) → 1 ≤ bits → 2 ^ (bits - 1) < 2 ^ bits
+guard-lt bits some = omega (arith, twice-guard bits some, pow_pos (bits - 1))
+
+pub guard_of-lt : (bits side : ℕ) → 1 ≤ bits → guard_of bits side < 2 ^ bits
+guard_of-lt bits side some = by (nat_eq side 1) (nat_eq side 2)
+  where
+    by : (one two : Bool) → (if one then 2 ^ (bits - 1) else if two then 2 ^ (bits - 1) else 0) < 2 ^ bits
+    by true two = guard-lt bits some
+    by false true = guard-lt bits some
+    by false false = pow_pos bits
+
+pub wanted_of-lt : (bits side : ℕ) → 1 ≤ bits → wanted_of bits side < 2 ^ bits
+wanted_of-lt bits side some = by (nat_eq side 1)
+  where
+    by : (one : Bool) → (if one then 2 ^ (bits - 1) else 0) < 2 ^ bits
+    by true = guard-lt bits some
+    by false = pow_pos bits
+
+-- a number of a list that is made number by number
+pub mapped-at : (f : ℕ → ℕ) (x : List ℕ) (q : ℕ) → q < length x → slice_index (map f x) q ≡ f (slice_index x q)
+mapped-at f x q small = get_or-map f x q 0 0 small
+
+pub mapped-past : (f : ℕ → ℕ) (x : List ℕ) (q : ℕ) → length x ≤ q → slice_index (map f x) q ≡ 0
+mapped-past f x q past = get_or_past (map f x) q 0 (omega (arith, length-map x f))
+
+pub mapped-fit : (bits : ℕ) (f : ℕ → ℕ) (x : List ℕ) → ((q : ℕ) → q < length x → f (slice_index x q) < 2 ^ bits) → Fit bits (map f x)
+mapped-fit bits f x each = record {
+  each = λ q. ⊎_elim
+      (λ small. subst (λ v. v < 2 ^ bits) (sym (mapped-at f x q small)) (each q small))
+      (λ past. subst (λ v. v < 2 ^ bits) (sym (mapped-past f x q past)) (pow_pos bits))
+      (cases_lt q (length x));
+}

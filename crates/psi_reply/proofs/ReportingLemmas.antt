@@ -1,0 +1,75 @@
+-- Reports over the samples of several streams.
+use Rattle.std.specs.Prelude.{◌≡◌, ℕ, zero, suc, ◌+◌, ◌≤◌, List, [], ◌∷◌, ◌++◌, length, Option, Some, Result, Ok, Err, IfOk, refl}
+use Rattle.std.specs.Result.{result_ok}
+use Rattle.std.proofs.Common.{ap, ◌∙◌, subst, arith}
+use Rattle.psi_io.specs.Sink.{appended}
+use Rattle.psi_state.specs.declared.Outcome.{Outcome}
+use Rattle.psi_state.specs.declared.Outcome.TheVariants.{Met, NotMet}
+use Rattle.psi_network.specs.Network.{Network}
+use Rattle.psi_network.specs.Generated.{generated_network}
+use Rattle.psi_network.specs.Valid.{IsNetwork}
+use Rattle.psi_report.specs.Samples.{IsSampleOf}
+use Rattle.psi_report.specs.Report.{report_text}
+use Rattle.psi_command.specs.declared.status.Status.TheVariants.{Done}
+use Rattle.psi_reply.specs.Sample.{sampled, IsDrawn}
+use Rattle.psi_reply.specs.Report.{samples_of, AreDrawn, IsReportOf}
+use Rattle.psi_reply.specs.Trial.{trial_text, IsTrial}
+use Rattle.psi_reply.proofs.SamplingLemmas.{sampled-drawn}
+
+-- a sample that is met has a state within the capacities, and its horizon is a power of two of at most 2^22
+drawn-sample : (net : Network) (seed stream : ℕ) (outcome : Outcome) → net.limit ≤ 22 → IsDrawn net seed stream outcome → IsSampleOf net outcome
+drawn-sample net seed stream (Met horizon state) limit drawn =
+    let first = drawn.least in
+    let few : first.exponent ≤ net.limit = first.within in
+    (record { exponent = first.exponent; few = omega arith; power = first.power }, drawn.within)
+drawn-sample net seed stream (NotMet l) limit drawn = tt
+
+pub sampled_counts : (net : Network) (seed stream : ℕ) → IsNetwork net → IsSampleOf net (sampled net seed stream)
+sampled_counts net seed stream kept = drawn-sample net seed stream (sampled net seed stream) kept.limit (sampled-drawn net seed stream kept)
+
+-- one stream more
+pub samples_more : (net : Network) (seed first count : ℕ)
+    → samples_of net seed first (count + 1) ≡ samples_of net seed first count ++ sampled net seed (first + count) ∷ []
+samples_more net seed first zero = (let e : first ≡ first + 0 = omega arith in ap (λ n. sampled net seed n ∷ []) e)
+samples_more net seed first (suc count) =
+    let e : suc first + count ≡ first + suc count = omega arith in
+    let more : suc count + 1 ≡ suc (count + 1) = omega arith in
+    ap (λ n. samples_of net seed first n) more ∙ ap (λ (os : List Outcome). sampled net seed first ∷ os)
+    (samples_more net seed (suc first) count ∙ ap (λ n. samples_of net seed (suc first) count ++ sampled net seed n ∷ []) e)
+
+pub samples_number : (net : Network) (seed first count : ℕ) → length (samples_of net seed first count) ≡ count
+samples_number net seed first zero = refl
+samples_number net seed first (suc count) = ap suc (samples_number net seed (suc first) count)
+
+-- what a call has where it has an answer, the answer has
+pub ok_given : {A E : Type 0} (P : A → Type 0) (result : Result A E) (some : Option A) (a : A) → IfOk result P → some ≡ result_ok result → some ≡ Some a → P a
+ok_given P (Ok b) some a holds is found = (let e : b ≡ a = cc in subst P e holds)
+ok_given P (Err e) some a holds is found = absurd cc
+
+-- each of them is that of coupling from the past
+samples-drawn : (net : Network) (seed first count : ℕ) → IsNetwork net → AreDrawn net seed first (samples_of net seed first count)
+samples-drawn net seed first zero kept = tt
+samples-drawn net seed first (suc count) kept = (sampled-drawn net seed first kept, samples-drawn net seed (suc first) count kept)
+
+-- what is printed of a network's samples is their report
+pub report_printed : (before after : Option (List ℕ)) (net : Network) (seed first count : ℕ) → IsNetwork net
+    → after ≡ appended before (report_text net (samples_of net seed first count)) → IsReportOf before after Done net seed first count
+report_printed before after net seed first count kept grew = record {
+  outcomes = samples_of net seed first count;
+  number = samples_number net seed first count;
+  drawn = samples-drawn net seed first count kept;
+  status = refl;
+  text = grew;
+}
+
+-- what is printed of a trial is one
+pub trial_printed : (before after : Option (List ℕ)) (number : ℕ) → IsNetwork (generated_network number)
+    → after ≡ appended before (trial_text number (generated_network number) (samples_of (generated_network number) number 0 4))
+    → IsTrial before after Done number
+trial_printed before after number kept grew = record {
+  outcomes = samples_of (generated_network number) number 0 4;
+  four = refl;
+  drawn = samples-drawn (generated_network number) number 0 4 kept;
+  status = refl;
+  text = grew;
+}

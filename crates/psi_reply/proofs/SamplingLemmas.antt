@@ -1,0 +1,115 @@
+-- The sample of a network.
+use Rattle.std.specs.Prelude.{◌≡◌, ℕ, zero, suc, ◌<◌, List, [], ◌∷◌, length, map, slice_index_or, All, Option, refl}
+use Rattle.std.proofs.Common.{ap, sym, subst, arith}
+use Rattle.std.proofs.lemmas.List.Elements.{All-map}
+use Rattle.psi_state.specs.declared.Outcome.{Outcome}
+use Rattle.psi_past.specs.SeedWord.{seed_word}
+use Rattle.psi_event.specs.Law.{IsClosed}
+use Rattle.psi_rate.specs.Composition.{Parts, Functions, function_at, system_functions, AreClosed}
+use Rattle.psi_rate.specs.Outcomes.{IsOutcome}
+use Rattle.psi_rate.proofs.OutcomesLemmas.{outcome_within-is}
+use Rattle.psi_rate.proofs.FunctionsLemmas.{function_at-closed}
+use Rattle.psi_horizon.specs.Runs.{ending_at}
+use Rattle.psi_horizon.specs.Agreeing.{Agree, AreAlike}
+use Rattle.psi_horizon.proofs.AgreeingLemmas.{agree-back, alike-closed_at, function_at-agree, outcome_within-agree}
+use Rattle.psi_horizon.proofs.SampleLemmas.{sample-is}
+use Rattle.psi_kinds.specs.Kinds.{Does, do_kind}
+use Rattle.psi_kinds.proofs.ClosingLemmas.{kind-closed}
+use Rattle.psi_network.specs.Network.{Network, caps_of, rates_of, functions_of}
+use Rattle.psi_network.specs.Valid.{IsNetwork, IsAccepted}
+use Rattle.psi_network.specs.Made.{EachDoes}
+use Rattle.psi_network.specs.declared.entries.NamedEvent.{NamedEvent}
+use Rattle.psi_network.proofs.QueueLemmas.{capacities_kept}
+use Rattle.psi_io.specs.Sink.{appended}
+use Rattle.psi_texts.specs.Texts.{outcome_text}
+use Rattle.psi_reply.specs.Sample.{functions_by_time, sampled, outcome_status, IsDrawn, IsSampled}
+use Rattle.psi_reply.specs.Networks.{IsSystemOf}
+
+-- what the events of a network do, one after the other
+abbrev done_by : List ℕ → List NamedEvent → List (List ℕ → List ℕ)
+done_by caps events = map (λ e. do_kind caps e.kind) events
+
+-- functions that do what the network's kinds do agree with them on the states
+each-alike : (caps : List ℕ) (fs : List (List ℕ → List ℕ)) (events : List NamedEvent) → EachDoes caps fs events → AreAlike caps (done_by caps events) fs
+each-alike caps [] [] does = record { same_length = refl; each = λ k small. absurd (omega arith) }
+each-alike caps [] (event ∷ events) does = absurd does
+each-alike caps (f ∷ fs) [] does = absurd does
+each-alike caps (f ∷ fs) (event ∷ events) does =
+    let rest = each-alike caps fs events does.1 in
+    record { same_length = ap suc rest.same_length; each = λ k small. one caps f fs event events does.0 rest k small }
+  where
+    one : (caps : List ℕ) (f : List ℕ → List ℕ) (fs : List (List ℕ → List ℕ)) (event : NamedEvent) (events : List NamedEvent) → Does caps f event.kind
+        → AreAlike caps (done_by caps events) fs → (k : ℕ) → k < suc (length (done_by caps events))
+        → Agree caps (slice_index_or (do_kind caps event.kind ∷ done_by caps events) k (λ x. x)) (slice_index_or (f ∷ fs) k (λ x. x))
+    one caps f fs event events does rest zero small = record { each = λ x within. sym (does.each x within) }
+    one caps f fs event events does rest (suc k) small = rest.each k (omega arith)
+
+-- each event of a network makes states of states
+done-closed : (n : Network) → IsNetwork n → All (λ f. IsClosed (caps_of n) f) (functions_of n)
+done-closed n kept =
+    All-map (IsClosed (caps_of n)) (λ e. do_kind (caps_of n) e.kind) n.events
+    (λ k d small. (let is : IsAccepted (caps_of n) (slice_index_or n.events k d).kind = kept.kinds k d small in
+    kind-closed (caps_of n) (slice_index_or n.events k d).kind (capacities_kept n.queues kept.queues) is.named is.accepted))
+
+pub functions_by_time-closed : (n : Network) (seed stream : ℕ) → IsNetwork n → AreClosed (caps_of n) (functions_by_time n seed stream)
+unfolding functions_by_time
+functions_by_time-closed n seed stream kept = function_at-closed (caps_of n) (functions_of n) (rates_of n) (seed_word seed stream) (done-closed n kept)
+
+-- functions that do what the network's kinds do are those of the network at each time
+pub functions-alike : (n : Network) (seed stream : ℕ) (fs : List (List ℕ → List ℕ)) → IsNetwork n → EachDoes (caps_of n) fs n.events
+    → AreClosed (caps_of n) (function_at fs (rates_of n) (seed_word seed stream))
+    × ((t : ℕ) → Agree (caps_of n) (function_at fs (rates_of n) (seed_word seed stream) t) (functions_by_time n seed stream t))
+unfolding functions_by_time
+functions-alike n seed stream fs kept does =
+    let alike = each-alike (caps_of n) fs n.events does in (
+      alike-closed_at (caps_of n) (functions_of n) fs (rates_of n) (seed_word seed stream) (functions_by_time-closed n seed stream kept) alike,
+      λ t. agree-back (caps_of n) (functions_by_time n seed stream t) (function_at fs (rates_of n) (seed_word seed stream) t)
+          (function_at-agree (caps_of n) (functions_of n) fs (rates_of n) (seed_word seed stream) alike t),
+    )
+
+-- what holds of a system's parts, with the functions of its events by time, holds of the network's that it is
+pub of_network : {E : Type 0} (function : E → List ℕ → List ℕ) (system : Parts E) (n : Network) (seed stream : ℕ) (P : ℕ → Functions → List ℕ → ℕ → Type 0)
+    → IsSystemOf function n system → P system.split (system_functions function system (seed_word seed stream)) system.caps system.limit
+    → P n.split (function_at (map function system.events) (rates_of n) (seed_word seed stream)) (caps_of n) n.limit
+of_network function system n seed stream P is holds =
+    let At : List ℕ → List ℕ → ℕ → ℕ → Type 0 =
+    λ rs cs l k. P k (function_at (map function system.events) rs (seed_word seed stream)) cs l in
+    subst (λ k. At (rates_of n) (caps_of n) n.limit k) is.split
+    (subst (λ l. At (rates_of n) (caps_of n) l system.split) is.limit
+    (subst (λ cs. At (rates_of n) cs system.limit system.split) is.caps
+    (subst (λ rs. At rs system.caps system.limit system.split) is.rates holds)))
+
+sampled-by : (n : Network) (seed stream : ℕ) (fs : List (List ℕ → List ℕ)) (o : Outcome) → IsNetwork n → EachDoes (caps_of n) fs n.events
+    → IsOutcome (ending_at n.split (function_at fs (rates_of n) (seed_word seed stream)) (caps_of n)) n.limit o → o ≡ sampled n seed stream
+unfolding sampled
+sampled-by n seed stream fs o kept does is =
+    let alike = functions-alike n seed stream fs kept does in
+    outcome_within-agree n.split (caps_of n) (function_at fs (rates_of n) (seed_word seed stream)) (functions_by_time n seed stream) n.limit o alike.0 alike.1 is
+
+-- the sample of a system that is made of the network is the network's
+pub sampled_by : {E : Type 0} (function : E → List ℕ → List ℕ) (system : Parts E) (n : Network) (seed stream : ℕ) (o : Outcome)
+    → IsNetwork n → EachDoes (caps_of n) (map function system.events) n.events
+    → system.rates ≡ rates_of n → system.caps ≡ caps_of n → system.limit ≡ n.limit → system.split ≡ n.split
+    → IsOutcome (ending_at system.split (system_functions function system (seed_word seed stream)) system.caps) system.limit o
+    → o ≡ sampled n seed stream
+sampled_by function system n seed stream o kept does rates caps limit split is =
+    sampled-by n seed stream (map function system.events) o kept does
+    (of_network function system n seed stream (λ k f cs l. IsOutcome (ending_at k f cs) l o)
+    (record { caps = caps; functions = does; rates = rates; limit = limit; split = split }) is)
+
+sampled-least : (n : Network) (seed stream : ℕ) → IsOutcome (ending_at n.split (functions_by_time n seed stream) (caps_of n)) n.limit (sampled n seed stream)
+unfolding sampled
+sampled-least n seed stream = outcome_within-is (ending_at n.split (functions_by_time n seed stream) (caps_of n)) n.limit
+
+-- the sample is that of coupling from the past
+pub sampled-drawn : (n : Network) (seed stream : ℕ) → IsNetwork n → IsDrawn n seed stream (sampled n seed stream)
+unfolding functions_by_time
+sampled-drawn n seed stream kept =
+    sample-is (caps_of n) (functions_of n) (rates_of n) n.limit n.split (seed_word seed stream) (sampled n seed stream)
+    (functions_by_time-closed n seed stream kept) (sampled-least n seed stream)
+
+-- what is printed of a network's sample is a sample's text
+pub sampled_printed : (before after : Option (List ℕ)) (n : Network) (seed stream : ℕ) → IsNetwork n
+    → after ≡ appended before (outcome_text (sampled n seed stream)) → IsSampled before after (outcome_status (sampled n seed stream)) n seed stream
+sampled_printed before after n seed stream kept grew =
+    record { outcome = sampled n seed stream; drawn = sampled-drawn n seed stream kept; status = refl; text = grew }

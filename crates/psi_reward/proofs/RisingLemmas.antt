@@ -1,0 +1,79 @@
+-- The greatest and the least number held, and how many are above a level, rise with the numbers: so their ranges are those of the corners.
+use Rattle.std.specs.Prelude.{◌≡◌, ℕ, suc, ◌+◌, ◌≤◌, ℤ, pos, ◌≤ℤ◌, List, [], ◌∷◌, length, map, count_by, nat_lt, cond, true, false, refl}
+use Rattle.std.proofs.Common.{inl, inr, arith, lt-ltb, le-ltb}
+use Rattle.std.proofs.lemmas.Bool.{cases_lt}
+use Rattle.std.proofs.lemmas.Int.{ints}
+use Rattle.std.proofs.lemmas.List.Sums.{sum_by-cons}
+use Rattle.psi_state.specs.State.{IsBelow}
+use Rattle.psi_state.proofs.BoxesLemmas.{below-head, below-tail, below-itself}
+use Rattle.psi_reward.specs.Ranges.{least, greatest}
+use Rattle.psi_reward.specs.Spans.{IsSpread}
+use Rattle.psi_reward.proofs.WholeLemmas.{int_min-monotone, int_max-monotone}
+
+-- the function rises with the numbers
+pub record IsRising (f : List ℕ → ℤ) : Type 0 where
+  pub each : (vs ws : List ℕ) → IsBelow vs ws → f vs ≤ℤ f ws
+
+-- so its least and greatest values are those of the corners
+pub spread-rising : (f : List ℕ → ℤ) (ls hs : List ℕ) → IsRising f → IsBelow ls hs → IsSpread f ls hs (f ls) (f hs)
+spread-rising f ls hs rising ordered = record {
+  above = λ vs between. rising.each ls vs between.low;
+  below = λ vs between. rising.each vs hs between.high;
+  low_at = (ls, record { low = below-itself ls; high = ordered }, refl);
+  high_at = (hs, record { low = ordered; high = below-itself hs }, refl);
+}
+
+greatest-below : (vs ws : List ℕ) → IsBelow vs ws → greatest (map pos vs) ≤ℤ greatest (map pos ws)
+greatest-below [] [] below = omega (arith, ints)
+greatest-below [] (w ∷ ws) below = absurd (let e : 0 ≡ suc (length ws) = below.same_length in omega arith)
+greatest-below (v ∷ vs) [] below = absurd (let e : suc (length vs) ≡ 0 = below.same_length in omega arith)
+greatest-below (v ∷ []) (w ∷ []) below = let first : v ≤ w = below-head v [] w [] below in omega (arith, ints)
+greatest-below (v ∷ []) (w ∷ u ∷ ws) below = absurd (let e : 1 ≡ suc (suc (length ws)) = below.same_length in omega arith)
+greatest-below (v ∷ u ∷ vs) (w ∷ []) below = absurd (let e : suc (suc (length vs)) ≡ 1 = below.same_length in omega arith)
+greatest-below (v ∷ u ∷ vs) (w ∷ t ∷ ws) below =
+    let first : v ≤ w = below-head v (u ∷ vs) w (t ∷ ws) below in
+    let own : pos v ≤ℤ pos w = omega (arith, ints) in
+    int_max-monotone (pos v) (greatest (map pos (u ∷ vs))) (pos w) (greatest (map pos (t ∷ ws))) own
+    (greatest-below (u ∷ vs) (t ∷ ws) (below-tail v (u ∷ vs) w (t ∷ ws) below))
+
+least-below : (vs ws : List ℕ) → IsBelow vs ws → least (map pos vs) ≤ℤ least (map pos ws)
+least-below [] [] below = omega (arith, ints)
+least-below [] (w ∷ ws) below = absurd (let e : 0 ≡ suc (length ws) = below.same_length in omega arith)
+least-below (v ∷ vs) [] below = absurd (let e : suc (length vs) ≡ 0 = below.same_length in omega arith)
+least-below (v ∷ []) (w ∷ []) below = let first : v ≤ w = below-head v [] w [] below in omega (arith, ints)
+least-below (v ∷ []) (w ∷ u ∷ ws) below = absurd (let e : 1 ≡ suc (suc (length ws)) = below.same_length in omega arith)
+least-below (v ∷ u ∷ vs) (w ∷ []) below = absurd (let e : suc (suc (length vs)) ≡ 1 = below.same_length in omega arith)
+least-below (v ∷ u ∷ vs) (w ∷ t ∷ ws) below =
+    let first : v ≤ w = below-head v (u ∷ vs) w (t ∷ ws) below in
+    let own : pos v ≤ℤ pos w = omega (arith, ints) in
+    int_min-monotone (pos v) (least (map pos (u ∷ vs))) (pos w) (least (map pos (t ∷ ws))) own
+    (least-below (u ∷ vs) (t ∷ ws) (below-tail v (u ∷ vs) w (t ∷ ws) below))
+
+count-cons : (level v : ℕ) (vs : List ℕ) → count_by (λ n. nat_lt level n) (v ∷ vs) ≡ cond (nat_lt level v) 1 0 + count_by (λ n. nat_lt level n) vs
+count-cons level v vs = sum_by-cons (λ n. cond (nat_lt level n) 1 0) v vs
+
+one-below : (level v w : ℕ) → v ≤ w → cond (nat_lt level v) 1 0 ≤ cond (nat_lt level w) 1 0
+one-below level v w ordered = elim (cases_lt level v) [
+  | inl more ↦ (let first : nat_lt level v ≡ true = lt-ltb level v more in let last : nat_lt level w ≡ true = lt-ltb level w (omega arith) in
+      rw (first, last) (omega arith))
+  | inr less ↦ (let first : nat_lt level v ≡ false = le-ltb level v less in rw first (omega arith))
+]
+
+count-below : (level : ℕ) (vs ws : List ℕ) → IsBelow vs ws → count_by (λ n. nat_lt level n) vs ≤ count_by (λ n. nat_lt level n) ws
+count-below level [] ws below = omega arith
+count-below level (v ∷ vs) [] below = absurd (let e : suc (length vs) ≡ 0 = below.same_length in omega arith)
+count-below level (v ∷ vs) (w ∷ ws) below =
+    let rest : count_by (λ n. nat_lt level n) vs ≤ count_by (λ n. nat_lt level n) ws = count-below level vs ws (below-tail v vs w ws below) in
+    let one : cond (nat_lt level v) 1 0 ≤ cond (nat_lt level w) 1 0 = one-below level v w (below-head v vs w ws below) in
+    let first = count-cons level v vs in
+    let last = count-cons level w ws in
+    omega (arith, first, last, rest, one)
+
+pub greatest-rising : IsRising (λ vs. greatest (map pos vs))
+greatest-rising = record { each = greatest-below }
+
+pub least-rising : IsRising (λ vs. least (map pos vs))
+least-rising = record { each = least-below }
+
+pub count-rising : (level : ℕ) → IsRising (λ vs. pos (count_by (λ n. nat_lt level n) vs))
+count-rising level = record { each = λ vs ws below. (let more = count-below level vs ws below in omega (arith, ints, more)) }
