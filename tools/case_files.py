@@ -1,8 +1,8 @@
-"""Reads case files; crates/psi_cases/src/reader.rt describes their form."""
+"""Reads case files; crates/psi_test_cases/src/reader.rt describes their form."""
 
 import pathlib
 
-DATA = pathlib.Path(__file__).resolve().parent.parent / "crates/psi_cases/data"
+DATA = pathlib.Path(__file__).resolve().parent.parent / "crates/psi_test_cases/data"
 
 
 class Case:
@@ -90,12 +90,12 @@ def cases_of(data):
 
 
 def cases(file):
-    """The cases of a file of crates/psi_cases/data, one by one."""
+    """The cases of a file of crates/psi_test_cases/data, one by one."""
     return cases_of((DATA / file).read_bytes())
 
 
 def case_named(file, name):
-    """The case of this name in a file of crates/psi_cases/data."""
+    """The case of this name in a file of crates/psi_test_cases/data."""
     for case in cases(file):
         if case.name == name:
             return case

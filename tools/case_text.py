@@ -1,4 +1,4 @@
-"""Writes cases; crates/psi_cases/src/reader.rt describes their form.
+"""Writes cases; crates/psi_test_cases/src/reader.rt describes their form.
 
 A text that comes more than once in a file of cases stands there once, under a name, and so does a
 table of a network: `shared` writes so what `case` has written.

@@ -1,7 +1,7 @@
 #!/usr/bin/env python3
 """cases_from_folders.py FOLDER [--commands check,sample] > FILE.cases
 
-Writes the cases of a folder's subfolders in the form that `psi_cases` reads. A case is a
+Writes the cases of a folder's subfolders in the form that `psi_test_cases` reads. A case is a
 folder with the files `words` (the words of the call, one a line), `status`, `out` and `err`; its
 other files are those that the call finds. A folder with a recipe `make.py` is copied, and the
 recipe run in the copy: it writes long files, or one such folder for each of several cases.

@@ -1,7 +1,7 @@
 #!/usr/bin/env python3
 """cases_from_json.py FILE.jsonl [--commands check,sample] > FILE.cases
 
-Writes the cases of a file of JSON objects, one a line, in the form that `psi_cases` reads. An
+Writes the cases of a file of JSON objects, one a line, in the form that `psi_test_cases` reads. An
 object has `name`, `words`, `files` (by name, each `{"text": ..}`, or `{"base64": ..}` where it
 isn't UTF-8), `status`, `out` and `err`; what is wanted comes from there alone.
 

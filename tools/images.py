@@ -1,7 +1,7 @@
 #!/usr/bin/env python3
-"""images.py crates/psi_sweep
+"""images.py crates/psi_test_sweep
 
-Writes the files of the program psi_sweep, which compares what events make of all states and
+Writes the files of the program psi_test_sweep, which compares what events make of all states and
 of all boxes with tables of it: data/ with networks and their tables, args, stdout and status.
 
 The networks have one to four queues with room for a few customers, and events of every kind: some
@@ -176,7 +176,7 @@ class Table:
         ]
 
     def text(self):
-        """The table in the form that crates/psi_sweep/src/table.rt describes."""
+        """The table in the form that crates/psi_test_sweep/src/table.rt describes."""
         lines = [f"network {self.file}", f"states {texts_of(self.states)}"]
         lines += [f"event {name} {server} {texts_of(images)}" for name, server, images in self.rows]
         return "\n".join([*lines, ""])

@@ -22,8 +22,8 @@ use Rattle.psi_closed.proofs.ArcsLemmas.{In-total_states, In-of_total_states, to
 use Rattle.psi_closed.proofs.DiagramLemmas.{total-some}
 use Rattle.psi_closed.proofs.MovesLemmas.{moved-keeps}
 use Rattle.psi_closed.proofs.RunsLemmas.{outcome-reached, outcome-decides, outcome-of}
-use Rattle.psi_network.specs.Network.{Network, caps_of, rates_of, functions_of}
-use Rattle.psi_network.specs.Valid.{IsNetwork, IsAccepted}
+use Rattle.psi_model.specs.Network.{Network, caps_of, rates_of, functions_of}
+use Rattle.psi_model.specs.Valid.{IsNetwork, IsAccepted}
 use Rattle.psi_law.specs.Counting.{Words}
 use Rattle.psi_law.specs.Chains.{Chain}
 use Rattle.psi_law.specs.Statements.{LooksAtFirst}

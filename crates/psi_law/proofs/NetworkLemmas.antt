@@ -23,9 +23,9 @@ use Rattle.psi_horizon.specs.Runs.{follow, ending_at}
 use Rattle.psi_horizon.specs.Sample.{IsSample}
 use Rattle.psi_horizon.proofs.RunsLemmas.{outcome-reached}
 use Rattle.psi_horizon.proofs.SampleLemmas.{sample-is}
-use Rattle.psi_network.specs.Network.{Network, caps_of, rates_of, functions_of}
-use Rattle.psi_network.specs.Valid.{IsNetwork, IsAccepted}
-use Rattle.psi_network.proofs.QueueLemmas.{capacities_kept}
+use Rattle.psi_model.specs.Network.{Network, caps_of, rates_of, functions_of}
+use Rattle.psi_model.specs.Valid.{IsNetwork, IsAccepted}
+use Rattle.psi_model.proofs.QueueLemmas.{capacities_kept}
 use Rattle.psi_law.specs.Counting.{Words}
 use Rattle.psi_law.specs.Chains.{Chain}
 use Rattle.psi_law.specs.Statements.{UnmetIsApart, LooksAtFirst}

@@ -5,13 +5,13 @@ ghost use Rattle.psi_state.specs.declared.Outcome.{Outcome};
 ghost use Rattle.psi_state.specs.State.{all_states};
 ghost use Rattle.psi_event.specs.Law.{IsMonotone};
 ghost use Rattle.psi_horizon.specs.Sample.{IsSample};
-ghost use Rattle.psi_network.specs.Network.{caps_of, rates_of, functions_of};
+ghost use Rattle.psi_model.specs.Network.{caps_of, rates_of, functions_of};
 ghost use Rattle.psi_law.specs.Counting.{Words};
 ghost use Rattle.psi_law.specs.Networks.{chain_of, sample_of, network_chain, network_sample};
 ghost use Rattle.psi_law.specs.Statements.{BalanceStays, BalanceIsLaw, ApartFalls, BalanceIsOne, BalanceIsMean, UnmetIsApart, LooksAtFirst};
 
 use psi_event::EventLaw;
-use psi_network::Net;
+use psi_model::Net;
 use psi_rate::System;
 
 /// The law of the samples that `Plan::sample` answers of a system.

@@ -6,7 +6,7 @@ use Rattle.std.proofs.Common.{ap, sym, ◌∙◌, arith, inl, inr, length-append
 use Rattle.std.proofs.lemmas.Bool.{lt-leb, cases_lt}
 use Rattle.std.proofs.lemmas.List.{take_all, take-append-le, length-take-le, length-map, map-append}
 use Rattle.psi_state.specs.State.{Corners}
-use Rattle.psi_lines.specs.declared.header.Header.{Header}
+use Rattle.psi_log_text.specs.declared.header.Header.{Header}
 use Rattle.psi_log.specs.Refusal.{Refusal, refused, ◌>>=◌, holds_or}
 use Rattle.psi_log.specs.Words.{has_pieces, read_named}
 use Rattle.psi_log.specs.Regions.{Given, box_form, set_form, move_form, form_of}

@@ -7,9 +7,9 @@ use Rattle.std.proofs.Common.{ap, sym, ◌∙◌, subst, arith, inl, inr, append
 use Rattle.std.proofs.lemmas.Bool.{and_parts, and_from}
 use Rattle.std.proofs.lemmas.Fmt.{decimal_digit}
 use Rattle.std.proofs.lemmas.List.{take-append-drop}
-use Rattle.psi_lines.specs.declared.header.Header.{Header}
-use Rattle.psi_lines.specs.Log.{Region, greatest_horizon, IsHeader, IsState, IsRegion}
-use Rattle.psi_lines.specs.Text.{line_text, numbers_text, number_words, region_words, header_text}
+use Rattle.psi_log_text.specs.declared.header.Header.{Header}
+use Rattle.psi_log_text.specs.Log.{Region, greatest_horizon, IsHeader, IsState, IsRegion}
+use Rattle.psi_log_text.specs.Text.{line_text, numbers_text, number_words, region_words, header_text}
 use Rattle.psi_log.specs.Refusal.{Refusal, refused, ◌>>=◌, holds_or}
 use Rattle.psi_log.specs.Words.{line_of, has_pieces, read_version}
 use Rattle.psi_log.specs.Regions.{Given, form_of, read_state, read_given}

@@ -6,9 +6,9 @@ use Rattle.std.specs.Str.{bytes_eq}
 use Rattle.std.proofs.Common.{ap, sym, ◌∙◌, subst, arith, inl, inr, append_assoc}
 use Rattle.std.proofs.lemmas.Bool.{and_from, cases_Bool}
 use Rattle.psi_state.specs.Members.{In}
-use Rattle.psi_lines.specs.declared.header.Header.{Header}
-use Rattle.psi_lines.specs.Log.{Region, in_box, in_set, Entry, greatest_horizon, IsHeader, IsRegion, IsEntry}
-use Rattle.psi_lines.specs.Text.{line_text, number_words, next_words, step_text, entries_text}
+use Rattle.psi_log_text.specs.declared.header.Header.{Header}
+use Rattle.psi_log_text.specs.Log.{Region, in_box, in_set, Entry, greatest_horizon, IsHeader, IsRegion, IsEntry}
+use Rattle.psi_log_text.specs.Text.{line_text, number_words, next_words, step_text, entries_text}
 use Rattle.psi_log.specs.Refusal.{refused, ◌>>=◌, holds_or}
 use Rattle.psi_log.specs.Words.{line_of, words_of, number_in, read_named}
 use Rattle.psi_log.specs.Regions.{Given, form_of, read_given}

@@ -8,12 +8,12 @@ use Rattle.std.proofs.lemmas.List.{take-append-drop, append-nil, length-map, map
 use Rattle.psi_state.specs.State.{Corners}
 use Rattle.psi_state.specs.Members.{In}
 use Rattle.psi_state.specs.declared.outcome.Step.{Step}
-use Rattle.psi_lines.specs.declared.header.Header.{Header}
-use Rattle.psi_lines.specs.Log.{in_box, greatest_horizon}
-use Rattle.psi_lines.specs.Text.{numbers_text, Change, change_text, step_text}
-use Rattle.psi_lines.specs.Room.{spaced_words}
-use Rattle.psi_lines.proofs.JoinedLemmas.{then, then_words, one_word, three_pieces}
-use Rattle.psi_lines.proofs.LinePiecesLemmas.{step_pieces}
+use Rattle.psi_log_text.specs.declared.header.Header.{Header}
+use Rattle.psi_log_text.specs.Log.{in_box, greatest_horizon}
+use Rattle.psi_log_text.specs.Text.{numbers_text, Change, change_text, step_text}
+use Rattle.psi_log_text.specs.Room.{spaced_words}
+use Rattle.psi_log_text.proofs.JoinedLemmas.{then, then_words, one_word, three_pieces}
+use Rattle.psi_log_text.proofs.LinePiecesLemmas.{step_pieces}
 use Rattle.psi_log.specs.Refusal.{each}
 use Rattle.psi_log.specs.Words.{number_in, pieces_of}
 use Rattle.psi_log.specs.Regions.{form_of, move_form, queues_ascend, is_change, changed, read_change, read_given}

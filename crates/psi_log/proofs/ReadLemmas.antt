@@ -3,9 +3,9 @@ use Rattle.std.specs.Prelude.{◌≡◌, ◌⊎◌, ℕ, ◌+◌, ◌≤◌, Lis
 use Rattle.std.proofs.Common.{ap, sym, ◌∙◌, subst, arith, append_assoc, inl, inr}
 use Rattle.std.proofs.lemmas.Bool.{le-leb, leb-true, eqb-true}
 use Rattle.std.proofs.lemmas.List.{append-nil, nil_from_length}
-use Rattle.psi_lines.specs.declared.header.Header.{Header}
-use Rattle.psi_lines.specs.Log.{Region, Entry, Certificate, IsHeader, IsLog}
-use Rattle.psi_lines.specs.Text.{line_text, numbers_text, region_words, header_text, begin_text, entries_text, end_text, log_text, IsLogOf}
+use Rattle.psi_log_text.specs.declared.header.Header.{Header}
+use Rattle.psi_log_text.specs.Log.{Region, Entry, Certificate, IsHeader, IsLog}
+use Rattle.psi_log_text.specs.Text.{line_text, numbers_text, region_words, header_text, begin_text, entries_text, end_text, log_text, IsLogOf}
 use Rattle.psi_log.specs.Refusal.{Refusal, refused, ◌>>=◌, holds_or, Gives}
 use Rattle.psi_log.specs.declared.refusals.LogError.{LogError}
 use Rattle.psi_log.specs.declared.refusals.LogError.TheVariants.{Refused, OutOfMemory}

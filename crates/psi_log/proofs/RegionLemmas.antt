@@ -7,8 +7,8 @@ use Rattle.std.proofs.Common.{ap, sym, ◌∙◌, subst, arith, inl, inr}
 use Rattle.std.proofs.lemmas.Bool.{and_parts, and_from, leb-true, eq-eqb}
 use Rattle.psi_state.specs.State.{Corners}
 use Rattle.psi_state.specs.Members.{In}
-use Rattle.psi_lines.specs.Log.{Region, in_box, in_set, IsBox}
-use Rattle.psi_lines.specs.Text.{region_words, Change, changes, change_text, move_words}
+use Rattle.psi_log_text.specs.Log.{Region, in_box, in_set, IsBox}
+use Rattle.psi_log_text.specs.Text.{region_words, Change, changes, change_text, move_words}
 use Rattle.psi_log.specs.Refusal.{Refusal, refused, ◌>>=◌, holds_or}
 use Rattle.psi_log.specs.Words.{pieces_of, has_pieces, number_in}
 use Rattle.psi_log.specs.Regions.{Given, given_box, given_set, given_move, box_form, set_form, move_form, form_of, read_change}

@@ -7,10 +7,10 @@ use Rattle.std.proofs.lemmas.List.{take_more, take-set, take_all, drop_all, leng
 use Rattle.std.proofs.Math.Seq.{take-add}
 use Rattle.psi_state.specs.State.{IsVector}
 use Rattle.psi_state.specs.Members.{In}
-use Rattle.psi_lines.specs.Log.{IsState}
-use Rattle.psi_lines.specs.Text.{numbers_text}
-use Rattle.psi_lines.specs.Room.{spaced_words}
-use Rattle.psi_lines.proofs.JoinedLemmas.{then, then_words, one_word, numbers_text_first, numbers_text_more}
+use Rattle.psi_log_text.specs.Log.{IsState}
+use Rattle.psi_log_text.specs.Text.{numbers_text}
+use Rattle.psi_log_text.specs.Room.{spaced_words}
+use Rattle.psi_log_text.proofs.JoinedLemmas.{then, then_words, one_word, numbers_text_first, numbers_text_more}
 use Rattle.psi_log.specs.Scanned.{Stands, AreScanned}
 
 pub byte_stands : (text : List ℕ) (at byte : ℕ) → at < length text → get_or text at 0 ≡ byte → Stands text at (at + 1) (byte ∷ [])

@@ -7,12 +7,12 @@ use Rattle.std.proofs.lemmas.Bool.{and_from}
 use Rattle.std.proofs.lemmas.List.{take-append-drop, take_all, append-nil, length-drop}
 use Rattle.psi_state.specs.State.{Corners}
 use Rattle.psi_state.specs.declared.outcome.Step.{Step}
-use Rattle.psi_lines.specs.declared.header.Header.{Header}
-use Rattle.psi_lines.specs.Log.{in_set, Entry, greatest_horizon, IsSet}
-use Rattle.psi_lines.specs.Text.{numbers_text, region_words, step_text}
-use Rattle.psi_lines.specs.Room.{spaced_words}
-use Rattle.psi_lines.proofs.JoinedLemmas.{then, then_words, one_word, three_pieces}
-use Rattle.psi_lines.proofs.LinePiecesLemmas.{step_pieces}
+use Rattle.psi_log_text.specs.declared.header.Header.{Header}
+use Rattle.psi_log_text.specs.Log.{in_set, Entry, greatest_horizon, IsSet}
+use Rattle.psi_log_text.specs.Text.{numbers_text, region_words, step_text}
+use Rattle.psi_log_text.specs.Room.{spaced_words}
+use Rattle.psi_log_text.proofs.JoinedLemmas.{then, then_words, one_word, three_pieces}
+use Rattle.psi_log_text.proofs.LinePiecesLemmas.{step_pieces}
 use Rattle.psi_log.specs.Words.{number_in}
 use Rattle.psi_log.specs.Regions.{form_of, ascends}
 use Rattle.psi_log.specs.Reading.{read_step}

@@ -5,17 +5,17 @@ use Rattle.std.proofs.Common.{ap, sym, ◌∙◌, arith, append_assoc}
 use Rattle.std.proofs.lemmas.List.{take-take, drop-take, map-append, append-nil}
 use Rattle.std.proofs.lemmas.List.Elements.{All-head, All-tail, All-weaker}
 use Rattle.psi_state.specs.State.{Corners}
-use Rattle.psi_lines.specs.declared.header.Header.{Header}
-use Rattle.psi_lines.specs.Log.{Region, in_set, Entry}
+use Rattle.psi_log_text.specs.declared.header.Header.{Header}
+use Rattle.psi_log_text.specs.Log.{Region, in_set, Entry}
 use Rattle.psi_log.specs.Refusal.{Refusal, ◌>>=◌, IsLogError}
 use Rattle.psi_log.specs.Words.{line_of, words_of}
 use Rattle.psi_log.specs.Reading.{box_before, read_step, read_steps}
 use Rattle.psi_log.specs.Kept.{region_of, IsThere}
 use Rattle.psi_log.specs.Lines.{entry_of, HasRegion}
 use Rattle.psi_log.specs.Scanned.{next_step}
-use Rattle.psi_rows.specs.declared.line_list.Kept.{Kept}
-use Rattle.psi_rows.specs.declared.line_list.Kept.TheVariants.{Box, Set}
-use Rattle.psi_rows.specs.declared.line_list.Line.{Line}
+use Rattle.psi_state_list.specs.declared.line_list.Kept.{Kept}
+use Rattle.psi_state_list.specs.declared.line_list.Kept.TheVariants.{Box, Set}
+use Rattle.psi_state_list.specs.declared.line_list.Line.{Line}
 use Rattle.psi_log.specs.declared.refusals.LogError.{LogError}
 use Rattle.psi_log.specs.declared.refusals.LogError.TheVariants.{Refused, OutOfMemory}
 use Rattle.psi_log.proofs.WordLemmas.{bind_ok, ok_same}

@@ -5,7 +5,7 @@ use Rattle.std.proofs.Common.{get_or, ap, sym, ◌∙◌, subst, arith}
 use Rattle.std.proofs.lemmas.List.{length-map, length-take-le, length-drop, get_or-take, get_or-drop}
 use Rattle.std.proofs.lemmas.List.Elements.{All-get_or}
 use Rattle.std.proofs.lemmas.Option.{slice_get-get_or, get_or_from_slice_get, slice_get_within, slice_get-map}
-use Rattle.psi_lines.specs.Log.{Region, in_box, in_set, Entry, Certificate, IsLog}
+use Rattle.psi_log_text.specs.Log.{Region, in_box, in_set, Entry, Certificate, IsLog}
 use Rattle.psi_log.specs.Kept.{region_of, IsThere}
 use Rattle.psi_log.specs.Lines.{entry_of, HasRegion}
 use Rattle.psi_log.specs.Parts.{certificate_of, IsWhole}
@@ -14,9 +14,9 @@ use Rattle.psi_log.specs.declared.form.Form.{Form}
 use Rattle.psi_log.specs.declared.form.Form.TheVariants as told
 use Rattle.psi_log.specs.declared.parts.Parts.{Parts}
 use Rattle.psi_state.specs.declared.outcome.Step.{Step}
-use Rattle.psi_rows.specs.declared.line_list.Kept.{Kept}
-use Rattle.psi_rows.specs.declared.line_list.Line.{Line}
-use Rattle.psi_rows.specs.declared.line_list.Kept.TheVariants.{Set}
+use Rattle.psi_state_list.specs.declared.line_list.Kept.{Kept}
+use Rattle.psi_state_list.specs.declared.line_list.Line.{Line}
+use Rattle.psi_state_list.specs.declared.line_list.Kept.TheVariants.{Set}
 
 pub region_zero : (c : Certificate) (i : ℕ) → i ≡ 0 → region_at c i ≡ Some c.begin
 region_zero c i none = rw none refl

@@ -1,8 +1,8 @@
 -- What the parts of a log in memory are seen as: the states of its sets lie in one list.
 use Rattle.std.specs.Prelude.{◌≡◌, ℕ, ◌+◌, ◌≤◌, List, length, take, drop}
-use Rattle.psi_lines.specs.Log.{Region, in_box, in_set}
-use Rattle.psi_rows.specs.declared.line_list.Kept.{Kept}
-use Rattle.psi_rows.specs.declared.line_list.Kept.TheVariants.{Box, Set}
+use Rattle.psi_log_text.specs.Log.{Region, in_box, in_set}
+use Rattle.psi_state_list.specs.declared.line_list.Kept.{Kept}
+use Rattle.psi_state_list.specs.declared.line_list.Kept.TheVariants.{Box, Set}
 
 -- a region that is kept
 abbrev pub region_of : List (List ℕ) → Kept → Region

@@ -1,7 +1,7 @@
 -- What the lines of steps in memory are seen as.
 use Rattle.std.specs.Prelude.{ℕ, List}
-use Rattle.psi_lines.specs.Log.{Entry}
-use Rattle.psi_rows.specs.declared.line_list.Line.{Line}
+use Rattle.psi_log_text.specs.Log.{Entry}
+use Rattle.psi_state_list.specs.declared.line_list.Line.{Line}
 use Rattle.psi_log.specs.Kept.{region_of, IsThere}
 
 -- a step and the region after it

@@ -1,7 +1,7 @@
 -- What the parts of a log in memory are seen as.
 use Rattle.std.specs.Prelude.{map}
 use Rattle.std.specs.List.{All}
-use Rattle.psi_lines.specs.Log.{Certificate}
+use Rattle.psi_log_text.specs.Log.{Certificate}
 use Rattle.psi_log.specs.Kept.{region_of, IsThere}
 use Rattle.psi_log.specs.Lines.{entry_of, HasRegion}
 use Rattle.psi_log.specs.declared.parts.Parts.{Parts}

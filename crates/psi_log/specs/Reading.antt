@@ -2,8 +2,8 @@
 use Rattle.std.specs.Prelude.{ℕ, zero, suc, ◌&&◌, ◌+◌, ◌-◌, ◌^◌, List, [], ◌∷◌, length, codes, ◌==◌, nat_le, Option, Some, None, Result, Ok, Err, if◌then◌else◌}
 use Rattle.std.specs.Str.{bytes_eq}
 use Rattle.psi_state.specs.State.{Corners}
-use Rattle.psi_lines.specs.declared.header.Header.{Header}
-use Rattle.psi_lines.specs.Log.{Region, in_box, in_set, Entry, Certificate, greatest_horizon}
+use Rattle.psi_log_text.specs.declared.header.Header.{Header}
+use Rattle.psi_log_text.specs.Log.{Region, in_box, in_set, Entry, Certificate, greatest_horizon}
 use Rattle.psi_log.specs.Refusal.{Refusal, refused, ◌>>=◌, holds_or}
 use Rattle.psi_log.specs.Words.{line_of, words_of, has_pieces, number_in, read_version, read_named}
 use Rattle.psi_log.specs.Regions.{form_of, read_state, read_given}

@@ -6,8 +6,8 @@ use Rattle.std.specs.Cmp.Lexicographic.{pointwise}
 use Rattle.std.specs.Ordering.{is_lt}
 use Rattle.psi_state.specs.State.{Corners}
 use Rattle.psi_state.specs.Sets.{state_cmp}
-use Rattle.psi_lines.specs.Log.{Region, in_box, in_set}
-use Rattle.psi_lines.specs.Text.{Change}
+use Rattle.psi_log_text.specs.Log.{Region, in_box, in_set}
+use Rattle.psi_log_text.specs.Text.{Change}
 use Rattle.psi_log.specs.Refusal.{Refusal, refused, ◌>>=◌, holds_or, each}
 use Rattle.psi_log.specs.Words.{pieces_of, has_pieces, number_in}
 use Rattle.psi_log.specs.declared.refusals.Cause.TheVariants.{Shape}

@@ -3,10 +3,10 @@ use Rattle.std.specs.Prelude.{◌≡◌, ℕ, ◌<◌, ◌≤◌, ◌^◌, List,
 use Rattle.std.specs.List.{list_all}
 use Rattle.psi_state.specs.State.{Corners}
 use Rattle.psi_state.specs.Members.{In}
-use Rattle.psi_lines.specs.declared.header.Header.{Header}
-use Rattle.psi_lines.specs.Log.{Entry, IsState}
-use Rattle.psi_lines.specs.Text.{numbers_text, Change, change_text}
-use Rattle.psi_lines.specs.Room.{Puts, spaced_words}
+use Rattle.psi_log_text.specs.declared.header.Header.{Header}
+use Rattle.psi_log_text.specs.Log.{Entry, IsState}
+use Rattle.psi_log_text.specs.Text.{numbers_text, Change, change_text}
+use Rattle.psi_log_text.specs.Room.{Puts, spaced_words}
 use Rattle.psi_log.specs.Refusal.{Refusal, ◌>>=◌}
 use Rattle.psi_log.specs.Words.{line_of, words_of}
 use Rattle.psi_log.specs.Regions.{queues_ascend, is_change, changed}

@@ -2,7 +2,7 @@
 use Rattle.std.specs.Prelude.{ℕ, zero, suc, ◌<◌, List, length, Option, Some, None, option_map}
 use Rattle.std.specs.List.{slice_get}
 use Rattle.psi_state.specs.declared.outcome.Step.{Step}
-use Rattle.psi_lines.specs.Log.{Region, in_box, in_set, Certificate}
+use Rattle.psi_log_text.specs.Log.{Region, in_box, in_set, Certificate}
 use Rattle.psi_log.specs.declared.form.Form.{Form}
 use Rattle.psi_log.specs.declared.form.Form.TheVariants.{Box, Set}
 

@@ -1,13 +1,13 @@
 //! The lines of a header.
 
 ghost use Rattle.std.specs.Prelude.{◌≡◌, ◌-◌, ◌<◌, ◌≤◌, ◌^◌, codes, IfOk};
-ghost use Rattle.psi_lines.specs.Log.{greatest_horizon};
+ghost use Rattle.psi_log_text.specs.Log.{greatest_horizon};
 ghost use Rattle.psi_log.specs.Refusal.{Gives};
 ghost use Rattle.psi_log.specs.Reading.{named_line, read_header};
 
 use crate::refusals::LogError;
 use crate::words::{line_of, read_named, read_version, read_words};
-use psi_lines::Header;
+use psi_log_text::Header;
 
 /// The greatest horizon of a version, which is also the greatest number of a step.
 pub(crate) fn greatest_horizon(version: u8) -> u32

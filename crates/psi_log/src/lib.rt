@@ -19,5 +19,5 @@ mod words;
 
 pub use form::Form;
 pub use log::{Log, read_log};
-pub use psi_lines::{Header, LineBuf};
+pub use psi_log_text::{Header, LineBuf};
 pub use refusals::{Cause, LogError};

@@ -2,8 +2,8 @@
 
 ghost use Rattle.std.specs.Prelude.{◌≡◌, ◌⊎◌, ◌+◌, ◌<◌, ◌≤◌, Ok, Err, Some, length, option_map, option_and_then, IfOk, IsTrue, MatchOption, ◌↔◌};
 ghost use Rattle.psi_state.specs.State.{IsBelow};
-ghost use Rattle.psi_lines.specs.Log.{Certificate, IsLog};
-ghost use Rattle.psi_lines.specs.Text.{IsLogOf};
+ghost use Rattle.psi_log_text.specs.Log.{Certificate, IsLog};
+ghost use Rattle.psi_log_text.specs.Text.{IsLogOf};
 ghost use Rattle.psi_log.specs.Refusal.{Gives};
 ghost use Rattle.psi_log.specs.Reading.{read};
 ghost use Rattle.psi_log.specs.Kept.{region_of, IsThere};
@@ -14,9 +14,9 @@ ghost use Rattle.psi_log.specs.declared.refusals.LogError.TheVariants.{OutOfMemo
 use crate::form::Form;
 use crate::parts::{Parts, read_parts};
 use crate::refusals::LogError;
-use psi_lines::Header;
-use psi_rows::Kept;
+use psi_log_text::Header;
 use psi_state::{State, Step};
+use psi_state_list::Kept;
 use std::alloc::Global;
 use std::marker::Model;
 
@@ -31,7 +31,7 @@ pub struct Log {
 }
 
 impl Model for Log {
-    ghost use Rattle.psi_lines.specs.Log.{Certificate, IsLog};
+    ghost use Rattle.psi_log_text.specs.Log.{Certificate, IsLog};
     ghost use Rattle.psi_log.specs.Parts.{certificate_of, IsWhole};
 
     ghost Value = { Certificate };

@@ -1,7 +1,7 @@
 //! The line of a step with a box that is written by what changed, read in one pass over its bytes.
 
 ghost use Rattle.std.specs.Prelude.{◌≡◌, ℕ, List, ◌<◌, ◌≤◌, ◌^◌, length, Some, Ok, IfSome};
-ghost use Rattle.psi_lines.specs.Text.{change_text};
+ghost use Rattle.psi_log_text.specs.Text.{change_text};
 ghost use Rattle.psi_log.specs.Changed.{change};
 ghost use Rattle.psi_log.specs.Lines.{entry_of, HasRegion};
 ghost use Rattle.psi_log.specs.Scanned.{Stands, AreChanged, next_step};
@@ -9,9 +9,9 @@ ghost use Rattle.psi_log.specs.Scanned.{Stands, AreChanged, next_step};
 use crate::moves::{Change, is_change};
 use crate::scan::{has_byte, has_word, small_at};
 use crate::set_line::step_at;
-use psi_lines::Header;
-use psi_rows::{Kept, Line};
+use psi_log_text::Header;
 use psi_state::Bounds;
+use psi_state_list::{Kept, Line};
 
 // The change of a queue that stands at a place, and the place behind it.
 fn change_at(text: &[u8], at: usize, queues: u8) -> Option<(Change, usize)>

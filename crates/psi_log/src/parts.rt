@@ -12,9 +12,9 @@ use crate::refusals::{Cause, LogError};
 use crate::regions::{box_before, read_given, read_state};
 use crate::steps::read_steps;
 use crate::words::{has_pieces, read_words};
-use psi_lines::Header;
-use psi_rows::{Kept, LineList, StateList};
+use psi_log_text::Header;
 use psi_state::State;
+use psi_state_list::{Kept, LineList, StateList};
 use std::alloc::Global;
 
 /// The parts of a log. The states of its sets lie in one list.

@@ -8,14 +8,14 @@ ghost use Rattle.psi_log.specs.Regions.{given_box, given_set, read_state, ascend
 ghost use Rattle.psi_log.specs.Seen.{given as given_of, HasForm};
 ghost use Rattle.psi_log.specs.Kept.{region_of, IsThere};
 ghost use Rattle.psi_log.specs.Reading.{box_before};
-ghost use Rattle.psi_lines.specs.Log.{in_box};
+ghost use Rattle.psi_log_text.specs.Log.{in_box};
 
 use crate::forms::Given;
 use crate::moves::read_move;
 use crate::numbers::piece_in;
 use crate::refusals::{Cause, LogError};
-use psi_rows::{Kept, StateList};
 use psi_state::{Bounds, State};
+use psi_state_list::{Kept, StateList};
 
 /// The numbers of a state, of a word that has one piece for each queue.
 ///

@@ -2,7 +2,7 @@
 //! its line is then read word by word.
 
 ghost use Rattle.std.specs.Prelude.{◌≡◌, ◌∷◌, [], ◌+◌, ◌<◌, ◌≤◌, length, decimal, IsTrue, IfSome};
-ghost use Rattle.psi_lines.specs.Text.{numbers_text};
+ghost use Rattle.psi_log_text.specs.Text.{numbers_text};
 ghost use Rattle.psi_log.specs.Scanned.{Stands};
 
 use psi_state::State;

@@ -2,17 +2,17 @@
 
 ghost use Rattle.std.specs.Prelude.{◌≡◌, ◌∷◌, [], ◌++◌, ℕ, Option, ◌≤◌, length, take, codes, decimal, Ok, IfOk, IfSome, OnOk};
 ghost use Rattle.psi_state.specs.State.{Corners};
-ghost use Rattle.psi_lines.specs.Log.{greatest_horizon};
-ghost use Rattle.psi_lines.specs.Room.{spaced_words};
+ghost use Rattle.psi_log_text.specs.Log.{greatest_horizon};
+ghost use Rattle.psi_log_text.specs.Room.{spaced_words};
 ghost use Rattle.psi_log.specs.Lines.{entry_of, HasRegion};
 ghost use Rattle.psi_log.specs.Scanned.{Stands, AreScanned, next_step};
 
 use crate::header::greatest_horizon;
 use crate::regions::ascends;
 use crate::scan::{has_byte, has_word, number_at, state_at};
-use psi_lines::Header;
-use psi_rows::{Kept, Line, StateList};
+use psi_log_text::Header;
 use psi_state::Step;
+use psi_state_list::{Kept, Line, StateList};
 use std::alloc::AllocError;
 
 /// The step whose line begins a text, and the place behind its event.

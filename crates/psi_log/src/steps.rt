@@ -15,9 +15,9 @@ use crate::refusals::{Cause, LogError};
 use crate::regions::{box_before, read_given};
 use crate::set_line::read_set_line;
 use crate::words::read_words;
-use psi_lines::Header;
-use psi_rows::{Line, LineList, StateList};
+use psi_log_text::Header;
 use psi_state::{Bounds, Step};
+use psi_state_list::{Line, LineList, StateList};
 use std::alloc::Global;
 
 // The words of a step and of the region after it; the states of a set are put behind those of the list.

@@ -2,7 +2,7 @@
 use Rattle.std.specs.Prelude.{◌≡◌, ℕ, ◌<◌, ◌^◌, List, [], ◌∷◌, length, Option, Some, IfSome, true, false, ◌⊎◌}
 use Rattle.std.specs.List.{flat_map}
 use Rattle.psi_state.specs.declared.Outcome.{Outcome}
-use Rattle.psi_network.specs.Network.{Network}
+use Rattle.psi_model.specs.Network.{Network}
 use Rattle.psi_report.specs.Report.{report_text}
 use Rattle.psi_reports.specs.Samples.{AreOf}
 use Rattle.psi_merge.specs.declared.status.Status.{Status}

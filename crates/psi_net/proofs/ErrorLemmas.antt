@@ -1,9 +1,9 @@
 -- Reading the elements of an array one after another, where memory may be wanting.
 use Rattle.std.proofs.Common.{◌≡◌, ℕ, ◌<◌, List, length, map, get_or, drop, Result}
 use Rattle.toml.specs.Data.{Data}
-use Rattle.psi_document.specs.Values.{each}
-use Rattle.psi_document.specs.declared.refusals.NetRefusal.{NetRefusal}
-use Rattle.psi_document.proofs.TurnLemmas.{turn_fails}
+use Rattle.psi_net_document.specs.Values.{each}
+use Rattle.psi_net_document.specs.declared.refusals.NetRefusal.{NetRefusal}
+use Rattle.psi_net_document.proofs.TurnLemmas.{turn_fails}
 use Rattle.psi_net.specs.Errors.{IsNetError}
 use Rattle.psi_net.specs.declared.net_error.NetError.{NetError}
 use Rattle.psi_net.specs.declared.net_error.NetError.TheVariants.{Refused, OutOfMemory}

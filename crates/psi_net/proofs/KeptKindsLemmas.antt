@@ -18,25 +18,25 @@ use Rattle.psi_route.specs.Accepted.{IsSource}
 use Rattle.psi_kinds.specs.Refusals.{is_empty}
 use Rattle.psi_kinds.specs.declared.Kind.{Kind}
 use Rattle.psi_kinds.specs.declared.Kind.TheVariants as kind
-use Rattle.psi_document.specs.Refusal.{holds_or}
-use Rattle.psi_document.specs.Values.{no_unknown, required, optional, number_in, integer_in, array_in, elements_in, each}
-use Rattle.psi_document.specs.References.{is_in, queue_in, targets_in, some_targets_in}
-use Rattle.psi_document.specs.Targets.{AreTargets}
+use Rattle.psi_net_document.specs.Refusal.{holds_or}
+use Rattle.psi_net_document.specs.Values.{no_unknown, required, optional, number_in, integer_in, array_in, elements_in, each}
+use Rattle.psi_net_document.specs.References.{is_in, queue_in, targets_in, some_targets_in}
+use Rattle.psi_net_document.specs.Targets.{AreTargets}
 use Rattle.psi_state.specs.Repeats.{repeats}
 use Rattle.psi_net.specs.KindTables.{source_in, queue_of_source, full_in, number_step, row_step, table_of, size_fits, arrival_of, service_of, index_of, batch_of, negative_of, fork_of, joined_in, join_of}
-use Rattle.psi_network.specs.Expansion.{first_server}
+use Rattle.psi_model.specs.Expansion.{first_server}
 use Rattle.psi_net.specs.PartTables.{part_keys, part_queue, part_numbers, unless_empty, part_of, part_step, parts_in, guarded_of}
 use Rattle.psi_net.specs.EventTables.{kind_of}
-use Rattle.psi_network.specs.Valid.{IsAccepted}
-use Rattle.psi_document.specs.declared.refusals.Cause.TheVariants.{OutOfRange}
-use Rattle.psi_document.specs.declared.refusals.Place.{Place}
-use Rattle.psi_document.specs.declared.refusals.NetRefusal.{NetRefusal}
+use Rattle.psi_model.specs.Valid.{IsAccepted}
+use Rattle.psi_net_document.specs.declared.refusals.Cause.TheVariants.{OutOfRange}
+use Rattle.psi_net_document.specs.declared.refusals.Place.{Place}
+use Rattle.psi_net_document.specs.declared.refusals.NetRefusal.{NetRefusal}
 use Rattle.psi_net.specs.declared.words.KindWord.{KindWord}
 use Rattle.psi_net.specs.declared.words.KindWord.TheVariants as word
-use Rattle.psi_document.proofs.ReadingLemmas.{if_ok, bind_ok, ok_same, held, required_ok, optional_kept, number_range, integer_range, elements_count, each_kept, each_kept_below, queue_small}
-use Rattle.psi_document.proofs.PigeonLemmas.{no_targets}
-use Rattle.psi_document.proofs.TargetLemmas.{AreSomeTargets, targets_kept, some_targets_kept, target_small, target_apart, away, among}
-use Rattle.psi_network.proofs.KindLemmas.{accepted, first_source}
+use Rattle.psi_net_document.proofs.ReadingLemmas.{if_ok, bind_ok, ok_same, held, required_ok, optional_kept, number_range, integer_range, elements_count, each_kept, each_kept_below, queue_small}
+use Rattle.psi_net_document.proofs.PigeonLemmas.{no_targets}
+use Rattle.psi_net_document.proofs.TargetLemmas.{AreSomeTargets, targets_kept, some_targets_kept, target_small, target_apart, away, among}
+use Rattle.psi_model.proofs.KindLemmas.{accepted, first_source}
 
 -- a list of at least one isn't empty
 pub not_empty : {A : Type 0} (xs : List A) → 0 < length xs → is_empty xs ≡ false

@@ -3,14 +3,14 @@ use Rattle.std.specs.Prelude.{◌≡◌, ℕ, ◌+◌, List, [], length, codes, 
 use Rattle.std.proofs.Common.{arith, length-append}
 use Rattle.std.proofs.lemmas.List.Elements.{All-push}
 use Rattle.toml.specs.Data.{Data, Members}
-use Rattle.psi_document.specs.Refusal.{top}
-use Rattle.psi_document.specs.Values.{elements_in}
+use Rattle.psi_net_document.specs.Refusal.{top}
+use Rattle.psi_net_document.specs.Values.{elements_in}
 use Rattle.psi_net.specs.QueueTables.{queue_of, queue_step, queues_in, queues_of}
-use Rattle.psi_network.specs.Valid.{IsQueue, AreListed}
-use Rattle.psi_document.specs.declared.refusals.Cause.TheVariants.{MissingKey}
-use Rattle.psi_document.specs.declared.refusals.Place.{Place}
-use Rattle.psi_network.specs.declared.entries.Queue.{Queue}
-use Rattle.psi_document.proofs.ReadingLemmas.{bind_ok, required_ok, number_range, elements_count, each_kept}
+use Rattle.psi_model.specs.Valid.{IsQueue, AreListed}
+use Rattle.psi_net_document.specs.declared.refusals.Cause.TheVariants.{MissingKey}
+use Rattle.psi_net_document.specs.declared.refusals.Place.{Place}
+use Rattle.psi_model.specs.declared.entries.Queue.{Queue}
+use Rattle.psi_net_document.proofs.ReadingLemmas.{bind_ok, required_ok, number_range, elements_count, each_kept}
 
 -- what the queues read so far keep
 record AreRead (n : ℕ) (queues : List Queue) : Type 0 where

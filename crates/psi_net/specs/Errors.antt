@@ -1,6 +1,6 @@
 -- What a function that reads and takes memory may answer.
 use Rattle.std.specs.Prelude.{◌≡◌, Result, Ok, Err}
-use Rattle.psi_document.specs.declared.refusals.NetRefusal.{NetRefusal}
+use Rattle.psi_net_document.specs.declared.refusals.NetRefusal.{NetRefusal}
 use Rattle.psi_net.specs.declared.net_error.NetError.{NetError}
 use Rattle.psi_net.specs.declared.net_error.NetError.TheVariants.{Refused, OutOfMemory}
 

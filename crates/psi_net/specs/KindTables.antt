@@ -8,13 +8,13 @@ use Rattle.psi_route.specs.declared.Full.{Full}
 use Rattle.psi_route.specs.declared.Full.TheVariants.{Lost, Stay}
 use Rattle.psi_kinds.specs.declared.Kind.{Kind}
 use Rattle.psi_kinds.specs.declared.Kind.TheVariants as kind
-use Rattle.psi_document.specs.Refusal.{◌>>=◌, holds_or, at_key}
-use Rattle.psi_document.specs.Values.{required, optional, number_in, array_in, each}
-use Rattle.psi_document.specs.References.{queue_in, target_in, targets_in, some_targets_in}
-use Rattle.psi_document.specs.declared.refusals.Cause.TheVariants.{WrongType, OutOfRange, TableLength, BatchTooLarge}
-use Rattle.psi_document.specs.declared.refusals.Place.{Place}
-use Rattle.psi_document.specs.declared.refusals.NetRefusal.{NetRefusal}
-use Rattle.psi_network.specs.Expansion.{first_server}
+use Rattle.psi_net_document.specs.Refusal.{◌>>=◌, holds_or, at_key}
+use Rattle.psi_net_document.specs.Values.{required, optional, number_in, array_in, each}
+use Rattle.psi_net_document.specs.References.{queue_in, target_in, targets_in, some_targets_in}
+use Rattle.psi_net_document.specs.declared.refusals.Cause.TheVariants.{WrongType, OutOfRange, TableLength, BatchTooLarge}
+use Rattle.psi_net_document.specs.declared.refusals.Place.{Place}
+use Rattle.psi_net_document.specs.declared.refusals.NetRefusal.{NetRefusal}
+use Rattle.psi_model.specs.Expansion.{first_server}
 
 -- the queue of a source may not be among the targets
 abbrev pub queue_of_source : Option Source → List ℕ

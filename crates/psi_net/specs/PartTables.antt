@@ -5,12 +5,12 @@ use Rattle.psi_guard.specs.Refusals.{names as is_named}
 use Rattle.psi_guard.specs.declared.Part.{Part}
 use Rattle.psi_kinds.specs.declared.Kind.{Kind}
 use Rattle.psi_kinds.specs.declared.Kind.TheVariants as kind
-use Rattle.psi_document.specs.Refusal.{◌>>=◌, holds_or, at_key}
-use Rattle.psi_document.specs.Values.{no_unknown, required, optional, number_in, integer_in, elements_in, each}
-use Rattle.psi_document.specs.References.{queue_in}
-use Rattle.psi_document.specs.declared.refusals.Cause.TheVariants.{WrongType, OutOfRange, RepeatedTarget, EmptyGuard}
-use Rattle.psi_document.specs.declared.refusals.Place.{Place}
-use Rattle.psi_document.specs.declared.refusals.NetRefusal.{NetRefusal}
+use Rattle.psi_net_document.specs.Refusal.{◌>>=◌, holds_or, at_key}
+use Rattle.psi_net_document.specs.Values.{no_unknown, required, optional, number_in, integer_in, elements_in, each}
+use Rattle.psi_net_document.specs.References.{queue_in}
+use Rattle.psi_net_document.specs.declared.refusals.Cause.TheVariants.{WrongType, OutOfRange, RepeatedTarget, EmptyGuard}
+use Rattle.psi_net_document.specs.declared.refusals.Place.{Place}
+use Rattle.psi_net_document.specs.declared.refusals.NetRefusal.{NetRefusal}
 
 -- an element that is a table; another one is refused at the key `part`
 unfoldable pub part_table : Place → Data → Result Members NetRefusal

@@ -1,13 +1,13 @@
 -- The array `queue`.
 use Rattle.std.specs.Prelude.{ℕ, List, [], ◌∷◌, ◌++◌, map, min, codes, Option, Result, Ok}
 use Rattle.toml.specs.Data.{Data, Members, get_member}
-use Rattle.psi_document.specs.Refusal.{◌>>=◌, top, queue_place}
-use Rattle.psi_document.specs.Values.{no_unknown, required, optional, number_in, elements_in, table_in, each}
-use Rattle.psi_document.specs.Names.{name_in, unless_taken}
-use Rattle.psi_document.specs.declared.refusals.Cause.TheVariants.{MissingKey}
-use Rattle.psi_document.specs.declared.refusals.NetRefusal.{NetRefusal}
-use Rattle.psi_document.specs.declared.refusals.Place.{Place}
-use Rattle.psi_network.specs.declared.entries.Queue.{Queue}
+use Rattle.psi_net_document.specs.Refusal.{◌>>=◌, top, queue_place}
+use Rattle.psi_net_document.specs.Values.{no_unknown, required, optional, number_in, elements_in, table_in, each}
+use Rattle.psi_net_document.specs.Names.{name_in, unless_taken}
+use Rattle.psi_net_document.specs.declared.refusals.Cause.TheVariants.{MissingKey}
+use Rattle.psi_net_document.specs.declared.refusals.NetRefusal.{NetRefusal}
+use Rattle.psi_net_document.specs.declared.refusals.Place.{Place}
+use Rattle.psi_model.specs.declared.entries.Queue.{Queue}
 
 -- the keys of a queue's table
 abbrev pub queue_keys : List (List ℕ)

@@ -4,14 +4,14 @@ use Rattle.std.specs.Prelude.{ℕ, pos, negsuc, List, [], ◌∷◌, map, length
 use Rattle.std.specs.Str.{is_utf8}
 use Rattle.toml.specs.Data.{Data, integer, Members, get_member}
 use Rattle.toml.specs.Parse.{parse_document}
-use Rattle.psi_network.specs.Network.{Network}
-use Rattle.psi_document.specs.Refusal.{◌>>=◌, holds_or, at_key, at_place, top}
-use Rattle.psi_document.specs.Values.{no_unknown, required, optional, number_in}
+use Rattle.psi_model.specs.Network.{Network}
+use Rattle.psi_net_document.specs.Refusal.{◌>>=◌, holds_or, at_key, at_place, top}
+use Rattle.psi_net_document.specs.Values.{no_unknown, required, optional, number_in}
 use Rattle.psi_net.specs.QueueTables.{queues_of}
 use Rattle.psi_net.specs.EventTables.{events_of}
 use Rattle.psi_net.specs.RewardTables.{rewards_of}
-use Rattle.psi_document.specs.declared.refusals.Cause.TheVariants.{TooLong, NotToml, Version, WrongType}
-use Rattle.psi_document.specs.declared.refusals.NetRefusal.{NetRefusal}
+use Rattle.psi_net_document.specs.declared.refusals.Cause.TheVariants.{TooLong, NotToml, Version, WrongType}
+use Rattle.psi_net_document.specs.declared.refusals.NetRefusal.{NetRefusal}
 use Rattle.psi_net.specs.declared.reading.TopNumbers.{TopNumbers}
 
 -- `version`: the integer 1 or 2

@@ -4,14 +4,14 @@ use Rattle.std.specs.Str.{bytes_eq}
 use Rattle.toml.specs.Data.{Data, Members, get_member}
 use Rattle.psi_reward.specs.declared.RewardKind.{RewardKind}
 use Rattle.psi_reward.specs.declared.RewardKind.TheVariants as kind
-use Rattle.psi_document.specs.Refusal.{◌>>=◌, holds_or, at_key, top, reward_place}
-use Rattle.psi_document.specs.Values.{no_unknown, required, optional, number_in, integer_in, text_in, array_in, table_in, each}
-use Rattle.psi_document.specs.Names.{name_in, unless_taken}
-use Rattle.psi_document.specs.References.{some_targets_in}
-use Rattle.psi_network.specs.Network.{NamedReward}
-use Rattle.psi_document.specs.declared.refusals.Cause.TheVariants.{UnknownKind, TooMany, TableLength}
-use Rattle.psi_document.specs.declared.refusals.Place.{Place}
-use Rattle.psi_document.specs.declared.refusals.NetRefusal.{NetRefusal}
+use Rattle.psi_net_document.specs.Refusal.{◌>>=◌, holds_or, at_key, top, reward_place}
+use Rattle.psi_net_document.specs.Values.{no_unknown, required, optional, number_in, integer_in, text_in, array_in, table_in, each}
+use Rattle.psi_net_document.specs.Names.{name_in, unless_taken}
+use Rattle.psi_net_document.specs.References.{some_targets_in}
+use Rattle.psi_model.specs.Network.{NamedReward}
+use Rattle.psi_net_document.specs.declared.refusals.Cause.TheVariants.{UnknownKind, TooMany, TableLength}
+use Rattle.psi_net_document.specs.declared.refusals.Place.{Place}
+use Rattle.psi_net_document.specs.declared.refusals.NetRefusal.{NetRefusal}
 use Rattle.psi_net.specs.declared.words.RewardWord.{RewardWord}
 use Rattle.psi_net.specs.declared.words.RewardWord.TheVariants as word
 

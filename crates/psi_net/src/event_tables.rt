@@ -6,11 +6,11 @@ ghost use Rattle.std.specs.Str.{bytes_eq};
 ghost use Rattle.toml.specs.View.{view, table_view};
 ghost use Rattle.psi_rate.specs.Rates.{total};
 ghost use Rattle.psi_kinds.specs.declared.Kind.{Kind};
-ghost use Rattle.psi_document.specs.declared.refusals.NetRefusal.{NetRefusal};
-ghost use Rattle.psi_document.specs.Refusal.{Gives};
+ghost use Rattle.psi_net_document.specs.declared.refusals.NetRefusal.{NetRefusal};
+ghost use Rattle.psi_net_document.specs.Refusal.{Gives};
 ghost use Rattle.psi_net.specs.Errors.{Reads};
-ghost use Rattle.psi_document.specs.Values.{seen, no_unknown, required, each};
-ghost use Rattle.psi_network.specs.Expansion.{source_of, servers_at, served_by};
+ghost use Rattle.psi_net_document.specs.Values.{seen, no_unknown, required, each};
+ghost use Rattle.psi_model.specs.Expansion.{source_of, servers_at, served_by};
 ghost use Rattle.psi_net.specs.EventTables.{kind_named, kind_in, event_keys, kind_of, event_of, are_within, event_step, events_of};
 ghost use Rattle.psi_net.specs.Counting.{IsCounted};
 ghost use Rattle.psi_net.specs.Listing.{listed};
@@ -22,13 +22,13 @@ use crate::net_error::NetError;
 use crate::part_tables::guarded;
 use crate::words::KindWord;
 use indexmap::IndexSet;
-use psi_document::{
+use psi_kinds::Kind;
+use psi_model::{
+    MOST_INDEX_VALUES, Name, NamedEvent, index_values, push_expanded, servers_at, source_of,
+};
+use psi_net_document::{
     Cause, NetRefusal, Place, Section, elements_in, find, no_unknown, present, read, required_name,
     required_number, table_in, text_in, unless_taken,
-};
-use psi_kinds::Kind;
-use psi_network::{
-    MOST_INDEX_VALUES, Name, NamedEvent, index_values, push_expanded, servers_at, source_of,
 };
 use std::alloc::Global;
 use toml::{Table, Value};
@@ -173,7 +173,7 @@ struct Counts {
 }
 
 // What the events so far and those of this one come to, which is within the limits.
-#[tactic(auto, using(psi_network::proofs::CopyLemmas::length_more, psi_network::proofs::CopyLemmas::values_more, psi_network::proofs::CopyLemmas::rates_more, psi_network::proofs::CopyLemmas::too_many), unfolding(crate::specs::EventTables::are_within, crate::specs::EventTables::within_limits))]
+#[tactic(auto, using(psi_model::proofs::CopyLemmas::length_more, psi_model::proofs::CopyLemmas::values_more, psi_model::proofs::CopyLemmas::rates_more, psi_model::proofs::CopyLemmas::too_many), unfolding(crate::specs::EventTables::are_within, crate::specs::EventTables::within_limits))]
 fn counted(
     place: Place,
     list: &EventList,
@@ -249,7 +249,7 @@ fn push_event(
 }
 
 // The events of the array's elements.
-#[tactic(auto, using(psi_document::proofs::TurnLemmas::turn, crate::proofs::ErrorLemmas::turn_errs, psi_document::proofs::TurnLemmas::turn_ends))]
+#[tactic(auto, using(psi_net_document::proofs::TurnLemmas::turn, crate::proofs::ErrorLemmas::turn_errs, psi_net_document::proofs::TurnLemmas::turn_ends))]
 fn all_events(
     alloc: Global,
     version: u32,

@@ -4,22 +4,22 @@ ghost use Rattle.std.specs.Prelude.{◌≡◌, ℕ, ◌≤◌, ◌<◌, ◌+◌,
 ghost use Rattle.std.specs.List.{list_all};
 ghost use Rattle.toml.specs.View.{view, table_view};
 ghost use Rattle.psi_route.specs.declared.Full.TheVariants.{Lost};
-ghost use Rattle.psi_document.specs.Refusal.{Gives};
+ghost use Rattle.psi_net_document.specs.Refusal.{Gives};
 ghost use Rattle.psi_net.specs.Errors.{Reads};
-ghost use Rattle.psi_document.specs.Values.{seen, required, optional, each};
-ghost use Rattle.psi_document.specs.References.{targets_in};
-ghost use Rattle.psi_document.specs.Targets.{are_below};
+ghost use Rattle.psi_net_document.specs.Values.{seen, required, optional, each};
+ghost use Rattle.psi_net_document.specs.References.{targets_in};
+ghost use Rattle.psi_net_document.specs.Targets.{are_below};
 ghost use Rattle.psi_net.specs.KindTables.{source_in, queue_of_source, full_in, number_step, row_step, table_of, size_fits, arrival_of, service_of, index_of, batch_of, negative_of, fork_of, joined_in, join_of};
 
 use crate::judged;
 use crate::known_queues::KnownQueues;
 use crate::net_error::NetError;
-use psi_document::{
+use psi_kinds::{Kind, Tables};
+use psi_net_document::{
     Cause, KnownNames, NetRefusal, Place, array_in, find, number_in, number_or, present, queue_in,
     read, required_number, required_queue, required_target, required_targets, target_in,
     targets_in,
 };
-use psi_kinds::{Kind, Tables};
 use psi_route::{Full, Source};
 use psi_state::{Queues, State};
 use std::alloc::Global;
@@ -98,7 +98,7 @@ fn push_number(place: Place, numbers: &mut Vec<u32>, value: &Value) -> Result<()
 }
 
 // The integers of a row.
-#[tactic(auto, using(psi_document::proofs::TurnLemmas::turn, crate::proofs::ErrorLemmas::turn_errs, psi_document::proofs::TurnLemmas::turn_ends))]
+#[tactic(auto, using(psi_net_document::proofs::TurnLemmas::turn, crate::proofs::ErrorLemmas::turn_errs, psi_net_document::proofs::TurnLemmas::turn_ends))]
 fn all_numbers(alloc: Global, place: Place, values: &[Value]) -> Result<Vec<u32>, NetError>
     ensures { Reads (λ numbers. numbers.items) result (each (number_step place) 1 [] (map view values.now)) }
 {
@@ -110,7 +110,7 @@ fn all_numbers(alloc: Global, place: Place, values: &[Value]) -> Result<Vec<u32>
 }
 
 // The row of an index's table for the target at this place, counted from 0, with the rows before it.
-#[tactic(auto, using(psi_document::proofs::FoundLemmas::below_at), unfolding(crate::specs::KindTables::row_step))]
+#[tactic(auto, using(psi_net_document::proofs::FoundLemmas::below_at), unfolding(crate::specs::KindTables::row_step))]
 fn push_row(
     alloc: Global,
     place: Place,
@@ -138,7 +138,7 @@ fn push_row(
 }
 
 // The rows of an index's table.
-#[tactic(auto, using(psi_document::proofs::TurnLemmas::turn, crate::proofs::ErrorLemmas::turn_errs, psi_document::proofs::TurnLemmas::turn_ends))]
+#[tactic(auto, using(psi_net_document::proofs::TurnLemmas::turn, crate::proofs::ErrorLemmas::turn_errs, psi_net_document::proofs::TurnLemmas::turn_ends))]
 fn all_rows(
     alloc: Global,
     place: Place,
@@ -179,7 +179,7 @@ fn table_of(
 }
 
 // Whether each target has a capacity of at least `size`.
-#[tactic(auto, using(psi_document::proofs::FoundLemmas::below_at, psi_document::proofs::FoundLemmas::all_turn, psi_document::proofs::FoundLemmas::all_found, psi_document::proofs::FoundLemmas::all_ends))]
+#[tactic(auto, using(psi_net_document::proofs::FoundLemmas::below_at, psi_net_document::proofs::FoundLemmas::all_turn, psi_net_document::proofs::FoundLemmas::all_found, psi_net_document::proofs::FoundLemmas::all_ends))]
 fn are_roomy(caps: &State, to: &Queues, size: u32) -> bool
     requires { are_below (length caps.now) to.now ≡ true }
     ensures { result ≡ list_all (λ q. nat_le size (slice_index caps.now q)) to.now }

@@ -35,6 +35,6 @@ mod reward_tables;
 mod words;
 
 pub use net_error::NetError;
-pub use psi_document::{NetRefusal, Section};
-pub use psi_network::{Name, Net, OutOfMemory, generated};
+pub use psi_model::{Name, Net, OutOfMemory, generated};
+pub use psi_net_document::{NetRefusal, Section};
 pub use reading::net_of;

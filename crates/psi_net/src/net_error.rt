@@ -3,8 +3,8 @@
 ghost use Rattle.std.specs.Prelude.{◌≡◌};
 ghost use Rattle.psi_net.specs.declared.net_error.NetError.TheVariants.{OutOfMemory};
 
-use psi_document::NetRefusal;
-use psi_network::OutOfMemory;
+use psi_model::OutOfMemory;
+use psi_net_document::NetRefusal;
 use std::alloc::{AllocError, AllocFailed};
 
 /// Why bytes give no network.

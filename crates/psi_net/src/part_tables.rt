@@ -2,17 +2,17 @@
 
 ghost use Rattle.std.specs.Prelude.{◌≡◌, ℕ, ◌≤◌, ◌<◌, ◌+◌, [], length, map, codes, IfOk, OnOk};
 ghost use Rattle.toml.specs.View.{view, table_view};
-ghost use Rattle.psi_document.specs.Refusal.{Gives};
-ghost use Rattle.psi_document.specs.Values.{seen, required, each};
+ghost use Rattle.psi_net_document.specs.Refusal.{Gives};
+ghost use Rattle.psi_net_document.specs.Values.{seen, required, each};
 ghost use Rattle.psi_net.specs.PartTables.{part_table, part_queue, part_numbers, unless_empty, part_of, part_step, parts_in, guarded_of};
 
 use crate::known_queues::KnownQueues;
-use psi_document::{
+use psi_guard::{Part, Parts};
+use psi_kinds::Kind;
+use psi_net_document::{
     Cause, KnownNames, NetRefusal, Place, elements_in, find, integer_or_zero, no_unknown,
     number_or, present, queue_in, read,
 };
-use psi_guard::{Part, Parts};
-use psi_kinds::Kind;
 use toml::{Table, Value};
 
 // An element that is a table; another one is refused at the key `part`.
@@ -116,7 +116,7 @@ fn push_part(
 }
 
 // The parts of the array's elements.
-#[tactic(auto, using(psi_document::proofs::TurnLemmas::turn, psi_document::proofs::TurnLemmas::turn_fails, psi_document::proofs::TurnLemmas::turn_ends))]
+#[tactic(auto, using(psi_net_document::proofs::TurnLemmas::turn, psi_net_document::proofs::TurnLemmas::turn_fails, psi_net_document::proofs::TurnLemmas::turn_ends))]
 fn all_parts(place: Place, known: &KnownQueues, values: &[Value]) -> Result<Parts, NetRefusal>
     requires { length values.now ≤ 32 }
     ensures { Gives (λ parts. parts) result (each (part_step place known.now.names.list.keys known.now.caps) 1 [] (map view values.now)) }

@@ -4,20 +4,20 @@ ghost use Rattle.std.specs.Prelude.{◌≡◌, ◌≤◌, [], length, map, false
 ghost use Rattle.std.specs.List.{list_any};
 ghost use Rattle.std.specs.Str.{bytes_eq};
 ghost use Rattle.toml.specs.View.{view, table_view};
-ghost use Rattle.psi_document.specs.Refusal.{Gives};
+ghost use Rattle.psi_net_document.specs.Refusal.{Gives};
 ghost use Rattle.psi_net.specs.Errors.{Reads};
-ghost use Rattle.psi_document.specs.Values.{seen, each};
+ghost use Rattle.psi_net_document.specs.Values.{seen, each};
 ghost use Rattle.psi_net.specs.QueueTables.{queue_of, queue_step, queues_in, queues_of};
 
 use crate::judged;
 use crate::known_queues::KnownQueues;
 use crate::net_error::NetError;
 use indexmap::IndexSet;
-use psi_document::{
+use psi_model::{Name, Queue, capacities};
+use psi_net_document::{
     Cause, KnownNames, NetRefusal, Place, Section, elements_in, find, no_unknown, number_or,
     present, read, required_name, required_number, table_in, unless_taken,
 };
-use psi_network::{Name, Queue, capacities};
 use std::alloc::Global;
 use toml::{Table, Value};
 
@@ -71,7 +71,7 @@ fn push_queue(
 }
 
 // The queues of the array's elements.
-#[tactic(auto, using(psi_document::proofs::TurnLemmas::turn, crate::proofs::ErrorLemmas::turn_errs, psi_document::proofs::TurnLemmas::turn_ends))]
+#[tactic(auto, using(psi_net_document::proofs::TurnLemmas::turn, crate::proofs::ErrorLemmas::turn_errs, psi_net_document::proofs::TurnLemmas::turn_ends))]
 fn all_queues(alloc: Global, values: &[Value]) -> Result<QueueList, NetError>
     requires { length values.now ≤ 32 }
     ensures value { Reads (λ list. list.queues.items) result (each queue_step 1 [] (map view values.now)) }

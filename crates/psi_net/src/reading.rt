@@ -1,11 +1,11 @@
 //! Reading a file.
 
 ghost use Rattle.std.specs.Prelude.{◌≡◌, ◌≤◌, take, codes, Ok, IfOk, IfErr};
-ghost use Rattle.psi_document.specs.Refusal.{Gives, top};
+ghost use Rattle.psi_net_document.specs.Refusal.{Gives, top};
 ghost use Rattle.psi_net.specs.Errors.{IsNetError, Reads};
 ghost use Rattle.toml.specs.View.{view, table_view};
-ghost use Rattle.psi_document.specs.Values.{seen, required};
-ghost use Rattle.psi_network.specs.Draft.{drafted, IsWhole};
+ghost use Rattle.psi_net_document.specs.Values.{seen, required};
+ghost use Rattle.psi_model.specs.Draft.{drafted, IsWhole};
 ghost use Rattle.psi_net.specs.Reading.{version_in, most_limit, numbers_of, document_network, file_text, text_network, network_of};
 
 use crate::event_tables::events;
@@ -13,8 +13,8 @@ use crate::judged;
 use crate::net_error::NetError;
 use crate::queue_tables::queues;
 use crate::reward_tables::rewards;
-use psi_document::{Cause, NetRefusal, Place, find, no_unknown, number_or, present, read};
-use psi_network::{Draft, Net};
+use psi_model::{Draft, Net};
+use psi_net_document::{Cause, NetRefusal, Place, find, no_unknown, number_or, present, read};
 use std::alloc::Global;
 use toml::{Table, Value};
 

@@ -5,12 +5,12 @@ ghost use Rattle.std.specs.List.{list_any};
 ghost use Rattle.std.specs.Str.{bytes_eq};
 ghost use Rattle.psi_reward.specs.Rewards.{reward_caps};
 ghost use Rattle.toml.specs.View.{view, table_view};
-ghost use Rattle.psi_document.specs.Refusal.{Gives};
+ghost use Rattle.psi_net_document.specs.Refusal.{Gives};
 ghost use Rattle.psi_net.specs.Errors.{Reads};
-ghost use Rattle.psi_document.specs.Values.{seen, no_unknown, required, each};
-ghost use Rattle.psi_document.specs.Targets.{AreTargets, are_below};
-ghost use Rattle.psi_network.specs.Draft.{named};
-ghost use Rattle.psi_document.specs.References.{some_targets_in};
+ghost use Rattle.psi_net_document.specs.Values.{seen, no_unknown, required, each};
+ghost use Rattle.psi_net_document.specs.Targets.{AreTargets, are_below};
+ghost use Rattle.psi_model.specs.Draft.{named};
+ghost use Rattle.psi_net_document.specs.References.{some_targets_in};
 ghost use Rattle.psi_net.specs.RewardTables.{reward_named, reward_kind_in, reward_keys, integer_step, weights_in, grid_step, grid_in, reward_kind_of, reward_of, reward_step, rewards_in, rewards_of};
 
 use crate::judged;
@@ -18,11 +18,11 @@ use crate::known_queues::KnownQueues;
 use crate::net_error::NetError;
 use crate::words::RewardWord;
 use indexmap::IndexSet;
-use psi_document::{
+use psi_model::{Name, RewardEntry, accepted_reward};
+use psi_net_document::{
     Cause, KnownNames, NetRefusal, Place, Section, array_in, find, integer_in, no_unknown, present,
     read, required_name, required_number, some_targets_in, table_in, text_in, unless_taken,
 };
-use psi_network::{Name, RewardEntry, accepted_reward};
 use psi_reward::{Grid, Numbers, RewardKind};
 use psi_state::{Queues, State};
 use std::alloc::Global;
@@ -101,7 +101,7 @@ fn push_integer(
 }
 
 // The integers of an array.
-#[tactic(auto, using(psi_document::proofs::TurnLemmas::turn, crate::proofs::ErrorLemmas::turn_errs, psi_document::proofs::TurnLemmas::turn_ends))]
+#[tactic(auto, using(psi_net_document::proofs::TurnLemmas::turn, crate::proofs::ErrorLemmas::turn_errs, psi_net_document::proofs::TurnLemmas::turn_ends))]
 fn all_integers(
     alloc: Global,
     place: Place,
@@ -136,7 +136,7 @@ fn weights(
 }
 
 // The row of `table` for the queue at this place, counted from 0, with the rows before it.
-#[tactic(auto, using(psi_document::proofs::FoundLemmas::below_at), unfolding(crate::specs::RewardTables::grid_step))]
+#[tactic(auto, using(psi_net_document::proofs::FoundLemmas::below_at), unfolding(crate::specs::RewardTables::grid_step))]
 fn push_grid_row(
     alloc: Global,
     place: Place,
@@ -164,7 +164,7 @@ fn push_grid_row(
 }
 
 // The rows of `table`.
-#[tactic(auto, using(psi_document::proofs::TurnLemmas::turn, crate::proofs::ErrorLemmas::turn_errs, psi_document::proofs::TurnLemmas::turn_ends))]
+#[tactic(auto, using(psi_net_document::proofs::TurnLemmas::turn, crate::proofs::ErrorLemmas::turn_errs, psi_net_document::proofs::TurnLemmas::turn_ends))]
 fn all_grid_rows(
     alloc: Global,
     place: Place,
@@ -304,7 +304,7 @@ fn push_reward(
 }
 
 // The rewards of the array's elements.
-#[tactic(auto, using(psi_document::proofs::TurnLemmas::turn, crate::proofs::ErrorLemmas::turn_errs, psi_document::proofs::TurnLemmas::turn_ends, crate::proofs::KeptRewardsLemmas::no_caps))]
+#[tactic(auto, using(psi_net_document::proofs::TurnLemmas::turn, crate::proofs::ErrorLemmas::turn_errs, psi_net_document::proofs::TurnLemmas::turn_ends, crate::proofs::KeptRewardsLemmas::no_caps))]
 fn all_rewards(
     alloc: Global,
     known: &KnownQueues,

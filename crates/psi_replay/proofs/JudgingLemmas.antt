@@ -7,7 +7,7 @@ use Rattle.psi_state.specs.declared.outcome.Step.{Step}
 use Rattle.psi_event.specs.Idle.{unchanged}
 use Rattle.psi_rate.specs.Rates.{event_of}
 use Rattle.psi_rate.specs.Composition.{Functions, picked}
-use Rattle.psi_lines.specs.Log.{Region, Entry, Certificate, IsLog}
+use Rattle.psi_log_text.specs.Log.{Region, Entry, Certificate, IsLog}
 use Rattle.psi_log.specs.Refusal.{Refusal, holds_or}
 use Rattle.psi_log.proofs.WordLemmas.{held}
 use Rattle.psi_log.specs.Told.{step_at}

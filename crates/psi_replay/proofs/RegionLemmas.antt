@@ -9,7 +9,7 @@ use Rattle.psi_state.specs.State.{Corners, IsBelow, box}
 use Rattle.psi_state.specs.Members.{In}
 use Rattle.psi_state.proofs.BoxesLemmas.{In-low, In-high, In-of_box, below-through}
 use Rattle.psi_region.specs.Covering.{Covers}
-use Rattle.psi_lines.specs.Log.{Region, in_box, in_set, Entry, Certificate, IsRegion, IsEntry, IsLog}
+use Rattle.psi_log_text.specs.Log.{Region, in_box, in_set, Entry, Certificate, IsRegion, IsEntry, IsLog}
 use Rattle.psi_log.specs.Told.{form}
 use Rattle.psi_log.specs.declared.form.Form.{Form}
 use Rattle.psi_log.specs.declared.form.Form.TheVariants.{Box, Set}

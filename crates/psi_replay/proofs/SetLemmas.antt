@@ -7,7 +7,7 @@ use Rattle.psi_state.specs.Sets.{state_cmp}
 use Rattle.psi_state.proofs.SetsLemmas.{same-from_cmp}
 use Rattle.psi_state.specs.Ascending.{IsRising}
 use Rattle.psi_state.proofs.AscendingLemmas.{cmp-itself, cmp-never, cmp-back}
-use Rattle.psi_lines.specs.Log.{Region, in_box, in_set, Certificate}
+use Rattle.psi_log_text.specs.Log.{Region, in_box, in_set, Certificate}
 use Rattle.psi_log.specs.Told.{region_at, form, HasState, state_in}
 use Rattle.psi_log.specs.declared.form.Form.{Form}
 use Rattle.psi_log.specs.declared.form.Form.TheVariants.{Set}

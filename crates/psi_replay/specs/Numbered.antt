@@ -1,6 +1,6 @@
 -- The regions of a log by their numbers.
 use Rattle.std.specs.Prelude.{◌≡◌, ℕ, ◌≤◌, Some, option_map, unwrap_or}
-use Rattle.psi_lines.specs.Log.{Region, Certificate, IsLog}
+use Rattle.psi_log_text.specs.Log.{Region, Certificate, IsLog}
 use Rattle.psi_log.specs.Told.{region_at, form}
 use Rattle.psi_log.specs.declared.form.Form.TheVariants.{Set}
 

@@ -1,5 +1,5 @@
 -- What the regions of the code are seen as.
-use Rattle.psi_lines.specs.Log.{Region, in_box, in_set}
+use Rattle.psi_log_text.specs.Log.{Region, in_box, in_set}
 use Rattle.psi_replay.specs.declared.regions.Region.{Region as Shown}
 use Rattle.psi_replay.specs.declared.regions.Region.TheVariants.{Box, Set}
 

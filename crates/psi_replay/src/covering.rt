@@ -3,7 +3,7 @@
 ghost use Rattle.std.specs.Prelude.{◌≡◌, ℕ, List, length, true, None, MatchOption};
 ghost use Rattle.psi_state.specs.State.{AreCapacities, IsBelow};
 ghost use Rattle.psi_event.specs.Idle.{unchanged};
-ghost use Rattle.psi_lines.specs.Log.{in_box, in_set, IsRegion};
+ghost use Rattle.psi_log_text.specs.Log.{in_box, in_set, IsRegion};
 ghost use Rattle.psi_replay.specs.Verdict.{states_of, has, covers, is_within, holds_all};
 ghost use Rattle.psi_replay.specs.Seen.{seen};
 

@@ -2,7 +2,7 @@
 
 ghost use Rattle.std.specs.Prelude.{◌≡◌, ◌==◌, ◌≤◌, ℕ, true, length};
 ghost use Rattle.psi_state.specs.State.{IsBelow, box};
-ghost use Rattle.psi_lines.specs.Log.{in_box, in_set, IsLog, IsRegion};
+ghost use Rattle.psi_log_text.specs.Log.{in_box, in_set, IsLog, IsRegion};
 ghost use Rattle.psi_replay.specs.Verdict.{states_of, has, is_within, is_small};
 ghost use Rattle.psi_replay.specs.Numbered.{nth_region};
 ghost use Rattle.psi_replay.specs.Seen.{seen};

@@ -25,12 +25,12 @@ use Rattle.psi_closed.proofs.DiagramLemmas.{total-some}
 use Rattle.psi_closed.proofs.RunsLemmas.{outcome-reached, outcome-decides, outcome-of}
 use Rattle.psi_closed.proofs.PlanLemmas.{moves-keep}
 use Rattle.psi_closed.proofs.StatesLemmas.{customers-next}
-use Rattle.psi_network.specs.Network.{Network, caps_of, rates_of}
-use Rattle.psi_network.specs.Valid.{IsNetwork, IsAccepted}
-use Rattle.psi_network.specs.declared.entries.NamedEvent.{NamedEvent}
-use Rattle.psi_network.specs.declared.entries.Queue.{Queue}
+use Rattle.psi_model.specs.Network.{Network, caps_of, rates_of}
+use Rattle.psi_model.specs.Valid.{IsNetwork, IsAccepted}
+use Rattle.psi_model.specs.declared.entries.NamedEvent.{NamedEvent}
+use Rattle.psi_model.specs.declared.entries.Queue.{Queue}
 use Rattle.psi_command.specs.declared.status.Status.TheVariants.{NoSuchTotal}
-use Rattle.psi_texts.specs.Lines.{no_total_line}
+use Rattle.psi_answers.specs.Lines.{no_total_line}
 use Rattle.psi_reply.specs.Sample.{functions_by_time}
 use Rattle.psi_reply.specs.Closed.{first_other, AreMovesOf, closed_endings, closed_sampled, IsClosedSampled}
 use Rattle.psi_reply.specs.Reply.{line_reply, outcome_reply, total_reply, closed_reply}

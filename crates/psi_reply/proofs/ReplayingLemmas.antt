@@ -3,13 +3,13 @@ use Rattle.std.specs.Prelude.{◌≡◌, ℕ, List, [], Option, Result, Ok, Err,
 use Rattle.std.proofs.Common.{inl, inr, sym, ◌∙◌, subst}
 use Rattle.psi_io.specs.Sink.{appended}
 use Rattle.psi_io.proofs.SinkLemmas.{appended-nothing}
-use Rattle.psi_lines.specs.Log.{Certificate}
+use Rattle.psi_log_text.specs.Log.{Certificate}
 use Rattle.psi_log.specs.Refusal.{Refusal}
 use Rattle.psi_log.specs.Reading.{read}
 use Rattle.psi_log.proofs.ReadLemmas.{read_found}
 use Rattle.psi_replay.specs.Verdict.{verdict_of}
-use Rattle.psi_network.specs.Network.{Network}
-use Rattle.psi_network.specs.Valid.{IsNetwork}
+use Rattle.psi_model.specs.Network.{Network}
+use Rattle.psi_model.specs.Valid.{IsNetwork}
 use Rattle.psi_command.specs.declared.status.Status.TheVariants as status
 use Rattle.psi_reply.specs.Replay.{judgement, IsReplayed}
 use Rattle.psi_reply.specs.Reply.{verdict_reply}

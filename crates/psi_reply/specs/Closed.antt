@@ -10,11 +10,11 @@ use Rattle.psi_rate.specs.Outcomes.{outcome_within}
 use Rattle.psi_arcs.specs.Walks.{customers}
 use Rattle.psi_closed.specs.Closed.{closed_ending}
 use Rattle.psi_closed.specs.Planned.{IsClosedSample}
-use Rattle.psi_network.specs.Network.{Network, caps_of}
-use Rattle.psi_network.specs.declared.entries.NamedEvent.{NamedEvent}
+use Rattle.psi_model.specs.Network.{Network, caps_of}
+use Rattle.psi_model.specs.declared.entries.NamedEvent.{NamedEvent}
 use Rattle.psi_command.specs.declared.status.Status.{Status}
 use Rattle.psi_command.specs.declared.status.Status.TheVariants.{NotClosed, NoSuchTotal}
-use Rattle.psi_texts.specs.Texts.{outcome_text}
+use Rattle.psi_answers.specs.Texts.{outcome_text}
 use Rattle.psi_reply.specs.Sample.{functions_by_time, outcome_status}
 
 -- the number of the first event that isn't a move of one customer, if there is one

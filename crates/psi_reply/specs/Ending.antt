@@ -2,7 +2,7 @@
 use Rattle.std.specs.Prelude.{◌≡◌}
 use Rattle.psi_command.specs.declared.status.Status.TheVariants.{ReadFault, OutOfMemory}
 use Rattle.psi_command.specs.Command.{File}
-use Rattle.psi_texts.specs.Lines.{unread_line, memory_line}
+use Rattle.psi_answers.specs.Lines.{unread_line, memory_line}
 use Rattle.psi_reply.specs.Reply.{Reply, line_reply}
 
 -- how the work ends

@@ -4,23 +4,23 @@ use Rattle.psi_command.specs.Status.{IsPrinted, IsReported, IsOfCommand}
 use Rattle.psi_command.specs.Command.{Command}
 use Rattle.psi_state.specs.declared.Outcome.{Outcome}
 use Rattle.psi_state.specs.declared.Outcome.TheVariants.{Met, NotMet}
-use Rattle.psi_lines.specs.Log.{Certificate}
-use Rattle.psi_lines.specs.Text.{log_text}
+use Rattle.psi_log_text.specs.Log.{Certificate}
+use Rattle.psi_log_text.specs.Text.{log_text}
 use Rattle.psi_log.specs.Refusal.{Refusal}
 use Rattle.psi_log.specs.Reading.{read}
 use Rattle.psi_replay.specs.declared.answers.Verdict.{Verdict}
 use Rattle.psi_replay.specs.declared.answers.Verdict.TheVariants.{Accepted, Rejected}
 use Rattle.psi_replay.specs.Verdict.{verdict_of}
 use Rattle.psi_arcs.specs.Walks.{customers}
-use Rattle.psi_network.specs.Network.{Network, caps_of}
-use Rattle.psi_document.specs.declared.refusals.NetRefusal.{NetRefusal}
+use Rattle.psi_model.specs.Network.{Network, caps_of}
+use Rattle.psi_net_document.specs.declared.refusals.NetRefusal.{NetRefusal}
 use Rattle.psi_command.specs.declared.status.Status.{Status}
 use Rattle.psi_command.specs.declared.status.Status.TheVariants.{Done, NotCoupled, Usage, NetRefused, LogRefused, LogTooLong, UnknownReward, TooManyStates, NotClosed, NoSuchTotal}
-use Rattle.psi_texts.specs.Texts.{outcome_text, accepted_text}
-use Rattle.psi_texts.specs.Lines.{usage_line, refused_line, unknown_line, log_refused_line, log_rejected_line, too_long_line, too_many_line, not_closed_line, no_total_line}
+use Rattle.psi_answers.specs.Texts.{outcome_text, accepted_text}
+use Rattle.psi_answers.specs.Lines.{usage_line, refused_line, unknown_line, log_refused_line, log_rejected_line, too_long_line, too_many_line, not_closed_line, no_total_line}
 use Rattle.psi_reply.specs.Sample.{outcome_status}
 use Rattle.psi_reply.specs.Reward.{valuation, value_status}
-use Rattle.psi_texts.specs.Values.{value_text}
+use Rattle.psi_answers.specs.Values.{value_text}
 use Rattle.psi_reply.specs.Replay.{judgement}
 use Rattle.psi_reply.specs.Exact.{state_count, meeting, meeting_status, exact_text}
 use Rattle.psi_reply.specs.Closed.{closed_sampled}

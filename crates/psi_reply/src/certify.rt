@@ -3,15 +3,15 @@
 ghost use Rattle.std.specs.Prelude.{◌≤◌};
 ghost use Rattle.psi_state.specs.declared.Outcome.TheVariants.{NotMet};
 ghost use Rattle.psi_command.specs.declared.status.Status.TheVariants.{NotCoupled};
-ghost use Rattle.psi_texts.specs.Texts.{outcome_text};
+ghost use Rattle.psi_answers.specs.Texts.{outcome_text};
 ghost use Rattle.psi_reply.specs.Reply.{text_reply};
 ghost use Rattle.psi_reply.specs.Ending.{EndsWith};
 ghost use Rattle.psi_reply.specs.Ended.{ending_of};
 
 use crate::ending::Ending;
+use psi_answers::outcome_text;
 use psi_command::Status;
 use psi_state::Outcome;
-use psi_texts::outcome_text;
 use std::alloc::Global;
 
 /// What is told of a sample that isn't met within 2 to the power `limit` steps, `limit` being at most 22: status

@@ -2,7 +2,7 @@
 
 ghost use Rattle.std.specs.Prelude.{◌≡◌, ◌++◌, OnOk, IfOk, is_none};
 ghost use Rattle.std.specs.List.{list_all};
-ghost use Rattle.psi_network.specs.Network.{marks_of};
+ghost use Rattle.psi_model.specs.Network.{marks_of};
 ghost use Rattle.psi_command.specs.declared.status.Status.TheVariants.{Done};
 ghost use Rattle.psi_reply.specs.Check.{queue_line, mark_text, event_line, monotone_line, queue_lines, event_lines, check_text, AreMarked};
 ghost use Rattle.psi_reply.specs.Reply.{text_reply};
@@ -11,11 +11,11 @@ ghost use Rattle.psi_reply.specs.Ended.{ending_of};
 
 use crate::ending::Ending;
 use itoa::Buffer;
+use psi_answers::{push_number_line, push_pieces, push_state};
 use psi_command::Status;
 use psi_event::EventLaw;
-use psi_network::Net;
+use psi_model::Net;
 use psi_state::State;
-use psi_texts::{push_number_line, push_pieces, push_state};
 use std::alloc::{AllocError, Global};
 
 // Appends the line of a queue.

@@ -3,8 +3,8 @@
 ghost use Rattle.std.specs.Prelude.{◌≡◌, ◌≤◌, ℕ, IfOk, IfErr};
 ghost use Rattle.psi_arcs.specs.Walks.{customers};
 ghost use Rattle.psi_closed.specs.Diagram.{IsTotal};
-ghost use Rattle.psi_network.specs.Network.{caps_of};
-ghost use Rattle.psi_texts.specs.Texts.{IsWithinLimit};
+ghost use Rattle.psi_model.specs.Network.{caps_of};
+ghost use Rattle.psi_answers.specs.Texts.{IsWithinLimit};
 ghost use Rattle.psi_reply.specs.Closed.{first_other, AreMovesOf, closed_sampled};
 ghost use Rattle.psi_reply.specs.Reply.{total_reply, closed_reply};
 ghost use Rattle.psi_reply.specs.Ending.{EndsWith};
@@ -12,12 +12,12 @@ ghost use Rattle.psi_reply.specs.Ended.{ending_of};
 
 use crate::ending::Ending;
 use crate::sample::outcome_status;
+use psi_answers::outcome_text;
 use psi_closed::{ClosedPlan, OutOfMemory};
 use psi_kinds::Move;
-use psi_network::Net;
+use psi_model::Net;
 use psi_past::SeedPast;
 use psi_state::Outcome;
-use psi_texts::outcome_text;
 use std::alloc::Global;
 
 // The moves that the events are, in their order. Where there are none, the work ends the same for every number of

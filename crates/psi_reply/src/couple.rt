@@ -2,19 +2,19 @@
 
 ghost use Rattle.std.specs.Prelude.{◌≡◌, IfOk};
 ghost use Rattle.psi_reply.specs.Couple.{coupling, coupling_status};
-ghost use Rattle.psi_texts.specs.Couplings.{coupling_text, HasLimit};
+ghost use Rattle.psi_answers.specs.Couplings.{coupling_text, HasLimit};
 ghost use Rattle.psi_reply.specs.Reply.{text_reply};
 ghost use Rattle.psi_reply.specs.Ending.{EndsWith};
 ghost use Rattle.psi_reply.specs.Ended.{ending_of};
 
 use crate::ending::Ending;
+use psi_answers::coupling_text;
 use psi_command::Status;
 use psi_couple::{Coupled, least_horizon};
 use psi_follow::plan_of;
 use psi_horizon::OutOfMemory;
-use psi_network::Net;
+use psi_model::Net;
 use psi_past::SeedPast;
-use psi_texts::coupling_text;
 use std::alloc::Global;
 
 // The least coupling of a network under the words of a seed and a stream.

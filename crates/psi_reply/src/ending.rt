@@ -3,7 +3,7 @@
 ghost use Rattle.std.specs.Prelude.{◌≡◌};
 
 use psi_command::Status;
-use psi_document::NetRefusal;
+use psi_net_document::NetRefusal;
 
 /// How the work of a call ends, once its memory is taken and before anything is written.
 #[derive(Drop, Debug)]

@@ -9,12 +9,12 @@ ghost use Rattle.psi_reply.specs.Ending.{EndsWith};
 ghost use Rattle.psi_reply.specs.Ended.{ending_of};
 
 use crate::ending::Ending;
+use psi_answers::accepted_text;
 use psi_command::Status;
 use psi_log::{Log, LogError, read_log};
-use psi_network::Net;
+use psi_model::Net;
 use psi_replay::{Verdict, verdict};
 use psi_state::State;
-use psi_texts::accepted_text;
 use std::alloc::Global;
 
 // The work on a log that is accepted.

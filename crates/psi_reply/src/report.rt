@@ -18,7 +18,7 @@ use psi_event::EventLaw;
 use psi_follow::{Way, plan_of};
 use psi_horizon::Plan;
 use psi_kinds::Event;
-use psi_network::Net;
+use psi_model::Net;
 use psi_past::SeedPast;
 use psi_report::Tally;
 use psi_state::Outcome;

@@ -2,22 +2,22 @@
 
 ghost use Rattle.std.specs.Prelude.{◌≡◌, Some, None, IfOk, IfSome};
 ghost use Rattle.psi_reward.specs.Rewards.{reward_caps, reward_kind};
-ghost use Rattle.psi_network.specs.Network.{caps_of};
+ghost use Rattle.psi_model.specs.Network.{caps_of};
 ghost use Rattle.psi_reply.specs.Reward.{kind_named, valuation, value_status};
-ghost use Rattle.psi_texts.specs.Values.{HasLimit};
+ghost use Rattle.psi_answers.specs.Values.{HasLimit};
 ghost use Rattle.psi_reply.specs.Reply.{value_reply};
 ghost use Rattle.psi_reply.specs.Ending.{EndsWith};
 ghost use Rattle.psi_reply.specs.Ended.{ending_of};
 
 use crate::ending::Ending;
+use psi_answers::value_text;
 use psi_command::Status;
 use psi_couple::{Valued, value_horizon};
 use psi_follow::plan_of;
 use psi_horizon::OutOfMemory;
-use psi_network::Net;
+use psi_model::Net;
 use psi_past::SeedPast;
 use psi_reward::Reward;
-use psi_texts::value_text;
 use std::alloc::Global;
 
 // The reward of this name, if the network has one.

@@ -1,20 +1,20 @@
 //! `sample NET SEED STREAM`: a sample of a network.
 
 ghost use Rattle.std.specs.Prelude.{◌≡◌, IfOk};
-ghost use Rattle.psi_texts.specs.Texts.{outcome_text, IsWithinLimit};
+ghost use Rattle.psi_answers.specs.Texts.{outcome_text, IsWithinLimit};
 ghost use Rattle.psi_reply.specs.Sample.{sampled, outcome_status};
 ghost use Rattle.psi_reply.specs.Reply.{text_reply};
 ghost use Rattle.psi_reply.specs.Ending.{EndsWith};
 ghost use Rattle.psi_reply.specs.Ended.{ending_of};
 
 use crate::ending::Ending;
+use psi_answers::outcome_text;
 use psi_command::Status;
 use psi_follow::plan_of;
 use psi_horizon::OutOfMemory;
-use psi_network::Net;
+use psi_model::Net;
 use psi_past::SeedPast;
 use psi_state::Outcome;
-use psi_texts::outcome_text;
 use std::alloc::Global;
 
 // The sample of a network under the words of a seed and a stream.

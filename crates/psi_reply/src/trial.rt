@@ -1,8 +1,8 @@
 //! `trial NUMBER`: four samples of a network that is made from a number.
 
 ghost use Rattle.std.specs.Prelude.{◌≡◌, IfSome, IsSome};
-ghost use Rattle.psi_network.specs.Generated.{generated_network};
-ghost use Rattle.psi_network.specs.Valid.{IsNetwork};
+ghost use Rattle.psi_model.specs.Generated.{generated_network};
+ghost use Rattle.psi_model.specs.Valid.{IsNetwork};
 ghost use Rattle.psi_command.specs.declared.status.Status.TheVariants.{Done};
 ghost use Rattle.psi_reply.specs.Report.{samples_of};
 ghost use Rattle.psi_reply.specs.Trial.{trial_text};
@@ -12,9 +12,9 @@ ghost use Rattle.psi_reply.specs.Ended.{ending_of};
 
 use crate::ending::Ending;
 use crate::report::report_of;
+use psi_answers::push_number_line;
 use psi_command::Status;
-use psi_network::{Net, generated};
-use psi_texts::push_number_line;
+use psi_model::{Net, generated};
 use std::alloc::Global;
 
 // The text of the trial of a network; none where there is not enough memory.

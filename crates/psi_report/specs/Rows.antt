@@ -1,7 +1,7 @@
 -- The records of a report, as running totals give them.
 use Rattle.std.specs.Prelude.{ℕ, ◌+◌, ◌-◌, ◌^◌, List, [], ◌∷◌, ◌++◌, map, codes, nat_lt, if◌then◌else◌}
 use Rattle.std.specs.Fmt.{signed_decimal}
-use Rattle.psi_network.specs.Network.{Network}
+use Rattle.psi_model.specs.Network.{Network}
 use Rattle.psi_report.specs.declared.summary.Summary.{Summary}
 use Rattle.psi_report.specs.Report.{Items, row, samples_row, horizon_row, queue_items, reward_items}
 use Rattle.psi_report.specs.Totals.{Totals}

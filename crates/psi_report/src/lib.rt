@@ -11,5 +11,5 @@ mod summary;
 mod table;
 mod tally;
 
-pub use psi_network::OutOfMemory;
+pub use psi_model::OutOfMemory;
 pub use tally::Tally;

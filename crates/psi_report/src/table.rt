@@ -5,7 +5,7 @@ ghost use Rattle.psi_report.specs.Holding.{Holds};
 ghost use Rattle.psi_report.specs.Report.{row, rows_text};
 
 use csv::Writer;
-use psi_network::OutOfMemory;
+use psi_model::OutOfMemory;
 use std::alloc::Global;
 
 /// A table of no record.

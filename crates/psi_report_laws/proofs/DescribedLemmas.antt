@@ -8,17 +8,17 @@ use Rattle.std.proofs.lemmas.List.Elements.{All-nil, All-push}
 use Rattle.toml.specs.Data.{Data, Members, get_member}
 use Rattle.toml.specs.Parse.{parse_document}
 use Rattle.psi_name.specs.Name.{is_name}
-use Rattle.psi_network.specs.Network.{Network, NamedReward, caps_of}
-use Rattle.psi_network.specs.Valid.{IsReward}
-use Rattle.psi_network.specs.declared.entries.Queue.{Queue}
-use Rattle.psi_document.specs.Refusal.{holds_or, at_key, at_place, top, queue_place, reward_place}
-use Rattle.psi_document.specs.Values.{no_unknown, required, optional, number_in, text_in, array_in, elements_in, table_in}
-use Rattle.psi_document.specs.Names.{name_or, name_in, unless_taken}
-use Rattle.psi_document.specs.References.{some_targets_in}
-use Rattle.psi_document.specs.declared.refusals.Cause.TheVariants.{MissingKey, NotToml, OutOfRange, TooMany}
-use Rattle.psi_document.specs.declared.refusals.Place.{Place}
-use Rattle.psi_document.specs.declared.refusals.NetRefusal.{NetRefusal}
-use Rattle.psi_document.proofs.ReadingLemmas.{bind_ok, ok_same, held, required_ok, optional_kept, each_kept}
+use Rattle.psi_model.specs.Network.{Network, NamedReward, caps_of}
+use Rattle.psi_model.specs.Valid.{IsReward}
+use Rattle.psi_model.specs.declared.entries.Queue.{Queue}
+use Rattle.psi_net_document.specs.Refusal.{holds_or, at_key, at_place, top, queue_place, reward_place}
+use Rattle.psi_net_document.specs.Values.{no_unknown, required, optional, number_in, text_in, array_in, elements_in, table_in}
+use Rattle.psi_net_document.specs.Names.{name_or, name_in, unless_taken}
+use Rattle.psi_net_document.specs.References.{some_targets_in}
+use Rattle.psi_net_document.specs.declared.refusals.Cause.TheVariants.{MissingKey, NotToml, OutOfRange, TooMany}
+use Rattle.psi_net_document.specs.declared.refusals.Place.{Place}
+use Rattle.psi_net_document.specs.declared.refusals.NetRefusal.{NetRefusal}
+use Rattle.psi_net_document.proofs.ReadingLemmas.{bind_ok, ok_same, held, required_ok, optional_kept, each_kept}
 use Rattle.psi_net.specs.QueueTables.{queue_keys, queue_of, queue_step, queues_in, queues_of}
 use Rattle.psi_net.specs.EventTables.{events_of}
 use Rattle.psi_net.specs.RewardTables.{reward_kind_in, reward_keys, reward_kind_of, reward_of, reward_step, rewards_in, rewards_of}

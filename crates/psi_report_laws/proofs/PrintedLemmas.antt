@@ -5,10 +5,10 @@ use Rattle.std.proofs.lemmas.List.Elements.{All-nil, All-cons}
 use Rattle.psi_io.specs.Sink.{appended}
 use Rattle.psi_state.specs.declared.Outcome.{Outcome}
 use Rattle.psi_state.specs.declared.Outcome.TheVariants.{Met, NotMet}
-use Rattle.psi_network.specs.Network.{Network}
-use Rattle.psi_network.specs.Valid.{IsNetwork}
-use Rattle.psi_document.specs.declared.refusals.NetRefusal.{NetRefusal}
-use Rattle.psi_document.proofs.ReadingLemmas.{bind_ok}
+use Rattle.psi_model.specs.Network.{Network}
+use Rattle.psi_model.specs.Valid.{IsNetwork}
+use Rattle.psi_net_document.specs.declared.refusals.NetRefusal.{NetRefusal}
+use Rattle.psi_net_document.proofs.ReadingLemmas.{bind_ok}
 use Rattle.psi_net.specs.Reading.{file_text, text_network, network_of}
 use Rattle.psi_net.proofs.NetworkLemmas.{network_kept}
 use Rattle.psi_report.specs.Samples.{IsSampleOf}

@@ -1,8 +1,8 @@
 -- What reports show of the networks that there are: those that files describe, and those that trials make of numbers.
 use Rattle.std.specs.Prelude.{◌≡◌, ℕ, ◌^◌, ◌<◌, ◌≤◌, List, ◌++◌, length, All, None, Ok}
 use Rattle.psi_state.specs.declared.Outcome.{Outcome}
-use Rattle.psi_network.specs.Network.{Network}
-use Rattle.psi_network.specs.Generated.{generated_network}
+use Rattle.psi_model.specs.Network.{Network}
+use Rattle.psi_model.specs.Generated.{generated_network}
 use Rattle.psi_report.specs.Samples.{IsSampleOf}
 use Rattle.psi_report.specs.Report.{report_text}
 use Rattle.psi_net.specs.Reading.{network_of}

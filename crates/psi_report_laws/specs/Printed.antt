@@ -1,7 +1,7 @@
 -- What the program prints of samples of a network in a file, read back, judged and merged.
 use Rattle.std.specs.Prelude.{◌≡◌, ℕ, ◌+◌, ◌^◌, ◌<◌, ◌≤◌, List, ◌++◌, length, Option, Some, None, Ok}
 use Rattle.psi_state.specs.declared.Outcome.{Outcome}
-use Rattle.psi_network.specs.Network.{Network}
+use Rattle.psi_model.specs.Network.{Network}
 use Rattle.psi_net.specs.Reading.{network_of}
 use Rattle.psi_command.specs.declared.status.Status.{Status}
 use Rattle.psi_command.specs.declared.status.Status.TheVariants.{Done}

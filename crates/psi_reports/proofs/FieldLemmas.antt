@@ -7,7 +7,7 @@ use Rattle.std.proofs.Common.{ap, sym, ◌∙◌, append_assoc, arith}
 use Rattle.std.proofs.lemmas.List.{append-nil, take-map, length-map, length-append}
 use Rattle.std.proofs.lemmas.List.Elements.{All-head, All-tail}
 use Rattle.csv.specs.Writing.{default_writer, row_text}
-use Rattle.psi_network.specs.Name.{is_name, is_name_byte}
+use Rattle.psi_model.specs.Name.{is_name, is_name_byte}
 use Rattle.psi_report.specs.Report.{row, horizon_row, rows_text}
 use Rattle.psi_report.specs.Rows.{number_rows}
 use Rattle.psi_reports.specs.declared.figure.Item.{Item}

@@ -12,7 +12,7 @@ use Rattle.std.proofs.lemmas.List.Sums.{sum_by_push}
 use Rattle.std.proofs.lemmas.Slice.Eq.{bytes_eq-Decides}
 use Rattle.psi_state.specs.Ascending.{IsDistinct}
 use Rattle.psi_state.specs.Members.{In}
-use Rattle.psi_network.specs.Name.{is_name}
+use Rattle.psi_model.specs.Name.{is_name}
 use Rattle.psi_reward.specs.Ranges.{least, greatest}
 use Rattle.psi_report.specs.Quantities.{sum_of}
 use Rattle.psi_reports.specs.declared.figure.Item.{Item}

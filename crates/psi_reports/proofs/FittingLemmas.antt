@@ -3,7 +3,7 @@ use Rattle.std.specs.Prelude.{◌≡◌, ℕ, ◌+◌, ◌^◌, ◌<◌, List, [
 use Rattle.std.proofs.Common.{◌∙◌, subst}
 use Rattle.std.proofs.lemmas.Bool.{and_parts, ltb-true}
 use Rattle.std.proofs.lemmas.List.Elements.{All-nil, All-cons, All-head, All-tail, All-weaker}
-use Rattle.psi_network.specs.Name.{is_name}
+use Rattle.psi_model.specs.Name.{is_name}
 use Rattle.psi_report.specs.Joined.{paired}
 use Rattle.psi_reports.specs.declared.figure.HorizonCount.{HorizonCount}
 use Rattle.psi_reports.specs.declared.figure.Figure.{Figure}

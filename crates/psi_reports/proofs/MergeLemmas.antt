@@ -4,7 +4,7 @@ use Rattle.std.proofs.Common.{ap, arith}
 use Rattle.std.proofs.lemmas.Bool.{lt-ltb, le-ltb}
 use Rattle.std.proofs.lemmas.List.Elements.{All-head, All-tail}
 use Rattle.std.specs.Int.RustNames.{unsigned_abs}
-use Rattle.psi_network.specs.Name.{is_name}
+use Rattle.psi_model.specs.Name.{is_name}
 use Rattle.psi_reports.specs.Reading.{IsReport}
 use Rattle.psi_reports.specs.declared.figure.HorizonCount.{HorizonCount}
 use Rattle.psi_reports.specs.declared.figure.Figure.{Figure}

@@ -7,7 +7,7 @@ use Rattle.std.specs.Str.{IsUtf8, is_utf8}
 use Rattle.std.proofs.Common.{inl, inr, arith}
 use Rattle.std.proofs.lemmas.Bool.{and_parts, or_cases, leb-true, eqb-true}
 use Rattle.std.proofs.lemmas.Str.{IsUtf8-from_is_utf8, is_utf8-from_IsUtf8, IsUtf8-from_ascii}
-use Rattle.psi_network.specs.Name.{is_name_byte, is_name, name_of}
+use Rattle.psi_model.specs.Name.{is_name_byte, is_name, name_of}
 use Rattle.psi_reports.specs.Reading.{name_in}
 
 valid : (bytes : List ℕ) → IsUtf8 bytes → is_utf8 bytes ≡ true

@@ -6,7 +6,7 @@ use Rattle.std.proofs.lemmas.Bool.{and_parts, cases_lt, lt-ltb, eq-eqb, ne_eqb}
 use Rattle.std.proofs.lemmas.List.Elements.{All-head, All-tail}
 use Rattle.std.proofs.lemmas.Slice.Eq.{bytes_eq-Decides}
 use Rattle.psi_state.specs.declared.Outcome.{Outcome}
-use Rattle.psi_network.specs.Network.{Network}
+use Rattle.psi_model.specs.Network.{Network}
 use Rattle.psi_report.specs.Samples.{met_states}
 use Rattle.psi_reports.specs.declared.figure.Item.{Item}
 use Rattle.psi_reports.specs.declared.figure.Item.TheVariants.{Least, RewardLeast}

@@ -4,7 +4,7 @@ use Rattle.std.specs.List.{flat_map}
 use Rattle.std.proofs.Common.{ap, sym, append_assoc}
 use Rattle.std.proofs.lemmas.List.{map-append}
 use Rattle.psi_state.specs.declared.Outcome.{Outcome}
-use Rattle.psi_network.specs.Network.{Network}
+use Rattle.psi_model.specs.Network.{Network}
 use Rattle.psi_report.specs.Samples.{met_states, met_horizons}
 use Rattle.psi_report.specs.Distinct.{distinct}
 use Rattle.psi_report.specs.Quantities.{Quantity, queue_quantities, reward_quantities}

@@ -9,7 +9,7 @@ use Rattle.std.proofs.lemmas.List.{append-nil}
 use Rattle.std.proofs.lemmas.List.Elements.{All-nil, All-cons, All-head, All-tail, All-append, All-weaker}
 use Rattle.std.proofs.lemmas.List.Splits.{slice_split_at, slice_split_none}
 use Rattle.csv.specs.Writing.{default_writer, needs_byte, row_text, fields_text, is_blank}
-use Rattle.psi_network.specs.Name.{is_name_byte}
+use Rattle.psi_model.specs.Name.{is_name_byte}
 use Rattle.psi_reports.specs.Reading.{is_feed, is_comma}
 use Rattle.psi_reports.proofs.DigitLemmas.{IsDigit, decimal-digits}
 

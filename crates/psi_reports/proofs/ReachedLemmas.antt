@@ -8,14 +8,14 @@ use Rattle.std.proofs.lemmas.List.Elements.{All-nil, All-cons, All-head, All-tai
 use Rattle.psi_state.specs.State.{IsBelow}
 use Rattle.psi_state.specs.declared.Outcome.{Outcome}
 use Rattle.psi_state.specs.declared.Outcome.TheVariants.{Met, NotMet}
-use Rattle.psi_network.specs.Name.{is_name}
-use Rattle.psi_network.specs.Network.{Network, NamedReward, caps_of}
+use Rattle.psi_model.specs.Name.{is_name}
+use Rattle.psi_model.specs.Network.{Network, NamedReward, caps_of}
 use Rattle.psi_kinds.specs.Refusals.{refusal_of}
 use Rattle.psi_kinds.specs.declared.kinds.Kind.TheVariants.{Arrival}
 use Rattle.psi_rate.specs.Rates.{AreRates}
-use Rattle.psi_network.specs.Valid.{IsQueue, AreListed, IsAccepted, IsReward, IsNetwork}
-use Rattle.psi_network.specs.declared.entries.NamedEvent.{NamedEvent}
-use Rattle.psi_network.specs.declared.entries.Queue.{Queue}
+use Rattle.psi_model.specs.Valid.{IsQueue, AreListed, IsAccepted, IsReward, IsNetwork}
+use Rattle.psi_model.specs.declared.entries.NamedEvent.{NamedEvent}
+use Rattle.psi_model.specs.declared.entries.Queue.{Queue}
 use Rattle.psi_report.specs.Samples.{IsHorizon, IsSampleOf, met_states, met_horizons}
 use Rattle.psi_report.specs.Quantities.{queues_from}
 use Rattle.psi_reports.specs.declared.figure.Figure.{Figure}

@@ -14,11 +14,11 @@ use Rattle.psi_state.specs.Members.{In}
 use Rattle.psi_state.specs.State.{IsBelow, AreCapacities}
 use Rattle.psi_state.specs.declared.Outcome.{Outcome}
 use Rattle.psi_state.specs.declared.Outcome.TheVariants.{Met, NotMet}
-use Rattle.psi_network.specs.Name.{is_name}
-use Rattle.psi_network.specs.Network.{Network, NamedReward, caps_of}
-use Rattle.psi_network.specs.Valid.{IsReward}
-use Rattle.psi_network.specs.declared.entries.Queue.{Queue}
-use Rattle.psi_network.proofs.QueueLemmas.{capacities_kept}
+use Rattle.psi_model.specs.Name.{is_name}
+use Rattle.psi_model.specs.Network.{Network, NamedReward, caps_of}
+use Rattle.psi_model.specs.Valid.{IsReward}
+use Rattle.psi_model.specs.declared.entries.Queue.{Queue}
+use Rattle.psi_model.proofs.QueueLemmas.{capacities_kept}
 use Rattle.psi_reward.specs.Worth.{worth_of}
 use Rattle.psi_report.specs.Samples.{IsHorizon, IsSampleOf, met_states, met_horizons}
 use Rattle.psi_report.specs.Quantities.{Quantity, queues_from, queue_quantities, reward_quantities}

@@ -11,7 +11,7 @@ use Rattle.std.proofs.lemmas.Fmt.{length-decimal-le_wide}
 use Rattle.std.proofs.lemmas.List.{length-map, length-append}
 use Rattle.std.proofs.lemmas.List.Elements.{All-cons, All-head, All-tail, All-map, All-append, All-weaker}
 use Rattle.csv.specs.Writing.{default_writer, row_text}
-use Rattle.psi_network.specs.Name.{is_name, is_name_byte}
+use Rattle.psi_model.specs.Name.{is_name, is_name_byte}
 use Rattle.psi_report.specs.Samples.{IsHorizon, met_states, met_horizons}
 use Rattle.psi_report.specs.Distinct.{distinct}
 use Rattle.psi_report.specs.Quantities.{Quantity, queue_quantities, reward_quantities}

@@ -12,11 +12,11 @@ use Rattle.psi_state.specs.Ascending.{IsDistinct}
 use Rattle.psi_state.specs.Members.{In}
 use Rattle.psi_reward.specs.Refusing.{IsSmall}
 use Rattle.psi_reward.specs.declared.RewardKind.TheVariants.{Linear}
-use Rattle.psi_network.specs.Name.{is_name}
-use Rattle.psi_network.specs.Network.{Network, NamedReward, caps_of}
-use Rattle.psi_network.specs.Valid.{IsQueue, IsReward}
-use Rattle.psi_network.specs.declared.entries.Queue.{Queue}
-use Rattle.psi_network.proofs.RewardLemmas.{reward_accepted}
+use Rattle.psi_model.specs.Name.{is_name}
+use Rattle.psi_model.specs.Network.{Network, NamedReward, caps_of}
+use Rattle.psi_model.specs.Valid.{IsQueue, IsReward}
+use Rattle.psi_model.specs.declared.entries.Queue.{Queue}
+use Rattle.psi_model.proofs.RewardLemmas.{reward_accepted}
 use Rattle.psi_reports.specs.declared.figure.Item.{Item}
 use Rattle.psi_reports.specs.declared.figure.Item.TheVariants.{Sum, Least, Greatest, RewardSum, RewardLeast, RewardGreatest}
 use Rattle.psi_reports.specs.declared.figure.Figure.{Figure}

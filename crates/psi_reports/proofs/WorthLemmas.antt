@@ -19,7 +19,7 @@ use Rattle.psi_reward.specs.Sums.{weighted, entry, added}
 use Rattle.psi_reward.specs.Ranges.{least, greatest}
 use Rattle.psi_reward.specs.Refusing.{queues_of, IsSmall, first_refusal, is_none_listed, has_lengths}
 use Rattle.psi_reward.specs.Worth.{worth_of}
-use Rattle.psi_network.specs.Valid.{IsReward}
+use Rattle.psi_model.specs.Valid.{IsReward}
 use Rattle.psi_reports.specs.Sound.{is_worth}
 
 -- a number of a state of these capacities

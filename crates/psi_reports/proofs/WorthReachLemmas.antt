@@ -8,10 +8,10 @@ use Rattle.psi_reward.specs.Refusing.{IsSmall}
 use Rattle.psi_reward.specs.Worth.{worth_of}
 use Rattle.psi_reward.specs.declared.RewardKind.{RewardKind}
 use Rattle.psi_reward.specs.declared.RewardKind.TheVariants.{Linear}
-use Rattle.psi_network.specs.Valid.{IsQueue, AreListed, IsReward}
-use Rattle.psi_network.specs.declared.entries.Queue.{Queue}
-use Rattle.psi_network.proofs.QueueLemmas.{capacities_kept}
-use Rattle.psi_network.proofs.RewardLemmas.{reward_accepted}
+use Rattle.psi_model.specs.Valid.{IsQueue, AreListed, IsReward}
+use Rattle.psi_model.specs.declared.entries.Queue.{Queue}
+use Rattle.psi_model.proofs.QueueLemmas.{capacities_kept}
+use Rattle.psi_model.proofs.RewardLemmas.{reward_accepted}
 use Rattle.psi_reports.specs.Reached.{WorthsAreReached}
 
 abbrev full : Queue

@@ -3,8 +3,8 @@ use Rattle.std.specs.Prelude.{◌≡◌, ◌≢◌, ℕ, ◌+◌, ◌-◌, ◌^�
 use Rattle.std.specs.List.{slice_split, slice_get}
 use Rattle.std.specs.Str.{bytes_eq}
 use Rattle.psi_state.specs.declared.Outcome.{Outcome}
-use Rattle.psi_network.specs.Network.{Network, NamedReward}
-use Rattle.psi_network.specs.declared.entries.Queue.{Queue}
+use Rattle.psi_model.specs.Network.{Network, NamedReward}
+use Rattle.psi_model.specs.declared.entries.Queue.{Queue}
 use Rattle.psi_report.specs.Report.{report_text}
 use Rattle.psi_reports.specs.declared.figure.Item.{Item}
 use Rattle.psi_reports.specs.declared.figure.Item.TheVariants.{Sum, RewardSum}

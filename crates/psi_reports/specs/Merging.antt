@@ -4,7 +4,7 @@ use Rattle.std.specs.Int.{int_min, int_max}
 use Rattle.std.specs.Int.RustNames.{unsigned_abs}
 use Rattle.std.specs.List.{list_all}
 use Rattle.psi_state.specs.declared.Outcome.{Outcome}
-use Rattle.psi_network.specs.Network.{Network}
+use Rattle.psi_model.specs.Network.{Network}
 use Rattle.psi_report.specs.Joined.{paired}
 use Rattle.psi_reports.specs.declared.figure.Item.{Item}
 use Rattle.psi_reports.specs.declared.figure.Item.TheVariants.{Sum, Least, Greatest, RewardSum, RewardLeast, RewardGreatest}

@@ -4,8 +4,8 @@ use Rattle.psi_state.specs.State.{IsBelow, AreCapacities}
 use Rattle.psi_state.specs.declared.Outcome.{Outcome}
 use Rattle.psi_reward.specs.Worth.{worth_of}
 use Rattle.psi_reward.specs.declared.RewardKind.{RewardKind}
-use Rattle.psi_network.specs.Network.{Network}
-use Rattle.psi_network.specs.Valid.{IsReward, IsNetwork}
+use Rattle.psi_model.specs.Network.{Network}
+use Rattle.psi_model.specs.Valid.{IsReward, IsNetwork}
 use Rattle.psi_report.specs.Report.{report_text}
 use Rattle.psi_reports.specs.declared.figure.Item.{Item}
 use Rattle.psi_reports.specs.declared.figure.Item.TheVariants.{Sum, Least, Greatest}

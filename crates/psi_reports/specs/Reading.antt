@@ -3,7 +3,7 @@ use Rattle.std.specs.Prelude.{◌≡◌, ℕ, ◌+◌, ◌^◌, ◌<◌, ℤ, Li
 use Rattle.std.specs.Int.RustNames.{unsigned_abs}
 use Rattle.std.specs.List.{slice_split}
 use Rattle.std.specs.Str.{bytes_eq, is_utf8}
-use Rattle.psi_network.specs.Name.{name_of, is_name}
+use Rattle.psi_model.specs.Name.{name_of, is_name}
 use Rattle.psi_reports.specs.declared.figure.Item.{Item}
 use Rattle.psi_reports.specs.declared.figure.Item.TheVariants.{Sum, Least, Greatest, RewardSum, RewardLeast, RewardGreatest}
 use Rattle.psi_reports.specs.declared.figure.HorizonCount.{HorizonCount}

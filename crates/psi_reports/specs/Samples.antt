@@ -2,9 +2,9 @@
 use Rattle.std.specs.Prelude.{◌≡◌, ℕ, ◌^◌, ◌<◌, ◌≤◌, List, map, length, All, true, Ok}
 use Rattle.psi_state.specs.Ascending.{IsDistinct}
 use Rattle.psi_state.specs.declared.Outcome.{Outcome}
-use Rattle.psi_network.specs.Name.{is_name}
-use Rattle.psi_network.specs.Network.{Network, caps_of}
-use Rattle.psi_network.specs.Valid.{AreListed, IsReward}
+use Rattle.psi_model.specs.Name.{is_name}
+use Rattle.psi_model.specs.Network.{Network, caps_of}
+use Rattle.psi_model.specs.Valid.{AreListed, IsReward}
 use Rattle.psi_report.specs.Samples.{IsSampleOf}
 use Rattle.psi_report.specs.Report.{report_text}
 use Rattle.psi_reports.specs.Outcomes.{contents_of}

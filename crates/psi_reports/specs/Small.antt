@@ -2,8 +2,8 @@
 use Rattle.std.specs.Prelude.{◌≡◌, ℕ, ◌^◌, ◌<◌, ◌≤◌, ℤ, List, map, length, All, true, Ok}
 use Rattle.std.specs.Int.RustNames.{unsigned_abs}
 use Rattle.psi_state.specs.declared.Outcome.{Outcome}
-use Rattle.psi_network.specs.Name.{is_name}
-use Rattle.psi_network.specs.Network.{Network}
+use Rattle.psi_model.specs.Name.{is_name}
+use Rattle.psi_model.specs.Network.{Network}
 use Rattle.psi_report.specs.Samples.{met_states, met_horizons}
 use Rattle.psi_report.specs.Quantities.{Quantity, queue_quantities, reward_quantities}
 use Rattle.psi_report.specs.Report.{report_text}

@@ -3,7 +3,7 @@
 ghost use Rattle.std.specs.Prelude.{◌≡◌};
 ghost use Rattle.psi_reports.specs.declared.error.ReadError.TheVariants.{OutOfMemory};
 
-use psi_network::OutOfMemory as NoMemory;
+use psi_model::OutOfMemory as NoMemory;
 use std::alloc::{AllocError, AllocFailed};
 
 /// Why no report is given.

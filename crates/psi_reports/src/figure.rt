@@ -1,6 +1,6 @@
 //! What the rows of a report tell.
 
-use psi_network::Name;
+use psi_model::Name;
 
 /// What a figure is of.
 #[derive(Clone, Copy, PartialEq, Eq, Debug)]

@@ -32,6 +32,6 @@ pub use laws::{
     reports_show_networks, rows_stand_on_lines, sums_are_reached, text_is_read, worths_are_reached,
     wrong_lines_are_none,
 };
-pub use psi_network::OutOfMemory;
+pub use psi_model::OutOfMemory;
 pub use reading::read;
 pub use report::Report;

@@ -7,7 +7,7 @@ ghost use Rattle.psi_reports.specs.Reading.{is_comma, item_of, name_in, with_sam
 use crate::figure::{Figure, HorizonCount, Item};
 use crate::numbers::{count_in, integer_of};
 use crate::report::Report;
-use psi_network::{Name, OutOfMemory, name_of};
+use psi_model::{Name, OutOfMemory, name_of};
 use std::alloc::{AllocError, Global};
 
 // The item of a figure's row.

@@ -9,7 +9,7 @@ ghost use Rattle.psi_reports.specs.Text.{item_text, figure_row, count_row};
 use crate::figure::{Figure, HorizonCount, Item};
 use csv::Writer;
 use itoa::Buffer;
-use psi_network::OutOfMemory;
+use psi_model::OutOfMemory;
 use std::alloc::Global;
 
 /// A table of no row.

@@ -5,7 +5,7 @@ use Rattle.std.proofs.lemmas.Bool.{cases_lt, le-leb, lt-leb}
 use Rattle.psi_io.proofs.SinkLemmas.{appended-nothing}
 use Rattle.psi_command.specs.declared.status.Status.{Status}
 use Rattle.psi_command.specs.declared.status.Status.TheVariants as status
-use Rattle.psi_texts.specs.Lines.{too_long_line}
+use Rattle.psi_answers.specs.Lines.{too_long_line}
 use Rattle.psi_reply.specs.Reply.{text_reply, line_reply, log_reply}
 use Rattle.psi_run.specs.Seen.{SinkSeen, Grew, GrewByPart, HasFailed}
 use Rattle.psi_reply.specs.Ending.{Ending, replied, EndsWith}

@@ -4,7 +4,7 @@ use Rattle.psi_command.specs.declared.status.Status.{Status}
 use Rattle.psi_command.specs.declared.status.Status.TheVariants.{Usage, LogRefused, LogTooLong, ReadFault, WriteFault, OutOfMemory, UnknownReward, TooManyStates, NotClosed, NoSuchTotal}
 use Rattle.psi_command.specs.Status.{IsReplay, IsCertify, IsReward, IsExact, IsClosed, IsPrinted, IsReported, IsReplied}
 use Rattle.psi_command.specs.Words.{command_of}
-use Rattle.psi_texts.specs.Lines.{unread_line, memory_line}
+use Rattle.psi_answers.specs.Lines.{unread_line, memory_line}
 use Rattle.psi_reply.specs.Reply.{Reply}
 use Rattle.psi_run.specs.Reply.{reply_to}
 use Rattle.psi_run.specs.Seen.{ShelfSeen, HasUnread, AreAsked, SinkSeen, Grew, GrewByPart, IsUnchanged, HasFailed}

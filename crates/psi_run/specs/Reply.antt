@@ -1,9 +1,9 @@
 -- What the program answers to its words, over the files that the shelf tells.
 use Rattle.std.specs.Prelude.{◌≡◌, ℕ, List, [], ◌∷◌, Option, Some, None, option_map, option_and_then, Result, Ok, Err}
-use Rattle.psi_network.specs.Network.{Network}
-use Rattle.psi_network.specs.Generated.{generated_network}
+use Rattle.psi_model.specs.Network.{Network}
+use Rattle.psi_model.specs.Generated.{generated_network}
 use Rattle.psi_net.specs.Reading.{network_of}
-use Rattle.psi_document.specs.declared.refusals.NetRefusal.{NetRefusal}
+use Rattle.psi_net_document.specs.declared.refusals.NetRefusal.{NetRefusal}
 use Rattle.psi_command.specs.declared.status.Status.TheVariants.{Done}
 use Rattle.psi_report.specs.Report.{report_text}
 use Rattle.psi_command.specs.Command.{Command, sample, check, report, trial, couple, reward, exact, closed, certify, replay, File, file_name, files_of}
@@ -12,7 +12,7 @@ use Rattle.psi_reply.specs.Check.{check_text}
 use Rattle.psi_reply.specs.Report.{samples_of}
 use Rattle.psi_reply.specs.Trial.{trial_text}
 use Rattle.psi_reply.specs.Couple.{coupling, coupling_status}
-use Rattle.psi_texts.specs.Couplings.{coupling_text}
+use Rattle.psi_answers.specs.Couplings.{coupling_text}
 use Rattle.psi_reply.specs.Reward.{kind_named}
 use Rattle.psi_reply.specs.Closed.{first_other}
 use Rattle.psi_reply.specs.Reply.{Reply, text_reply, usage_reply, refused_reply, value_reply, survey_reply, outcome_reply, closed_reply, certify_reply, replay_reply, IsReply}

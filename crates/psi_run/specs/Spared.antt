@@ -1,7 +1,7 @@
 -- Where no read and no write of a call is to fail.
 use Rattle.std.specs.Prelude.{ℕ, ◌≤◌, List, length, Result, IsOk}
 use Rattle.psi_command.specs.Command.{Command, File, file_name}
-use Rattle.psi_texts.specs.Lines.{memory_line}
+use Rattle.psi_answers.specs.Lines.{memory_line}
 use Rattle.psi_reply.specs.Reply.{Reply}
 use Rattle.psi_run.specs.Seen.{IsRead}
 use Rattle.psi_reply.specs.Ending.{Ending, unread}

@@ -3,7 +3,7 @@
 ghost use Rattle.std.specs.Prelude.{◌≡◌, ◌≢◌, ℕ, ◌^◌, ◌<◌, ◌⊎◌, List, [], ◌∷◌, Some, Ok, map, codes, string_bytes};
 ghost use Rattle.std.specs.Fmt.{decimal};
 ghost use Rattle.psi_io.specs.Counts.{Rose};
-ghost use Rattle.psi_network.specs.Network.{Network};
+ghost use Rattle.psi_model.specs.Network.{Network};
 ghost use Rattle.psi_net.specs.Reading.{network_of};
 ghost use Rattle.psi_command.specs.Status.{IsReplied};
 ghost use Rattle.psi_command.specs.Command.{Command};

@@ -7,10 +7,10 @@ ghost use Rattle.psi_run.specs.Written.{IsWritten};
 ghost use Rattle.psi_run.specs.Spared.{IsTaken};
 ghost use Rattle.psi_run.specs.Finished.{IsFinished};
 
+use psi_answers::{log_refused_line, log_rejected_line, not_closed_line, refused_line, usage_line};
 use psi_command::Status;
 use psi_io::{Sink, SinkFault, write_all};
 use psi_reply::Ending;
-use psi_texts::{log_refused_line, log_rejected_line, not_closed_line, refused_line, usage_line};
 
 // Writes the text of an ending to out, or its line to err, as one piece.
 //

@@ -12,7 +12,7 @@ use crate::table::{into_text, new_table, push_row};
 use crate::tally::Tally;
 use csv::Writer;
 use itoa::Buffer;
-use psi_network::{Net, OutOfMemory};
+use psi_model::{Net, OutOfMemory};
 use std::alloc::Global;
 
 // What the records of a quantity are called.

@@ -1,8 +1,8 @@
 //! `sample NET SEED STREAM log`: the log of a sample.
 
 ghost use Rattle.std.specs.Prelude.{◌≡◌, ◌^◌, ◌≤◌, Ok};
-ghost use Rattle.psi_lines.specs.Text.{log_text};
-ghost use Rattle.psi_record.specs.Recorded.{log_of};
+ghost use Rattle.psi_log_text.specs.Text.{log_text};
+ghost use Rattle.psi_log_writer.specs.Recorded.{log_of};
 ghost use Rattle.psi_command.specs.Command.{certify};
 ghost use Rattle.psi_reply.specs.Sample.{sampled};
 ghost use Rattle.psi_reply.specs.Reply.{log_reply, certify_reply};
@@ -20,9 +20,9 @@ use psi_follow::plan_of;
 use psi_horizon::Plan;
 use psi_io::{Shelf, Sink};
 use psi_log::{Header, LineBuf};
+use psi_log_writer::{Block, log_fits, write_log};
 use psi_net::Net;
 use psi_past::{Past, SeedPast};
-use psi_record::{Block, log_fits, write_log};
 use psi_region::Follower;
 use psi_reply::{Ending, unmet_ending};
 use psi_state::{Outcome, State};

@@ -1,6 +1,6 @@
 -- Invariants of the loops of `scan::state_at`.
 use Rattle.std.specs.Prelude.{◌≡◌, ◌≤◌, length, take}
-use Rattle.psi_lines.specs.Text.{numbers_text}
+use Rattle.psi_log_text.specs.Text.{numbers_text}
 use Rattle.psi_log.specs.Scanned.{Stands}
 use Rattle.psi_log.proofs.scan.state_at.Given as goal
 

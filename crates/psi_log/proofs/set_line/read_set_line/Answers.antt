@@ -2,7 +2,7 @@
 use Rattle.std.proofs.Common.{ℕ, List, Ok, take, drop, ◌+◌, ◌-◌, ◌∙◌, ap, sym, subst, refl, arith}
 use Rattle.std.specs.Prelude.{Option, IfSome}
 use Rattle.psi_log.specs.Scanned.{AreScanned}
-use Rattle.psi_lines.specs.Log.{in_set}
+use Rattle.psi_log_text.specs.Log.{in_set}
 use Rattle.psi_log.proofs.LineWordsLemmas.{rest_of}
 use Rattle.psi_log.proofs.SetLineLemmas.{set_line}
 use Rattle.psi_log.proofs.set_line.read_set_line.Goals as goal

@@ -1,7 +1,7 @@
 -- Invariants of the loops of `all_events`.
 use Rattle.std.proofs.Common.{◌≡◌, ◌+◌, [], map, drop}
 use Rattle.toml.specs.View.{view}
-use Rattle.psi_document.specs.Values.{each}
+use Rattle.psi_net_document.specs.Values.{each}
 use Rattle.psi_net.specs.EventTables.{event_step}
 use Rattle.psi_net.specs.Counting.{IsCounted}
 use Rattle.psi_net.specs.Listing.{listed}

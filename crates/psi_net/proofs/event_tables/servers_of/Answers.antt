@@ -1,7 +1,7 @@
 -- Answers in the proof of `servers_of`.
 use Rattle.std.proofs.Common.{ℕ, ◌≤◌, ◌≡◌, refl, sym, ◌∙◌, subst}
-use Rattle.psi_network.specs.Expansion.{source_of, servers_at}
-use Rattle.psi_network.proofs.QueueLemmas.{servers_most}
+use Rattle.psi_model.specs.Expansion.{source_of, servers_at}
+use Rattle.psi_model.proofs.QueueLemmas.{servers_most}
 use Rattle.psi_net.proofs.event_tables.servers_of.Goals as goal
 
 pub returns-clause-some : goal.returns-clause-some

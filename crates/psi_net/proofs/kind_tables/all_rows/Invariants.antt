@@ -1,7 +1,7 @@
 -- Invariants of the loops of `all_rows`.
 use Rattle.std.proofs.Common.{◌≡◌, ◌+◌, [], length, map, drop}
 use Rattle.toml.specs.View.{view}
-use Rattle.psi_document.specs.Values.{each}
+use Rattle.psi_net_document.specs.Values.{each}
 use Rattle.psi_net.specs.KindTables.{row_step}
 use Rattle.psi_net.proofs.kind_tables.all_rows.Given as goal
 

@@ -1,7 +1,7 @@
 -- Invariants of the loops of `all_queues`.
 use Rattle.std.proofs.Common.{◌≡◌, ◌+◌, [], map, drop}
 use Rattle.toml.specs.View.{view}
-use Rattle.psi_document.specs.Values.{each}
+use Rattle.psi_net_document.specs.Values.{each}
 use Rattle.psi_net.specs.QueueTables.{queue_step}
 use Rattle.psi_net.proofs.queue_tables.all_queues.Given as goal
 

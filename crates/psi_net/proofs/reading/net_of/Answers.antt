@@ -1,5 +1,5 @@
 -- Answers in the proof of `net_of`.
-use Rattle.psi_network.specs.Draft.{drafted}
+use Rattle.psi_model.specs.Draft.{drafted}
 use Rattle.psi_net.proofs.FrontLemmas.{network_of-take}
 use Rattle.psi_net.proofs.NetworkLemmas.{network_kept}
 use Rattle.psi_net.proofs.reading.net_of.Goals as goal

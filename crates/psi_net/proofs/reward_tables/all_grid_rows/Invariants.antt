@@ -1,7 +1,7 @@
 -- Invariants of the loops of `all_grid_rows`.
 use Rattle.std.proofs.Common.{◌≡◌, ◌+◌, [], length, map, drop}
 use Rattle.toml.specs.View.{view}
-use Rattle.psi_document.specs.Values.{each}
+use Rattle.psi_net_document.specs.Values.{each}
 use Rattle.psi_net.specs.RewardTables.{grid_step}
 use Rattle.psi_net.proofs.reward_tables.all_grid_rows.Given as goal
 

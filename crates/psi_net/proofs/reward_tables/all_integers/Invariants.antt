@@ -1,7 +1,7 @@
 -- Invariants of the loops of `all_integers`.
 use Rattle.std.proofs.Common.{◌≡◌, ◌+◌, [], map, drop}
 use Rattle.toml.specs.View.{view}
-use Rattle.psi_document.specs.Values.{each}
+use Rattle.psi_net_document.specs.Values.{each}
 use Rattle.psi_net.specs.RewardTables.{integer_step}
 use Rattle.psi_net.proofs.reward_tables.all_integers.Given as goal
 

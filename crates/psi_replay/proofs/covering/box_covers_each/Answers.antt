@@ -3,7 +3,7 @@ use Rattle.std.specs.Prelude.{ℕ, List}
 use Rattle.std.proofs.Common.{ap, ◌∙◌, subst}
 use Rattle.psi_state.specs.Members.{In}
 use Rattle.psi_state.proofs.BoxesLemmas.{In-of_box, below-through}
-use Rattle.psi_lines.specs.Log.{in_set}
+use Rattle.psi_log_text.specs.Log.{in_set}
 use Rattle.psi_replay.specs.Verdict.{covers}
 use Rattle.psi_replay.specs.Seen.{seen}
 use Rattle.psi_replay.proofs.covering.box_covers_each.Goals as goal

@@ -2,7 +2,7 @@
 use Rattle.std.specs.Prelude.{◌≡◌, ℕ, List}
 use Rattle.psi_state.specs.State.{IsBelow}
 use Rattle.psi_state.specs.Members.{In}
-use Rattle.psi_lines.specs.Log.{in_box, in_set}
+use Rattle.psi_log_text.specs.Log.{in_box, in_set}
 use Rattle.psi_replay.specs.Verdict.{covers}
 use Rattle.psi_replay.specs.Seen.{seen}
 use Rattle.psi_replay.proofs.covering.box_covers_each.Given as goal

@@ -1,6 +1,6 @@
 -- Answers in the proof of `covering::covers_set`.
 use Rattle.std.specs.Prelude.{ℕ, List, Bool}
-use Rattle.psi_lines.specs.Log.{in_set}
+use Rattle.psi_log_text.specs.Log.{in_set}
 use Rattle.psi_replay.specs.Verdict.{states_of, has}
 use Rattle.psi_replay.specs.Seen.{seen}
 use Rattle.psi_replay.proofs.ListLemmas.{all_more, all_fails, In-slice_get}

@@ -1,7 +1,7 @@
 -- Invariants of the loops of `covering::covers_set`.
 use Rattle.std.specs.Prelude.{◌≡◌, ℕ, List, drop}
 use Rattle.std.specs.List.{list_all}
-use Rattle.psi_lines.specs.Log.{in_set}
+use Rattle.psi_log_text.specs.Log.{in_set}
 use Rattle.psi_replay.specs.Verdict.{states_of, has, covers}
 use Rattle.psi_replay.specs.Seen.{seen}
 use Rattle.psi_replay.proofs.covering.covers_set.Given as goal

@@ -3,8 +3,8 @@ use Rattle.std.specs.Prelude.{◌≡◌, ℕ, ◌+◌, ◌-◌, length}
 use Rattle.std.proofs.Common.{ap, sym, ◌∙◌, subst, arith}
 use Rattle.std.proofs.lemmas.Grind.{common_steps}
 use Rattle.psi_rate.specs.Composition.{system_functions}
-use Rattle.psi_lines.specs.Log.{IsRegion}
-use Rattle.psi_lines.specs.declared.header.Header.{Header}
+use Rattle.psi_log_text.specs.Log.{IsRegion}
+use Rattle.psi_log_text.specs.declared.header.Header.{Header}
 use Rattle.psi_replay.specs.Verdict.{judge_step, event_numbers}
 use Rattle.psi_replay.specs.Seen.{seen}
 use Rattle.psi_replay.proofs.JudgingLemmas.{entry_is, judge_more, judge_fails, judge_over}

@@ -1,7 +1,7 @@
 -- Invariants of the loops of `judging::judge_steps`.
 use Rattle.std.specs.Prelude.{◌≡◌, ◌+◌, ◌-◌, length, drop, true}
 use Rattle.psi_rate.specs.Composition.{system_functions}
-use Rattle.psi_lines.specs.Log.{IsRegion}
+use Rattle.psi_log_text.specs.Log.{IsRegion}
 use Rattle.psi_replay.specs.Verdict.{is_within, judge_steps, event_numbers}
 use Rattle.psi_replay.specs.Seen.{seen}
 use Rattle.psi_replay.proofs.judging.judge_steps.Given as goal

@@ -1,7 +1,7 @@
 -- Answers in the proof of `regions::region_of`.
 use Rattle.std.specs.Prelude.{ℕ, List}
 use Rattle.std.proofs.Common.{ap, sym, ◌∙◌, subst}
-use Rattle.psi_lines.specs.Log.{Region, in_set, IsRegion}
+use Rattle.psi_log_text.specs.Log.{Region, in_set, IsRegion}
 use Rattle.psi_log.specs.Told.{region_at}
 use Rattle.psi_replay.proofs.RegionLemmas.{shown_box, shown_set, nth_regional}
 use Rattle.psi_replay.proofs.regions.region_of.Goals as goal

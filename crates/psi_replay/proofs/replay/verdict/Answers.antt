@@ -5,7 +5,7 @@ use Rattle.psi_past.specs.Seeded.{Seeded}
 use Rattle.psi_past.specs.SeedWord.{seed_word}
 use Rattle.psi_rate.specs.Composition.{system_functions}
 use Rattle.psi_rate.proofs.FunctionsLemmas.{functions-closed}
-use Rattle.psi_lines.specs.declared.header.Header.{Header}
+use Rattle.psi_log_text.specs.declared.header.Header.{Header}
 use Rattle.psi_replay.specs.Verdict.{judged, verdict_of, event_numbers, ReachesAccepted, AcceptsWithin}
 use Rattle.psi_replay.specs.declared.answers.Verdict.{Verdict}
 use Rattle.psi_replay.specs.declared.answers.Verdict.TheVariants.{Accepted, Rejected}

@@ -1,7 +1,7 @@
 -- Answers in the proof of `closed::sample_of`.
 use Rattle.std.proofs.Common.{ℕ, List, ◌∙◌, sym, subst}
 use Rattle.psi_closed.specs.Planned.{AreMoves}
-use Rattle.psi_network.specs.Network.{caps_of}
+use Rattle.psi_model.specs.Network.{caps_of}
 use Rattle.psi_reply.proofs.ClosingLemmas.{each-move, sampled_of}
 use Rattle.psi_reply.proofs.closed.sample_of.Goals as goal
 

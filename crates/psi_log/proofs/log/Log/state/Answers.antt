@@ -1,10 +1,10 @@
 -- Answers in the proof of `Log::state`.
 use Rattle.std.specs.Prelude.{◌≡◌, ◌+◌, ◌≤◌, Some, length, take, drop}
 use Rattle.std.proofs.Common.{◌∙◌, ap, sym, subst}
-use Rattle.psi_lines.specs.Log.{in_set, Certificate}
+use Rattle.psi_log_text.specs.Log.{in_set, Certificate}
 use Rattle.psi_log.specs.Told.{region_at}
 use Rattle.psi_log.specs.Kept.{region_of, IsThere}
-use Rattle.psi_rows.specs.declared.line_list.Kept.{Kept}
+use Rattle.psi_state_list.specs.declared.line_list.Kept.{Kept}
 use Rattle.psi_log.proofs.ToldLemmas.{set_state}
 use Rattle.psi_log.proofs.log.Log.state.Goals as goal
 

@@ -2,10 +2,10 @@
 use Rattle.std.specs.Prelude.{◌≡◌, ◌+◌, ◌≤◌, ◌↔◌, IsTrue, List, ℕ, Some, length, take, drop}
 use Rattle.std.proofs.Common.{◌∙◌, ap, sym, subst}
 use Rattle.psi_state.specs.State.{IsBelow}
-use Rattle.psi_lines.specs.Log.{in_set, Certificate}
+use Rattle.psi_log_text.specs.Log.{in_set, Certificate}
 use Rattle.psi_log.specs.Told.{region_at}
 use Rattle.psi_log.specs.Kept.{region_of, IsThere}
-use Rattle.psi_rows.specs.declared.line_list.Kept.{Kept}
+use Rattle.psi_state_list.specs.declared.line_list.Kept.{Kept}
 use Rattle.psi_log.proofs.ToldLemmas.{set_leq}
 use Rattle.psi_log.proofs.log.Log.state_leq.Goals as goal
 

@@ -1,6 +1,6 @@
 -- Answers in the proof of `text::push_queues`.
 use Rattle.std.proofs.Common.{[], subst, arith}
-use Rattle.psi_network.specs.declared.entries.Queue.{Queue}
+use Rattle.psi_model.specs.declared.entries.Queue.{Queue}
 use Rattle.psi_report.specs.Holding.{Holds}
 use Rattle.psi_report.specs.Report.{queue_items}
 use Rattle.psi_report.proofs.TakingLemmas.{no_summaries, no_values, summaries_more}

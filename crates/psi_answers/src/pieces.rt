@@ -1,0 +1,50 @@
+//! How texts are written: piece by piece, a number by its decimal digits.
+
+ghost use Rattle.std.specs.Prelude.{◌≡◌, ◌++◌, decimal, OnOk};
+ghost use Rattle.std.specs.List.{flat_map};
+ghost use Rattle.psi_answers.specs.Texts.{number_line, state_text};
+
+use itoa::Buffer;
+use psi_state::State;
+use std::alloc::AllocError;
+
+/// Appends the pieces one after another.
+pub fn push_pieces(text: &mut Vec<u8>, pieces: &[&[u8]]) -> Result<(), AllocError>
+    ensures { OnOk result (text.new.items ≡ text.old.items ++ flat_map (λ piece. piece.now) pieces.now) }
+{
+    for piece in pieces {
+        text.extend_from_slice(piece)?;
+    }
+    Ok(())
+}
+
+/// Appends a word, a number and a line feed.
+#[tactic(auto, unfolding(crate::specs::Texts::number_line))]
+pub fn push_number_line(text: &mut Vec<u8>, word: &[u8], n: u32) -> Result<(), AllocError>
+    ensures { OnOk result (text.new.items ≡ text.old.items ++ number_line word.now n) }
+{
+    let mut digits = Buffer::new();
+    push_pieces(text, &[word, digits.format(n).as_bytes(), b"\n"])
+}
+
+// Appends a number of customers.
+fn push_customers(text: &mut Vec<u8>, customers: u16) -> Result<(), AllocError>
+    ensures { OnOk result (text.new.items ≡ text.old.items ++ decimal customers) }
+{
+    let mut digits = Buffer::new();
+    text.extend_from_slice(digits.format(customers).as_bytes())
+}
+
+/// Appends a state's numbers in the queues' order, joined by commas.
+#[tactic(auto, using(crate::proofs::ListingLemmas::state_text_first))]
+pub fn push_state(text: &mut Vec<u8>, state: &State) -> Result<(), AllocError>
+    ensures { OnOk result (text.new.items ≡ text.old.items ++ state_text state.now) }
+{
+    let queues = state.len();
+    push_customers(text, state.get(0))?;
+    for queue in 1..queues {
+        text.push(b',')?;
+        push_customers(text, state.get(queue))?;
+    }
+    Ok(())
+}

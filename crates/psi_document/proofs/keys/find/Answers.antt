@@ -1,6 +1,0 @@
--- Answers in the proof of `find`.
-use Rattle.toml.proofs.Views.{table_get}
-use Rattle.psi_document.proofs.keys.find.Goals as goal
-
-pub returns : goal.returns
-returns c = table_get c.get.result c.args.key.now c.args.table.now.entries c.get.ensures.value

@@ -1,0 +1,168 @@
+-- How long the lines of a run are at most once its region is a set, by the number of the states and of the queues.
+use Rattle.std.proofs.Common.{◌≡◌, ℕ, zero, suc, ◌+◌, ◌-◌, ◌*◌, ◌<◌, ◌≤◌, ◌^◌, List, [], ◌∷◌, ◌++◌, length, map, codes, true, slice_index, inl, inr, refl, sym, ◌∙◌, ap, subst, arith, length-append}
+use Rattle.std.specs.Fmt.{decimal}
+use Rattle.std.proofs.Math.Nat.{mul-le-mul_right}
+use Rattle.std.proofs.lemmas.Fmt.{length-decimal-le}
+use Rattle.std.proofs.lemmas.Bool.{or_left}
+use Rattle.psi_state.specs.State.{IsVector, AreCapacities}
+use Rattle.psi_state.specs.Members.{In}
+use Rattle.psi_state.specs.declared.outcome.Step.{Step}
+use Rattle.psi_rate.specs.Composition.{AreClosed}
+use Rattle.psi_region.specs.Region.{Area, splits, step}
+use Rattle.psi_region.proofs.RegionLemmas.{step-split}
+use Rattle.psi_horizon.specs.Runs.{region_after}
+use Rattle.psi_log_text.specs.declared.header.Header.{Header}
+use Rattle.psi_log_text.specs.Log.{in_set, IsState}
+use Rattle.psi_log_text.specs.Text.{numbers_text, region_words, next_words, step_text, end_text, log_text}
+use Rattle.psi_log_text.specs.Room.{spaced_words}
+use Rattle.psi_log_text.proofs.LinePiecesLemmas.{step_pieces, end_pieces}
+use Rattle.psi_log_writer.specs.Recorded.{region_of, recorded}
+use Rattle.psi_log_writer.specs.Walking.{step_line, front_text, IsAmple}
+use Rattle.psi_log_writer.proofs.WalkingLemmas.{next-set}
+use Rattle.psi_log_writer.proofs.TextLemmas.{front_text-more, log_text-recorded}
+use Rattle.psi_log_writer.proofs.RegionLemmas.{length-image, kept-after, state-below}
+
+-- a number of 16 bits has at most five digits
+number-short : (n : ℕ) → n < 2 ^ 16 → length (decimal n) ≤ 5
+number-short n small = length-decimal-le 5 n (omega arith) (omega arith) (omega arith)
+
+-- the text of such numbers
+pub numbers-short : (x : List ℕ) → ((i : ℕ) → slice_index x i < 2 ^ 16) → length (numbers_text x) ≤ 6 * length x
+unfolding numbers_text
+numbers-short [] each = omega arith
+numbers-short (a ∷ []) each = (let own = number-short a (each 0) in omega arith)
+numbers-short (a ∷ b ∷ x) each =
+    let own = number-short a (each 0) in
+    let rest : length (numbers_text (b ∷ x)) ≤ 6 * length (b ∷ x) = numbers-short (b ∷ x) (λ i. each (suc i)) in
+    let count : length (numbers_text (a ∷ b ∷ x)) ≡ length (decimal a) + length (44 ∷ numbers_text (b ∷ x)) = length-append (decimal a) (44 ∷ numbers_text (b ∷ x)) in
+    omega arith
+
+pub end-short : (x : List ℕ) → IsVector x → length (end_text x) ≤ 200
+end-short x vector =
+    let text = numbers-short x vector.each in
+    let few = vector.few in
+    let count : length (end_text x) ≡ 3 + length ((32 ∷ numbers_text x) ++ codes "\n") = ap (λ (t : List ℕ). length t) (end_pieces x) ∙ length-append (codes "end") ((32 ∷ numbers_text x) ++ codes "\n") in
+    let rest : length ((32 ∷ numbers_text x) ++ codes "\n") ≡ length (32 ∷ numbers_text x) + 1 = length-append (32 ∷ numbers_text x) (codes "\n") in
+    omega arith
+
+-- one more of a number of things
+pub times-more : (k m : ℕ) → suc k * m ≡ m + k * m
+times-more k m = omega arith
+
+-- the words of states of so many queues
+set-short : (n : ℕ) (xs : List (List ℕ)) → ((x : List ℕ) → In x xs → IsState n x) → length (spaced_words (map numbers_text xs)) ≤ length xs * (6 * n + 1)
+unfolding spaced_words
+set-short n [] each = omega arith
+set-short n (x ∷ xs) each =
+    let own = each x (inl refl) in
+    let text : length (numbers_text x) ≤ 6 * length x = numbers-short x own.each in
+    let size : length x ≡ n = own.count in
+    let rest = set-short n xs (λ y member. each y (inr member)) in
+    let count : length (spaced_words (map numbers_text (x ∷ xs))) ≡ length (32 ∷ numbers_text x) + length (spaced_words (map numbers_text xs)) = length-append (32 ∷ numbers_text x) (spaced_words (map numbers_text xs)) in
+    let all : length (x ∷ xs) * (6 * n + 1) ≡ (6 * n + 1) + length xs * (6 * n + 1) = times-more (length xs) (6 * n + 1) in
+    omega arith
+
+-- the line of a step
+pub step-short : (s : Step) (words : List (List ℕ)) → s.number < 10 ^ 7 → s.event < 10 ^ 4 → length (step_text s words) ≤ 18 + length (spaced_words words)
+unfolding spaced_words
+step-short s words number event =
+    let first : length (decimal s.number) ≤ 7 = length-decimal-le 7 s.number (omega arith) number (omega arith) in
+    let second : length (decimal s.event) ≤ 4 = length-decimal-le 4 s.event (omega arith) event (omega arith) in
+    let head = spaced_words (decimal s.number ∷ decimal s.event ∷ []) in
+    let both : length head ≡ length (32 ∷ decimal s.number) + length ((32 ∷ decimal s.event) ++ []) = length-append (32 ∷ decimal s.number) ((32 ∷ decimal s.event) ++ []) in
+    let one : length ((32 ∷ decimal s.event) ++ []) ≡ length (32 ∷ decimal s.event) + 0 = length-append (32 ∷ decimal s.event) [] in
+    let front : length (codes "step" ++ head) ≡ 4 + length head = length-append (codes "step") head in
+    let back : length (spaced_words words ++ codes "\n") ≡ length (spaced_words words) + 1 = length-append (spaced_words words) (codes "\n") in
+    let whole : length (step_text s words) ≡ length (codes "step" ++ head) + length (spaced_words words ++ codes "\n") =
+    ap (λ (t : List ℕ). length t) (step_pieces s words) ∙ length-append (codes "step" ++ head) (spaced_words words ++ codes "\n") in
+    omega arith
+
+-- the words of a set with its name
+named-short : (n : ℕ) (xs : List (List ℕ)) → ((x : List ℕ) → In x xs → IsState n x) → length (spaced_words (region_words (in_set xs))) ≤ 4 + length xs * (6 * n + 1)
+unfolding spaced_words
+named-short n xs each =
+    let own = set-short n xs each in
+    let count : length (spaced_words (region_words (in_set xs))) ≡ 4 + length (spaced_words (map numbers_text xs)) = length-append (32 ∷ codes "set") (spaced_words (map numbers_text xs)) in
+    omega arith
+
+module _ (split : ℕ) (f : ℕ → List ℕ → List ℕ) (caps : List ℕ) (events : ℕ → ℕ) (horizon : ℕ) where
+  -- a set of so many states at most
+  pub record HasFew (k : ℕ) (a : Area) : Type 0 where
+    pub set : a.is_split ≡ true
+    pub few : length a.states ≤ k
+
+  pub few-next : (k : ℕ) (g : List ℕ → List ℕ) (a : Area) → HasFew k a → HasFew k (step split g a)
+  few-next k g a few =
+      let is : splits split a ≡ true = or_left a.is_split _ few.set in
+      let shorter = length-image g a.states in
+      let own = few.few in
+      subst (λ (b : Area). HasFew k b) (sym (step-split split g a is)) (record { set = refl; few = omega arith })
+
+  -- it stays one
+  few-after : (k done more : ℕ) → HasFew k (region_after split f caps horizon done) → HasFew k (region_after split f caps horizon (more + done))
+  few-after k done zero few = (let e : done ≡ 0 + done = omega arith in subst (λ n. HasFew k (region_after split f caps horizon n)) e few)
+  few-after k done (suc more) few =
+      let e : suc (more + done) ≡ suc more + done = omega arith in
+      subst (λ n. HasFew k (region_after split f caps horizon n)) e
+      (few-next k (f (horizon - (more + done))) (region_after split f caps horizon (more + done)) (few-after k done more few))
+
+  module _ (valid : AreCapacities caps) (closed : AreClosed caps f) (most : horizon < 10 ^ 7) (named : (t : ℕ) → events t < 10 ^ 4) where
+    -- the line of a step behind which there is such a set
+    line-short : (k done : ℕ) → HasFew k (region_after split f caps horizon (suc done)) → length (step_line split f caps events horizon done) ≤ 22 + k * (6 * length caps + 1)
+    unfolding step_line
+    line-short k done few =
+        let a = region_after split f caps horizon done in
+        let b = region_after split f caps horizon (suc done) in
+        let kept = kept-after split caps f horizon (suc done) closed in
+        let s : Step = record { number = horizon - done; event = events (horizon - done) } in
+        let words : length (spaced_words (region_words (in_set b.states))) ≤ 4 + length b.states * (6 * length caps + 1) =
+        named-short (length caps) b.states (λ x member. state-below caps x valid (kept.area.within x member)) in
+        let text = step-short s (region_words (in_set b.states)) (omega arith) (named (horizon - done)) in
+        let same : length (step_text s (next_words 2 (region_of a) (region_of b))) ≡ length (step_text s (region_words (in_set b.states))) =
+        ap (λ (ws : List (List ℕ)). length (step_text s ws)) (next-set a b few.set) in
+        let own = few.few in
+        let fewer : length b.states * (6 * length caps + 1) ≤ k * (6 * length caps + 1) = mul-le-mul_right (6 * length caps + 1) own in
+        omega arith
+
+    -- the lines of more steps
+    pub front-short : (h : Header) (k done more : ℕ) → h.version ≡ 2 → h.horizon ≡ horizon → HasFew k (region_after split f caps horizon done)
+        → length (front_text split f caps events h (more + done)) ≤ length (front_text split f caps events h done) + more * (22 + k * (6 * length caps + 1))
+    front-short h k done zero version same few =
+        let e : done ≡ 0 + done = omega arith in
+        let same : length (front_text split f caps events h done) ≡ length (front_text split f caps events h (0 + done)) = ap (λ n. length (front_text split f caps events h n)) e in
+        omega arith
+    front-short h k done (suc more) version same few =
+        let width = 22 + k * (6 * length caps + 1) in
+        let before : length (front_text split f caps events h (more + done)) ≤ length (front_text split f caps events h done) + more * width = front-short h k done more version same few in
+        let e : suc more + done ≡ suc (more + done) = omega arith in
+        let there = subst (λ n. HasFew k (region_after split f caps horizon n)) e (few-after k done (suc more) few) in
+        let line : length (step_line split f caps events horizon (more + done)) ≤ width = line-short k (more + done) there in
+        let last : length (front_text split f caps events h (suc more + done)) ≡ length (front_text split f caps events h (suc (more + done))) = ap (λ n. length (front_text split f caps events h n)) e in
+        let count : length (front_text split f caps events h (suc (more + done))) ≡ length (front_text split f caps events h (more + done)) + length (step_line split f caps events h.horizon (more + done)) =
+        ap (λ (t : List ℕ). length t) (front_text-more split f caps events h (more + done) version) ∙ length-append (front_text split f caps events h (more + done)) (step_line split f caps events h.horizon (more + done)) in
+        let at : length (step_line split f caps events h.horizon (more + done)) ≡ length (step_line split f caps events horizon (more + done)) = ap (λ t. length (step_line split f caps events t (more + done))) same in
+        let all : suc more * width ≡ width + more * width = times-more more width in
+        omega arith
+
+    -- the text of the whole log
+    log-short : (h : Header) (state : List ℕ) (k done room : ℕ) → h.version ≡ 2 → h.horizon ≡ horizon → done ≤ horizon → IsVector state → HasFew k (region_after split f caps horizon done)
+        → (horizon - done) * (22 + k * (6 * length caps + 1)) + 200 ≤ room
+        → length (log_text (recorded split f caps events h state)) ≤ length (front_text split f caps events h done) + room
+    log-short h state k done room version same order vector few ample =
+        let e : (horizon - done) + done ≡ horizon = omega arith in
+        let left = front-short h k done (horizon - done) version same few in
+        let all : length (front_text split f caps events h h.horizon) ≡ length (front_text split f caps events h ((horizon - done) + done)) =
+        ap (λ n. length (front_text split f caps events h n)) (same ∙ sym e) in
+        let end = end-short state vector in
+        let count : length (log_text (recorded split f caps events h state)) ≡ length (front_text split f caps events h h.horizon) + length (end_text state) =
+        ap (λ (t : List ℕ). length t) (log_text-recorded split f caps events h state) ∙ length-append (front_text split f caps events h h.horizon) (end_text state) in
+        omega arith
+
+-- the text of the whole log, as far as a set leaves it room
+pub log-ample : (split : ℕ) (f : ℕ → List ℕ → List ℕ) (caps : List ℕ) (events : ℕ → ℕ) (h : Header) (state : List ℕ) (done room : ℕ) → AreCapacities caps → AreClosed caps f
+    → h.horizon < 10 ^ 7 → ((t : ℕ) → events t < 10 ^ 4) → h.version ≡ 2 → done ≤ h.horizon → IsVector state
+    → IsAmple caps (region_after split f caps h.horizon done) (h.horizon - done) room
+    → length (log_text (recorded split f caps events h state)) ≤ length (front_text split f caps events h done) + room
+log-ample split f caps events h state done room valid closed most named version order vector ample =
+    let k = length (region_after split f caps h.horizon done).states in
+    log-short split f caps events h.horizon valid closed most named h state k done room version refl order vector (record { set = ample.split; few = omega arith }) ample.enough

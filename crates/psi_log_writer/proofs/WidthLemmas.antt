@@ -1,0 +1,255 @@
+-- How long the lines of a run are at most, by the digits of the capacities, the number of the queues and the split number.
+use Rattle.std.proofs.Common.{◌≡◌, ◌⊎◌, ℕ, zero, suc, ◌+◌, ◌-◌, ◌*◌, ◌<◌, ◌≤◌, ◌^◌, List, [], ◌∷◌, ◌++◌, length, map, codes, Bool, false, slice_index, inl, inr, refl, sym, ◌∙◌, ap, subst, arith, length-append}
+use Rattle.std.specs.Prelude.{cond}
+use Rattle.std.specs.Fmt.{decimal}
+use Rattle.std.specs.List.{filter}
+use Rattle.std.proofs.Math.Nat.{mul-le-mul_right}
+use Rattle.std.proofs.lemmas.Fmt.{length-decimal-le}
+use Rattle.std.proofs.lemmas.Bool.{true≢false, cases_Bool, cases_lt}
+use Rattle.std.proofs.lemmas.List.{get_or_past}
+use Rattle.psi_state.specs.State.{Corners, IsBelow, IsVector, AreCapacities, numbers_from}
+use Rattle.psi_state.specs.Members.{In}
+use Rattle.psi_state.specs.Hull.{lows, highs, corners, HaveLength, IsTight}
+use Rattle.psi_state.specs.Boxes.{IsBetween}
+use Rattle.psi_state.proofs.BoxesLemmas.{below-through}
+use Rattle.psi_state.proofs.HullLemmas.{corners-tight}
+use Rattle.psi_state.specs.declared.outcome.Step.{Step}
+use Rattle.psi_event.specs.Law.{IsClosed}
+use Rattle.psi_rate.specs.Composition.{Parts, AreClosed, system_functions}
+use Rattle.psi_rate.specs.System.{IsSystem}
+use Rattle.psi_rate.proofs.FunctionsLemmas.{functions-closed}
+use Rattle.psi_rate.proofs.PowersLemmas.{pow-order}
+use Rattle.psi_region.specs.Region.{Area}
+use Rattle.psi_region.proofs.RegionLemmas.{tight-high}
+use Rattle.psi_horizon.specs.Runs.{region_after}
+use Rattle.psi_log_text.specs.declared.header.Header.{Header}
+use Rattle.psi_log_text.specs.Log.{Region, in_box, in_set}
+use Rattle.psi_log_text.specs.Text.{numbers_text, region_words, differs, change_to, change_text, move_words, next_words, step_text, end_text, log_text}
+use Rattle.psi_log_text.specs.Room.{spaced_words, picked}
+use Rattle.psi_log_text.proofs.JoinedLemmas.{spaced-append, one_word, picked-append, moved}
+use Rattle.psi_replay.specs.Verdict.{event_numbers}
+use Rattle.psi_log_writer.specs.Recorded.{region_of, recorded, log_of}
+use Rattle.psi_log_writer.specs.Walking.{step_line, front_text, text_in, IsRoomy}
+use Rattle.psi_log_writer.proofs.WalkingLemmas.{next-set}
+use Rattle.psi_log_writer.proofs.TextLemmas.{front_text-more, log_text-recorded, text_before-front}
+use Rattle.psi_log_writer.proofs.AcceptedLemmas.{events-few}
+use Rattle.psi_log_writer.proofs.RegionLemmas.{IsKept, kept-after, state-below, region_of-plain}
+use Rattle.psi_log_writer.proofs.BoundLemmas.{HasFew, few-next, step-short, end-short, times-more}
+
+-- each number of a list has at most so many digits
+abbrev pub AreShort : ℕ → List ℕ → Type 0
+AreShort w x = (i : ℕ) → length (decimal (slice_index x i)) ≤ w
+
+-- the numbers of a state have no more digits than its capacities
+below-short : (w : ℕ) (caps x : List ℕ) → 0 < w → AreCapacities caps → ((i : ℕ) → slice_index caps i < 10 ^ w) → IsBelow x caps → AreShort w x
+below-short w caps x some valid each below i =
+    let own = (state-below caps x valid below).each i in
+    let large = each i in
+    let small : slice_index x i < 10 ^ w = elim (cases_lt i (length x)) [
+      | inl less ↦ (let under = below.each i less in omega arith)
+      | inr past ↦ (let none : slice_index x i ≡ 0 = get_or_past x i 0 past in omega arith)
+    ] in
+    length-decimal-le w (slice_index x i) some small (omega arith)
+
+numbers-within : (w : ℕ) (x : List ℕ) → AreShort w x → length (numbers_text x) ≤ length x * suc w
+unfolding numbers_text
+numbers-within w [] each = omega arith
+numbers-within w (a ∷ []) each = (let own : length (decimal a) ≤ w = each 0 in let one = times-more 0 (suc w) in omega arith)
+numbers-within w (a ∷ b ∷ x) each =
+    let own : length (decimal a) ≤ w = each 0 in
+    let rest : length (numbers_text (b ∷ x)) ≤ length (b ∷ x) * suc w = numbers-within w (b ∷ x) (λ i. each (suc i)) in
+    let count : length (numbers_text (a ∷ b ∷ x)) ≡ length (decimal a) + length (44 ∷ numbers_text (b ∷ x)) = length-append (decimal a) (44 ∷ numbers_text (b ∷ x)) in
+    let all = times-more (length (b ∷ x)) (suc w) in
+    omega arith
+
+-- the words of states of so many queues
+set-within : (n w : ℕ) (xs : List (List ℕ)) → ((x : List ℕ) → In x xs → (length x ≡ n) × AreShort w x) → length (spaced_words (map numbers_text xs)) ≤ length xs * suc (n * suc w)
+unfolding spaced_words
+set-within n w [] each = omega arith
+set-within n w (x ∷ xs) each =
+    let own = each x (inl refl) in
+    let size : length x ≡ n = own.0 in
+    let text : length (numbers_text x) ≤ n * suc w = subst (λ k. length (numbers_text x) ≤ k * suc w) size (numbers-within w x own.1) in
+    let rest = set-within n w xs (λ y member. each y (inr member)) in
+    let count : length (spaced_words (map numbers_text (x ∷ xs))) ≡ length (32 ∷ numbers_text x) + length (spaced_words (map numbers_text xs)) = length-append (32 ∷ numbers_text x) (spaced_words (map numbers_text xs)) in
+    let all : length (x ∷ xs) * suc (n * suc w) ≡ suc (n * suc w) + length xs * suc (n * suc w) = times-more (length xs) (suc (n * suc w)) in
+    omega arith
+
+-- the word of a queue
+change-within : (w q least greatest : ℕ) → q < 100 → length (decimal least) ≤ w → length (decimal greatest) ≤ w
+    → length (change_text (record { queue = q; least = least; greatest = greatest })) ≤ 2 * w + 4
+unfolding numbers_text
+change-within w q least greatest small low high =
+    let first : length (decimal q) ≤ 2 = length-decimal-le 2 q (omega arith) (omega arith) (omega arith) in
+    let count : length (change_text (record { queue = q; least = least; greatest = greatest })) ≡ length (decimal q) + length (44 ∷ (decimal least ++ (44 ∷ decimal greatest))) =
+    length-append (decimal q) (44 ∷ (decimal least ++ (44 ∷ decimal greatest))) in
+    let rest : length (decimal least ++ (44 ∷ decimal greatest)) ≡ length (decimal least) + length (44 ∷ decimal greatest) = length-append (decimal least) (44 ∷ decimal greatest) in
+    omega arith
+
+no-words : length (spaced_words []) ≡ 0
+unfolding spaced_words
+no-words = refl
+
+named-move : (ws : List (List ℕ)) → length (spaced_words (codes "move" ∷ ws)) ≡ 5 + length (spaced_words ws)
+unfolding spaced_words
+named-move ws = length-append (32 ∷ codes "move") (spaced_words ws)
+
+named-set : (n w : ℕ) (xs : List (List ℕ)) → ((x : List ℕ) → In x xs → (length x ≡ n) × AreShort w x)
+    → length (spaced_words (region_words (in_set xs))) ≤ 4 + length xs * suc (n * suc w)
+unfolding spaced_words
+named-set n w xs each =
+    let own = set-within n w xs each in
+    let count : length (spaced_words (region_words (in_set xs))) ≡ 4 + length (spaced_words (map numbers_text xs)) = length-append (32 ∷ codes "set") (spaced_words (map numbers_text xs)) in
+    omega arith
+
+-- one queue changed, or it didn't
+filter-one : (p : ℕ → Bool) (q : ℕ) → (filter p (q ∷ []) ≡ q ∷ []) ⊎ (filter p (q ∷ []) ≡ [])
+filter-one p q = elim (cases_Bool (p q)) [
+  | inl is ↦ inl (ap (λ (b : Bool). cond b (q ∷ []) []) is)
+  | inr not ↦ inr (ap (λ (b : Bool). cond b (q ∷ []) []) not)
+]
+
+one-within : (w q : ℕ) (from to : Corners) → q < 100 → AreShort w to.lo → AreShort w to.hi → length (spaced_words (picked from to (q ∷ []))) ≤ 2 * w + 5
+one-within w q from to small low high = elim (filter-one (differs from to) q) [
+  | inl there ↦ (let word : length (change_text (change_to to q)) ≤ 2 * w + 4 = change-within w q (slice_index to.lo q) (slice_index to.hi q) small (low q) (high q) in
+      let is : length (spaced_words (picked from to (q ∷ []))) ≡ length (32 ∷ change_text (change_to to q)) =
+      ap (λ (qs : List ℕ). length (spaced_words (map change_text (map (change_to to) qs)))) there ∙ ap (λ (t : List ℕ). length t) (one_word (change_text (change_to to q))) in
+      omega arith)
+  | inr none ↦ (let is : length (spaced_words (picked from to (q ∷ []))) ≡ length (spaced_words []) =
+      ap (λ (qs : List ℕ). length (spaced_words (map change_text (map (change_to to) qs)))) none in
+      let nothing = no-words in
+      omega arith)
+]
+
+-- the words of queues
+picked-within : (w s n : ℕ) (from to : Corners) → s + n ≤ 100 → AreShort w to.lo → AreShort w to.hi → length (spaced_words (picked from to (numbers_from s n))) ≤ n * (2 * w + 5)
+picked-within w s zero from to small low high = (let nothing : length (spaced_words (picked from to (numbers_from s zero))) ≡ 0 = no-words in omega arith)
+picked-within w s (suc n) from to small low high =
+    let first = one-within w s from to (omega arith) low high in
+    let rest = picked-within w (suc s) n from to (omega arith) low high in
+    let both : length (spaced_words (picked from to (numbers_from s (suc n)))) ≡ length (spaced_words (picked from to (s ∷ []))) + length (spaced_words (picked from to (numbers_from (suc s) n))) =
+    ap (λ (ws : List (List ℕ)). length (spaced_words ws)) (picked-append from to (s ∷ []) (numbers_from (suc s) n))
+    ∙ (ap (λ (t : List ℕ). length t) (spaced-append (picked from to (s ∷ [])) (picked from to (numbers_from (suc s) n)))
+    ∙ length-append (spaced_words (picked from to (s ∷ []))) (spaced_words (picked from to (numbers_from (suc s) n)))) in
+    let all = times-more n (2 * w + 5) in
+    omega arith
+
+move-within : (w n : ℕ) (from to : Corners) → length from.lo ≡ n → n ≤ 100 → AreShort w to.lo → AreShort w to.hi → length (spaced_words (move_words from to)) ≤ 5 + n * (2 * w + 5)
+move-within w n from to size small low high =
+    let rest = picked-within w 0 n from to (omega arith) low high in
+    let is : length (spaced_words (move_words from to)) ≡ length (spaced_words (codes "move" ∷ picked from to (numbers_from 0 n))) =
+    ap (λ (ws : List (List ℕ)). length (spaced_words ws)) (moved from to) ∙ ap (λ k. length (spaced_words (codes "move" ∷ picked from to (numbers_from 0 k)))) size in
+    let count = named-move (picked from to (numbers_from 0 n)) in
+    omega arith
+
+-- the corners of a region are within the capacities
+corners-below : (split : ℕ) (caps : List ℕ) (a : Area) → IsKept split caps a → IsBelow (lows a.states) caps × IsBelow (highs a.states) caps
+corners-below split caps a kept =
+    let xs = a.states in
+    let z = kept.area.some.0 in
+    let here = kept.area.some.1 in
+    let lengths : HaveLength (length caps) xs = record { each = λ x member. (kept.area.within x member).same_length } in
+    let tight : IsTight xs (lows xs) (highs xs) = corners-tight (length caps) z xs lengths here in
+    let inside : IsBetween (lows xs) (highs xs) z = tight.inside z here in (
+      below-through (lows xs) z caps inside.low (kept.area.within z here),
+      tight-high z xs (lows xs) caps (lows xs) (highs xs) tight here (λ x member. record { low = (tight.inside x member).low; high = kept.area.within x member }),
+    )
+
+module _ (split : ℕ) (f : ℕ → List ℕ → List ℕ) (caps : List ℕ) (events : ℕ → ℕ) (horizon : ℕ) (valid : AreCapacities caps) (closed : AreClosed caps f) (most : horizon < 10 ^ 7)
+    (named : (t : ℕ) → events t < 10 ^ 4) (w width : ℕ) (some : 0 < w) (each : (i : ℕ) → slice_index caps i < 10 ^ w) (boxes : 23 + length caps * (2 * w + 5) ≤ width)
+    (sets : 23 + split * suc (length caps * suc w) ≤ width) where
+  -- the line of a step
+  line-wide : (done : ℕ) → length (step_line split f caps events horizon done) ≤ width
+  unfolding step_line
+  line-wide done =
+      let a = region_after split f caps horizon done in
+      let b = region_after split f caps horizon (suc done) in
+      let kept = kept-after split caps f horizon (suc done) closed in
+      let s : Step = record { number = horizon - done; event = events (horizon - done) } in
+      elim (cases_Bool b.is_split) [
+        | inl is ↦ (let few : length b.states ≤ split = kept.few is in
+            let words = named-set (length caps) w b.states (λ x member. ((kept.area.within x member).same_length, below-short w caps x some valid each (kept.area.within x member))) in
+            let text = step-short s (region_words (in_set b.states)) (omega arith) (named (horizon - done)) in
+            let same : length (step_text s (next_words 2 (region_of a) (region_of b))) ≡ length (step_text s (region_words (in_set b.states))) =
+            ap (λ (ws : List (List ℕ)). length (step_text s ws)) (next-set a b is) in
+            let fewer : length b.states * suc (length caps * suc w) ≤ split * suc (length caps * suc w) = mul-le-mul_right (suc (length caps * suc w)) few in
+            omega arith)
+        | inr plain ↦ (let before : a.is_split ≡ false = elim (cases_Bool a.is_split) [
+          | inl is ↦ (let few : HasFew split f caps events horizon (length a.states) a = record { set = is; few = omega arith } in
+              let next = few-next split f caps events horizon (length a.states) (f (horizon - done)) a few in
+              absurd (true≢false (sym next.set ∙ plain)))
+          | inr not ↦ not
+        ] in
+            let old = kept-after split caps f horizon done closed in
+            let first = corners-below split caps a old in
+            let last = corners-below split caps b kept in
+            let fewq = valid.few in
+            let words = move-within w (length caps) (corners a.states) (corners b.states) first.0.same_length (omega arith)
+            (below-short w caps (lows b.states) some valid each last.0) (below-short w caps (highs b.states) some valid each last.1) in
+            let text = step-short s (move_words (corners a.states) (corners b.states)) (omega arith) (named (horizon - done)) in
+            let same : length (step_text s (next_words 2 (region_of a) (region_of b))) ≡ length (step_text s (move_words (corners a.states) (corners b.states))) =
+            ap (λ (r : Region). length (step_text s (next_words 2 r (region_of b)))) (region_of-plain a before)
+            ∙ ap (λ (r : Region). length (step_text s (next_words 2 (in_box (corners a.states)) r))) (region_of-plain b plain) in
+            omega arith)
+      ]
+
+  -- the lines of more steps
+  front-wide : (h : Header) (done more : ℕ) → h.version ≡ 2 → h.horizon ≡ horizon
+      → length (front_text split f caps events h (more + done)) ≤ length (front_text split f caps events h done) + more * width
+  front-wide h done zero version same =
+      let e : done ≡ 0 + done = omega arith in
+      let same : length (front_text split f caps events h done) ≡ length (front_text split f caps events h (0 + done)) = ap (λ n. length (front_text split f caps events h n)) e in
+      omega arith
+  front-wide h done (suc more) version same =
+      let before : length (front_text split f caps events h (more + done)) ≤ length (front_text split f caps events h done) + more * width = front-wide h done more version same in
+      let e : suc more + done ≡ suc (more + done) = omega arith in
+      let line : length (step_line split f caps events horizon (more + done)) ≤ width = line-wide (more + done) in
+      let last : length (front_text split f caps events h (suc more + done)) ≡ length (front_text split f caps events h (suc (more + done))) = ap (λ n. length (front_text split f caps events h n)) e in
+      let count : length (front_text split f caps events h (suc (more + done))) ≡ length (front_text split f caps events h (more + done)) + length (step_line split f caps events h.horizon (more + done)) =
+      ap (λ (t : List ℕ). length t) (front_text-more split f caps events h (more + done) version) ∙ length-append (front_text split f caps events h (more + done)) (step_line split f caps events h.horizon (more + done)) in
+      let at : length (step_line split f caps events h.horizon (more + done)) ≡ length (step_line split f caps events horizon (more + done)) = ap (λ t. length (step_line split f caps events t (more + done))) same in
+      let all : suc more * width ≡ width + more * width = times-more more width in
+      omega arith
+
+-- the text of the whole log
+pub log-wide : (split : ℕ) (f : ℕ → List ℕ → List ℕ) (caps : List ℕ) (events : ℕ → ℕ) (h : Header) (state : List ℕ) (done room : ℕ) → AreCapacities caps → AreClosed caps f
+    → h.horizon < 10 ^ 7 → ((t : ℕ) → events t < 10 ^ 4) → h.version ≡ 2 → done ≤ h.horizon → IsVector state → IsRoomy caps split (h.horizon - done) room
+    → length (log_text (recorded split f caps events h state)) ≤ length (front_text split f caps events h done) + room
+log-wide split f caps events h state done room valid closed most named version order vector roomy =
+    let enough = roomy.enough in
+    let e : (h.horizon - done) + done ≡ h.horizon = omega arith in
+    let left = front-wide split f caps events h.horizon valid closed most named roomy.digits roomy.width roomy.some roomy.numbers roomy.boxes roomy.sets h done (h.horizon - done) version refl in
+    let all : length (front_text split f caps events h h.horizon) ≡ length (front_text split f caps events h ((h.horizon - done) + done)) =
+    ap (λ n. length (front_text split f caps events h n)) (sym e) in
+    let end = end-short state vector in
+    let count : length (log_text (recorded split f caps events h state)) ≡ length (front_text split f caps events h h.horizon) + length (end_text state) =
+    ap (λ (t : List ℕ). length t) (log_text-recorded split f caps events h state) ∙ length-append (front_text split f caps events h h.horizon) (end_text state) in
+    omega arith
+
+-- what both ways to know that the lines that are left fit ask of a network's run
+pub record IsShort {E : Type 0} (function : E → List ℕ → List ℕ) (system : Parts E) (words : ℕ → ℕ) (horizon : ℕ) : Type 0 where
+  pub closed : AreClosed system.caps (system_functions function system words)
+  pub most : horizon < 10 ^ 7
+  pub named : (t : ℕ) → event_numbers system words t < 10 ^ 4
+
+pub run-short : {E : Type 0} (capacities : E → List ℕ) (function : E → List ℕ → List ℕ) (system : Parts E) (words : ℕ → ℕ) (horizon : ℕ)
+    → ((event : E) → IsClosed (capacities event) (function event)) → IsSystem capacities system → horizon ≤ 2 ^ system.limit → IsShort function system words horizon
+run-short capacities function system words horizon law fit most =
+    let powered : 2 ^ system.limit ≤ 2 ^ 22 = pow-order system.limit 22 fit.most_limit in
+    record {
+      closed = functions-closed capacities function system words law fit.same_caps;
+      most = omega arith;
+      named = λ t. (let few = events-few system words t fit.rated.few in omega arith);
+    }
+
+-- what is left of the whole text from the place of a step or of the end on
+pub whole-fits : {E : Type 0} (function : E → List ℕ → List ℕ) (system : Parts E) (words : ℕ → ℕ) (h : Header) (state : List ℕ) (place room : ℕ) → 2 ≤ place → place ≤ h.horizon + 2
+    → h.version ≡ 2
+    → length (log_text (log_of function system words h state))
+    ≤ length (front_text system.split (system_functions function system words) system.caps (event_numbers system words) h (place - 2)) + room
+    → length (log_text (log_of function system words h state)) ≤ length (text_in function system words h state place) + room
+whole-fits function system words h state place room low high version fits =
+    let e : place ≡ suc (suc (place - 2)) = omega arith in
+    let front = ap (λ (t : List ℕ). length t) (ap (λ n. text_in function system words h state n) e
+    ∙ text_before-front system.split (system_functions function system words) system.caps (event_numbers system words) h state (place - 2) version (omega arith)) in
+    omega arith

@@ -1,0 +1,235 @@
+//! References to queues: by one name, or by a list of names.
+
+ghost use Rattle.std.specs.Prelude.{◌≡◌, ◌<◌, ℕ, [], length, map, Some, IfSome, IfOk, OnOk};
+ghost use Rattle.toml.specs.View.{view};
+ghost use Rattle.psi_name.specs.Name.{name_of};
+ghost use Rattle.psi_net_document.specs.Refusal.{Gives};
+ghost use Rattle.psi_net_document.specs.Values.{seen, required, each};
+ghost use Rattle.psi_net_document.specs.References.{number_of, queue_in, target_in, target_step, targets_in, some_targets_in};
+ghost use Rattle.psi_net_document.specs.Targets.{AreTargets};
+
+use crate::digests::fingerprint;
+use crate::keys::{array_in, present, text_in};
+use crate::known_names::KnownNames;
+use crate::read;
+use crate::refusals::{Cause, NetRefusal, Place};
+use psi_name::name_of;
+use psi_state::Queues;
+use toml::Value;
+
+// The number of the queue whose fingerprint the text has and which it names, if there is one.
+fn number_by_fingerprint(known: &KnownNames, text: &str) -> Option<usize>
+    ensures { IfSome result (λ number. number_of known.now.list.keys (name_of text.now) ≡ Some number) }
+{
+    let names = known.list.as_slice();
+    let wanted = fingerprint(text.as_bytes());
+    for number in 0..names.len() {
+        if known.fingerprints[number] == wanted && names[number].bytes() == text.as_bytes() {
+            return Some(number);
+        }
+    }
+    None
+}
+
+// The number of the queue that a text names.
+fn number_of(known: &KnownNames, text: &str) -> Option<usize>
+    ensures { result ≡ number_of known.now.list.keys (name_of text.now) }
+{
+    if let Some(number) = number_by_fingerprint(known, text) {
+        return Some(number);
+    }
+    match name_of(text) {
+        Some(name) => known.list.get_index_of(&name),
+        None => None,
+    }
+}
+
+/// The number of the queue that a value names, counted from 0.
+///
+/// # Errors
+///
+/// At the key, `WrongType` where the value is no string, and `UnknownQueue` where it is no queue's name.
+#[tactic(auto, unfolding(crate::specs::References::queue_in))]
+pub fn queue_in(
+    place: Place,
+    key: &str,
+    known: &KnownNames,
+    value: &Value,
+) -> Result<u8, NetRefusal>
+    ensures value { Gives (λ q. q) result (queue_in place key.now known.now.list.keys (view value.now)) }
+    ensures within { IfOk result (λ q. q < length known.now.list.keys) }
+{
+    let text = read!(text_in(place, key, value));
+    match number_of(known, text) {
+        Some(number) => Ok(number as u8),
+        None => Err(Cause::UnknownQueue.at_key(place, key)),
+    }
+}
+
+/// The number of the queue that the value of a required key names, counted from 0.
+///
+/// # Errors
+///
+/// Those of [`present`](crate::present) and [`queue_in`].
+pub fn required_queue(
+    place: Place,
+    key: &str,
+    known: &KnownNames,
+    value: Option<&Value>,
+) -> Result<u8, NetRefusal>
+    ensures { Gives (λ q. q) result (required place key.now (queue_in place key.now known.now.list.keys) (seen value.entry)) }
+{
+    let value = read!(present(place, key, value));
+    queue_in(place, key, known, value)
+}
+
+/// The number of the queue that a value names and that is none of the event's sources, counted from 0.
+///
+/// # Errors
+///
+/// Those of [`queue_in`], and `SelfTarget` at the key where it is a source.
+#[tactic(auto, unfolding(crate::specs::References::target_in))]
+pub fn target_in(
+    place: Place,
+    key: &str,
+    known: &KnownNames,
+    sources: &Queues,
+    value: &Value,
+) -> Result<u8, NetRefusal>
+    ensures value { Gives (λ q. q) result (target_in place key.now known.now.list.keys sources.now (view value.now)) }
+    ensures within { IfOk result (λ q. q < length known.now.list.keys) }
+{
+    let queue = read!(queue_in(place, key, known, value));
+    if sources.contains(queue) {
+        return Err(Cause::SelfTarget.at_key(place, key));
+    }
+    Ok(queue)
+}
+
+/// The number of the queue that the value of a required key names and that is none of the event's sources.
+///
+/// # Errors
+///
+/// Those of [`present`](crate::present) and [`target_in`].
+pub fn required_target(
+    place: Place,
+    key: &str,
+    known: &KnownNames,
+    sources: &Queues,
+    value: Option<&Value>,
+) -> Result<u8, NetRefusal>
+    ensures { Gives (λ q. q) result (required place key.now (target_in place key.now known.now.list.keys sources.now) (seen value.entry)) }
+{
+    let value = read!(present(place, key, value));
+    target_in(place, key, known, sources, value)
+}
+
+// One element of a list: the name of a queue that the list doesn't name before it, and that is none of the
+// event's sources.
+#[tactic(auto, using(crate::proofs::PigeonLemmas::room_for_more, crate::proofs::PigeonLemmas::targets_more), unfolding(crate::specs::References::target_step))]
+fn push_target(
+    place: Place,
+    key: &str,
+    known: &KnownNames,
+    sources: &Queues,
+    earlier: &mut Queues,
+    value: &Value,
+) -> Result<(), NetRefusal>
+    requires { AreTargets (length known.now.list.keys) sources.now earlier.old }
+    ensures value { (n : ℕ) → Gives (λ _. earlier.new) result (target_step place key.now known.now.list.keys sources.now n earlier.old (view value.now)) }
+    ensures valid { OnOk result (AreTargets (length known.now.list.keys) sources.now earlier.new) }
+{
+    let queue = read!(queue_in(place, key, known, value));
+    if earlier.contains(queue) {
+        return Err(Cause::RepeatedTarget.at_key(place, key));
+    }
+    if sources.contains(queue) {
+        return Err(Cause::SelfTarget.at_key(place, key));
+    }
+    earlier.push(queue);
+    Ok(())
+}
+
+// The queues that the elements of an array name.
+#[tactic(auto, using(crate::proofs::TurnLemmas::turn, crate::proofs::TurnLemmas::turn_fails, crate::proofs::TurnLemmas::turn_ends, crate::proofs::PigeonLemmas::no_targets))]
+fn all_targets(
+    place: Place,
+    key: &str,
+    known: &KnownNames,
+    sources: &Queues,
+    values: &[Value],
+) -> Result<Queues, NetRefusal>
+    ensures value { Gives (λ qs. qs) result (each (target_step place key.now known.now.list.keys sources.now) 1 [] (map view values.now)) }
+    ensures valid { IfOk result (AreTargets (length known.now.list.keys) sources.now) }
+{
+    let mut queues = Queues::empty();
+    for value in values {
+        read!(push_target(place, key, known, sources, &mut queues, value));
+    }
+    Ok(queues)
+}
+
+/// The queues that the elements of an array name, in their order: each one once, and none of the event's
+/// sources.
+///
+/// # Errors
+///
+/// At the key, `WrongType` where the value is no array, and else at the first element that is no such queue:
+/// `WrongType` or `UnknownQueue` as of [`queue_in`], `RepeatedTarget` where the list names it before, and
+/// `SelfTarget` where it is a source.
+#[tactic(auto, unfolding(crate::specs::References::targets_in))]
+pub fn targets_in(
+    place: Place,
+    key: &str,
+    known: &KnownNames,
+    sources: &Queues,
+    value: &Value,
+) -> Result<Queues, NetRefusal>
+    ensures value { Gives (λ qs. qs) result (targets_in place key.now known.now.list.keys sources.now (view value.now)) }
+    ensures valid { IfOk result (AreTargets (length known.now.list.keys) sources.now) }
+{
+    let values = read!(array_in(place, key, value));
+    all_targets(place, key, known, sources, values)
+}
+
+/// The queues that a list of at least one name names, as [`targets_in`] has them.
+///
+/// # Errors
+///
+/// Those of [`targets_in`], and `OutOfRange` at the key where the list is empty.
+#[tactic(auto, unfolding(crate::specs::References::some_targets_in))]
+pub fn some_targets_in(
+    place: Place,
+    key: &str,
+    known: &KnownNames,
+    sources: &Queues,
+    value: &Value,
+) -> Result<Queues, NetRefusal>
+    ensures value { Gives (λ qs. qs) result (some_targets_in place key.now known.now.list.keys sources.now (view value.now)) }
+    ensures valid { IfOk result (AreTargets (length known.now.list.keys) sources.now) }
+{
+    let values = read!(array_in(place, key, value));
+    if values.is_empty() {
+        return Err(Cause::OutOfRange.at_key(place, key));
+    }
+    all_targets(place, key, known, sources, values)
+}
+
+/// The queues that the list at a required key names, at least one, as [`targets_in`] has them.
+///
+/// # Errors
+///
+/// Those of [`present`](crate::present) and [`some_targets_in`].
+pub fn required_targets(
+    place: Place,
+    key: &str,
+    known: &KnownNames,
+    sources: &Queues,
+    value: Option<&Value>,
+) -> Result<Queues, NetRefusal>
+    ensures value { Gives (λ qs. qs) result (required place key.now (some_targets_in place key.now known.now.list.keys sources.now) (seen value.entry)) }
+    ensures valid { IfOk result (AreTargets (length known.now.list.keys) sources.now) }
+{
+    let value = read!(present(place, key, value));
+    some_targets_in(place, key, known, sources, value)
+}

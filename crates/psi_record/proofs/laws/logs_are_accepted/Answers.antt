@@ -1,6 +1,0 @@
--- The law in the proof of `laws::logs_are_accepted`.
-use Rattle.psi_record.proofs.AcceptedLemmas.{logs-accepted}
-use Rattle.psi_record.proofs.laws.logs_are_accepted.Goals as goal
-
-pub returns : goal.returns
-returns c = logs-accepted

@@ -1,0 +1,7 @@
+-- Invariants of the loops of `state_list::is_below`.
+use Rattle.std.specs.Prelude.{ℕ, ◌<◌, ◌≤◌, slice_index}
+use Rattle.psi_state_list.proofs.state_list.is_below.Given as goal
+
+-- the numbers so far are at most the others
+abbrev pub invariant-loop-queue : goal.invariant-loop-queue
+invariant-loop-queue l = (k : ℕ) → k < l.queue → slice_index l.row k ≤ slice_index l.most k

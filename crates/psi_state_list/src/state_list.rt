@@ -1,0 +1,155 @@
+//! States of one length, in one vector of numbers.
+
+ghost use Rattle.std.specs.Prelude.{◌≡◌, ◌↔◌, ◌∷◌, [], IsTrue, MatchOption, OnErr, ◌++◌, ◌+◌, ◌*◌, ◌<◌, ◌≤◌, length, take, drop, Some, OnOk};
+ghost use Rattle.std.specs.Ordering.{is_lt, nat_cmp};
+ghost use Rattle.std.specs.Cmp.Lexicographic.{slice_cmp};
+ghost use Rattle.std.specs.List.{slice_get};
+ghost use Rattle.psi_state.specs.State.{IsBelow};
+ghost use Rattle.psi_state_list.specs.Rows.{States, rows};
+
+use crate::room::make_room;
+use psi_state::State;
+use std::alloc::{AllocError, Global};
+use std::marker::Model;
+
+/// A list of states of so many queues, 1 to 32; it is seen as the number of queues and the states. It takes two bytes
+/// for each queue of each state, and keeps no memory for a state by itself.
+#[derive(Drop)]
+pub struct StateList {
+    queues: u8,
+    count: usize,
+    numbers: Vec<u16>,
+}
+
+impl Model for StateList {
+    ghost use Rattle.std.specs.Prelude.{◌≡◌, ◌*◌, ◌≤◌, length};
+    ghost use Rattle.psi_state_list.specs.Rows.{States, rows};
+
+    ghost Value = { States };
+
+    ghost view = { λ s. record { queues = s.queues; states = rows s.count s.queues s.numbers.items } };
+
+    ghost invariant = { λ s. (1 ≤ s.queues) × (s.queues ≤ 32) × (length s.numbers.items ≡ s.count * s.queues) };
+}
+
+// Puts the numbers of a state behind others.
+fn push_numbers(numbers: &mut Vec<u16>, x: &State) -> Result<(), AllocError>
+    ensures pushed { OnOk result (numbers.new.items ≡ numbers.old.items ++ x.now) }
+    ensures kept { OnErr result (numbers.new.items ≡ numbers.old.items) }
+{
+    let queues = x.len();
+    make_room(numbers, queues as usize)?;
+    for queue in 0..queues {
+        numbers.push_reserved(x.get(queue));
+    }
+    Ok(())
+}
+
+// Whether the numbers of a state are each at most those of another.
+fn is_below(row: &[u16], most: &State) -> bool
+    ensures { IsTrue result ↔ IsBelow row.now most.now }
+{
+    if row.len() != most.len() as usize {
+        return false;
+    }
+    for queue in 0..most.len() {
+        if row[queue as usize] > most.get(queue) {
+            return false;
+        }
+    }
+    true
+}
+
+// The state of these numbers.
+fn state_of(row: &[u16], queues: u8) -> State
+    requires some { 1 ≤ queues }
+    requires few { queues ≤ 32 }
+    requires count { length row.now ≡ queues }
+    ensures { result ≡ row.now }
+{
+    let mut x = State::zero(queues);
+    for queue in 0..queues {
+        x.set(queue, row[queue as usize]);
+    }
+    x
+}
+
+impl StateList {
+    /// The list of no states, for states of so many queues, 1 to 32. It takes no memory yet.
+    pub fn new(alloc: Global, queues: u8) -> StateList
+        requires some { 1 ≤ queues }
+        requires few { queues ≤ 32 }
+        ensures { result ≡ record { queues = queues; states = [] } }
+    {
+        StateList {
+            queues,
+            count: 0,
+            numbers: Vec::new(alloc),
+        }
+    }
+
+    /// The number of states. It takes the same time whatever that number is.
+    #[tactic(auto, using(crate::proofs::RowsLemmas::length_rows))]
+    pub fn len(&self) -> usize
+        ensures { result ≡ length self.now.states }
+    {
+        self.count
+    }
+
+    /// Puts a state of the list's number of queues behind the others. The vector grows where it has no room left, so
+    /// that a state takes time for its queues alone, over many states.
+    ///
+    /// # Errors
+    ///
+    /// `AllocError` where memory is wanting, and no clause says when that is; the list is then as it was.
+    #[tactic(auto, using(crate::proofs::RowsLemmas::rows_push))]
+    pub fn push(&mut self, x: &State) -> Result<(), AllocError>
+        requires { length x.now ≡ self.old.queues }
+        ensures queues { self.new.queues ≡ self.old.queues }
+        ensures states { OnOk result (self.new.states ≡ self.old.states ++ x.now ∷ []) }
+        ensures kept { OnErr result (self.new.states ≡ self.old.states) }
+    {
+        push_numbers(&mut self.numbers, x)?;
+        self.count += 1;
+        Ok(())
+    }
+
+    /// The state at a place, counted from 0. It takes time for the state's queues, wherever it stands.
+    pub fn get(&self, place: usize) -> State
+        requires { place < length self.now.states }
+        ensures { slice_get self.now.states place ≡ Some result }
+    {
+        state_of(self.row(place), self.queues)
+    }
+
+    // The numbers of the state at a place.
+    #[tactic(auto, using(crate::proofs::RowsLemmas::length_rows, crate::proofs::RowsLemmas::rows_get, crate::proofs::RowsLemmas::rows_room))]
+    fn row(&self, place: usize) -> &[u16]
+        requires { place < length self.now.states }
+        ensures state { slice_get self.now.states place ≡ Some result.now }
+        ensures count { length result.now ≡ self.now.queues }
+    {
+        let first = place * self.queues as usize;
+        &self.numbers[first..first + self.queues as usize]
+    }
+
+    /// Whether the state at a place, counted from 0, is lexicographically below the next one: below it in the first
+    /// queue in which the two differ. Neither is copied.
+    pub fn is_below_next(&self, place: usize) -> bool
+        requires { place + 1 < length self.now.states }
+        ensures { MatchOption (slice_get self.now.states place) ⊥ (λ x. MatchOption (slice_get self.now.states (place + 1)) ⊥ (λ y. result ≡ is_lt (slice_cmp nat_cmp x y))) }
+    {
+        // Called for its clause: the number of states fits its type.
+        let _count = self.len();
+        self.row(place).cmp(self.row(place + 1)).is_lt()
+    }
+
+    /// Whether the state at a place, counted from 0, is componentwise at most another: it has as many queues, and in
+    /// each at most as many customers. It isn't copied.
+    pub fn leq(&self, place: usize, most: &State) -> bool
+        requires { place < length self.now.states }
+        ensures { MatchOption (slice_get self.now.states place) ⊥ (λ x. IsTrue result ↔ IsBelow x most.now) }
+    {
+        is_below(self.row(place), most)
+    }
+}
