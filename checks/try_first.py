@@ -18,7 +18,6 @@ import sys
 import tempfile
 
 TOP = pathlib.Path(__file__).resolve().parent.parent
-sys.path.insert(0, str(TOP / "tools"))
 sys.dont_write_bytecode = True
 
 import check_gallery

@@ -8,7 +8,7 @@ import sys
 import pytest
 
 TOP = pathlib.Path(__file__).resolve().parent.parent.parent
-sys.path.insert(0, str(TOP / "tools"))
+sys.path[:0] = [str(TOP / "checks"), str(TOP / "tools")]
 PSI = os.path.abspath(os.environ.get("PSI", TOP / "crates/psi/out/psi"))
 SECONDS = 120
 

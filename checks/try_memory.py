@@ -3,7 +3,7 @@
 
 Refuses the built program each growth of its memory in turn; PSI is its path. psi_merge is tried
 too, where it is built beside it or in its crate. It wants a C compiler, `cc` or what CC names, and a
-dynamic linker that knows LD_PRELOAD: tools/refuse/refuse.c says what a growth is and how one is
+dynamic linker that knows LD_PRELOAD: checks/refuse/refuse.c says what a growth is and how one is
 refused.
 
 Each call is first made with ample memory; it has to end as its case says, if it has one, and with a
@@ -33,7 +33,7 @@ import try_merges
 from case_files import case_named
 from toml_text import table
 
-TOOLS = pathlib.Path(__file__).resolve().parent
+CHECKS = pathlib.Path(__file__).resolve().parent
 SECONDS = 20
 # More growths than any call here makes.
 MOST = 20_000
@@ -107,7 +107,7 @@ def refusing_library(room):
     """The library that refuses growths, as it is built in a folder."""
     library = str(pathlib.Path(room, "refuse.so"))
     compiler = shlex.split(os.environ.get("CC", "cc"))
-    source = str(TOOLS / "refuse/refuse.c")
+    source = str(CHECKS / "refuse/refuse.c")
     subprocess.run([*compiler, "-shared", "-fPIC", "-O2", "-o", library, source], check=True)
     return library
 

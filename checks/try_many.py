@@ -1,5 +1,5 @@
 #!/usr/bin/env python3
-"""try-many PSI [short] [local] [ssh] [slurm]
+"""try_many.py PSI [short] [local] [ssh] [slurm]
 
 Tries psi-many: on this machine, on three hosts behind ssh, and on three nodes of Slurm, or at what
 is named; `short` is a part of `local` that takes some seconds. PSI is the path of the built
@@ -31,7 +31,7 @@ import time
 import try_many_places as places
 import try_merges
 
-TOOLS = pathlib.Path(__file__).resolve().parent
+TOOLS = pathlib.Path(__file__).resolve().parent.parent / "tools"
 MANY = str(TOOLS / "psi-many")
 EXAMPLES = TOOLS.parent / "examples"
 # 20,000 samples of the first network take some two seconds, a million of the second one four.

@@ -1,5 +1,5 @@
 #!/usr/bin/python3
-"""package [PSI [FOLDER]]
+"""make_package.py [PSI [FOLDER]]
 
 Makes of the built program in a folder, the working folder where none is given, and prints their
 paths:
@@ -34,7 +34,7 @@ import tempfile
 import time
 
 import man_pages
-import packaged  # noqa: F401
+import on_path  # noqa: F401
 from psi_tools.commands import NAMES
 from psi_tools.completion import completion
 
@@ -177,7 +177,7 @@ def fill_library(root, programs):
 
 def fill_documents(root, version, second):
     """The documents, the gallery, the licences, man pages and completion."""
-    share, files = root / "usr/share", TOP / "tools/package-files"
+    share, files = root / "usr/share", TOP / "checks/package_files"
     doc, day = share / "doc" / NAME, time.strftime("%Y-%m-%d", time.gmtime(second))
     for name in (file for document in (*DOCUMENTS, "examples") for file in tracked(document)):
         copy(TOP / name, doc / name)
@@ -190,7 +190,7 @@ def fill_documents(root, version, second):
     write(doc / "copyright", COPYRIGHT + "".join(f" {line or '.'}\n" for line in mit))
     for name, text in man_pages.pages(TOP, day):
         pack(share / f"man/man{name[-1]}" / f"{name}.gz", text)
-    for file in tracked("tools/package-files/lintian-overrides"):
+    for file in tracked("checks/package_files/lintian-overrides"):
         copy(TOP / file, share / "lintian/overrides" / NAME)
     copy(files / "completion.bash", share / "bash-completion/completions/psi")
     copy(files / "completion.zsh", share / "zsh/vendor-completions/_psi")
@@ -243,7 +243,7 @@ def make_archive(room, folder, programs, version, second):
     archive = folder / f"{top}-linux-x86-64-glibc-{glibc}.tar.xz"
     usr = room / NAME / "usr"
     shutil.rmtree(usr / "lib/python3")
-    copy(TOP / "tools/package-files/Dockerfile", usr / "Dockerfile")
+    copy(TOP / "checks/package_files/Dockerfile", usr / "Dockerfile")
     for name in ("README.md", "LICENSE-APACHE", "LICENSE-MIT"):
         copy(TOP / name, usr / name)
     link(usr / "share/doc" / NAME / "examples", usr / "examples")
@@ -270,7 +270,7 @@ def main(words):
     program = pathlib.Path(words[0] if words else TOP / "crates/psi/out/psi").absolute()
     folder = pathlib.Path(words[1] if len(words) > 1 else ".").resolve()
     if len(words) > 2 or not os.access(program, os.X_OK) or not folder.is_dir():
-        print("package: [PSI [FOLDER]], where PSI is the built program", file=sys.stderr)
+        print("make_package: [PSI [FOLDER]], where PSI is the built program", file=sys.stderr)
         return 2
     version, second = version_of()
     os.umask(0o022)

@@ -1,4 +1,4 @@
-"""Inputs of tools/try_plot.py: small ones, great ones, and broken ones."""
+"""Inputs of checks/try_plot.py: small ones, great ones, and broken ones."""
 
 SMALL_LOG = """psi-log 2
 queues 2

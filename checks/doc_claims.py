@@ -8,7 +8,8 @@ import os
 import re
 import tomllib
 
-import mean_values
+import on_path  # noqa: F401
+from psi_tools import mean_values
 from forward_laws import law_of_meeting, moves_of, worst
 from psi_tools.plotting.read_exact import read_exact
 from psi_tools.plotting.read_log import read_log
@@ -42,11 +43,11 @@ UNTRIED = {
         ("## What is proved", "drawn evenly and by itself."),
     ],
     "docs/LIMITS.md": [
-        # tools/try_memory.py tries it.
+        # checks/try_memory.py tries it.
         ("With status 8 there is no line", "for the words themselves."),
-        # Measured by tools/measure_limits.py, in hours.
+        # Measured by checks/measure_limits.py, in hours.
         ("## Files of strangers", "which make every network that a trial can have."),
-        # tools/try_disk.py and tools/try_memory.py run it.
+        # checks/try_disk.py and checks/try_memory.py run it.
         ("## What fails", "a word isn't UTF-8 | 13 | nothing |"),
     ],
     "docs/TOUR.md": [],

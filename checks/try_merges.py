@@ -1,5 +1,5 @@
 """What psi_merge says of reports, and merge_reports.py beside it: reports that are refused, each by
-its line, and some hundred reports that are changed somewhere. For try-many.
+its line, and some hundred reports that are changed somewhere. For try_many.py.
 
 The lines that are wanted are written from docs/FORMATS.md, 'Reports, merged'.
 """
@@ -10,7 +10,8 @@ import subprocess
 import sys
 import tempfile
 
-import merge_reports
+import on_path  # noqa: F401
+from psi_tools import merging as merge_reports
 
 TOOL = merge_reports.__file__
 CHANGED = 400

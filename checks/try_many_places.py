@@ -1,4 +1,4 @@
-"""Hosts behind ssh and nodes of Slurm, all on this machine, for try-many; and processes by their
+"""Hosts behind ssh and nodes of Slurm, all on this machine, for try_many.py; and processes by their
 numbers. Only what was started here is ever ended.
 """
 

@@ -1,7 +1,7 @@
 #!/usr/bin/python3
-"""try-package [PSI [MIRROR]]
+"""try_package.py [PSI [MIRROR]]
 
-Tries the files that tools/package makes of the built program, whose path PSI is, and
+Tries the files that checks/make_package.py makes of the built program, whose path PSI is, and
 crates/psi/out/psi where it isn't given: makes them twice, and compares; asks lintian of the Debian
 package, which has no error; makes a bare system of the release that runs here by debootstrap, in a
 temporary folder; unpacks the archive there, checks its sum, and runs psi and psi-merge of it before
@@ -39,7 +39,7 @@ TOP = pathlib.Path(__file__).resolve().parent.parent
 NAME, LIBRARY, DOC = "psi-sampler", "usr/lib/psi-sampler", "usr/share/doc/psi-sampler"
 MIRROR = "http://deb.debian.org/debian"
 # The documents name these tools of the repository, which the package hasn't.
-NOT_PACKED = "tools/setup", "tools/pictures.py"
+NOT_PACKED = "tools/setup", "checks/pictures.py"
 WIDTH, SECONDS = 160, 3_600
 BOGUS = "bogus-mail-host,bogus-mail-host-in-debian-changelog"
 NEEDED = "debootstrap", "unshare", "dpkg-deb", "lintian"
@@ -103,7 +103,7 @@ class Bare(try_docs.Clone):
 def made(psi, folder):
     """The package, the archive and their sums, made in a folder."""
     folder.mkdir()
-    words = [str(TOP / "tools/package"), psi, str(folder)]
+    words = [str(TOP / "checks/make_package.py"), psi, str(folder)]
     return [pathlib.Path(line) for line in subprocess.check_output(words, text=True).splitlines()]
 
 
@@ -182,7 +182,7 @@ def bare_system(root, mirror):
         status = subprocess.run(words, stdout=log, stderr=log).returncode
     if status:
         lines = root.with_suffix(".log").read_text(errors="replace").splitlines()
-        sys.exit(f"try-package: debootstrap failed: {lines[-1] if lines else status}")
+        sys.exit(f"try_package.py: debootstrap failed: {lines[-1] if lines else status}")
     for name in ("resolv.conf", "hosts"):
         shutil.copy(f"/etc/{name}", root / "etc" / name)
 
@@ -294,7 +294,7 @@ def main(words):
     psi = os.path.abspath(words[0]) if words else str(TOP / "crates/psi/out/psi")
     absent = [name for name in NEEDED if not shutil.which(name)]
     if absent or os.getuid():
-        print(f"try-package: not tried, for want of {', '.join(absent) or 'root'}", file=sys.stderr)
+        print(f"try_package.py: not tried, for want of {', '.join(absent) or 'root'}", file=sys.stderr)
         return 2
     tried = Tried()
     with tempfile.TemporaryDirectory(prefix="try-package-") as room:

@@ -1,5 +1,5 @@
 #!/usr/bin/env python3
-"""more_edits [--jobs N] [--keep FOLDER] [NAME..]
+"""more_edits.py [--jobs N] [--keep FOLDER] [NAME..]
 
 Tries the edits of crates/NAME/more-edits/, each of which the prover must refuse; without a name those
 of all crates. The gate tries those of must-fail/ alone, so this is run before a release, and by
@@ -188,7 +188,7 @@ def try_all(clone, names, jobs):
 
 def words_of():
     """The words of the call."""
-    parser = argparse.ArgumentParser(add_help=False, usage="more_edits [--jobs N] [--keep FOLDER] [NAME..]")
+    parser = argparse.ArgumentParser(add_help=False, usage="more_edits.py [--jobs N] [--keep FOLDER] [NAME..]")
     parser.add_argument("-h", "--help", action="store_true")
     parser.add_argument("--jobs", type=int, default=usual_jobs())
     parser.add_argument("--keep", type=pathlib.Path)
@@ -222,5 +222,5 @@ if __name__ == "__main__":
     try:
         sys.exit(main())
     except Wrong as why:
-        print(f"more_edits: {why}", file=sys.stderr)
+        print(f"more_edits.py: {why}", file=sys.stderr)
         sys.exit(2)

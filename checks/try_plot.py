@@ -29,7 +29,7 @@ import matplotlib.legend
 import matplotlib.text
 import numpy
 
-import packaged  # noqa: F401
+import on_path  # noqa: F401
 from plot_inputs import EXACT, REPORT, SMALL_LOG, broken_inputs, exact_of, report_of, wide_log
 from psi_tools.forward import forward_of
 from psi_tools.plotting import draw_coupling, draw_exact, draw_forward, draw_report, style
@@ -37,7 +37,7 @@ from psi_tools.plotting.read_exact import read_exact
 from psi_tools.plotting.read_log import names_of, read_log
 from psi_tools.plotting.read_report import read_report
 
-TOOLS = pathlib.Path(__file__).resolve().parent
+TOOLS = pathlib.Path(__file__).resolve().parent.parent / "tools"
 TOP = TOOLS.parent
 PLOT = TOOLS / "psi-plot"
 MOST_BYTES, MOST_BYTES_SHOWN, SECONDS = 1_000_000, 200_000, 100

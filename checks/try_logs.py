@@ -24,7 +24,7 @@ from log_changes import CHANGES, Log, moved_end, too_long, with_key
 from small_networks import Dice
 from toml_text import table
 
-TOOLS = pathlib.Path(__file__).resolve().parent
+TOOLS = pathlib.Path(__file__).resolve().parent.parent / "tools"
 EXAMPLES = TOOLS.parent / "examples"
 CHECKER = [sys.executable, "-IS", str(TOOLS / "check_log.py")]
 SECONDS = 60

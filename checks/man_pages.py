@@ -2,7 +2,7 @@
 """man_pages.py FOLDER [DATE]
 
 Makes the man pages of the package, and writes them to a folder; DATE stands at their feet. Those of
-the commands are tools/package-files/man/NAME.SECTION.md, written for the package, in which a line
+the commands are checks/package_files/man/NAME.SECTION.md, written for the package, in which a line
 
 - `@options COMMAND` stands for the options of psi-COMMAND, as its reader of words has them;
 - `@kinds COMMAND` for the kinds of its first word;
@@ -22,7 +22,7 @@ import pathlib
 import re
 import sys
 
-import packaged  # noqa: F401
+import on_path  # noqa: F401
 from psi_tools.completion import kinds_of, options_of
 
 TOP = pathlib.Path(__file__).resolve().parent.parent
@@ -33,7 +33,7 @@ INLINE = re.compile(r"`([^`]+)`|\*\*(.+?)\*\*|\*(.+?)\*|!?\[((?:[^\]`]|`[^`]*`)*
 # So many signs may a table have beside one another.
 MOST_WIDE = 64
 BULLET = "\\(bu"
-SOURCES = TOP / "tools/package-files/man"
+SOURCES = TOP / "checks/package_files/man"
 LIBRARY, SHARE = "/usr/lib/psi-sampler", "/usr/share/doc/psi-sampler"
 FORMATS = "psi-file", "5", "network files, reports and certificates of psi(1)"
 FILES = f"""`{SHARE}/examples`: the gallery of networks.

@@ -33,7 +33,7 @@ CRATE = TOP / "crates" / "psi"
 # begin and how long is left, nothing else; a crate that isn't listed is reckoned by its lines.
 SECONDS = {
     line.split()[0]: float(line.split()[1])
-    for line in (TOP / "tools" / "proof_seconds.txt").read_text().splitlines()
+    for line in (TOP / "checks" / "proof_seconds.txt").read_text().splitlines()
     if line.strip() and not line.startswith("#")
 }
 SECONDS_A_LINE = 0.2
