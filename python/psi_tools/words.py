@@ -6,9 +6,12 @@ but 0 has one line on standard error. The status of psi itself is handed on wher
 """
 
 import argparse
+import contextlib
+import errno
 import os
 import re
 import sys
+import tempfile
 import threading
 import time
 
@@ -103,23 +106,33 @@ def last_stream_is_one(words):
 
 
 def look_at(path, option="-o"):
-    """Refuses a file that can't be written, before any work; it is left as it is."""
+    """Refuses a file that can't be written, before any work.
+
+    It is left as it is, and where there is none none is made: another call may write it meanwhile.
+    """
     if path is None:
         return
-    is_there = os.path.lexists(path)
     try:
-        if os.path.exists(path) and not os.path.isfile(path) and not os.path.isdir(path):
-            # To open a pipe and to close it again would tell its reader that all is over.
-            if not os.access(path, os.W_OK):
-                raise OSError(0, "Permission denied")
-            return
-        with open(path, "ab"):
-            pass
-        if not is_there:
-            os.remove(path)
+        try_to_write(path)
     except (OSError, ValueError) as fault:
         said = getattr(fault, "strerror", None) or fault
         raise Told(f"{option} {path} can't be written: {said}", UNWRITTEN) from None
+
+
+def try_to_write(path):
+    """Fails as a write to the file would: opens it, or makes one without a name in its folder."""
+    with contextlib.suppress(FileNotFoundError):
+        os.stat(path)
+    if not path or path.endswith("/"):
+        raise OSError(0, os.strerror(errno.EISDIR if path else errno.ENOENT))
+    target = os.path.realpath(path)
+    if not os.path.exists(target):
+        tempfile.TemporaryFile(dir=os.path.dirname(target)).close()
+    elif os.path.isfile(target) or os.path.isdir(target):
+        open(target, "ab").close()
+    elif not os.access(target, os.W_OK):
+        # To open a pipe and to close it again would tell its reader that all is over.
+        raise OSError(0, os.strerror(errno.EACCES))
 
 
 def look_at_picture(path, forms=("svg", "png", "pdf")):

@@ -11,6 +11,8 @@ from conftest import SECONDS, TOP
 
 from psi_tools.commands import NAMES
 from psi_tools.completion import SHELLS, completion
+from psi_tools.told import Told
+from psi_tools.words import look_at
 
 NET = TOP / "examples/single-server.toml"
 # Of each command words that are right, with a place for a file.
@@ -144,6 +146,42 @@ def test_where_a_picture_is_written_is_looked_at_first(tool, tmp_path):
         said = "-o none/picture.svg can't be written: No such file or directory"
         assert (status, out, error) == (1, "", f"psi-plot: {said}\n")
     assert [*tmp_path.iterdir()] == []
+
+
+def test_many_may_look_at_one_place(tmp_path):
+    def look(_):
+        look_at(str(tmp_path / "answer"))
+        assert not (tmp_path / "answer").exists()
+
+    with concurrent.futures.ThreadPoolExecutor(8) as pool:
+        assert len([*pool.map(look, range(400))]) == 400
+    assert [*tmp_path.iterdir()] == []
+
+
+@pytest.mark.parametrize(
+    "name, said",
+    [
+        ("", "No such file or directory"), ("new/", "Is a directory"), (".", "Is a directory"),
+        ("absent/new", "No such file or directory"), ("file/new", "Not a directory"),
+        ("round", "Too many levels of symbolic links"), ("n" * 300, "File name too long"),
+        ("far", "No such file or directory"), ("a\0b", "embedded null byte"),
+    ],
+)
+def test_places_that_can_not_be_written(tmp_path, monkeypatch, name, said):
+    monkeypatch.chdir(tmp_path)
+    (tmp_path / "file").write_text("kept")
+    os.symlink("round", "round")
+    os.symlink("absent/new", "far")
+    with pytest.raises(Told, match=said):
+        look_at(name)
+    assert (tmp_path / "file").read_text() == "kept"
+    assert {file.name for file in tmp_path.iterdir()} == {"file", "round", "far"}
+
+
+def test_a_link_to_a_new_file_may_be_written(tmp_path):
+    os.symlink("new", tmp_path / "link")
+    look_at(str(tmp_path / "link"))
+    assert [*tmp_path.iterdir()] == [tmp_path / "link"]
 
 
 @pytest.mark.parametrize("shell", SHELLS)
