@@ -1,5 +1,5 @@
 -- What rand_chacha promises at a place is the word of RFC 8439's block function.
-use Rattle.std.proofs.Common.{◌≡◌, ◌<◌, ℕ, zero, suc, ◌/◌, ◌%◌, ◌^◌, List, [], ◌∷◌, length, refl, sym, ap, ◌∙◌, arith}
+use Rattle.std.proofs.Common.{◌≡◌, ◌<◌, ◌≤◌, ℕ, zero, suc, ◌+◌, ◌/◌, ◌%◌, ◌^◌, List, [], ◌∷◌, length, refl, sym, ap, ◌∙◌, arith}
 use Rattle.std.proofs.Math.Nat.{div-div-eq-div-mul, div-eq_of_lt, mod-eq_of_lt}
 use Rattle.std.proofs.lemmas.Bool.{lt-ltb}
 use Rattle.std.specs.Prelude.{slice_index}
@@ -8,6 +8,8 @@ use Rattle.rand_chacha.specs.Block as upstream
 use Rattle.rand_chacha.specs.ChaCha.{ChaCha, key_of, word_at, next_word}
 use Rattle.psi_past.specs.ChaCha20.{word_sum, quarter_round, column_round, diagonal_round, double_rounds, initial_state, state_sum, chacha20_block}
 use Rattle.psi_past.specs.SeedWord.{key_bytes, nonce_bytes, seed_word}
+use Rattle.psi_past.specs.Filled.{AreWordsFrom}
+use Rattle.psi_past.specs.Drawn.{Draws}
 
 -- the rounds are the same on a state, ..
 column_round-is : (a b c d e f g h i j k l m n o p : ℕ)
@@ -120,3 +122,14 @@ pub next_word-is : (g after : ChaCha) (seed stream place word : ℕ) → (word, 
     → place < 2 ^ 36 → stream < 2 ^ 64 → word ≡ seed_word seed stream place
 next_word-is g after seed stream place word e at near fits =
     ap (λ (p : _). p.0) e ∙ ap (λ (g : ChaCha). (next_word 10 g).0) at ∙ word_at-is seed stream place near fits
+
+-- what a generator at a place draws into a list
+pub words-drawn : (g h : ChaCha) (seed stream place : ℕ) (list filled : List ℕ) → Draws (length list) 0 g h list filled
+    → g ≡ record { key = key_of (key_bytes seed); stream = stream; word_pos = place }
+    → place + length list ≤ 2 ^ 36 → stream < 2 ^ 64 → AreWordsFrom (seed_word seed stream) place filled
+words-drawn g h seed stream place list filled draws at near fits = record {
+  each = λ i small. (let long = draws.same_length in
+      let e : i ≡ 0 + i = omega arith in
+      ap (slice_index filled) e ∙ draws.drawn i (omega arith) ∙ ap (λ (g : ChaCha). word_at 10 g.key g.stream (g.word_pos + i)) at
+      ∙ word_at-is seed stream (place + i) (omega arith) fits);
+}

@@ -1,3 +1,4 @@
 -- The lemmas of this crate.
 pub mod BlockVectorsLemmas
 pub mod KeyStreamLemmas
+pub mod DrawnLemmas

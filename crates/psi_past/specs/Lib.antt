@@ -2,4 +2,5 @@
 pub mod ChaCha20
 pub mod Seeded
 pub mod SeedWord
-pub mod Keeping
+pub mod Filled
+pub mod Drawn

@@ -4,15 +4,16 @@
 //! and has to meet the same random word at the same time on each run. A [`Past`] is that fixed
 //! choice: one word of 32 bits for each place, where the event of time -t is drawn from the word
 //! at place t - 1. [`SeedPast`] has the words of a seed and a stream, [`ListPast`] those of a list,
-//! and [`Kept`] keeps the words that it has drawn, so that a longer run draws only the older ones.
+//! and [`Windowed`] those of another past, for who reads them backwards.
 #![tactic(auto)]
 
-mod kept;
+mod drawing;
 mod list;
 mod past;
 mod seed;
+mod windowed;
 
-pub use kept::{Kept, OutOfMemory};
 pub use list::ListPast;
 pub use past::Past;
 pub use seed::SeedPast;
+pub use windowed::Windowed;

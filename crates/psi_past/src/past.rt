@@ -1,6 +1,7 @@
 //! The contract of a past.
 
-ghost use Rattle.std.specs.Prelude.{◌≡◌, ℕ};
+ghost use Rattle.std.specs.Prelude.{◌≡◌, ◌+◌, ◌^◌, ◌≤◌, ℕ, length};
+ghost use Rattle.psi_past.specs.Filled.{AreWordsFrom};
 
 /// One random word for each place, fixed once and for all.
 ///
@@ -13,4 +14,16 @@ pub trait Past {
     fn word(&mut self, place: u32) -> u32
         ensures value { result ≡ words self.old place }
         ensures same { words self.new ≡ words self.old };
+
+    /// The words of a slice's length of places, from this one on, into the slice. The last place is at most 2^32 - 1.
+    fn fill(&mut self, place: u32, out: &mut [u32])
+        requires places { place + length out.old ≤ 2 ^ 32 }
+        ensures count { length out.new ≡ length out.old }
+        ensures filled { AreWordsFrom (words self.old) place out.new }
+        ensures same { words self.new ≡ words self.old }
+    {
+        for i in 0..out.len() {
+            out[i] = self.word(place + i as u32);
+        }
+    }
 }

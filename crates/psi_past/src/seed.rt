@@ -2,6 +2,7 @@
 
 ghost use Rattle.std.specs.Prelude.{◌≡◌};
 
+use crate::drawing::draw;
 use crate::past::Past;
 use rand_chacha::ChaCha20Rng;
 use rand_core::SeedableRng;
@@ -73,5 +74,14 @@ impl Past for SeedPast {
         }
         self.next = place + 1;
         self.generator.next_word()
+    }
+
+    fn fill(&mut self, place: u32, out: &mut [u32]) {
+        let first = u64::from(place);
+        if self.next != first {
+            self.generator.set_word_pos(u128::from(first));
+        }
+        self.next = first + out.len() as u64;
+        draw(&mut self.generator, place, out);
     }
 }

@@ -1,0 +1,91 @@
+//! The words of a generator, many at a time.
+
+ghost use Rattle.std.specs.Prelude.{◌≡◌, ◌+◌, ◌*◌, ◌<◌, ◌^◌, ◌≤◌, length};
+ghost use Rattle.psi_past.specs.Drawn.{Draws};
+
+use rand_chacha::ChaCha20Rng;
+use rand_core::utils::NextWord;
+
+// How many words the generator makes at once.
+const BLOCK: usize = 64;
+
+// Draws the next words into the slice, as many as it has places. The generator stands at this place.
+pub(crate) fn draw(generator: &mut ChaCha20Rng, place: u32, out: &mut [u32])
+    requires place { generator.old.word_pos ≡ place }
+    requires places { place + length out.old ≤ 2 ^ 32 }
+    ensures { Draws (length out.old) 0 generator.old generator.new out.old out.new }
+{
+    let mut blocks = 0;
+    if place as usize % BLOCK == 0 {
+        blocks = out.len() / BLOCK;
+        draw_blocks(generator, place as usize / BLOCK, out, blocks);
+    }
+    for at in blocks * BLOCK..out.len() {
+        draw_one(generator, out, at);
+    }
+}
+
+// Draws so many blocks, the first of which has this number.
+fn draw_blocks(generator: &mut ChaCha20Rng, first: usize, out: &mut [u32], blocks: usize)
+    requires place { generator.old.word_pos ≡ 64 * first }
+    requires few { first < 2 ^ 32 }
+    requires fits { 64 * blocks ≤ length out.old }
+    requires places { 64 * first + length out.old ≤ 2 ^ 32 }
+    ensures { Draws (64 * blocks) 0 generator.old generator.new out.old out.new }
+{
+    for block in 0..blocks {
+        // It stands there already: with the place told as a block's first, the compiler knows that there is nothing left of
+        // the block before, and draws the words of this one without asking at each.
+        generator.set_word_pos((BLOCK * (first + block)) as u128);
+        draw_block(generator, out, BLOCK * block);
+    }
+}
+
+// Draws the next 64 words into the slice, from the place `at` on.
+#[inline(always)]
+fn draw_block(generator: &mut ChaCha20Rng, out: &mut [u32], at: usize)
+    requires fits { at + 64 ≤ length out.old }
+    requires near { generator.old.word_pos + 64 ≤ 2 ^ 36 }
+    ensures { Draws 64 at generator.old generator.new out.old out.new }
+{
+    draw_sixteen(generator, out, at);
+    draw_sixteen(generator, out, at + 16);
+    draw_sixteen(generator, out, at + 32);
+    draw_sixteen(generator, out, at + 48);
+}
+
+// Draws the next 16 words.
+#[inline(always)]
+fn draw_sixteen(generator: &mut ChaCha20Rng, out: &mut [u32], at: usize)
+    requires fits { at + 16 ≤ length out.old }
+    requires near { generator.old.word_pos + 16 ≤ 2 ^ 36 }
+    ensures { Draws 16 at generator.old generator.new out.old out.new }
+{
+    draw_four(generator, out, at);
+    draw_four(generator, out, at + 4);
+    draw_four(generator, out, at + 8);
+    draw_four(generator, out, at + 12);
+}
+
+// Draws the next four words.
+#[inline(always)]
+fn draw_four(generator: &mut ChaCha20Rng, out: &mut [u32], at: usize)
+    requires fits { at + 4 ≤ length out.old }
+    requires near { generator.old.word_pos + 4 ≤ 2 ^ 36 }
+    ensures { Draws 4 at generator.old generator.new out.old out.new }
+{
+    draw_one(generator, out, at);
+    draw_one(generator, out, at + 1);
+    draw_one(generator, out, at + 2);
+    draw_one(generator, out, at + 3);
+}
+
+// Draws the next word.
+#[inline(always)]
+fn draw_one(generator: &mut ChaCha20Rng, out: &mut [u32], at: usize)
+    requires fits { at < length out.old }
+    requires near { generator.old.word_pos < 2 ^ 36 }
+    ensures { Draws 1 at generator.old generator.new out.old out.new }
+{
+    out[at] = generator.next_word();
+}
