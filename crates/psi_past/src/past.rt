@@ -10,17 +10,17 @@ pub trait Past {
     // The word of each place.
     ghost words: { Self → ℕ → ℕ };
 
-    /// The word at a place. Reading changes no word.
+    /// The word at a place. Reading changes nothing of what the past is seen as.
     fn word(&mut self, place: u32) -> u32
         ensures value { result ≡ words self.old place }
-        ensures same { words self.new ≡ words self.old };
+        ensures same { self.new ≡ self.old };
 
     /// The words of a slice's length of places, from this one on, into the slice. The last place is at most 2^32 - 1.
     fn fill(&mut self, place: u32, out: &mut [u32])
         requires places { place + length out.old ≤ 2 ^ 32 }
         ensures count { length out.new ≡ length out.old }
         ensures filled { AreWordsFrom (words self.old) place out.new }
-        ensures same { words self.new ≡ words self.old }
+        ensures same { self.new ≡ self.old }
     {
         for i in 0..out.len() {
             out[i] = self.word(place + i as u32);

@@ -3,10 +3,16 @@
 use super::*;
 use std::test::Fail;
 
-// A past that counts the words drawn from it.
+// A past that counts the words drawn from it, which isn't seen.
 #[derive(Drop)]
 struct CountingPast {
     drawn: u32,
+}
+
+impl Model for CountingPast {
+    ghost Value = { Unit {0} };
+
+    ghost view = { λ _. tt };
 }
 
 impl Past for CountingPast {

@@ -8,5 +8,5 @@ abbrev pub invariant-loop-i : goal.invariant-loop-i
 invariant-loop-i g l = record {
   count : length l.out ≡ length l.fn.out;
   filled : (j : ℕ) → j < l.i → slice_index l.out j ≡ g.Self.Past.words l.fn.self (l.place + j);
-  same : g.Self.Past.words l.self ≡ g.Self.Past.words l.fn.self;
+  same : l.self ≡ l.fn.self;
 }
