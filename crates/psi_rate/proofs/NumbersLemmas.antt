@@ -1,11 +1,11 @@
 -- The numbers that are kept are those of the places, and how many there are.
-use Rattle.std.specs.Prelude.{◌≡◌, ℕ, zero, suc, ◌-◌, ◌+◌, ◌<◌, ◌≤◌, List, [], ◌∷◌, ◌++◌, length, All, Bool, true, false, not, nat_eq, nat_lt, if◌then◌else◌, refl}
-use Rattle.std.proofs.Common.{inl, inr, ap, ap₂, sym, ◌∙◌, subst, take, arith, eq-eqb, ne_eqb}
-use Rattle.std.proofs.lemmas.Bool.{cases_lt, lt-ltb, le-ltb, ltb-true}
-use Rattle.std.proofs.lemmas.List.{length-append, append-nil, take-append-le}
+use Rattle.std.specs.Prelude.{◌≡◌, ℕ, zero, suc, ◌-◌, ◌+◌, ◌<◌, ◌≤◌, List, [], ◌∷◌, ◌++◌, length, slice_index, All, Bool, true, false, nat_lt, if◌then◌else◌, refl}
+use Rattle.std.proofs.Common.{ap, ap₂, sym, ◌∙◌, subst, take, arith}
+use Rattle.std.proofs.lemmas.Bool.{ltb-true}
+use Rattle.std.proofs.lemmas.List.{length-append, append-nil, append_assoc, take-append-le}
 use Rattle.std.proofs.lemmas.List.Elements.{All-nil, All-cons, All-append}
-use mir.Val.{bool_byte}
-use Rattle.std.proofs.Math.Seq.{take-length, take-append_seam}
+use Rattle.std.proofs.Math.Seq.{take-length}
+use Rattle.psi_past.specs.Filled.{AreWordsFrom}
 use Rattle.psi_rate.specs.Rates.{event_of}
 use Rattle.psi_rate.specs.declared.numbers.Numbers.{Numbers}
 use Rattle.psi_rate.specs.Numbers.{unless_idle, numbers_below}
@@ -25,31 +25,36 @@ numbers-length rates words (suc t) =
     let sum = length-append (numbers_below rates words t) (unless_idle (length rates) number) in
     omega arith
 
--- the number of one place more is put to the others, and taken off again where it is that of idle
-number-kept : (count number n : ℕ) (before pushed : List ℕ) → number ≤ count → pushed ≡ before ++ number ∷ [] → n ≡ length pushed
-    → take (n - bool_byte (nat_eq number count)) pushed ≡ before ++ unless_idle count number
-number-kept count number n before pushed most same long = elim (cases_lt number count) [
-  | inl small ↦ (let one : nat_eq number count ≡ false = ne_eqb number count (λ e. omega arith) in
-      let all : n - bool_byte false ≡ length pushed = omega arith in
-      ap (λ (b : Bool). take (n - bool_byte b) pushed) one ∙ ap (λ k. take k pushed) all ∙ take-length pushed ∙ same
-      ∙ ap (λ (b : Bool). before ++ (if b then number ∷ [] else [])) (sym (lt-ltb number count small)))
-  | inr past ↦ (let e : number ≡ count = omega arith in
-      let more : length pushed ≡ length before + 1 = ap (λ (ns : List ℕ). length ns) same ∙ length-append before (number ∷ []) in
-      let less : n - bool_byte true ≡ length before = omega arith in
-      ap (λ (b : Bool). take (n - bool_byte b) pushed) (eq-eqb number count e) ∙ ap₂ (λ k (ns : List ℕ). take k ns) less same
-      ∙ take-append_seam before (number ∷ []) ∙ sym (append-nil before)
-      ∙ ap (λ (b : Bool). before ++ (if b then number ∷ [] else [])) (sym (le-ltb number count past)))
-]
-
-pub numbers-kept : (rates : List ℕ) (words : ℕ → ℕ) (place number idle word n : ℕ) (before pushed after : List ℕ) → before ≡ numbers_below rates words place
-    → word ≡ words place → number ≡ event_of rates word → idle ≡ length rates → number ≤ length rates → pushed ≡ before ++ number ∷ [] → n ≡ length pushed
-    → after ≡ take (n - bool_byte (nat_eq number idle)) pushed → after ≡ numbers_below rates words (place + 1)
-numbers-kept rates words place number idle word n before pushed after kept read is none most same long left =
-    let e : suc place ≡ place + 1 = omega arith in
-    left ∙ ap (λ k. take (n - bool_byte (nat_eq number k)) pushed) none
-    ∙ number-kept (length rates) number n before pushed most same long
-    ∙ ap₂ (λ (ns : List ℕ) k. ns ++ unless_idle (length rates) k) kept (is ∙ ap (event_of rates) read)
+-- the numbers of a list of words stand behind those of the places before it
+numbers-behind : (rates : List ℕ) (words : ℕ → ℕ) (first n : ℕ) (drawn : List ℕ) → ((i : ℕ) → i < n → slice_index drawn i ≡ words (first + i))
+    → numbers_below rates words first ++ numbers_below rates (slice_index drawn) n ≡ numbers_below rates words (first + n)
+numbers-behind rates words first zero drawn are =
+    let e : first ≡ first + 0 = omega arith in
+    append-nil (numbers_below rates words first) ∙ ap (numbers_below rates words) e
+numbers-behind rates words first (suc n) drawn are =
+    let e : suc (first + n) ≡ first + suc n = omega arith in
+    let last = unless_idle (length rates) (event_of rates (slice_index drawn n)) in
+    sym (append_assoc (numbers_below rates words first) (numbers_below rates (slice_index drawn) n) last)
+    ∙ ap₂ (λ (ns : List ℕ) w. ns ++ unless_idle (length rates) (event_of rates w))
+    (numbers-behind rates words first n drawn (λ i small. are i (omega arith))) (are n (omega arith))
     ∙ ap (numbers_below rates words) e
+
+pub numbers-window : (rates : List ℕ) (words : ℕ → ℕ) (first end count : ℕ) (drawn numbers : List ℕ) → first ≤ end → length drawn ≡ end - first
+    → AreWordsFrom words first drawn → take count numbers ≡ numbers_below rates (slice_index drawn) (length drawn)
+    → numbers_below rates words first ++ take count numbers ≡ numbers_below rates words end
+numbers-window rates words first end count drawn numbers order long are picked =
+    let e : first + length drawn ≡ end = omega arith in
+    ap (λ (ns : List ℕ). numbers_below rates words first ++ ns) picked
+    ∙ numbers-behind rates words first (length drawn) drawn are.each ∙ ap (numbers_below rates words) e
+
+-- the numbers of a window fit where there is room for those of the places up to its end
+pub window-room : (rates : List ℕ) (words : ℕ → ℕ) (first end : ℕ) (list more : List ℕ) → list ≡ numbers_below rates words first
+    → numbers_below rates words first ++ more ≡ numbers_below rates words end → length list + length more ≤ end
+window-room rates words first end list more kept are =
+    let sum = length-append list more in
+    let all : length (list ++ more) ≡ length (numbers_below rates words end) = ap (λ (ns : List ℕ). length (ns ++ more)) kept ∙ ap (λ (ns : List ℕ). length ns) are in
+    let few = numbers-length rates words end in
+    omega arith
 
 -- each number is an event's
 one_if-all : (b : Bool) (n count : ℕ) → nat_lt n count ≡ b → All (λ k. k < count) (if b then n ∷ [] else [])
@@ -62,30 +67,6 @@ numbers-all rates words (suc t) =
     let number = event_of rates (words t) in
     All-append (λ k. k < length rates) (numbers_below rates words t) (unless_idle (length rates) number) (numbers-all rates words t)
     (one_if-all (nat_lt number (length rates)) number (length rates) refl)
-
-pub bool_byte-most : (b : Bool) → bool_byte b ≤ 1
-bool_byte-most true = omega arith
-bool_byte-most false = omega arith
-
-length-one : (count number : ℕ) → number ≤ count → length (unless_idle count number) ≡ bool_byte (not (nat_eq number count))
-length-one count number most = elim (cases_lt number count) [
-  | inl small ↦ ap (λ (b : Bool). length (if b then number ∷ [] else [])) (lt-ltb number count small)
-      ∙ sym (ap (λ (b : Bool). bool_byte (not b)) (ne_eqb number count (λ e. omega arith)))
-  | inr past ↦ ap (λ (b : Bool). length (if b then number ∷ [] else [])) (le-ltb number count past)
-      ∙ sym (ap (λ (b : Bool). bool_byte (not b)) (eq-eqb number count (omega arith)))
-]
-
--- one place more has one number more, where it isn't that of idle
-pub length-next : (rates : List ℕ) (words : ℕ → ℕ) (place number idle word : ℕ) → word ≡ words place → number ≡ event_of rates word → idle ≡ length rates
-    → number ≤ length rates
-    → length (numbers_below rates words (place + 1)) ≡ length (numbers_below rates words place) + bool_byte (not (nat_eq number idle))
-length-next rates words place number idle word read is none most =
-    let e : place + 1 ≡ suc place = omega arith in
-    let own : event_of rates (words place) ≡ number = ap (event_of rates) (sym read) ∙ sym is in
-    ap (λ n. length (numbers_below rates words n)) e
-    ∙ length-append (numbers_below rates words place) (unless_idle (length rates) (event_of rates (words place)))
-    ∙ ap (λ n. length (numbers_below rates words place) + n)
-    (ap (λ n. length (unless_idle (length rates) n)) own ∙ ap (λ n. length (unless_idle n number)) (sym none) ∙ length-one idle number (omega arith))
 
 -- the numbers of fewer places are the first of those of more
 numbers-more : (rates : List ℕ) (words : ℕ → ℕ) (t more : ℕ) → length (numbers_below rates words t) ≤ length (numbers_below rates words (more + t))

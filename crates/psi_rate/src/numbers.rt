@@ -1,25 +1,29 @@
 //! The numbers of the events of a run, kept from run to run without those that are idle.
 
-ghost use Rattle.std.specs.Prelude.{◌≡◌, ◌≤◌, ℕ, List, length, vec_capacity, IfOk};
+ghost use Rattle.std.specs.Prelude.{◌≡◌, ◌+◌, ◌-◌, ◌≤◌, ◌++◌, ℕ, List, length, take, vec_capacity, IfOk};
 ghost use Rattle.psi_rate.specs.Numbers.{numbers_below};
 ghost use Rattle.psi_rate.specs.Keeping.{KeepsNumbers, Reaches};
 
 use crate::Wheel;
-use psi_past::{Kept, Past};
+use linked_list_allocator::LocalHeap;
+use psi_past::Past;
 use std::alloc::{AllocError, Global};
 
 // How far apart the places are up to which the numbers are counted.
 const STRETCH: u32 = 1024;
 
+// How many places are drawn at once.
+const WINDOW: u32 = 256;
+
 /// The numbers of the events of the places from 0 on, as far as they reach, without those that are idle. They are
 /// kept from run to run, so that each word is picked once: a run over them is the run over all places.
 ///
-/// Only `reserve` takes memory.
+/// Only `reserve` takes memory: the lists stand on heaps of their own, which have room for them and no more.
 #[derive(Drop)]
 pub struct Numbers {
-    list: Vec<u16>,
+    list: Vec<u16, LocalHeap>,
     // How many of them there are before place 0, 1,024, 2,048 and so on.
-    counts: Vec<u32>,
+    counts: Vec<u32, LocalHeap>,
     // How many places they are of.
     reached: u32,
 }
@@ -32,8 +36,10 @@ impl Numbers {
     pub fn reserve(alloc: Global, most: u32) -> Result<Numbers, AllocError>
         ensures { IfOk result (λ numbers. (rates : List ℕ) (words : ℕ → ℕ) → KeepsNumbers rates words most numbers) }
     {
-        let list = Vec::with_capacity(alloc, most as usize)?;
-        let mut counts = Vec::with_capacity(alloc, (most / STRETCH) as usize + 1)?;
+        let places = most as usize;
+        let stretches = (most / STRETCH) as usize + 1;
+        let list = Vec::with_capacity(LocalHeap::new(alloc, 2 * places)?, places)?;
+        let mut counts = Vec::with_capacity(LocalHeap::new(alloc, 4 * stretches)?, stretches)?;
         counts.push_reserved(0);
         Ok(Numbers {
             list,
@@ -51,90 +57,124 @@ impl Numbers {
         self.reached = 0;
     }
 
-    /// Keeps the numbers of all places below the horizon, for which there is room, and picks those that are not kept
-    /// yet.
-    pub fn extend_to<P: Past + Drop>(&mut self, wheel: &Wheel, words: &mut Kept<P>, horizon: u32)
-        requires kept { KeepsNumbers wheel.now (P.words words.old.past) horizon self.old }
-        requires room { horizon ≤ words.old.most }
-        ensures kept { (most : ℕ) → KeepsNumbers wheel.now (P.words words.old.past) most self.old → KeepsNumbers wheel.now (P.words words.old.past) most self.new }
+    /// Keeps the numbers of all places below the horizon, for which there is room, and draws and picks those that are
+    /// not kept yet.
+    pub fn extend_to<P: Past>(&mut self, wheel: &Wheel, past: &mut P, horizon: u32)
+        requires kept { KeepsNumbers wheel.now (P.words past.old) horizon self.old }
+        ensures kept { (most : ℕ) → KeepsNumbers wheel.now (P.words past.old) most self.old → KeepsNumbers wheel.now (P.words past.old) most self.new }
         ensures reached { Reaches self.new horizon }
-        ensures drawn { horizon ≤ words.new.count }
-        ensures words { P.words words.new.past ≡ P.words words.old.past }
-        ensures most { words.new.most ≡ words.old.most }
+        ensures words { P.words past.new ≡ P.words past.old }
     {
-        words.extend_to(horizon);
         for stretch in self.reached / STRETCH..horizon / STRETCH {
             let end = (stretch + 1) * STRETCH;
-            keep_places(wheel, words, &mut self.list, self.reached, end);
+            keep_places(wheel, past, &mut self.list, self.reached, end);
             self.counts.push_reserved(self.list.len() as u32);
             self.reached = end;
         }
         if self.reached < horizon {
-            keep_places(wheel, words, &mut self.list, self.reached, horizon);
+            keep_places(wheel, past, &mut self.list, self.reached, horizon);
             self.reached = horizon;
         }
     }
 
-    /// The numbers of the places below a horizon that they reach, from place 0 on.
-    pub fn below<P: Past + Drop>(&self, wheel: &Wheel, words: &Kept<P>, horizon: u32) -> &[u16]
-        requires kept { KeepsNumbers wheel.now (P.words words.now.past) horizon self.now }
+    /// The numbers of the places below a horizon that they reach, from place 0 on. Where they reach further, the words
+    /// of less than 1,024 places are drawn again to see how many numbers these are.
+    pub fn below<P: Past>(&self, wheel: &Wheel, past: &mut P, horizon: u32) -> &[u16]
+        requires kept { KeepsNumbers wheel.now (P.words past.old) horizon self.now }
         requires reached { Reaches self.now horizon }
-        requires drawn { horizon ≤ words.now.count }
-        ensures { result.now ≡ numbers_below wheel.now (P.words words.now.past) horizon }
+        ensures numbers { result.now ≡ numbers_below wheel.now (P.words past.old) horizon }
+        ensures words { P.words past.new ≡ P.words past.old }
     {
         if horizon == self.reached {
             return self.list.as_slice();
         }
         let stretches = horizon / STRETCH;
         let before = self.counts[stretches as usize] as usize;
-        let count = count_places(wheel, words, before, stretches * STRETCH, horizon);
+        let count = count_places(wheel, past, before, stretches * STRETCH, horizon);
         &self.list.as_slice()[..count]
     }
 }
 
 // Keeps the numbers of the places from `reached` to `end` too.
-fn keep_places<P: Past + Drop>(
+fn keep_places<P: Past>(
     wheel: &Wheel,
-    words: &Kept<P>,
-    list: &mut Vec<u16>,
+    past: &mut P,
+    list: &mut Vec<u16, LocalHeap>,
     reached: u32,
     end: u32,
 )
     requires longer { reached ≤ end }
-    requires drawn { end ≤ words.now.count }
     requires room { end ≤ vec_capacity list.old }
-    requires kept { list.old.items ≡ numbers_below wheel.now (P.words words.now.past) reached }
-    ensures kept { list.new.items ≡ numbers_below wheel.now (P.words words.now.past) end }
-    ensures capacity { vec_capacity list.new ≡ vec_capacity list.old }
+    requires kept { list.old.items ≡ numbers_below wheel.now (P.words past.old) reached }
+    ensures kept { list.new.items ≡ numbers_below wheel.now (P.words past.old) end }
+    ensures capacity { vec_capacity list.old ≤ vec_capacity list.new }
     ensures few { length list.new.items ≤ end }
+    ensures words { P.words past.new ≡ P.words past.old }
 {
-    let idle = wheel.events();
-    for place in reached..end {
-        let number = wheel.pick(words.at(place));
-        // Kept, and given up at once where it is idle: a branch would often be foreseen wrongly.
-        list.push_reserved(number);
-        list.truncate(list.len() - (number == idle) as usize);
+    let mut place = reached;
+    while place < end {
+        let next = place + (end - place).min(WINDOW);
+        keep_window(wheel, past, list, place, next);
+        place = next;
     }
 }
 
 // How many numbers there are before `end`, where so many are before `first`.
-fn count_places<P: Past + Drop>(
-    wheel: &Wheel,
-    words: &Kept<P>,
-    before: usize,
-    first: u32,
-    end: u32,
-) -> usize
+fn count_places<P: Past>(wheel: &Wheel, past: &mut P, before: usize, first: u32, end: u32) -> usize
     requires longer { first ≤ end }
-    requires drawn { end ≤ words.now.count }
-    requires before { before ≡ length (numbers_below wheel.now (P.words words.now.past) first) }
-    ensures { result ≡ length (numbers_below wheel.now (P.words words.now.past) end) }
+    requires before { before ≡ length (numbers_below wheel.now (P.words past.old) first) }
+    ensures count { result ≡ length (numbers_below wheel.now (P.words past.old) end) }
+    ensures words { P.words past.new ≡ P.words past.old }
 {
-    let idle = wheel.events();
     let mut count = before;
-    for place in first..end {
-        let number = wheel.pick(words.at(place));
-        count += (number != idle) as usize;
+    let mut place = first;
+    let mut numbers = [0; WINDOW as usize];
+    while place < end {
+        let next = place + (end - place).min(WINDOW);
+        count += pick_window(wheel, past, place, next, &mut numbers);
+        place = next;
     }
     count
+}
+
+// Keeps the numbers of the places of a window too.
+fn keep_window<P: Past>(
+    wheel: &Wheel,
+    past: &mut P,
+    list: &mut Vec<u16, LocalHeap>,
+    first: u32,
+    end: u32,
+)
+    requires longer { first ≤ end }
+    requires window { end ≤ first + 256 }
+    requires room { end ≤ vec_capacity list.old }
+    requires kept { list.old.items ≡ numbers_below wheel.now (P.words past.old) first }
+    ensures kept { list.new.items ≡ numbers_below wheel.now (P.words past.old) end }
+    ensures capacity { vec_capacity list.old ≤ vec_capacity list.new }
+    ensures words { P.words past.new ≡ P.words past.old }
+{
+    let mut numbers = [0; WINDOW as usize];
+    let count = pick_window(wheel, past, first, end, &mut numbers);
+    // There is room for them.
+    let _kept = list.extend_from_slice(&numbers[..count]);
+}
+
+// Puts the numbers of the places of a window to the front of the list, and tells how many they are.
+fn pick_window<P: Past>(
+    wheel: &Wheel,
+    past: &mut P,
+    first: u32,
+    end: u32,
+    numbers: &mut [u16; 256],
+) -> usize
+    requires longer { first ≤ end }
+    requires window { end ≤ first + 256 }
+    ensures few { result ≤ end - first }
+    ensures numbers { numbers_below wheel.now (P.words past.old) first ++ take result numbers.new ≡ numbers_below wheel.now (P.words past.old) end }
+    ensures words { P.words past.new ≡ P.words past.old }
+{
+    let mut window = [0; WINDOW as usize];
+    let words = &mut window[..(end - first) as usize];
+    past.fill(first, words);
+    wheel.pick_all(words, numbers)
 }

@@ -1,6 +1,7 @@
 //! The wheel: the event of a word.
 
-ghost use Rattle.std.specs.Prelude.{◌≡◌, ℕ, ◌+◌, ◌%◌, ◌<◌, ◌≤◌, length, slice_index, IfOk, IfErr, OnOk, EachIndex};
+ghost use Rattle.std.specs.Prelude.{◌≡◌, ℕ, ◌+◌, ◌%◌, ◌<◌, ◌≤◌, length, take, slice_index, IfOk, IfErr, OnOk, EachIndex};
+ghost use Rattle.psi_rate.specs.Numbers.{numbers_below};
 ghost use Rattle.psi_rate.specs.Rates.{AreRates, HasNumber, IsLeastPower, event_of, least_power, total};
 
 use crate::table::Table;
@@ -105,6 +106,25 @@ impl Wheel {
         ensures number { HasNumber self.now (word % least_power (total self.now)) result }
     {
         self.table.event(&self.totals, self.modulus, word)
+    }
+
+    /// Puts the numbers of the events of these words, without those of idle, to the front of a list that is no shorter,
+    /// in their order, and tells how many they are.
+    pub fn pick_all(&self, words: &[u32], numbers: &mut [u16]) -> usize
+        requires { length words.now ≤ length numbers.old }
+        ensures numbers { take result numbers.new ≡ numbers_below self.now (slice_index words.now) (length words.now) }
+        ensures few { result ≤ length words.now }
+        ensures same_length { length numbers.new ≡ length numbers.old }
+    {
+        let idle = self.events();
+        let mut count = 0;
+        for place in 0..words.len() {
+            let number = self.pick(words[place]);
+            // Written in any case, and given up where it is idle: a branch would often be foreseen wrongly.
+            numbers[count] = number;
+            count += (number < idle) as usize;
+        }
+        count
     }
 
     /// How many numbers there are, the idle ones included: the least power of two that isn't below the total rate.

@@ -1,20 +1,15 @@
 -- Answers in the proof of `count_places`.
-use Rattle.std.proofs.Common.{◌+◌, not, nat_eq, ap, ◌∙◌, sym, arith}
-use mir.Val.{bool_byte}
-use Rattle.psi_rate.proofs.NumbersLemmas.{numbers-length, bool_byte-most, length-next}
+use Rattle.std.proofs.Common.{arith}
+use Rattle.psi_rate.proofs.NumbersLemmas.{numbers-length}
 use Rattle.psi_rate.proofs.numbers.count_places.Goals as goal
 
 pub overflow_add-count : goal.overflow_add-count
 overflow_add-count g c =
-    let few = numbers-length c.args.wheel.now (g.P.Past.words c.args.words.now.past) c.loop-place.place in
-    let kept = c.loop-place.invariant in
-    let one = bool_byte-most (not (nat_eq c.pick-number.result c.events-idle.result)) in
+    let counted = c.loop-place.invariant.counted in
+    let most = c.loop-place.invariant.most in
+    let few = numbers-length c.args.wheel.now (g.P.Past.words c.args.past.now) c.loop-place.place in
+    let more = c.pick_window-count.ensures.few in
+    let order = c.requires.longer in
+    let next = c.min.ensures in
+    let fits = c.ranges.end.fits in
     omega arith
-
-pub loop-place-preserved : goal.loop-place-preserved
-loop-place-preserved g c =
-    let rates = c.args.wheel.now in
-    ap (λ n. n + bool_byte (not (nat_eq c.pick-number.result c.events-idle.result))) c.loop-place.invariant
-    ∙ sym (length-next rates (g.P.Past.words c.args.words.now.past) c.loop-place.place c.pick-number.result c.events-idle.result c.at.result
-    c.at.ensures c.pick-number.ensures.event
-    c.events-idle.ensures.count c.pick-number.ensures.number.place)
