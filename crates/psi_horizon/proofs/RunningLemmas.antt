@@ -5,7 +5,6 @@ use Rattle.psi_state.specs.State.{Corners, IsBelow}
 use Rattle.psi_state.specs.Members.{In}
 use Rattle.psi_state.proofs.BoxesLemmas.{In-high}
 use Rattle.psi_state.specs.Sets.{single}
-use Rattle.psi_past.specs.Keeping.{Keeping}
 use Rattle.psi_rate.specs.Composition.{Parts, AreClosed}
 use Rattle.psi_region.specs.Region.{Area, Regional, step, ShowsBox, IsArea}
 use Rattle.psi_region.specs.Followed.{Followed}
@@ -38,26 +37,26 @@ pub if_some-both : {A : Type 0} (P Q : A → Type 0) (X : Type 0) (o : Option A)
 if_some-both P Q X None each some first second = absurd (false≢true some)
 if_some-both P Q X (Some a) each some first second = each a first second
 
-underway-seen : {E P : Type 0} (gs : List (List ℕ → List ℕ)) (f : ℕ → List ℕ → List ℕ) (system : Parts E) (words : Keeping P) (region : Regional)
-    (past : ℕ → ℕ) (numbers : Numbers) (network : Followed) (progress : Option Progress) → IsPlan gs f past system words region numbers network progress
+underway-seen : {E : Type 0} (gs : List (List ℕ → List ℕ)) (f : ℕ → List ℕ → List ℕ) (system : Parts E) (region : Regional)
+    (words : ℕ → ℕ) (numbers : Numbers) (network : Followed) (progress : Option Progress) → IsPlan gs f words system region numbers network progress
     → IfSome (running_of progress) (λ r. region.area ≡ region_after system.split f system.caps r.horizon r.done)
-underway-seen gs f system words region past numbers network None is = tt
-underway-seen gs f system words region past numbers network (Some r) is = is.run.area
+underway-seen gs f system region words numbers network None is = tt
+underway-seen gs f system region words numbers network (Some r) is = is.run.area
 
 -- the region of a plan is that of the run that was begun, after the steps that are done
-pub region-seen : {E P : Type 0} (gs : List (List ℕ → List ℕ)) (functions : Parts E → P → ℕ → List ℕ → List ℕ) (system : Parts E) (words : Keeping P) (region : Regional)
-    (past : ℕ → ℕ) (numbers : Numbers) (network : Followed) (progress : Option Progress) (now : Planned E P) → record { system = system; past = words.past; run = running_of progress } ≡ now
-    → IsPlan gs (functions system words.past) past system words region numbers network progress
+pub region-seen : {E P : Type 0} (gs : List (List ℕ → List ℕ)) (functions : Parts E → P → ℕ → List ℕ → List ℕ) (system : Parts E) (past : P) (region : Regional)
+    (words : ℕ → ℕ) (numbers : Numbers) (network : Followed) (progress : Option Progress) (now : Planned E P) → record { system = system; past = past; run = running_of progress } ≡ now
+    → IsPlan gs (functions system past) words system region numbers network progress
     → IfSome now.run (λ r. region.area ≡ region_after now.system.split (functions now.system now.past) now.system.caps r.horizon r.done)
-region-seen {E} {P} gs functions system words region past numbers network progress now seen is =
+region-seen {E} {P} gs functions system past region words numbers network progress now seen is =
     subst (λ (plan : Planned E P). IfSome plan.run (λ r. region.area ≡ region_after plan.system.split (functions plan.system plan.past) plan.system.caps r.horizon r.done))
-    seen (underway-seen gs (functions system words.past) system words region past numbers network progress is)
+    seen (underway-seen gs (functions system past) system region words numbers network progress is)
 
 -- it is a region
-pub underway-area : (f : ℕ → List ℕ → List ℕ) (split : ℕ) (caps : List ℕ) (count : ℕ) (region : Regional) (progress : Option Progress) (r : Progress)
-    → AreClosed caps f → progress ≡ Some r → IfSome progress (λ q. IsUnderway f split caps count region q) → IsArea caps region.area
-underway-area f split caps count region progress r closed is underway =
-    let own : IsUnderway f split caps count region r = subst (λ o. IfSome o (λ q. IsUnderway f split caps count region q)) is underway in
+pub underway-area : (f : ℕ → List ℕ → List ℕ) (split : ℕ) (caps : List ℕ) (region : Regional) (progress : Option Progress) (r : Progress)
+    → AreClosed caps f → progress ≡ Some r → IfSome progress (λ q. IsUnderway f split caps region q) → IsArea caps region.area
+underway-area f split caps region progress r closed is underway =
+    let own : IsUnderway f split caps region r = subst (λ o. IfSome o (λ q. IsUnderway f split caps region q)) is underway in
     subst (λ (a : Area). IsArea caps a) (sym own.area) (region_after-area split caps f r.horizon r.done closed)
 
 -- as a plan is seen, where a run was begun
@@ -69,12 +68,12 @@ seen-area f now region closed some seen =
     some seen (if_some-map (λ r. region.area ≡ region_after now.system.split f now.system.caps r.horizon r.done) (λ r. Unit {0}) now.run (λ r is. tt) seen)
 
 -- as a plan keeps it
-pub plan-area : {E P : Type 0} (gs : List (List ℕ → List ℕ)) (functions : Parts E → P → ℕ → List ℕ → List ℕ) (system : Parts E) (words : Keeping P) (region : Regional)
-    (past : ℕ → ℕ) (numbers : Numbers) (network : Followed) (progress : Option Progress) (now : Planned E P) → record { system = system; past = words.past; run = running_of progress } ≡ now
-    → IsPlan gs (functions system words.past) past system words region numbers network progress
+pub plan-area : {E P : Type 0} (gs : List (List ℕ → List ℕ)) (functions : Parts E → P → ℕ → List ℕ → List ℕ) (system : Parts E) (past : P) (region : Regional)
+    (words : ℕ → ℕ) (numbers : Numbers) (network : Followed) (progress : Option Progress) (now : Planned E P) → record { system = system; past = past; run = running_of progress } ≡ now
+    → IsPlan gs (functions system past) words system region numbers network progress
     → AreClosed now.system.caps (functions now.system now.past) → IsSome now.run → IsArea now.system.caps region.area
-plan-area gs functions system words region past numbers network progress now seen is closed some =
-    seen-area (functions now.system now.past) now region closed some (region-seen gs functions system words region past numbers network progress now seen is)
+plan-area gs functions system past region words numbers network progress now seen is closed some =
+    seen-area (functions now.system now.past) now region closed some (region-seen gs functions system past region words numbers network progress now seen is)
 
 -- the upper corner of a region's box is within the capacities
 pub shown-within : (caps : List ℕ) (a : Area) (o : Option Corners) → IsArea caps a → ShowsBox a o → IfSome o (λ b. IsBelow b.lo b.hi)

@@ -1,6 +1,5 @@
 -- What every plan keeps.
 use Rattle.std.specs.Prelude.{◌≡◌, ℕ, ◌≤◌, ◌^◌, List, Option, IfSome, option_map}
-use Rattle.psi_past.specs.Keeping.{Keeping}
 use Rattle.psi_rate.specs.Composition.{Functions, Parts}
 use Rattle.psi_region.specs.Region.{Regional}
 use Rattle.psi_region.specs.Followed.{Followed}
@@ -14,19 +13,17 @@ use Rattle.psi_rate.specs.Keeping.{KeepsNumbers}
 abbrev pub running_of : Option Progress → Option Running
 running_of run = option_map (λ r. record { horizon = r.horizon; done = r.done }) run
 
--- a run that was begun: its words are kept, and the region is that of the run after the steps that are done
-pub record IsUnderway (f : Functions) (split : ℕ) (caps : List ℕ) (count : ℕ) (region : Regional) (r : Progress) : Type 0 where
-  pub kept : r.horizon ≤ count
+-- a run that was begun: the region is that of the run after the steps that are done
+pub record IsUnderway (f : Functions) (split : ℕ) (caps : List ℕ) (region : Regional) (r : Progress) : Type 0 where
   pub done : r.done ≤ r.horizon
   pub area : region.area ≡ region_after split f caps r.horizon r.done
 
--- there is room for the words of the greatest horizon, which no run passes, and for a split region; the numbers that are kept are those of the
--- words; the follower of its runs stands for the network
-pub record IsPlan {E P : Type 0} (functions : List (List ℕ → List ℕ)) (f : Functions) (past : ℕ → ℕ) (system : Parts E) (words : Keeping P) (region : Regional)
+-- no run passes the greatest horizon; there is room for a split region, and for the numbers of the greatest horizon, and those that are kept are
+-- those of the words; the follower of its runs stands for the network
+pub record IsPlan {E : Type 0} (functions : List (List ℕ → List ℕ)) (f : Functions) (words : ℕ → ℕ) (system : Parts E) (region : Regional)
     (numbers : Numbers) (network : Followed) (progress : Option Progress) : Type 0 where
-  pub room : 2 ^ system.limit ≤ words.most
   pub split : region.split ≡ system.split
-  pub kept : KeepsNumbers system.rates past (2 ^ system.limit) numbers
+  pub kept : KeepsNumbers system.rates words (2 ^ system.limit) numbers
   pub follower : network ≡ record { caps = system.caps; functions = functions; split = system.split }
   pub within : IfSome progress (λ r. r.horizon ≤ 2 ^ system.limit)
-  pub run : IfSome progress (λ r. IsUnderway f system.split system.caps words.count region r)
+  pub run : IfSome progress (λ r. IsUnderway f system.split system.caps region r)

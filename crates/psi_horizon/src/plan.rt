@@ -20,7 +20,7 @@ ghost use mir.Syntax.{named};
 
 use crate::runs::{ending, follow_word};
 use psi_event::EventLaw;
-use psi_past::{Kept, Past};
+use psi_past::{Past, Windowed};
 use psi_rate::{Answers, Numbers, System, first_answer, outcome_of};
 use psi_region::{Follower, Region};
 use psi_state::{Bounds, Outcome, State, Step};
@@ -33,12 +33,6 @@ pub struct OutOfMemory;
 
 impl From<AllocError> for OutOfMemory {
     fn from(_error: AllocError) -> OutOfMemory {
-        OutOfMemory
-    }
-}
-
-impl From<psi_past::OutOfMemory> for OutOfMemory {
-    fn from(_error: psi_past::OutOfMemory) -> OutOfMemory {
         OutOfMemory
     }
 }
@@ -56,13 +50,14 @@ struct Progress {
     done: u32,
 }
 
-/// A network with the past that its samples are drawn from, the room for the words of the greatest
-/// horizon and for the numbers of their events, the room for a split region, and the follower of its runs.
+/// A network with the past that its samples are drawn from, the room for the numbers of the events of the
+/// greatest horizon's words and for a split region, and the follower of its runs.
 ///
 /// It is seen as the network, the past, and the run that was begun, if one was.
 pub struct Plan<'n, E: EventLaw, P: Past + Drop, F: Follower + Drop> {
     system: System<'n, E>,
-    words: Kept<P>,
+    // Read backwards where a run goes step by step.
+    past: Windowed<P>,
     region: Region,
     // The numbers of the events of the words, as far as they were picked.
     numbers: Numbers,
@@ -78,10 +73,10 @@ impl<'n, E: EventLaw, P: Past + Drop, F: Follower + Drop> Model for Plan<'n, E, 
 
     ghost Value = { Planned E P };
 
-    ghost view = { λ p. record { system = p.system; past = p.words.past; run = running_of p.run } };
+    ghost view = { λ p. record { system = p.system; past = p.past; run = running_of p.run } };
 
     ghost invariant = { λ p.
-        IsPlan (map E.function p.system.events) (system_functions E.function p.system (P.words p.words.past)) (P.words p.words.past) p.system p.words p.region
+        IsPlan (map E.function p.system.events) (system_functions E.function p.system (P.words p.past)) (P.words p.past) p.system p.region
         p.numbers (F.stands_for p.follower) p.run };
 }
 
@@ -90,7 +85,7 @@ impl<'n, E: EventLaw, P: Past + Drop, F: Follower + Drop> Drop for Plan<'n, E, P
     fn drop(self) {
         let Plan {
             system: _,
-            words: _,
+            past: _,
             region: _,
             numbers: _,
             follower: _,
@@ -101,8 +96,8 @@ impl<'n, E: EventLaw, P: Past + Drop, F: Follower + Drop> Drop for Plan<'n, E, P
 
 impl<'n, E: EventLaw, P: Past + Drop, F: Follower + Drop> Plan<'n, E, P, F> {
     /// The plan to sample the network from this past, whose runs this follower follows: it stands for the network. It takes
-    /// the room for the 2 to the power `limit` words of the greatest horizon, of 4 bytes each, for the numbers of their events,
-    /// of 2 bytes each, and for a region of `split` states. No other call takes memory.
+    /// the room for the numbers of the events of the greatest horizon, 2 to the power `limit` of 2 bytes each, and for a region
+    /// of `split` states. No other call takes memory.
     ///
     /// `OutOfMemory` is the answer where there is no memory for it; no clause says when that is.
     pub fn new(
@@ -115,12 +110,11 @@ impl<'n, E: EventLaw, P: Past + Drop, F: Follower + Drop> Plan<'n, E, P, F> {
         ensures { IfOk result (λ plan. plan ≡ record { system = system.entry; past = past; run = None }) }
     {
         let most = 1 << system.limit();
-        let words = Kept::reserve(alloc, past, most)?;
         let region = Region::reserve(alloc, system.split())?;
         let numbers = Numbers::reserve(alloc, most)?;
         Ok(Plan {
             system,
-            words,
+            past: Windowed::new(past),
             region,
             numbers,
             follower,
@@ -178,7 +172,7 @@ impl<'n, E: EventLaw, P: Past + Drop, F: Follower + Drop> Plan<'n, E, P, F> {
         self.run = None;
         ending(
             &self.system,
-            &mut self.words,
+            &mut self.past,
             &mut self.numbers,
             &mut self.follower,
             horizon,
@@ -219,7 +213,7 @@ impl<'n, E: EventLaw, P: Past + Drop, F: Follower + Drop> Plan<'n, E, P, F> {
         ensures { self.new ≡ record { system = self.old.system; past = past; run = None } }
     {
         self.run = None;
-        self.words.replace(past);
+        self.past.replace(past);
         self.numbers.clear();
     }
 
@@ -236,7 +230,6 @@ impl<'n, E: EventLaw, P: Past + Drop, F: Follower + Drop> Plan<'n, E, P, F> {
         ensures system { self.new.system ≡ self.old.system }
         ensures words { P.words self.new.past ≡ P.words self.old.past }
     {
-        self.words.extend_to(horizon);
         self.region.start(&self.system.caps());
         self.run = Some(Progress { horizon, done: 0 });
     }
@@ -263,7 +256,7 @@ impl<'n, E: EventLaw, P: Past + Drop, F: Follower + Drop> Plan<'n, E, P, F> {
         // Called for its clause: the events fit the capacities.
         let _caps = self.system.caps();
         let number = progress.horizon - progress.done;
-        let word = self.words.at(number - 1);
+        let word = self.past.word(number - 1);
         let event = follow_word(&self.system, word, &mut self.region);
         self.run = Some(Progress {
             horizon: progress.horizon,

@@ -9,35 +9,33 @@ ghost use Rattle.psi_horizon.specs.Runs.{ending_at};
 ghost use Rattle.psi_horizon.specs.Planned.{network_of};
 
 use psi_event::EventLaw;
-use psi_past::{Kept, Past};
+use psi_past::Past;
 use psi_rate::{Numbers, System};
 use psi_region::{Follower, Region};
 use psi_state::State;
 
 // The one state with which the run of a horizon ends, if it ends with one. The run goes over the numbers of the events
 // of its places, which are kept for the next run.
-pub(crate) fn ending<E: EventLaw, P: Past + Drop, F: Follower>(
+pub(crate) fn ending<E: EventLaw, P: Past, F: Follower>(
     system: &System<'_, E>,
-    words: &mut Kept<P>,
+    past: &mut P,
     numbers: &mut Numbers,
     follower: &mut F,
     horizon: u32,
 ) -> Option<State>
-    requires room { horizon ≤ words.old.most }
     requires most { horizon ≤ 2 ^ system.now.limit }
-    requires kept { KeepsNumbers system.now.rates (P.words words.old.past) (2 ^ system.now.limit) numbers.old }
+    requires kept { KeepsNumbers system.now.rates (P.words past.old) (2 ^ system.now.limit) numbers.old }
     requires follower { F.stands_for follower.old ≡ network_of E.function system.now }
-    ensures ending { result ≡ ending_at system.now.split (system_functions E.function system.now (P.words words.old.past)) system.now.caps horizon }
-    ensures kept { KeepsNumbers system.now.rates (P.words words.old.past) (2 ^ system.now.limit) numbers.new }
+    ensures ending { result ≡ ending_at system.now.split (system_functions E.function system.now (P.words past.old)) system.now.caps horizon }
+    ensures kept { KeepsNumbers system.now.rates (P.words past.old) (2 ^ system.now.limit) numbers.new }
     ensures follower { F.stands_for follower.new ≡ F.stands_for follower.old }
-    ensures words { P.words words.new.past ≡ P.words words.old.past }
-    ensures most { words.new.most ≡ words.old.most }
+    ensures words { P.words past.new ≡ P.words past.old }
 {
     // Called for its clause: the events fit the capacities.
     let _caps = system.caps();
     let wheel = system.wheel();
-    numbers.extend_to(wheel, words, horizon);
-    let run = numbers.below(wheel, words, horizon);
+    numbers.extend_to(wheel, past, horizon);
+    let run = numbers.below(wheel, past, horizon);
     follower.ending(run)
 }
 

@@ -9,31 +9,33 @@ use Rattle.psi_rate.proofs.NumbersLemmas.{keeps-fewer}
 use Rattle.psi_horizon.proofs.AreasLemmas.{numbers-events, areas-ending}
 use Rattle.psi_horizon.proofs.runs.ending.Goals as goal
 
-pub extend_to-requires-clause-kept : goal.extend_to-requires-clause-kept
-extend_to-requires-clause-kept g c =
+pub extend_to-requires : goal.extend_to-requires
+extend_to-requires g c =
     let system = c.args.system.now in
-    let words = g.P.Past.words c.args.words.now.past in
-    subst (λ (rates : List ℕ). KeepsNumbers rates words c.args.horizon c.args.numbers.now) (sym c.wheel-wheel.ensures)
-    (keeps-fewer system.rates words (2 ^ system.limit) c.args.horizon c.args.numbers.now c.requires.kept c.requires.most)
+    let words = g.P.Past.words c.args.past.now in
+    record {
+      kept = subst (λ (rates : List ℕ). KeepsNumbers rates words c.args.horizon c.args.numbers.now) (sym c.wheel-wheel.ensures)
+          (keeps-fewer system.rates words (2 ^ system.limit) c.args.horizon c.args.numbers.now c.requires.kept c.requires.most);
+    }
 
 pub ending-requires : goal.ending-requires
 ending-requires g c =
     let system = c.args.system.now in
     let network = g.F.Follower.stands_for c.args.follower.now in
     record {
-      numbers = numbers-events system.rates (g.P.Past.words c.extend_to.new.words.past) c.args.horizon (length network.functions) c.below-run.result.now
+      numbers = numbers-events system.rates (g.P.Past.words c.extend_to.new.past) c.args.horizon (length network.functions) c.below-run.result.now
           (c.caps-caps.ensures.fit.same_count ∙ sym (length-map system.events g.E.EventLaw.function)
           ∙ sym (ap (λ (n : Followed). length n.functions) c.requires.follower))
-          (c.below-run.ensures ∙ ap (λ (rates : List ℕ). numbers_below rates (g.P.Past.words c.extend_to.new.words.past) c.args.horizon) c.wheel-wheel.ensures);
+          (c.below-run.ensures.numbers ∙ ap (λ (rates : List ℕ). numbers_below rates (g.P.Past.words c.extend_to.new.past) c.args.horizon) c.wheel-wheel.ensures);
     }
 
 pub returns-clause-ending : goal.returns-clause-ending
 returns-clause-ending g c =
     let system = c.args.system.now in
-    let words = g.P.Past.words c.args.words.now.past in
+    let words = g.P.Past.words c.args.past.now in
     areas-ending system.split system.caps (map g.E.EventLaw.function system.events) system.rates words c.args.horizon c.below-run.result.now c.ending.result
     (c.caps-caps.ensures.fit.same_count ∙ sym (length-map system.events g.E.EventLaw.function))
-    (c.below-run.ensures ∙ ap (λ (rates : List ℕ). numbers_below rates (g.P.Past.words c.extend_to.new.words.past) c.args.horizon) c.wheel-wheel.ensures
+    (c.below-run.ensures.numbers ∙ ap (λ (rates : List ℕ). numbers_below rates (g.P.Past.words c.extend_to.new.past) c.args.horizon) c.wheel-wheel.ensures
     ∙ ap (λ (w : ℕ → ℕ). numbers_below system.rates w c.args.horizon) c.extend_to.ensures.words)
     (functions-closed g.E.EventLaw.capacities g.E.EventLaw.function system words g.met.E.EventLaw.closed c.caps-caps.ensures.fit.same_caps)
     (c.ending.ensures.ending ∙ ap (λ (n : Followed). ending_of n c.below-run.result.now) c.requires.follower)

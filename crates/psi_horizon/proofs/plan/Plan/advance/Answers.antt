@@ -7,7 +7,7 @@ use Rattle.psi_horizon.proofs.plan.Plan.advance.Goals as goal
 pub follow_word-event-requires : goal.follow_word-event-requires
 follow_word-event-requires g c =
     let held = c.self.inside in
-    let words = g.P.Past.words held.words.past in
-    underway-area (system_functions g.E.EventLaw.function held.system words) held.system.split held.system.caps held.words.count held.region held.run c.in_ok-progress.progress
+    let words = g.P.Past.words held.past in
+    underway-area (system_functions g.E.EventLaw.function held.system words) held.system.split held.system.caps held.region held.run c.in_ok-progress.progress
     (functions-closed g.E.EventLaw.capacities g.E.EventLaw.function held.system words g.met.E.EventLaw.closed c.caps-caps.ensures.fit.same_caps)
     c.in_ok-progress.was c.self.invariant.run

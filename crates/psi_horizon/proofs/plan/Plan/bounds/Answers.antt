@@ -16,7 +16,7 @@ returns-clause-within g c =
     let words = g.P.Past.words plan.past in
     let fit = subst (λ (p : Planned g.row.E.Denot g.row.P.Denot). IsSystem g.E.EventLaw.capacities p.system) c.self.view_is c.caps-caps.ensures.fit in
     shown-within plan.system.caps held.region.area c.bounds.result
-    (plan-area (map g.E.EventLaw.function held.system.events) (λ (system : Parts g.row.E.Denot) (past : g.row.P.Denot). system_functions g.E.EventLaw.function system (g.P.Past.words past)) held.system held.words held.region (g.P.Past.words held.words.past) held.numbers (g.F.Follower.stands_for held.follower) held.run plan
+    (plan-area (map g.E.EventLaw.function held.system.events) (λ (system : Parts g.row.E.Denot) (past : g.row.P.Denot). system_functions g.E.EventLaw.function system (g.P.Past.words past)) held.system held.past held.region (g.P.Past.words held.past) held.numbers (g.F.Follower.stands_for held.follower) held.run plan
     c.self.view_is c.self.invariant (functions-closed g.E.EventLaw.capacities g.E.EventLaw.function plan.system words g.met.E.EventLaw.closed fit.same_caps) c.requires)
     c.bounds.ensures.shown c.bounds.ensures.ordered
 
@@ -28,4 +28,4 @@ returns-clause-shown g c =
     if_some-map (λ r. held.region.area ≡ region_after plan.system.split f plan.system.caps r.horizon r.done)
     (λ r. ShowsBox (region_after plan.system.split f plan.system.caps r.horizon r.done) c.bounds.result) plan.run
     (λ r is. subst (λ (a : Area). ShowsBox a c.bounds.result) is c.bounds.ensures.shown)
-    (region-seen (map g.E.EventLaw.function held.system.events) (λ (system : Parts g.row.E.Denot) (past : g.row.P.Denot). system_functions g.E.EventLaw.function system (g.P.Past.words past)) held.system held.words held.region (g.P.Past.words held.words.past) held.numbers (g.F.Follower.stands_for held.follower) held.run plan c.self.view_is c.self.invariant)
+    (region-seen (map g.E.EventLaw.function held.system.events) (λ (system : Parts g.row.E.Denot) (past : g.row.P.Denot). system_functions g.E.EventLaw.function system (g.P.Past.words past)) held.system held.past held.region (g.P.Past.words held.past) held.numbers (g.F.Follower.stands_for held.follower) held.run plan c.self.view_is c.self.invariant)

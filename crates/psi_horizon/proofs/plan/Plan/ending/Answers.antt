@@ -1,6 +1,7 @@
 -- Answers in the proof of `Plan::ending`.
-use Rattle.std.proofs.Common.{◌≡◌, subst}
+use Rattle.std.proofs.Common.{◌≡◌, ℕ, ◌^◌, ap, sym, ◌∙◌, subst}
 use Rattle.psi_rate.specs.Composition.{system_functions}
+use Rattle.psi_rate.specs.Keeping.{KeepsNumbers}
 use Rattle.psi_rate.specs.System.{IsSystem}
 use Rattle.psi_rate.proofs.FunctionsLemmas.{functions-closed}
 use Rattle.psi_horizon.specs.Planned.{Planned}
@@ -24,3 +25,19 @@ returns-clause-within g c =
     (run-area plan.system.split plan.system.caps f c.args.horizon
     (functions-closed g.E.EventLaw.capacities g.E.EventLaw.function plan.system (g.P.Past.words plan.past) g.met.E.EventLaw.closed fit.same_caps))
     (returns-clause-ending g c)
+
+pub returns-clause-words : goal.returns-clause-words
+returns-clause-words g c =
+    c.ending.ensures.words ∙ ap (λ (p : Planned g.row.E.Denot g.row.P.Denot). g.P.Past.words p.past) c.self.view_is
+
+pub invariant_of-self : goal.invariant_of-self
+invariant_of-self g c =
+    let system = c.self.inside.system in
+    let kept = c.self.invariant in
+    record {
+      split = kept.split;
+      kept = subst (λ (w : ℕ → ℕ). KeepsNumbers system.rates w (2 ^ system.limit) c.ending.new.numbers) (sym c.ending.ensures.words) c.ending.ensures.kept;
+      follower = c.ending.ensures.follower ∙ kept.follower;
+      within = tt;
+      run = tt;
+    }

@@ -1,6 +1,5 @@
 -- Answers in the proof of `Plan::new`.
-use Rattle.std.proofs.Common.{◌≡◌, ◌*◌, ◌^◌, ◌%◌, ap, ◌∙◌, subst, arith}
-use Rattle.psi_past.specs.Keeping.{Keeping}
+use Rattle.std.proofs.Common.{◌≡◌, ◌*◌, ◌^◌, ◌%◌, ap, ◌∙◌, subst}
 use Rattle.psi_rate.proofs.DoublingLemmas.{shift-power}
 use Rattle.psi_region.specs.Region.{Regional}
 use Rattle.psi_rate.specs.Keeping.{KeepsNumbers}
@@ -9,14 +8,11 @@ use Rattle.psi_horizon.proofs.plan.Plan.new.Goals as goal
 pub invariant_of-result : goal.invariant_of-result
 invariant_of-result g c =
     let system = c.args.system in
-    let words = g.P.Past.words c.in_ok-words.words.past in
     let most : 1 * 2 ^ c.limit.result % 4294967296 ≡ 2 ^ system.limit =
     shift-power c.limit.result c.limit.ensures.bound ∙ ap (λ n. 2 ^ n) c.limit.ensures.value in
-    let room = ap (λ (kept : Keeping g.row.P.Denot). kept.most) c.in_ok-words.ensures.kept in
     record {
-      room = omega (arith, room, most);
       split = ap (λ (region : Regional). region.split) c.in_ok-region.ensures ∙ c.split.ensures.value;
-      kept = subst (λ n. KeepsNumbers system.rates words n c.in_ok-numbers.numbers) most (c.in_ok-numbers.ensures system.rates words);
+      kept = subst (λ n. KeepsNumbers system.rates (g.P.Past.words c.new.result) n c.in_ok-numbers.numbers) most (c.in_ok-numbers.ensures system.rates (g.P.Past.words c.new.result));
       follower = c.requires;
       within = tt;
       run = tt;

@@ -18,7 +18,7 @@ states-requires g c =
     if_some-both (λ r. held.region.area ≡ region_after plan.system.split f plan.system.caps r.horizon r.done)
     (λ r. (region_after plan.system.split f plan.system.caps r.horizon r.done).is_split ≡ true) (held.region.area.is_split ≡ true) plan.run
     (λ r is split. ap (λ (a : Area). a.is_split) is ∙ split) c.requires.begun
-    (region-seen (map g.E.EventLaw.function held.system.events) (λ (system : Parts g.row.E.Denot) (past : g.row.P.Denot). system_functions g.E.EventLaw.function system (g.P.Past.words past)) held.system held.words held.region (g.P.Past.words held.words.past) held.numbers (g.F.Follower.stands_for held.follower) held.run plan c.self.view_is c.self.invariant)
+    (region-seen (map g.E.EventLaw.function held.system.events) (λ (system : Parts g.row.E.Denot) (past : g.row.P.Denot). system_functions g.E.EventLaw.function system (g.P.Past.words past)) held.system held.past held.region (g.P.Past.words held.past) held.numbers (g.F.Follower.stands_for held.follower) held.run plan c.self.view_is c.self.invariant)
     c.requires.split
 
 pub returns : goal.returns
@@ -28,7 +28,7 @@ returns g c =
     let words = g.P.Past.words plan.past in
     let f = system_functions g.E.EventLaw.function plan.system words in
     let fit = subst (λ (p : Planned g.row.E.Denot g.row.P.Denot). IsSystem g.E.EventLaw.capacities p.system) c.self.view_is c.caps-caps.ensures.fit in
-    let area = plan-area (map g.E.EventLaw.function held.system.events) (λ (system : Parts g.row.E.Denot) (past : g.row.P.Denot). system_functions g.E.EventLaw.function system (g.P.Past.words past)) held.system held.words held.region (g.P.Past.words held.words.past) held.numbers (g.F.Follower.stands_for held.follower) held.run plan
+    let area = plan-area (map g.E.EventLaw.function held.system.events) (λ (system : Parts g.row.E.Denot) (past : g.row.P.Denot). system_functions g.E.EventLaw.function system (g.P.Past.words past)) held.system held.past held.region (g.P.Past.words held.past) held.numbers (g.F.Follower.stands_for held.follower) held.run plan
     c.self.view_is c.self.invariant (functions-closed g.E.EventLaw.capacities g.E.EventLaw.function plan.system words g.met.E.EventLaw.closed fit.same_caps) c.requires.begun in
     let room : held.region.split ≡ plan.system.split = c.self.invariant.split ∙ ap (λ (p : Planned g.row.E.Denot g.row.P.Denot). p.system.split) c.self.view_is in (
       (refl, λ w. tt, c.self.view_is),
@@ -36,7 +36,7 @@ returns g c =
         states = if_some-map (λ r. held.region.area ≡ region_after plan.system.split f plan.system.caps r.horizon r.done)
             (λ r. c.states.result.now ≡ (region_after plan.system.split f plan.system.caps r.horizon r.done).states) plan.run
             (λ r is. c.states.ensures.states ∙ ap (λ (a : Area). a.states) is)
-            (region-seen (map g.E.EventLaw.function held.system.events) (λ (system : Parts g.row.E.Denot) (past : g.row.P.Denot). system_functions g.E.EventLaw.function system (g.P.Past.words past)) held.system held.words held.region (g.P.Past.words held.words.past) held.numbers (g.F.Follower.stands_for held.follower) held.run plan c.self.view_is c.self.invariant);
+            (region-seen (map g.E.EventLaw.function held.system.events) (λ (system : Parts g.row.E.Denot) (past : g.row.P.Denot). system_functions g.E.EventLaw.function system (g.P.Past.words past)) held.system held.past held.region (g.P.Past.words held.past) held.numbers (g.F.Follower.stands_for held.follower) held.run plan c.self.view_is c.self.invariant);
         within = λ x member. area.within x (subst (λ (xs : List (List ℕ)). In x xs) c.states.ensures.states member);
         rising = c.states.ensures.rising;
         some = c.states.ensures.some;
