@@ -2,7 +2,6 @@
 use Rattle.std.specs.Prelude.{◌≡◌, ℕ, ◌≤◌, ◌^◌, List, length, map, All}
 use Rattle.psi_state.specs.declared.Outcome.{Outcome}
 use Rattle.psi_state.specs.State.{AreCapacities}
-use Rattle.psi_past.specs.Keeping.{Keeping}
 use Rattle.psi_kinds.specs.declared.moves.Move.{Move}
 use Rattle.psi_kinds.specs.Moves.{moved, IsMove}
 use Rattle.psi_rate.specs.Composition.{Functions, function_at}
@@ -42,16 +41,14 @@ network_functions network words = functions_of network.caps network.moves networ
 abbrev pub AreMoves : List ℕ → List Move → Type 0
 AreMoves caps moves = All (λ m. IsMove caps m) moves
 
--- what every plan keeps: its parts fit each other, there is room for the words of the greatest horizon and for the numbers of their events, and those that are kept are those of the
--- words
-pub record IsPlan {P : Type 0} (diagram : Shown) (events : List Move) (rates : List ℕ) (limit : ℕ) (past : ℕ → ℕ) (words : Keeping P) (numbers : Numbers) : Type 0 where
+-- what every plan keeps: its parts fit each other, there is room for the numbers of the events of the greatest horizon, and those that are kept are those of the words
+pub record IsPlan (diagram : Shown) (events : List Move) (rates : List ℕ) (limit : ℕ) (words : ℕ → ℕ) (numbers : Numbers) : Type 0 where
   pub valid : AreCapacities diagram.caps
   pub fits : IsTotal diagram.caps diagram.total
   pub moves : AreMoves diagram.caps events
   pub same_count : length rates ≡ length events
   pub most : limit ≤ 22
-  pub room : 2 ^ limit ≤ words.most
-  pub kept : KeepsNumbers rates past (2 ^ limit) numbers
+  pub kept : KeepsNumbers rates words (2 ^ limit) numbers
 
 -- an outcome is that of coupling from the past (Propp and Wilson 1996) over the arc hulls of the states with k customers, for these functions
 pub record IsClosedSample (caps : List ℕ) (k : ℕ) (f : Functions) (limit : ℕ) (outcome : Outcome) : Type 0 where

@@ -12,12 +12,6 @@ impl From<psi_arcs::OutOfMemory> for OutOfMemory {
     }
 }
 
-impl From<psi_past::OutOfMemory> for OutOfMemory {
-    fn from(_error: psi_past::OutOfMemory) -> OutOfMemory {
-        OutOfMemory
-    }
-}
-
 impl From<AllocError> for OutOfMemory {
     fn from(_error: AllocError) -> OutOfMemory {
         OutOfMemory

@@ -10,14 +10,14 @@ ghost use Rattle.psi_closed.specs.Planned.{network_functions, AreMoves, IsClosed
 use crate::runs::ending;
 use crate::{Diagram, OutOfMemory};
 use psi_kinds::Move;
-use psi_past::{Kept, Past};
+use psi_past::Past;
 use psi_rate::{Answers, Numbers, Wheel, first_answer, outcome_of};
 use psi_state::{Outcome, State};
 use std::alloc::Global;
 use std::marker::Model;
 
 /// A closed network, the number of its customers, and the past that its samples are drawn from, with the room for a
-/// diagram, for the words of the greatest horizon and for the numbers of their events.
+/// diagram and for the numbers of the events of the greatest horizon's words.
 ///
 /// It is seen as the network, its number of customers with it, and the past.
 pub struct ClosedPlan<'n, P: Past + Drop> {
@@ -25,7 +25,7 @@ pub struct ClosedPlan<'n, P: Past + Drop> {
     moves: &'n [Move],
     wheel: &'n Wheel,
     limit: u8,
-    words: Kept<P>,
+    past: P,
     // The numbers of the events of the words, as far as they were picked.
     numbers: Numbers,
 }
@@ -37,10 +37,10 @@ impl<'n, P: Past + Drop> Model for ClosedPlan<'n, P> {
 
     ghost view = { λ p. record {
       network = record { caps = p.diagram.caps; total = p.diagram.total; moves = p.moves.now; rates = p.wheel.now; limit = p.limit };
-      past = p.words.past;
+      past = p.past;
     } };
 
-    ghost invariant = { λ p. IsPlan p.diagram p.moves.now p.wheel.now p.limit (P.words p.words.past) p.words p.numbers };
+    ghost invariant = { λ p. IsPlan p.diagram p.moves.now p.wheel.now p.limit (P.words p.past) p.numbers };
 }
 
 // By hand, so that the end of a plan is a call where it ends, and not all of its steps.
@@ -51,7 +51,7 @@ impl<'n, P: Past + Drop> Drop for ClosedPlan<'n, P> {
             moves: _,
             wheel: _,
             limit: _,
-            words: _,
+            past: _,
             numbers: _,
         } = self;
     }
@@ -63,9 +63,9 @@ impl<'n, P: Past + Drop> ClosedPlan<'n, P> {
     /// network, and it wants from 1 to its source's capacity of customers there. `limit` is the exponent of the
     /// greatest horizon, 0 to 22.
     ///
-    /// It takes the room for a diagram, for the 2 to the power `limit` words of the greatest horizon, of 4 bytes each,
-    /// and for the numbers of their events, of 2 bytes each; `sample` takes no memory. `OutOfMemory` is the answer where there is no memory for it; no clause says
-    /// when that is.
+    /// It takes the room for a diagram and for the numbers of the events of the greatest horizon, 2 to the power `limit`
+    /// of 2 bytes each; `sample` takes no memory. `OutOfMemory` is the answer where there is no memory for it; no
+    /// clause says when that is.
     pub fn new(
         alloc: Global,
         caps: State,
@@ -85,16 +85,14 @@ impl<'n, P: Past + Drop> ClosedPlan<'n, P> {
           past = past;
         }) }
     {
-        let most = 1 << limit;
-        let words = Kept::reserve(alloc, past, most)?;
-        let numbers = Numbers::reserve(alloc, most)?;
+        let numbers = Numbers::reserve(alloc, 1 << limit)?;
         let diagram = Diagram::reserve(alloc, caps, total)?;
         Ok(ClosedPlan {
             diagram,
             moves,
             wheel,
             limit,
-            words,
+            past,
             numbers,
         })
     }
@@ -144,7 +142,7 @@ impl<'n, P: Past + Drop> Answers for ClosedPlan<'n, P> {
         ending(
             self.moves,
             self.wheel,
-            &mut self.words,
+            &mut self.past,
             &mut self.numbers,
             &mut self.diagram,
             horizon,

@@ -9,33 +9,31 @@ ghost use Rattle.psi_closed.specs.Planned.{functions_of, AreMoves};
 
 use crate::Diagram;
 use psi_kinds::Move;
-use psi_past::{Kept, Past};
+use psi_past::Past;
 use psi_rate::{Numbers, Wheel};
 use psi_state::State;
 
 // The one state with which the closed run of a horizon ends, if it ends with one. The diagram goes through the numbers
 // of the events of its places, which are kept for the next run.
-pub(crate) fn ending<P: Past + Drop>(
+pub(crate) fn ending<P: Past>(
     moves: &[Move],
     wheel: &Wheel,
-    words: &mut Kept<P>,
+    past: &mut P,
     numbers: &mut Numbers,
     diagram: &mut Diagram,
     horizon: u32,
 ) -> Option<State>
     requires moves { AreMoves diagram.old.caps moves.now }
     requires same_count { length wheel.now ≡ length moves.now }
-    requires room { horizon ≤ words.old.most }
-    requires kept { KeepsNumbers wheel.now (P.words words.old.past) horizon numbers.old }
-    ensures ending { result ≡ closed_ending diagram.old.caps diagram.old.total (functions_of diagram.old.caps moves.now wheel.now (P.words words.old.past)) horizon }
-    ensures kept { (most : ℕ) → KeepsNumbers wheel.now (P.words words.old.past) most numbers.old → KeepsNumbers wheel.now (P.words words.old.past) most numbers.new }
-    ensures words { P.words words.new.past ≡ P.words words.old.past }
-    ensures most { words.new.most ≡ words.old.most }
+    requires kept { KeepsNumbers wheel.now (P.words past.old) horizon numbers.old }
+    ensures ending { result ≡ closed_ending diagram.old.caps diagram.old.total (functions_of diagram.old.caps moves.now wheel.now (P.words past.old)) horizon }
+    ensures kept { (most : ℕ) → KeepsNumbers wheel.now (P.words past.old) most numbers.old → KeepsNumbers wheel.now (P.words past.old) most numbers.new }
+    ensures words { P.words past.new ≡ P.words past.old }
     ensures caps { diagram.new.caps ≡ diagram.old.caps }
     ensures total { diagram.new.total ≡ diagram.old.total }
 {
-    numbers.extend_to(wheel, words, horizon);
-    let run = numbers.below(wheel, words, horizon);
+    numbers.extend_to(wheel, past, horizon);
+    let run = numbers.below(wheel, past, horizon);
     follow_numbers(moves, run, diagram)
 }
 

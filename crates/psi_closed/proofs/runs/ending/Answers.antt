@@ -12,7 +12,7 @@ pub follow_numbers-requires-clause-numbers : goal.follow_numbers-requires-clause
 follow_numbers-requires-clause-numbers g c =
     let rates = c.args.wheel.now in
     subst (λ n. All (λ k. k < n) c.below-run.result.now) c.requires.same_count
-    (subst (λ (ns : List ℕ). All (λ k. k < length rates) ns) (sym c.below-run.ensures) (numbers-all rates (g.P.Past.words c.extend_to.new.words.past) c.args.horizon))
+    (subst (λ (ns : List ℕ). All (λ k. k < length rates) ns) (sym c.below-run.ensures.numbers) (numbers-all rates (g.P.Past.words c.extend_to.new.past) c.args.horizon))
 
 pub returns-clause-ending : goal.returns-clause-ending
 returns-clause-ending g c =
@@ -20,6 +20,6 @@ returns-clause-ending g c =
     let rates = c.args.wheel.now in
     let move_of = λ (m : Move). moved d.caps m in
     c.follow_numbers.ensures.ending
-    ∙ numbers-ending d.caps d.total (map move_of c.args.moves.now) rates (g.P.Past.words c.args.words.now.past) c.args.horizon c.below-run.result.now
+    ∙ numbers-ending d.caps d.total (map move_of c.args.moves.now) rates (g.P.Past.words c.args.past.now) c.args.horizon c.below-run.result.now
     (c.requires.same_count ∙ sym (length-map c.args.moves.now move_of))
-    (c.below-run.ensures ∙ ap (λ (w : ℕ → ℕ). numbers_below rates w c.args.horizon) c.extend_to.ensures.words)
+    (c.below-run.ensures.numbers ∙ ap (λ (w : ℕ → ℕ). numbers_below rates w c.args.horizon) c.extend_to.ensures.words)

@@ -1,6 +1,5 @@
 -- Answers in the proof of `ClosedPlan::new`.
-use Rattle.std.proofs.Common.{◌≡◌, ℕ, ◌*◌, ◌^◌, ◌%◌, List, ap, sym, subst, arith}
-use Rattle.psi_past.specs.Keeping.{Keeping}
+use Rattle.std.proofs.Common.{◌≡◌, ℕ, ◌*◌, ◌^◌, ◌%◌, List, ap, sym, subst}
 use Rattle.psi_rate.proofs.DoublingLemmas.{shift-power}
 use Rattle.psi_rate.specs.Keeping.{KeepsNumbers}
 use Rattle.psi_closed.specs.Diagram.{Shown, IsTotal}
@@ -13,14 +12,12 @@ invariant_of-result g c =
     let caps = sym (ap (λ (s : Shown). s.caps) c.in_ok-diagram.ensures) in
     let total = sym (ap (λ (s : Shown). s.total) c.in_ok-diagram.ensures) in
     let most : 1 * 2 ^ c.args.limit % 4294967296 ≡ 2 ^ c.args.limit = shift-power c.args.limit c.requires.most_limit in
-    let room = ap (λ (kept : Keeping g.row.P.Denot). kept.most) c.in_ok-words.ensures.kept in
     record {
       valid = subst (λ (top : List ℕ). AreCapacities top) caps c.requires.valid;
       fits = subst (λ (top : List ℕ). IsTotal top c.in_ok-diagram.diagram.total) caps (subst (λ n. IsTotal c.args.caps n) total c.requires.fits);
       moves = subst (λ (top : List ℕ). AreMoves top c.args.moves.now) caps c.requires.moves;
       same_count = sym c.requires.same_count;
       most = c.requires.most_limit;
-      room = omega (arith, room, most);
-      kept = subst (λ n. KeepsNumbers c.args.wheel.now (g.P.Past.words c.in_ok-words.words.past) n c.in_ok-numbers.numbers) most
-          (c.in_ok-numbers.ensures c.args.wheel.now (g.P.Past.words c.in_ok-words.words.past));
+      kept = subst (λ n. KeepsNumbers c.args.wheel.now (g.P.Past.words c.args.past) n c.in_ok-numbers.numbers) most
+          (c.in_ok-numbers.ensures c.args.wheel.now (g.P.Past.words c.args.past));
     }
