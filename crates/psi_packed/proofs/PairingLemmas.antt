@@ -1,5 +1,5 @@
 -- Lists of pairs, the lists of their words, and the loops over them.
-use Rattle.std.specs.Prelude.{◌≡◌, ℕ, suc, ◌+◌, ◌-◌, ◌%◌, ◌^◌, ◌<◌, Bool, true, false, ◌&&◌, List, length, map, slice_index, slice_index_or, slice_set, nat_eq, bit_and}
+use Rattle.std.specs.Prelude.{◌≡◌, ℕ, suc, ◌+◌, ◌-◌, ◌%◌, ◌^◌, ◌<◌, Bool, true, false, ◌&&◌, List, [], length, map, slice_index, slice_index_or, slice_set, nat_eq, bit_and}
 use Rattle.std.proofs.Common.{ap, ap₂, sym, subst, ◌∙◌, arith, below_more, get_or-set_same, get_or-set_other}
 use Rattle.std.proofs.Math.ListN.{get_or-map}
 use Rattle.std.proofs.lemmas.List.{map-set, length-map}
@@ -12,12 +12,12 @@ use Rattle.psi_packed.proofs.MovingLemmas.{ones, masked_word, AreChanged, change
 
 -- what is read past the end
 abbrev pub zeros : Pair
-zeros = record { low = 0; high = 0 }
+zeros = record { lanes = [] }
 
-pub low-at : (pairs : List Pair) (at : ℕ) → (slice_index_or pairs at zeros).low ≡ slice_index (map low_word pairs) at
+pub low-at : (pairs : List Pair) (at : ℕ) → low_word (slice_index_or pairs at zeros) ≡ slice_index (map low_word pairs) at
 low-at pairs at = sym (get_or-map low_word pairs at zeros)
 
-pub high-at : (pairs : List Pair) (at : ℕ) → (slice_index_or pairs at zeros).high ≡ slice_index (map high_word pairs) at
+pub high-at : (pairs : List Pair) (at : ℕ) → high_word (slice_index_or pairs at zeros) ≡ slice_index (map high_word pairs) at
 high-at pairs at = sym (get_or-map high_word pairs at zeros)
 
 -- the words up to a place and the one that is written there

@@ -1,5 +1,5 @@
 -- What the pairs, masks and moves of the code are seen as.
-use Rattle.std.specs.Prelude.{ℕ, List, [], map, get_or}
+use Rattle.std.specs.Prelude.{ℕ, List, [], map, get_or, slice_index}
 use Rattle.psi_packed.specs.Moves.{Masks as MaskLists, Moving}
 use Rattle.psi_packed.specs.declared.pairs.Pair.{Pair}
 use Rattle.psi_packed.specs.declared.pairs.Pairs.{Pairs}
@@ -18,10 +18,10 @@ moving_by word m = record { offsets = words_by word m.offsets; first = masks_by 
 
 -- the two words of a pair
 abbrev pub low_word : Pair → ℕ
-low_word p = p.low
+low_word p = slice_index p.lanes 0
 
 abbrev pub high_word : Pair → ℕ
-high_word p = p.high
+high_word p = slice_index p.lanes 1
 
 -- the words of the low state, and those of the high one
 abbrev pub lows : {K : ℕ} → Pairs K → List ℕ

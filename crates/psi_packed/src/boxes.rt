@@ -61,7 +61,7 @@ fn has_at_most<const K: usize>(x: &Pairs<K>, bits: u8, most: u32) -> bool
 {
     let mut count = 1;
     for at in 0..K {
-        let widths = x.pairs[at].high.wrapping_sub(x.pairs[at].low);
+        let widths = x.pairs[at].high().wrapping_sub(x.pairs[at].low());
         count = times_widths(widths, bits, most, count);
     }
     count <= most as u64

@@ -48,7 +48,7 @@ impl<const K: usize> Masks<K> {
         ensures { IsTrue result ↔ ChangesNothing K (masks_by low_word self.now) }
     {
         for at in 0..K {
-            if self.change.pairs[at].low != 0 {
+            if self.change.pairs[at].low() != 0 {
                 return false;
             }
         }
@@ -59,8 +59,8 @@ impl<const K: usize> Masks<K> {
     #[inline]
     fn held_at(&self, at: usize, raised: Pair) -> Pair
         requires { at < K }
-        ensures low { result.low ≡ (if nat_eq (bit_and raised.low (slice_index (lows self.now.guards) at)) (slice_index (lows self.now.wanted) at) then 2 ^ 64 - 1 else 0) }
-        ensures high { result.high ≡ (if nat_eq (bit_and raised.high (slice_index (highs self.now.guards) at)) (slice_index (highs self.now.wanted) at) then 2 ^ 64 - 1 else 0) }
+        ensures low { low_word result ≡ (if nat_eq (bit_and (low_word raised) (slice_index (lows self.now.guards) at)) (slice_index (lows self.now.wanted) at) then 2 ^ 64 - 1 else 0) }
+        ensures high { high_word result ≡ (if nat_eq (bit_and (high_word raised) (slice_index (highs self.now.guards) at)) (slice_index (highs self.now.wanted) at) then 2 ^ 64 - 1 else 0) }
     {
         raised
             .and(self.guards.pairs[at])

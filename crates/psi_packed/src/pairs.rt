@@ -1,18 +1,18 @@
 //! Two packed states side by side, so that one operation does both.
 
 ghost use Rattle.std.specs.Prelude.{◌≡◌, ◌↔◌, ◌+◌, ◌%◌, ◌^◌, ◌-◌, IsTrue, nat_eq, bit_and, replicate, if◌then◌else◌};
-ghost use Rattle.psi_packed.specs.Views.{lows, highs};
+ghost use Rattle.psi_packed.specs.Views.{low_word, high_word, lows, highs};
 
 use crate::layout::Packed;
+use std::simd::prelude::*;
 
 // The odd number nearest to 2^64 over the golden ratio: products with it differ in their high bits.
 const MULTIPLIER: u64 = 11_400_714_819_323_198_485;
 
-/// A word of each of two packed states.
+/// A word of each of two packed states, the low one's first, in one vector.
 #[derive(Clone, Copy)]
 pub struct Pair {
-    pub(crate) low: u64,
-    pub(crate) high: u64,
+    pub(crate) lanes: u64x2,
 }
 
 /// Two states, packed, as `K` pairs of words: the low one, and the high one.
@@ -22,51 +22,75 @@ pub struct Pairs<const K: usize> {
 }
 
 impl Pair {
+    // A word of the low state and one of the high state.
+    #[inline]
+    pub(crate) fn of(low: u64, high: u64) -> Pair
+        ensures low { low_word result ≡ low }
+        ensures high { high_word result ≡ high }
+    {
+        Pair {
+            lanes: u64x2::from_array([low, high]),
+        }
+    }
+
     // A word, twice.
     #[inline]
     pub(crate) fn twice(word: u64) -> Pair
-        ensures low { result.low ≡ word }
-        ensures high { result.high ≡ word }
+        ensures low { low_word result ≡ word }
+        ensures high { high_word result ≡ word }
     {
         Pair {
-            low: word,
-            high: word,
+            lanes: u64x2::splat(word),
         }
+    }
+
+    // The word of the low state.
+    #[inline]
+    pub(crate) fn low(self) -> u64
+        ensures { result ≡ low_word self }
+    {
+        self.lanes.to_array()[0]
+    }
+
+    // The word of the high state.
+    #[inline]
+    pub(crate) fn high(self) -> u64
+        ensures { result ≡ high_word self }
+    {
+        self.lanes.to_array()[1]
     }
 
     // The sums, modulo 2^64.
     #[inline]
     pub(crate) fn plus(self, other: Pair) -> Pair
-        ensures low { result.low ≡ (self.low + other.low) % 2 ^ 64 }
-        ensures high { result.high ≡ (self.high + other.high) % 2 ^ 64 }
+        ensures low { low_word result ≡ (low_word self + low_word other) % 2 ^ 64 }
+        ensures high { high_word result ≡ (high_word self + high_word other) % 2 ^ 64 }
     {
         Pair {
-            low: self.low.wrapping_add(other.low),
-            high: self.high.wrapping_add(other.high),
+            lanes: self.lanes + other.lanes,
         }
     }
 
     // The bits that are one in both.
     #[inline]
     pub(crate) fn and(self, other: Pair) -> Pair
-        ensures low { result.low ≡ bit_and self.low other.low }
-        ensures high { result.high ≡ bit_and self.high other.high }
+        ensures low { low_word result ≡ bit_and (low_word self) (low_word other) }
+        ensures high { high_word result ≡ bit_and (high_word self) (high_word other) }
     {
         Pair {
-            low: self.low & other.low,
-            high: self.high & other.high,
+            lanes: self.lanes & other.lanes,
         }
     }
 
     // All bits one where the words are equal, and none otherwise.
     #[inline]
     pub(crate) fn ones_if_equal(self, other: Pair) -> Pair
-        ensures low { result.low ≡ (if nat_eq self.low other.low then 2 ^ 64 - 1 else 0) }
-        ensures high { result.high ≡ (if nat_eq self.high other.high then 2 ^ 64 - 1 else 0) }
+        ensures low { low_word result ≡ (if nat_eq (low_word self) (low_word other) then 2 ^ 64 - 1 else 0) }
+        ensures high { high_word result ≡ (if nat_eq (high_word self) (high_word other) then 2 ^ 64 - 1 else 0) }
     {
+        let are_equal = self.lanes.simd_eq(other.lanes);
         Pair {
-            low: all_ones_if(self.low == other.low),
-            high: all_ones_if(self.high == other.high),
+            lanes: are_equal.select(u64x2::splat(u64::MAX), u64x2::splat(0)),
         }
     }
 }
@@ -78,12 +102,9 @@ impl<const K: usize> Pairs<K> {
         ensures low { lows result ≡ low.now.words }
         ensures high { highs result ≡ high.now.words }
     {
-        let mut pairs = [Pair { low: 0, high: 0 }; K];
+        let mut pairs = [Pair::twice(0); K];
         for at in 0..K {
-            pairs[at] = Pair {
-                low: low.words[at],
-                high: high.words[at],
-            };
+            pairs[at] = Pair::of(low.words[at], high.words[at]);
         }
         Pairs { pairs }
     }
@@ -95,7 +116,7 @@ impl<const K: usize> Pairs<K> {
     {
         let mut words = [0; K];
         for at in 0..K {
-            words[at] = self.pairs[at].low;
+            words[at] = self.pairs[at].low();
         }
         Packed { words }
     }
@@ -107,7 +128,7 @@ impl<const K: usize> Pairs<K> {
     {
         let mut words = [0; K];
         for at in 0..K {
-            words[at] = self.pairs[at].high;
+            words[at] = self.pairs[at].high();
         }
         Packed { words }
     }
@@ -154,12 +175,4 @@ impl<const K: usize> Packed<K> {
     {
         Pairs::of(self, self)
     }
-}
-
-// All bits one where it holds, and none otherwise.
-#[inline]
-fn all_ones_if(holds: bool) -> u64
-    ensures { result ≡ (if holds then 2 ^ 64 - 1 else 0) }
-{
-    (holds as u64).wrapping_neg()
 }

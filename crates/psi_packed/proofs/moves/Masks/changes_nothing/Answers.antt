@@ -4,14 +4,14 @@ use Rattle.psi_packed.specs.Views.{lows}
 use Rattle.psi_packed.proofs.PairingLemmas.{low-at}
 use Rattle.psi_packed.proofs.moves.Masks.changes_nothing.Goals as goal
 
-pub returns-then-self-at-ne0 : goal.returns-then-self-at-ne0
-returns-then-self-at-ne0 g c =
+pub returns-then-low-ne0 : goal.returns-then-low-ne0
+returns-then-low-ne0 g c =
     let at = c.loop-at.at in
     let change = c.args.self.now.change in
-    (λ no. absurd (true≢false (sym no)), λ nothing. absurd (c.if-self-at-ne0.true (low-at change.pairs at ∙ nothing at c.loop-at-test.true)))
+    (λ no. absurd (true≢false (sym no)), λ nothing. absurd (c.if-low-ne0.true (c.low.ensures ∙ low-at change.pairs at ∙ nothing at c.loop-at-test.true)))
 
 pub loop-at-preserved : goal.loop-at-preserved
 loop-at-preserved g c =
     let at = c.loop-at.at in
     let change = c.args.self.now.change in
-    below_more (λ w. slice_index (lows change) w ≡ 0) at c.loop-at.invariant (sym (low-at change.pairs at) ∙ c.if-self-at-ne0.false)
+    below_more (λ w. slice_index (lows change) w ≡ 0) at c.loop-at.invariant (sym (low-at change.pairs at) ∙ sym c.low.ensures ∙ c.if-low-ne0.false)

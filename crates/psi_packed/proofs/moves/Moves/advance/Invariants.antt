@@ -6,10 +6,10 @@ use Rattle.psi_packed.proofs.moves.Moves.advance.Given as goal
 
 abbrev pub invariant-loop-at : goal.invariant-loop-at
 invariant-loop-at g l = record {
-  first_low : l.first.low ≡ ones (holds l.at (lows l.self.offsets) (masks_by low_word l.self.first) (lows l.x));
-  first_high : l.first.high ≡ ones (holds l.at (highs l.self.offsets) (masks_by high_word l.self.first) (highs l.x));
-  second_low : l.second.low ≡ ones (holds l.at (lows l.self.offsets) (masks_by low_word l.self.second) (lows l.x));
-  second_high : l.second.high ≡ ones (holds l.at (highs l.self.offsets) (masks_by high_word l.self.second) (highs l.x));
+  first_low : low_word l.first ≡ ones (holds l.at (lows l.self.offsets) (masks_by low_word l.self.first) (lows l.x));
+  first_high : high_word l.first ≡ ones (holds l.at (highs l.self.offsets) (masks_by high_word l.self.first) (highs l.x));
+  second_low : low_word l.second ≡ ones (holds l.at (lows l.self.offsets) (masks_by low_word l.self.second) (lows l.x));
+  second_high : high_word l.second ≡ ones (holds l.at (highs l.self.offsets) (masks_by high_word l.self.second) (highs l.x));
 }
 
 abbrev pub invariant-loop-at-2 : goal.invariant-loop-at-2

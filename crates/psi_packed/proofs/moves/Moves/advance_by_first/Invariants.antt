@@ -6,8 +6,8 @@ use Rattle.psi_packed.proofs.moves.Moves.advance_by_first.Given as goal
 
 abbrev pub invariant-loop-at : goal.invariant-loop-at
 invariant-loop-at g l = record {
-  low : l.held.low ≡ ones (holds l.at (lows l.self.offsets) (masks_by low_word l.self.first) (lows l.x));
-  high : l.held.high ≡ ones (holds l.at (highs l.self.offsets) (masks_by high_word l.self.first) (highs l.x));
+  low : low_word l.held ≡ ones (holds l.at (lows l.self.offsets) (masks_by low_word l.self.first) (lows l.x));
+  high : high_word l.held ≡ ones (holds l.at (highs l.self.offsets) (masks_by high_word l.self.first) (highs l.x));
 }
 
 abbrev pub invariant-loop-at-2 : goal.invariant-loop-at-2

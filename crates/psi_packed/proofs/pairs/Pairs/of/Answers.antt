@@ -1,8 +1,7 @@
-use Rattle.std.proofs.Common.{◌<◌, length, map, slice_index, refl, ◌∙◌, arith, length-set}
+use Rattle.std.proofs.Common.{◌<◌, length, map, slice_index, ◌∙◌, arith, length-set}
 use Rattle.std.proofs.lemmas.List.{length-map}
 use Rattle.std.proofs.lemmas.Grind.{same_number_lists}
 use Rattle.psi_packed.specs.Views.{low_word, high_word}
-use Rattle.psi_packed.specs.declared.pairs.Pair.{Pair}
 use Rattle.psi_packed.proofs.PairingLemmas.{words-set}
 use Rattle.psi_packed.proofs.pairs.Pairs.of.Goals as goal
 
@@ -12,12 +11,12 @@ loop-at-preserved g c =
     let at = c.loop-at.at in
     let low = c.args.low.now.words in
     let high = c.args.high.now.words in
-    let own : Pair = record { low = slice_index low at; high = slice_index high at } in
+    let own = c.of.result in
     let small : at < length pairs = omega (arith, c.loop-at.invariant.long) in
     record {
       long = length-set pairs at own ∙ c.loop-at.invariant.long;
-      low = words-set low_word pairs at own (λ w. slice_index low w) small c.loop-at.invariant.low refl;
-      high = words-set high_word pairs at own (λ w. slice_index high w) small c.loop-at.invariant.high refl;
+      low = words-set low_word pairs at own (λ w. slice_index low w) small c.loop-at.invariant.low c.of.ensures.low;
+      high = words-set high_word pairs at own (λ w. slice_index high w) small c.loop-at.invariant.high c.of.ensures.high;
     }
 
 pub returns-clause-low : goal.returns-clause-low
