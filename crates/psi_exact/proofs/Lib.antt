@@ -4,6 +4,7 @@ pub mod TablesLemmas
 pub mod DistinctLemmas
 pub mod WalkLemmas
 pub mod MovesLemmas
+pub mod ShiftsLemmas
 pub mod SizesLemmas
 pub mod SurveysLemmas
 pub mod RegionsLemmas

@@ -11,7 +11,8 @@ use Rattle.psi_event.specs.Law.{IsClosed}
 use Rattle.psi_exact.specs.declared.moves.Moves.{Moves}
 use Rattle.psi_exact.specs.Mapping.{map_of, rank_of, sends}
 use Rattle.psi_exact.specs.Table.{state_at, table_of, AreRanks, AreRanksOf}
-use Rattle.psi_exact.specs.Moves.{IsRow, ArePlaced, IsPrefix, IsLonger, IsMoves, HasMove, AreMovesOf, AreLearned, moved}
+use Rattle.psi_exact.specs.Shifts.{looked}
+use Rattle.psi_exact.specs.Moves.{start_at, IsRow, ArePlaced, IsPrefix, IsLonger, IsMoves, HasMove, AreMovesOf, AreLearned, moved}
 use Rattle.psi_exact.proofs.PlacesLemmas.{rank_of-small, state_at-below}
 use Rattle.psi_exact.proofs.TablesLemmas.{table_of-map_of, sends-table_of}
 
@@ -62,34 +63,45 @@ row-longer rows more images start first width prefix row = record {
   within = (let a = prefix.more in let b = row.within in omega arith);
   each = λ j small.
       (let b = row.within in
-      row.each j small ∙ ap (λ n. (first + n) % 65536) (sym (prefix.same (start + j) (omega arith))));
+      row.each j small ∙ ap (λ n. (first + j + n) % 65536) (sym (prefix.same (start + j) (omega arith))));
 }
 
 -- one row more is placed
-pub placed-next : (rows more starts images : List ℕ) (width offset block start : ℕ) → IsPrefix rows more → length starts ≡ offset + block
-    → ArePlaced rows starts images width offset block → IsRow more images start (block * width) width
-    → ArePlaced more (starts ++ start ∷ []) images width offset (block + 1)
-placed-next rows more starts images width offset block start prefix count placed row = record {
-  there = λ b small. (let longer = length_push starts start in omega arith);
+pub placed-next : (rows more numbers images : List ℕ) (width offset block number old new : ℕ) → IsPrefix rows more → length numbers ≡ offset + block
+    → ArePlaced rows numbers images width offset block old → IsRow more images (number * width) (block * width) width → number < new → old ≤ new
+    → ArePlaced more (numbers ++ number ∷ []) images width offset (block + 1) new
+placed-next rows more numbers images width offset block number old new prefix count placed row there order = record {
+  there = λ b small. (let longer = length_push numbers number in omega arith);
+  small = λ b small. elim (cases_lt b block) [
+    | inl less ↦ (let own = placed.small b less in
+        let is = get_or_append_left numbers (number ∷ []) 0 (offset + b) (placed.there b less) in
+        omega arith)
+    | inr past ↦ (let is = get_or_push numbers number 0 (offset + b) (omega arith) in omega arith)
+  ];
   each = λ b small. elim (cases_lt b block) [
     | inl less ↦ (let there = placed.there b less in
-        subst (λ n. IsRow more images n (b * width) width) (sym (get_or_append_left starts (start ∷ []) 0 (offset + b) there))
-        (row-longer rows more images (slice_index starts (offset + b)) (b * width) width prefix (placed.each b less)))
+        subst (λ n. IsRow more images (n * width) (b * width) width) (sym (get_or_append_left numbers (number ∷ []) 0 (offset + b) there))
+        (row-longer rows more images (slice_index numbers (offset + b) * width) (b * width) width prefix (placed.each b less)))
     | inr past ↦ (let same : b ≡ block = omega arith in
-        let last : slice_index (starts ++ start ∷ []) (offset + block) ≡ start = get_or_push starts start 0 (offset + block) count in
-        subst (λ n. IsRow more images (slice_index (starts ++ start ∷ []) (offset + n)) (n * width) width) (sym same)
-        (subst (λ n. IsRow more images n (block * width) width) (sym last) row))
+        let last : slice_index (numbers ++ number ∷ []) (offset + block) ≡ number = get_or_push numbers number 0 (offset + block) count in
+        subst (λ n. IsRow more images (slice_index (numbers ++ number ∷ []) (offset + n) * width) (n * width) width) (sym same)
+        (subst (λ n. IsRow more images (n * width) (block * width) width) (sym last) row))
   ];
 }
 
 -- rows that are placed for the ranks of a function's images tell these
-pub moves-each : (caps : List ℕ) (f : List ℕ → List ℕ) (images rows starts : List ℕ) (width offset blocks : ℕ) → AreRanksOf caps f images → blocks * width ≡ length images
-    → ArePlaced rows starts images width offset blocks → (b j : ℕ) → b < blocks → j < width
-    → rank_of caps (f (state_at caps (b * width + j))) ≡ (b * width + slice_index rows (slice_index starts (offset + b) + j)) % 65536
-moves-each caps f images rows starts width offset blocks are whole placed b j small less =
+pub moves-each : (caps : List ℕ) (f : List ℕ → List ℕ) (images rows numbers : List ℕ) (width offset blocks count : ℕ) → AreRanksOf caps f images → blocks * width ≡ length images
+    → ArePlaced rows numbers images width offset blocks count → (b j : ℕ) → b < blocks → j < width
+    → rank_of caps (f (state_at caps (b * width + j))) ≡ (b * width + j + slice_index rows (slice_index numbers (offset + b) * width + j)) % 65536
+moves-each caps f images rows numbers width offset blocks count are whole placed b j small less =
     let inside = place-within b j blocks width (length images) small less whole in
-    let count = are.whole in
+    let all = are.whole in
     sym (are.each (b * width + j) (omega arith)) ∙ (placed.each b small).each j less
+
+-- a row begins where it did
+start-longer : (m n : Moves) (offset b : ℕ) → IsLonger m n → offset + b < length m.numbers.items → start_at n offset b ≡ start_at m offset b
+start-longer m n offset b longer there =
+    ap (λ k. k * n.width) (longer.numbers.same (offset + b) there) ∙ ap (λ w. slice_index m.numbers.items (offset + b) * w) longer.same_width
 
 -- what is learned stays where more is learned
 pub moves-longer : (caps : List ℕ) (f : List ℕ → List ℕ) (m n : Moves) (offset : ℕ) → IsLonger m n → AreMovesOf caps f m offset → AreMovesOf caps f n offset
@@ -98,11 +110,17 @@ moves-longer caps f m n offset longer are =
     let width = longer.same_width in
     record {
       has = record {
-        there = λ b small. (let there = are.has.there b (omega arith) in let more = longer.starts.more in omega arith);
+        there = λ b small. (let there = are.has.there b (omega arith) in let more = longer.numbers.more in omega arith);
+        small = λ b small.
+            (let inside : b < m.size / m.width = omega arith in
+            let own = are.has.small b inside in
+            let number = longer.numbers.same (offset + b) (are.has.there b inside) in
+            let more = longer.shifts in
+            omega arith);
         within = λ b small.
             (let inside : b < m.size / m.width = omega arith in
             let within = are.has.within b inside in
-            let start = longer.starts.same (offset + b) (are.has.there b inside) in
+            let start = start-longer m n offset b longer (are.has.there b inside) in
             let more = longer.rows.more in
             omega arith);
       };
@@ -110,12 +128,12 @@ moves-longer caps f m n offset longer are =
           (let inside : b < m.size / m.width = omega arith in
           let own : j < m.width = omega arith in
           let within = are.has.within b inside in
-          let start = longer.starts.same (offset + b) (are.has.there b inside) in
+          let start = start-longer m n offset b longer (are.has.there b inside) in
           ap (λ w. rank_of caps (f (state_at caps (b * w + j)))) width
           ∙ (are.each b j inside own
-          ∙ (ap (λ k. (b * m.width + k) % 65536)
-          (sym (ap (λ k. slice_index n.rows.items (k + j)) start ∙ longer.rows.same (slice_index m.starts.items (offset + b) + j) (omega arith)))
-          ∙ ap (λ w. (b * w + slice_index n.rows.items (slice_index n.starts.items (offset + b) + j)) % 65536) (sym width))));
+          ∙ (ap (λ k. (b * m.width + j + k) % 65536)
+          (sym (ap (λ k. slice_index n.rows.items (k + j)) start ∙ longer.rows.same (start_at m offset b + j) (omega arith)))
+          ∙ ap (λ w. (b * w + j + slice_index n.rows.items (start_at n offset b + j)) % 65536) (sym width))));
     }
 
 -- the rank that a row tells is one
@@ -158,20 +176,21 @@ moves-older caps f m offset ranks next valid closed are own count looked = recor
         ∙ ap (λ k. slice_index ranks k) (sym (are.each place.block place.own place.small place.less) ∙ ap (λ k. rank_of caps (f (state_at caps k))) (sym place.is))))
 
 -- the rank that a row tells, with its parts by other names
-pub moved-at : (m : Moves) (offset b first start j : ℕ) (rows : List ℕ) → rows ≡ m.rows.items → first ≡ b * m.width → start ≡ slice_index m.starts.items (offset + b)
-    → (first + slice_index rows (start + j)) % 65536 ≡ moved m offset b j
+pub moved-at : (m : Moves) (offset b first start j : ℕ) (rows : List ℕ) → rows ≡ m.rows.items → first ≡ b * m.width → start ≡ start_at m offset b
+    → (first + j + slice_index rows (start + j)) % 65536 ≡ moved m offset b j
 moved-at m offset b first start j rows same is at =
-    ap (λ (xs : List ℕ). (first + slice_index xs (start + j)) % 65536) same
-    ∙ (ap (λ k. (k + slice_index m.rows.items (start + j)) % 65536) is
-    ∙ ap (λ k. (b * m.width + slice_index m.rows.items (k + j)) % 65536) at)
+    ap (λ (xs : List ℕ). (first + j + slice_index xs (start + j)) % 65536) same
+    ∙ (ap (λ k. (k + j + slice_index m.rows.items (start + j)) % 65536) is
+    ∙ ap (λ k. (b * m.width + j + slice_index m.rows.items (k + j)) % 65536) at)
 
 -- one row more is looked up
 pub looked-next : (m : Moves) (offset block first start : ℕ) (rows table old new : List ℕ) → rows ≡ m.rows.items → first ≡ block * m.width
-    → start ≡ slice_index m.starts.items (offset + block)
+    → start ≡ start_at m offset block
     → ((b j : ℕ) → b < block → j < m.width → slice_index old (b * m.width + j) ≡ slice_index table (moved m offset b j))
-    → ((j : ℕ) → j < m.width → slice_index new (first + j) ≡ slice_index table ((first + slice_index rows (start + j)) % 65536))
+    → ((j : ℕ) → j < m.width → slice_index new (first + j) ≡ looked rows start table first j)
     → ((i : ℕ) → i < first → slice_index new i ≡ slice_index old i)
     → (b j : ℕ) → b < block + 1 → j < m.width → slice_index new (b * m.width + j) ≡ slice_index table (moved m offset b j)
+unfolding looked
 looked-next m offset block first start rows table old new same is at done each before b j small less =
     elim (cases_lt b block) [
       | inl earlier ↦ (let inside = place-within b j block m.width (block * m.width) earlier less refl in
@@ -186,7 +205,7 @@ looked-next m offset block first start rows table old new same is at done each b
 
 -- the same rows, with so many known events
 abbrev pub known_as : Moves → ℕ → Moves
-known_as m n = record { size = m.size; width = m.width; known = n; rows = m.rows; starts = m.starts; images = m.images }
+known_as m n = record { size = m.size; width = m.width; known = n; rows = m.rows; shifts = m.shifts; numbers = m.numbers; images = m.images }
 
 -- what is known stays so where rows are added
 pub learned-longer : (caps : List ℕ) (functions : List (List ℕ → List ℕ)) (m n : Moves) → IsLonger m n → n.known ≡ m.known → AreLearned caps functions m → AreLearned caps functions n
@@ -200,8 +219,8 @@ learned-longer caps functions m n longer same learned =
 
 -- and one event more is known, whose rows stand behind the others
 pub learned-next : {E : Type 0} (caps : List ℕ) (function : E → List ℕ → List ℕ) (events : List E) (e : E) (number : ℕ) (m n : Moves) → slice_get events number ≡ Some e
-    → IsLonger m n → m.known ≡ number → length m.starts.items ≡ number * (m.size / m.width) → AreLearned caps (map function events) m
-    → AreMovesOf caps (function e) n (length m.starts.items) → number < 1024 → AreLearned caps (map function events) (known_as n (number + 1))
+    → IsLonger m n → m.known ≡ number → length m.numbers.items ≡ number * (m.size / m.width) → AreLearned caps (map function events) m
+    → AreMovesOf caps (function e) n (length m.numbers.items) → number < 1024 → AreLearned caps (map function events) (known_as n (number + 1))
 learned-next {E = E} caps function events e number m n is longer known count learned are most =
     record {
       most = omega arith;
@@ -212,7 +231,7 @@ learned-next {E = E} caps function events e number m n is longer known count lea
             subst (λ j. AreMovesOf caps (slice_index_or (map function events) j (λ x. x)) (known_as n (number + 1)) (j * (n.size / n.width))) (sym same)
             (subst (λ b. AreMovesOf caps (slice_index_or (map function events) number (λ x. x)) (known_as n (number + 1)) (number * b)) (sym blocks)
             (subst (λ j. AreMovesOf caps (slice_index_or (map function events) number (λ x. x)) (known_as n (number + 1)) j) count
-            (subst (λ (f : List ℕ → List ℕ). AreMovesOf caps f (known_as n (number + 1)) (length m.starts.items)) (sym own) made))))
+            (subst (λ (f : List ℕ → List ℕ). AreMovesOf caps f (known_as n (number + 1)) (length m.numbers.items)) (sym own) made))))
       ];
     }
   where
@@ -220,11 +239,11 @@ learned-next {E = E} caps function events e number m n is longer known count lea
     blocks = ap (λ k. k / n.width) longer.same_size ∙ ap (λ k. m.size / k) longer.same_width
 
     longer_known : IsLonger m (known_as n (number + 1))
-    longer_known = record { same_size = longer.same_size; same_width = longer.same_width; rows = longer.rows; starts = longer.starts }
+    longer_known = record { same_size = longer.same_size; same_width = longer.same_width; rows = longer.rows; numbers = longer.numbers; shifts = longer.shifts }
 
     own : slice_index_or (map function events) number (λ x. x) ≡ function e
     own = get_or_from_slice_get (map function events) number (function e) (λ x. x)
         (slice_get-map function events number ∙ ap (λ (o : Option E). option_map function o) is)
 
-    made : AreMovesOf caps (function e) (known_as n (number + 1)) (length m.starts.items)
-    made = record { has = record { there = are.has.there; within = are.has.within }; each = are.each }
+    made : AreMovesOf caps (function e) (known_as n (number + 1)) (length m.numbers.items)
+    made = record { has = record { there = are.has.there; small = are.has.small; within = are.has.within }; each = are.each }

@@ -2,6 +2,7 @@
 pub mod Mapping
 pub mod Table
 pub mod Distinct
+pub mod Shifts
 pub mod Moves
 pub mod Refusal
 pub mod Inverse

@@ -1,24 +1,30 @@
 -- What events make of all states, kept row by row: a row has the ranks of the images of states that come one after another,
--- each counted from the rank of the first of these states, and rows that are alike are kept once.
+-- each less the state's own rank, and rows that are alike are kept once.
 use Rattle.std.specs.Prelude.{◌≡◌, ℕ, ◌+◌, ◌*◌, ◌/◌, ◌%◌, ◌<◌, ◌≤◌, List, length, slice_index, slice_index_or, vec_capacity}
 use Rattle.psi_event.specs.Law.{IsClosed}
 use Rattle.psi_exact.specs.declared.moves.Moves.{Moves}
 use Rattle.psi_exact.specs.Mapping.{rank_of}
+use Rattle.psi_exact.specs.Shifts.{AreCovered}
 use Rattle.psi_exact.specs.Table.{state_at}
 
 -- the row from a start on is that of the ranks from the first on, modulo 2^16
 pub record IsRow (rows images : List ℕ) (start first width : ℕ) : Type 0 where
   pub within : start + width ≤ length rows
-  pub each : (j : ℕ) → j < width → slice_index images (first + j) ≡ (first + slice_index rows (start + j)) % 65536
+  pub each : (j : ℕ) → j < width → slice_index images (first + j) ≡ (first + j + slice_index rows (start + j)) % 65536
 
--- the rank that the row b of an event, whose starts stand from an offset on, has at the place j
+-- where the row b of an event begins, whose rows' numbers stand from an offset on
+abbrev pub start_at : Moves → ℕ → ℕ → ℕ
+start_at m offset b = slice_index m.numbers.items (offset + b) * m.width
+
+-- the rank that it has at the place j
 abbrev pub moved : Moves → ℕ → ℕ → ℕ → ℕ
-moved m offset b j = (b * m.width + slice_index m.rows.items (slice_index m.starts.items (offset + b) + j)) % 65536
+moved m offset b j = (b * m.width + j + slice_index m.rows.items (start_at m offset b + j)) % 65536
 
--- the starts from an offset on tell the rows of these ranks, one after another, so many
-pub record ArePlaced (rows starts images : List ℕ) (width offset blocks : ℕ) : Type 0 where
-  pub there : (b : ℕ) → b < blocks → offset + b < length starts
-  pub each : (b : ℕ) → b < blocks → IsRow rows images (slice_index starts (offset + b)) (b * width) width
+-- the numbers from an offset on tell the rows of these ranks, one after another, so many
+pub record ArePlaced (rows numbers images : List ℕ) (width offset blocks count : ℕ) : Type 0 where
+  pub there : (b : ℕ) → b < blocks → offset + b < length numbers
+  pub small : (b : ℕ) → b < blocks → slice_index numbers (offset + b) < count
+  pub each : (b : ℕ) → b < blocks → IsRow rows images (slice_index numbers (offset + b) * width) (b * width) width
 
 -- the second list begins with the first
 pub record IsPrefix (xs ys : List ℕ) : Type 0 where
@@ -33,11 +39,14 @@ pub record IsMoves (count : ℕ) (m : Moves) : Type 0 where
   pub whole : m.size / m.width * m.width ≡ m.size
   pub room : length m.images.items ≡ m.size
   pub few : vec_capacity m.rows ≤ 262144
+  pub most : vec_capacity m.shifts ≤ 1024
+  pub covered : AreCovered m.rows.items m.width m.shifts.items
 
--- the starts from an offset on are there, and so are the rows that they tell
+-- the numbers from an offset on are there, and so are the rows that they tell
 pub record HasRows (m : Moves) (offset : ℕ) : Type 0 where
-  pub there : (b : ℕ) → b < m.size / m.width → offset + b < length m.starts.items
-  pub within : (b : ℕ) → b < m.size / m.width → slice_index m.starts.items (offset + b) + m.width ≤ length m.rows.items
+  pub there : (b : ℕ) → b < m.size / m.width → offset + b < length m.numbers.items
+  pub small : (b : ℕ) → b < m.size / m.width → slice_index m.numbers.items (offset + b) < length m.shifts.items
+  pub within : (b : ℕ) → b < m.size / m.width → start_at m offset b + m.width ≤ length m.rows.items
 
 -- the rows from an offset on are those of a function on states
 pub record AreMovesOf (caps : List ℕ) (f : List ℕ → List ℕ) (m : Moves) (offset : ℕ) : Type 0 where
@@ -60,4 +69,5 @@ pub record IsLonger (m n : Moves) : Type 0 where
   pub same_size : n.size ≡ m.size
   pub same_width : n.width ≡ m.width
   pub rows : IsPrefix m.rows.items n.rows.items
-  pub starts : IsPrefix m.starts.items n.starts.items
+  pub numbers : IsPrefix m.numbers.items n.numbers.items
+  pub shifts : length m.shifts.items ≤ length n.shifts.items

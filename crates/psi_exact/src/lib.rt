@@ -8,6 +8,7 @@ mod map_table;
 mod moves;
 mod ranks;
 mod rows;
+mod shifts;
 mod sizes;
 mod table;
 

@@ -2,19 +2,24 @@
 
 ghost use Rattle.std.specs.Prelude.{◌≡◌, ℕ, ◌+◌, ◌*◌, ◌/◌, ◌<◌, ◌≤◌, length, slice_index, vec_capacity, IfOk, IsTrue};
 ghost use Rattle.psi_state.specs.State.{all_states};
+ghost use Rattle.psi_exact.specs.Shifts.{AreCovered};
 ghost use Rattle.psi_exact.specs.Moves.{IsMoves, HasRows, AreMovesOf, ArePlaced, IsLonger, IsPrefix, moved};
 
 use crate::ranks::{write_images, zeroed};
-use crate::rows::{look_up_row, place_row};
+use crate::rows::{follow_row, place_row};
+use crate::shifts::Shifts;
 use psi_event::EventLaw;
 use psi_state::State;
 use std::alloc::{AllocError, Global};
 
-// The most ranks that are kept in rows: 512 kilobytes.
-const MOST_RANKS: u32 = 262_144;
+// The most ranks that are kept in rows: 448 kilobytes.
+const MOST_RANKS: u32 = 229_376;
 
-// The most rows of all events together, where equal rows count each time: 128 kilobytes of starts.
-const MOST_STARTS: u32 = 32_768;
+// The most different rows: 64 kilobytes of shifts.
+const MOST_ROWS: u32 = 1_024;
+
+// The most rows of all events together, where equal rows count each time: 128 kilobytes of numbers.
+const MOST_NUMBERS: u32 = 32_768;
 
 // The greatest number of events of a network.
 const MOST_EVENTS: u32 = 1_024;
@@ -24,14 +29,15 @@ const LEAST_WIDTH: u32 = 256;
 
 /// The ranks of what events make of each state, one event after another, in rows: the states that
 /// differ in the last queues only have a row. An event that changes few queues has few different rows,
-/// and each of these is kept once.
+/// and each of these is kept once, with its shifts. Rows are told by their numbers.
 #[derive(Drop)]
 pub(crate) struct Moves {
     pub(crate) size: u32,
     pub(crate) width: u32,
     pub(crate) known: u16,
     pub(crate) rows: Vec<u16>,
-    pub(crate) starts: Vec<u32>,
+    pub(crate) shifts: Vec<Shifts>,
+    pub(crate) numbers: Vec<u32>,
     pub(crate) images: Vec<u16>,
 }
 
@@ -44,13 +50,14 @@ impl Moves {
     {
         let width = fitting(width_of(caps), size);
         let ranks = MOST_RANKS.min(MOST_EVENTS * size);
-        let starts = MOST_STARTS.min(MOST_EVENTS * (size / width));
+        let numbers = MOST_NUMBERS.min(MOST_EVENTS * (size / width));
         Ok(Moves {
             size,
             width,
             known: 0,
             rows: Vec::with_capacity(alloc, ranks as usize)?,
-            starts: Vec::with_capacity(alloc, starts as usize)?,
+            shifts: Vec::with_capacity(alloc, MOST_ROWS as usize)?,
+            numbers: Vec::with_capacity(alloc, numbers as usize)?,
             images: zeroed(alloc, size)?,
         })
     }
@@ -58,14 +65,15 @@ impl Moves {
     /// Forgets all events.
     pub(crate) fn clear(&mut self)
         ensures kept { (count : ℕ) → IsMoves count self.old → IsMoves count self.new }
-        ensures none { length self.new.starts.items ≡ 0 }
+        ensures none { length self.new.numbers.items ≡ 0 }
         ensures known { self.new.known ≡ 0 }
         ensures size { self.new.size ≡ self.old.size }
         ensures width { self.new.width ≡ self.old.width }
     {
         self.known = 0;
         self.rows.clear();
-        self.starts.clear();
+        self.shifts.clear();
+        self.numbers.clear();
     }
 
     /// Places the rows of one event more, if there is room for them, and tells whether there was.
@@ -75,17 +83,18 @@ impl Moves {
         ensures valid { IsMoves (length (all_states (E.capacities e.now))) self.new }
         ensures longer { IsLonger self.old self.new }
         ensures known { self.new.known ≡ self.old.known }
-        ensures learned { IsTrue result → AreMovesOf (E.capacities e.now) (E.function e.now) self.new (length self.old.starts.items) }
-        ensures count { IsTrue result → length self.new.starts.items ≡ length self.old.starts.items + self.old.size / self.old.width }
+        ensures learned { IsTrue result → AreMovesOf (E.capacities e.now) (E.function e.now) self.new (length self.old.numbers.items) }
+        ensures count { IsTrue result → length self.new.numbers.items ≡ length self.old.numbers.items + self.old.size / self.old.width }
     {
         write_images(e, self.images.as_mut_slice());
         let blocks = (self.size / self.width) as usize;
-        if self.starts.capacity() - self.starts.len() < blocks {
+        if self.numbers.capacity() - self.numbers.len() < blocks {
             return false;
         }
         place_rows(
             &mut self.rows,
-            &mut self.starts,
+            &mut self.shifts,
+            &mut self.numbers,
             self.images.as_slice(),
             self.width as usize,
             blocks,
@@ -96,6 +105,7 @@ impl Moves {
     /// from 0 in the order in which they were learned.
     pub(crate) fn look_up(&self, number: u32, table: &[u16], next: &mut [u16])
         requires few { length next.old ≤ 65536 }
+        requires table { length table.now ≤ 65536 }
         requires number { number ≤ 1024 }
         requires valid { IsMoves (length next.old) self.now }
         requires has { HasRows self.now (number * (self.now.size / self.now.width)) }
@@ -108,8 +118,17 @@ impl Moves {
         let width = self.width as usize;
         let mut first = 0;
         for block in 0..blocks {
-            let start = self.starts[number as usize * blocks + block] as usize;
-            look_up_row(self.rows.as_slice(), start, width, table, first, next);
+            let row = self.numbers[number as usize * blocks + block] as usize;
+            let shifts = &self.shifts[row];
+            follow_row(
+                self.rows.as_slice(),
+                row * width,
+                width,
+                shifts,
+                table,
+                first,
+                next,
+            );
             first += width;
         }
     }
@@ -118,7 +137,8 @@ impl Moves {
 // Places the rows of an event, one after another, as long as there is room, and tells whether there was.
 fn place_rows(
     rows: &mut Vec<u16>,
-    starts: &mut Vec<u32>,
+    shifts: &mut Vec<Shifts>,
+    numbers: &mut Vec<u32>,
     images: &[u16],
     width: usize,
     blocks: usize,
@@ -127,18 +147,22 @@ fn place_rows(
     requires whole { blocks * width ≡ length images.now }
     requires few { length images.now ≤ 65536 }
     requires room { vec_capacity rows.old ≤ 262144 }
-    requires starts { length starts.old.items + blocks ≤ vec_capacity starts.old }
-    ensures placed { IsTrue result → ArePlaced rows.new.items starts.new.items images.now width (length starts.old.items) blocks }
-    ensures count { IsTrue result → length starts.new.items ≡ length starts.old.items + blocks }
+    requires most { vec_capacity shifts.old ≤ 1024 }
+    requires covered { AreCovered rows.old.items width shifts.old.items }
+    requires numbers { length numbers.old.items + blocks ≤ vec_capacity numbers.old }
+    ensures placed { IsTrue result → ArePlaced rows.new.items numbers.new.items images.now width (length numbers.old.items) blocks (length shifts.new.items) }
+    ensures count { IsTrue result → length numbers.new.items ≡ length numbers.old.items + blocks }
+    ensures covered { AreCovered rows.new.items width shifts.new.items }
     ensures rows { IsPrefix rows.old.items rows.new.items }
-    ensures starts { IsPrefix starts.old.items starts.new.items }
+    ensures numbers { IsPrefix numbers.old.items numbers.new.items }
+    ensures more { length shifts.old.items ≤ length shifts.new.items }
     ensures capacity { vec_capacity rows.new ≡ vec_capacity rows.old }
+    ensures capacities { vec_capacity shifts.new ≡ vec_capacity shifts.old }
 {
-    let from = rows.len();
     let mut first = 0;
     for _block in 0..blocks {
-        match place_row(rows, from, images, first, width) {
-            Some(start) => starts.push_reserved(start),
+        match place_row(rows, shifts, images, first, width) {
+            Some(number) => numbers.push_reserved(number),
             None => return false,
         }
         first += width;

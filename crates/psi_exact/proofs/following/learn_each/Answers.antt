@@ -47,9 +47,9 @@ loop-number-preserved g c =
     let cap = event-caps g.E.EventLaw.capacities system.caps system.events c.loop-number.number c.event.result.now c.caps-caps.ensures.fit.same_caps (sym c.event.ensures) in
     let valid = subst (λ (caps : List ℕ). IsMoves (length (all_states caps)) n) cap c.place.ensures.valid in
     let blocks : n.size / n.width ≡ m.size / m.width = ap (λ k. k / n.width) longer.same_size ∙ ap (λ k. m.size / k) longer.same_width in
-    let are = subst (λ (caps : List ℕ). AreMovesOf caps (g.E.EventLaw.function c.event.result.now) n (length m.starts.items)) cap (c.place.ensures.learned c.if-not-place.false) in
+    let are = subst (λ (caps : List ℕ). AreMovesOf caps (g.E.EventLaw.function c.event.result.now) n (length m.numbers.items)) cap (c.place.ensures.learned c.if-not-place.false) in
     record {
-      valid = record { same = valid.same; bound = valid.bound; some = valid.some; whole = valid.whole; room = valid.room; few = valid.few };
+      valid = record { same = valid.same; bound = valid.bound; some = valid.some; whole = valid.whole; room = valid.room; few = valid.few; most = valid.most; covered = valid.covered };
       known = refl;
       count = (let count = c.loop-number.invariant.count in let more = c.place.ensures.count c.if-not-place.false in
           more ∙ (ap (λ k. k + m.size / m.width) count ∙ (one_more c.loop-number.number (m.size / m.width) ∙ ap (λ k. (c.loop-number.number + 1) * k) (sym blocks))));

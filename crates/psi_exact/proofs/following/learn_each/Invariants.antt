@@ -9,6 +9,6 @@ abbrev pub invariant-loop-number : goal.invariant-loop-number
 invariant-loop-number g l = record {
   valid : IsMoves (length (all_states l.system.caps)) l.moves;
   known : l.moves.known ≡ l.number;
-  count : length l.moves.starts.items ≡ l.number * (l.moves.size / l.moves.width);
+  count : length l.moves.numbers.items ≡ l.number * (l.moves.size / l.moves.width);
   learned : AreLearned l.system.caps (map g.E.EventLaw.function l.system.events) l.moves;
 }

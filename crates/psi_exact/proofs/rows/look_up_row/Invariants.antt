@@ -4,6 +4,6 @@ use Rattle.psi_exact.proofs.rows.look_up_row.Given as goal
 
 abbrev pub invariant-loop-place : goal.invariant-loop-place
 invariant-loop-place l = record {
-  each : (j : ℕ) → j < l.place → slice_index l.next (l.first + j) ≡ slice_index l.table ((l.first + slice_index l.rows (l.start + j)) % 65536);
+  each : (j : ℕ) → j < l.place → slice_index l.next (l.first + j) ≡ slice_index l.table ((l.first + j + slice_index l.rows (l.start + j)) % 65536);
   before : (i : ℕ) → i < l.first → slice_index l.next i ≡ slice_index l.fn.next i;
 }

@@ -16,7 +16,9 @@ place_rows-requires g c =
       whole = valid.whole ∙ sym long;
       few = (let bound = valid.bound in omega arith);
       room = valid.few;
-      starts = (let test = c.if-capacity-len.false in let a = c.capacity.ensures in let b = c.len.ensures in let ok = c.args.self.now.starts.ok.0 in omega arith);
+      most = valid.most;
+      covered = valid.covered;
+      numbers = (let test = c.if-capacity-len.false in let a = c.capacity.ensures in let b = c.len.ensures in let ok = c.args.self.now.numbers.ok.0 in omega arith);
     }
 
 pub returns : goal.returns
@@ -33,16 +35,18 @@ returns g c =
         whole = valid.whole;
         room = ap (λ (xs : List ℕ). length xs) items ∙ (count ∙ valid.room);
         few = subst (λ n. n ≤ 262144) (sym c.place_rows.ensures.capacity) valid.few;
+        most = subst (λ n. n ≤ 1024) (sym c.place_rows.ensures.capacities) valid.most;
+        covered = c.place_rows.ensures.covered;
       };
       known = refl;
-      longer = record { same_size = refl; same_width = refl; rows = c.place_rows.ensures.rows; starts = c.place_rows.ensures.starts };
+      longer = record { same_size = refl; same_width = refl; rows = c.place_rows.ensures.rows; numbers = c.place_rows.ensures.numbers; shifts = c.place_rows.ensures.more };
       learned = λ done.
-          (let placed = subst (λ (xs : List ℕ). ArePlaced c.place_rows.new.rows.items c.place_rows.new.starts.items xs c.args.self.now.width (length c.args.self.now.starts.items)
-          (c.args.self.now.size / c.args.self.now.width)) same (c.place_rows.ensures.placed done) in
+          (let placed = subst (λ (xs : List ℕ). ArePlaced c.place_rows.new.rows.items c.place_rows.new.numbers.items xs c.args.self.now.width (length c.args.self.now.numbers.items)
+          (c.args.self.now.size / c.args.self.now.width) (length c.place_rows.new.shifts.items)) same (c.place_rows.ensures.placed done) in
           record {
-            has = record { there = placed.there; within = λ b small. (placed.each b small).within };
+            has = record { there = placed.there; small = placed.small; within = λ b small. (placed.each b small).within };
             each = moves-each (g.E.EventLaw.capacities c.args.e.now) (g.E.EventLaw.function c.args.e.now) c.write_images.new.ranks c.place_rows.new.rows.items
-                c.place_rows.new.starts.items c.args.self.now.width (length c.args.self.now.starts.items) (c.args.self.now.size / c.args.self.now.width) c.write_images.ensures
+                c.place_rows.new.numbers.items c.args.self.now.width (length c.args.self.now.numbers.items) (c.args.self.now.size / c.args.self.now.width) (length c.place_rows.new.shifts.items) c.write_images.ensures
                 (valid.whole ∙ (sym (count ∙ valid.room))) placed;
           });
       count = c.place_rows.ensures.count;

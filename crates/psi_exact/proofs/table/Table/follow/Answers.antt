@@ -19,6 +19,7 @@ look_up-requires c =
     let long : length c.as_slice.result.now ≡ length (all_states c.self.inside.caps) = ap (λ (xs : List ℕ). length xs) c.as_slice.ensures.value ∙ c.self.invariant.own.whole in
     record {
       few = (let few = c.self.invariant.few in omega arith);
+      table = (let few = c.self.invariant.few in omega arith);
       number = c.requires.number;
       valid = subst (λ n. IsMoves n m) (sym room) valid;
       has = c.requires.has.are.has;
