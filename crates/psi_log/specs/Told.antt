@@ -5,6 +5,8 @@ use Rattle.psi_state.specs.declared.outcome.Step.{Step}
 use Rattle.psi_log_text.specs.Log.{Region, in_box, in_set, Certificate}
 use Rattle.psi_log.specs.declared.form.Form.{Form}
 use Rattle.psi_log.specs.declared.form.Form.TheVariants.{Box, Set}
+use Rattle.psi_log.specs.declared.form.Region.{Region as Borrowed}
+use Rattle.psi_log.specs.declared.form.Region.TheVariants as borrowed
 
 -- the region with a number: 0 is the one at which the run begins, and i the one after the i-th step
 abbrev pub region_at : Certificate → ℕ → Option Region
@@ -15,6 +17,11 @@ region_at c (suc i) = option_map (λ e. e.region) (slice_get c.entries i)
 abbrev pub form : Region → Form
 form (in_box bounds) = Box bounds
 form (in_set states) = Set (length states)
+
+-- a region that is borrowed
+abbrev pub shown : Borrowed → Region
+shown (borrowed.Box bounds) = in_box bounds.now
+shown (borrowed.Set rows) = in_set rows.states
 
 -- the step with a number, counted from 1
 abbrev pub step_at : Certificate → ℕ → Option Step

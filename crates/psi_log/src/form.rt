@@ -1,6 +1,7 @@
-//! The form of a region of a log.
+//! A region of a log: its form, and the region itself, borrowed.
 
 use psi_state::Bounds;
+use psi_state_list::Rows;
 
 /// The form of a region.
 #[derive(Clone, Copy, PartialEq, Eq, Debug)]
@@ -12,4 +13,13 @@ pub enum Form {
         /// The number of states, 1 to 4,096.
         count: u16,
     },
+}
+
+/// A region, borrowed from a log.
+#[derive(Drop)]
+pub enum Region<'l> {
+    /// The states between two corners.
+    Box(&'l Bounds),
+    /// States one by one, in ascending order.
+    Set(Rows<'l>),
 }

@@ -6,17 +6,18 @@ ghost use Rattle.psi_log_text.specs.Log.{Certificate, IsLog};
 ghost use Rattle.psi_log_text.specs.Text.{IsLogOf};
 ghost use Rattle.psi_log.specs.Refusal.{Gives};
 ghost use Rattle.psi_log.specs.Reading.{read};
+ghost use Rattle.psi_state_list.specs.Placed.{owned};
 ghost use Rattle.psi_log.specs.Kept.{region_of, IsThere};
 ghost use Rattle.psi_log.specs.Parts.{certificate_of, IsWhole};
-ghost use Rattle.psi_log.specs.Told.{region_at, form, step_at, HasState, state_in};
+ghost use Rattle.psi_log.specs.Told.{region_at, form, shown, step_at, HasState, state_in};
 ghost use Rattle.psi_log.specs.declared.refusals.LogError.TheVariants.{OutOfMemory};
 
-use crate::form::Form;
+use crate::form::{Form, Region};
 use crate::parts::{Parts, read_parts};
 use crate::refusals::LogError;
 use psi_log_text::Header;
 use psi_state::{State, Step};
-use psi_state_list::Kept;
+use psi_state_list::Borrowed;
 use std::alloc::Global;
 use std::marker::Model;
 
@@ -41,18 +42,19 @@ impl Model for Log {
     ghost invariant = { λ l. IsLog (certificate_of l.parts) × IsWhole l.parts };
 }
 
-// The region with a number.
+// The region with a number. A box isn't copied.
+#[inline]
 #[tactic(auto, using(crate::proofs::ToldLemmas::region_zero, crate::proofs::ToldLemmas::region_next, crate::proofs::ToldLemmas::there_next))]
-fn region_of(parts: &Parts, i: u32) -> Kept
+fn region_of(parts: &Parts, i: u32) -> Borrowed<'_>
     requires number { i ≤ length parts.now.lines }
     requires whole { IsWhole parts.now }
-    ensures value { region_at (certificate_of parts.now) i ≡ Some (region_of parts.now.states.states result) }
-    ensures there { IsThere parts.now.header.queues parts.now.states.states result }
+    ensures value { region_at (certificate_of parts.entry.now) i ≡ Some (region_of parts.entry.now.states.states (owned result)) }
+    ensures there { IsThere parts.entry.now.header.queues parts.entry.now.states.states (owned result) }
 {
     if i == 0 {
-        return parts.begin;
+        return parts.begin.borrow();
     }
-    parts.lines.region(i as usize - 1)
+    parts.lines.look(i as usize - 1)
 }
 
 // The step with a number.
@@ -81,8 +83,22 @@ impl Log {
         ensures { option_map form (region_at self.now i) ≡ Some result }
     {
         match region_of(&self.parts, i) {
-            Kept::Box(bounds) => Form::Box(bounds),
-            Kept::Set { count, .. } => Form::Set { count },
+            Borrowed::Box(bounds) => Form::Box(*bounds),
+            Borrowed::Set { count, .. } => Form::Set { count },
+        }
+    }
+
+    /// A region, borrowed: regions are counted as in [`Log::region`]. Nothing is copied.
+    #[tactic(auto, using(crate::proofs::ToldLemmas::lines_count))]
+    pub fn look(&self, i: u32) -> Region<'_>
+        requires { i ≤ self.now.header.horizon }
+        ensures { region_at self.entry.now i ≡ Some (shown result) }
+    {
+        match region_of(&self.parts, i) {
+            Borrowed::Box(bounds) => Region::Box(bounds),
+            Borrowed::Set { first, count } => {
+                Region::Set(self.parts.states.all().part(first, count as usize))
+            }
         }
     }
 
@@ -107,8 +123,8 @@ impl Log {
         // The number of states fits its type, and so does each place below it.
         let _count = self.parts.states.len();
         match region_of(&self.parts, i) {
-            Kept::Set { first, .. } => self.parts.states.get(first + j as usize),
-            Kept::Box(bounds) => bounds.lo(),
+            Borrowed::Set { first, .. } => self.parts.states.get(first + j as usize),
+            Borrowed::Box(bounds) => bounds.lo(),
         }
     }
 
@@ -123,8 +139,8 @@ impl Log {
         // The number of states fits its type, and so does each place below it.
         let _count = self.parts.states.len();
         match region_of(&self.parts, i) {
-            Kept::Set { first, .. } => self.parts.states.leq(first + j as usize, most),
-            Kept::Box(_) => false,
+            Borrowed::Set { first, .. } => self.parts.states.leq(first + j as usize, most),
+            Borrowed::Box(_) => false,
         }
     }
 

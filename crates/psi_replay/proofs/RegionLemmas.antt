@@ -10,27 +10,10 @@ use Rattle.psi_state.specs.Members.{In}
 use Rattle.psi_state.proofs.BoxesLemmas.{In-low, In-high, In-of_box, below-through}
 use Rattle.psi_region.specs.Covering.{Covers}
 use Rattle.psi_log_text.specs.Log.{Region, in_box, in_set, Entry, Certificate, IsRegion, IsEntry, IsLog}
-use Rattle.psi_log.specs.Told.{form}
-use Rattle.psi_log.specs.declared.form.Form.{Form}
-use Rattle.psi_log.specs.declared.form.Form.TheVariants.{Box, Set}
 use Rattle.psi_log.proofs.StateLemmas.{below_found, below_again}
 use Rattle.psi_replay.specs.Verdict.{states_of, has, covers, is_within}
 use Rattle.psi_replay.specs.Numbered.{nth_region}
 use Rattle.psi_replay.proofs.ListLemmas.{same_test, all_more, all_fails, all_each, all_from, has-In, has-from_In, In-slice_get}
-
--- a region whose form is a box is that box, and one whose form is a set is the set of its states
-pub shown_box : (found : Option Region) (begin : Region) (bounds : Corners) → option_map form found ≡ Some (Box bounds) → in_box bounds ≡ unwrap_or found begin
-shown_box None begin bounds is = absurd cc
-shown_box (Some (in_box own)) begin bounds is = same own bounds is
-  where
-    same : (own bounds : Corners) → ◌≡◌ {A = Option Form} (Some (Box own)) (Some (Box bounds)) → in_box bounds ≡ in_box own
-    same own bounds is = cc
-shown_box (Some (in_set states)) begin bounds is = absurd cc
-
-pub shown_set : (found : Option Region) (begin : Region) (count : ℕ) → option_map form found ≡ Some (Set count) → in_set (states_of (unwrap_or found begin)) ≡ unwrap_or found begin
-shown_set None begin count is = absurd cc
-shown_set (Some (in_box own)) begin count is = absurd cc
-shown_set (Some (in_set states)) begin count is = refl
 
 -- the region after a step is that of the step's entry
 pub nth_entry : (c : Certificate) (i : ℕ) (e : Entry) → slice_get c.entries i ≡ Some e → nth_region c (suc i) ≡ e.region
@@ -59,7 +42,7 @@ below_test x y r tells = same_test r (pointwise nat_le x y) (λ is. below_again 
 abbrev pub Tells : Bool → List ℕ → List (List ℕ) → ℕ → Type 0
 Tells r caps xs i = MatchOption (slice_get xs i) ⊥ (λ (x : List ℕ). IsTrue r ↔ IsBelow x caps)
 
-told_at : (o : Option (List ℕ)) (P : List ℕ → Type 0) → MatchOption o ⊥ P → (x : List ℕ) × (o ≡ Some x) × P x
+pub told_at : (o : Option (List ℕ)) (P : List ℕ → Type 0) → MatchOption o ⊥ P → (x : List ℕ) × (o ≡ Some x) × P x
 told_at None P tells = absurd tells
 told_at (Some x) P tells = (x, refl, tells)
 

@@ -1,5 +1,5 @@
 -- The states of a region that is a set, and the search for one among them.
-use Rattle.std.specs.Prelude.{◌≡◌, ℕ, zero, suc, ◌<◌, List, [], ◌∷◌, length, true, Option, Some, None, option_map, option_and_then, unwrap_or, slice_get, MatchOption}
+use Rattle.std.specs.Prelude.{◌≡◌, ℕ, zero, suc, ◌<◌, List, [], ◌∷◌, true, Some, slice_get}
 use Rattle.std.specs.declared.cmp.Ordering.TheVariants.{Less, Equal, Greater}
 use Rattle.std.proofs.Common.{inl, inr, ap, ◌∙◌, subst, arith}
 use Rattle.std.proofs.lemmas.Bool.{cases_lt}
@@ -7,44 +7,8 @@ use Rattle.psi_state.specs.Sets.{state_cmp}
 use Rattle.psi_state.proofs.SetsLemmas.{same-from_cmp}
 use Rattle.psi_state.specs.Ascending.{IsRising}
 use Rattle.psi_state.proofs.AscendingLemmas.{cmp-itself, cmp-never, cmp-back}
-use Rattle.psi_log_text.specs.Log.{Region, in_box, in_set, Certificate}
-use Rattle.psi_log.specs.Told.{region_at, form, HasState, state_in}
-use Rattle.psi_log.specs.declared.form.Form.{Form}
-use Rattle.psi_log.specs.declared.form.Form.TheVariants.{Set}
-use Rattle.psi_replay.specs.Verdict.{states_of, has}
-use Rattle.psi_replay.specs.Numbered.{nth_region, IsSetAt}
+use Rattle.psi_replay.specs.Verdict.{has}
 use Rattle.psi_replay.proofs.ListLemmas.{In-slice_get, has_at}
-
--- a region whose form is a set of so many states has as many
-pub states_count : (found : Option Region) (begin : Region) (count : ℕ) → option_map form found ≡ Some (Set count) → count ≡ length (states_of (unwrap_or found begin))
-states_count None begin count is = absurd cc
-states_count (Some (in_box bounds)) begin count is = absurd cc
-states_count (Some (in_set states)) begin count is = counted states count is
-  where
-    counted : (states : List (List ℕ)) (count : ℕ) → ◌≡◌ {A = Option Form} (Some (Set (length states))) (Some (Set count)) → count ≡ length states
-    counted states count is = cc
-
-pub set_count : (c : Certificate) (i count : ℕ) → IsSetAt c i count → count ≡ length (states_of (nth_region c i))
-set_count c i count at = states_count (region_at c i) c.begin count at.set
-
--- it has a state at each place below that count, which is that of its list
-pub states_place : (found : Option Region) (begin : Region) (count place : ℕ) → option_map form found ≡ Some (Set count) → place < length (states_of (unwrap_or found begin))
-    → HasState place found
-states_place None begin count place is small = absurd cc
-states_place (Some (in_box bounds)) begin count place is small = absurd cc
-states_place (Some (in_set states)) begin count place is small = small
-
-pub states_get : (found : Option Region) (begin : Region) (count place : ℕ) (x : List ℕ) → option_map form found ≡ Some (Set count) → option_and_then (state_in place) found ≡ Some x
-    → slice_get (states_of (unwrap_or found begin)) place ≡ Some x
-states_get None begin count place x is get = absurd cc
-states_get (Some (in_box bounds)) begin count place x is get = absurd cc
-states_get (Some (in_set states)) begin count place x is get = get
-
-pub states_leq : (found : Option Region) (begin : Region) (count place : ℕ) (P : List ℕ → Type 0) → option_map form found ≡ Some (Set count)
-    → MatchOption (option_and_then (state_in place) found) ⊥ P → MatchOption (slice_get (states_of (unwrap_or found begin)) place) ⊥ P
-states_leq None begin count place P is tells = absurd cc
-states_leq (Some (in_box bounds)) begin count place P is tells = absurd cc
-states_leq (Some (in_set states)) begin count place P is tells = tells
 
 -- an earlier state of an ascending list is below a later one
 pub rising_places : (xs : List (List ℕ)) (j k : ℕ) (x y : List ℕ) → IsRising xs → slice_get xs j ≡ Some x → slice_get xs k ≡ Some y → j < k → state_cmp x y ≡ Less

@@ -5,5 +5,5 @@ use Rattle.psi_replay.specs.declared.regions.Region.TheVariants.{Box, Set}
 
 -- a box, or a set by its states
 abbrev pub seen : Shown → Region
-seen (Box bounds) = in_box bounds
+seen (Box bounds) = in_box bounds.now
 seen (Set states) = in_set states

@@ -8,14 +8,14 @@ ghost use Rattle.psi_replay.specs.Numbered.{nth_region};
 ghost use Rattle.psi_replay.specs.Seen.{seen};
 
 use crate::sets::Set;
-use psi_log::{Form, Log};
+use psi_log::{Log, Region as Told};
 use psi_state::{Bounds, State};
 
-/// A region of a log.
+/// A region of a log, borrowed from it.
 #[derive(Drop)]
 pub(crate) enum Region<'l> {
     /// The states between two corners.
-    Box(Bounds),
+    Box(&'l Bounds),
     /// The states of a set.
     Set(Set<'l>),
 }
@@ -28,16 +28,16 @@ pub(crate) fn region_of(log: &Log, number: u32) -> Region<'_>
     ensures value { seen result ≡ nth_region log.entry.now number }
     ensures regional { IsRegion log.entry.now.header.queues (seen result) }
 {
-    match log.region(number) {
-        Form::Box(bounds) => Region::Box(bounds),
-        Form::Set { count } => Region::Set(Set::new(log, number, count)),
+    match log.look(number) {
+        Told::Box(bounds) => Region::Box(bounds),
+        Told::Set(rows) => Region::Set(Set::new(rows)),
     }
 }
 
 impl Region<'_> {
     /// Whether a state is one of the region's. In a set it is looked for at the place `near` and behind it first,
     /// and where it is found, `near` becomes its place.
-    pub(crate) fn holds(&self, x: &State, near: &mut u16) -> bool
+    pub(crate) fn holds(&self, x: &State, near: &mut usize) -> bool
         requires { IsRegion (length x.now) (seen self.now) }
         ensures { result ≡ has (states_of (seen self.now)) x.now }
     {

@@ -1,8 +1,15 @@
 -- States that are kept as their numbers.
-use Rattle.std.specs.Prelude.{◌≡◌, ℕ, zero, suc, ◌+◌, ◌*◌, ◌<◌, ◌≤◌, List, [], ◌∷◌, ◌++◌, length, take, drop, Some, refl}
+use Rattle.std.specs.Prelude.{◌≡◌, ℕ, zero, suc, ◌+◌, ◌*◌, ◌<◌, ◌≤◌, ◌-◌, List, [], ◌∷◌, ◌++◌, length, take, drop, Some, nat_lt, false, refl}
 use Rattle.std.specs.List.{slice_get}
-use Rattle.std.proofs.Common.{ap, sym, ◌∙◌, arith}
-use Rattle.std.proofs.lemmas.List.{take_all, nil_from_length, take-append-le, drop-append-le, drop-drop, length-drop}
+use Rattle.std.specs.Ordering.{is_lt, nat_cmp, ordering_then}
+use Rattle.std.specs.declared.cmp.Ordering.{Ordering}
+use Rattle.std.specs.declared.cmp.Ordering.TheVariants.{Less, Equal, Greater}
+use Rattle.std.specs.Cmp.{nat_cmp_is}
+use Rattle.std.specs.Cmp.Lexicographic.{slice_cmp}
+use Rattle.std.proofs.Common.{get_or, ap, sym, ◌∙◌, subst, arith, inl, inr}
+use Rattle.std.proofs.lemmas.Bool.{cases_lt}
+use Rattle.std.proofs.lemmas.Grind.{common_steps}
+use Rattle.std.proofs.lemmas.List.{take_all, nil_from_length, take-append-le, drop-append-le, drop-drop, drop-take, take-take, length-drop, length-take-le}
 use Rattle.std.proofs.lemmas.Nat.{mul-le}
 use Rattle.std.proofs.Math.Nat.{suc-mul}
 use Rattle.psi_state_list.specs.Rows.{rows}
@@ -42,3 +49,68 @@ rows_room count queues i small =
     let next : suc i * queues ≡ i * queues + queues = suc-mul i queues in
     let most : suc i * queues ≤ count * queues = mul-le (suc i) queues count queues (omega arith) (omega arith) in
     omega arith
+
+-- the first of some states stand in the front of their numbers, and the others behind these
+rows_front : (count more queues : ℕ) (numbers : List ℕ) → rows count queues (take (count * queues) numbers) ≡ take count (rows (count + more) queues numbers)
+rows_front zero more queues numbers = refl
+rows_front (suc count) more queues numbers =
+    let size : suc count * queues ≡ queues + count * queues = (let e = suc-mul count queues in omega arith) in
+    let all : suc count + more ≡ suc (count + more) = omega arith in
+    let first : take queues (take (queues + count * queues) numbers) ≡ take queues numbers = take-take queues (queues + count * queues) numbers (omega arith) in
+    let behind : drop queues (take (queues + count * queues) numbers) ≡ take (count * queues) (drop queues numbers) = drop-take queues (count * queues) numbers in
+    rw (size, all, first, behind) (ap (λ (xs : List (List ℕ)). take queues numbers ∷ xs) (rows_front count more queues (drop queues numbers)))
+
+rows_behind : (first rest queues : ℕ) (numbers : List ℕ) → drop first (rows (first + rest) queues numbers) ≡ rows rest queues (drop (first * queues) numbers)
+rows_behind zero rest queues numbers = (let none : 0 * queues ≡ 0 = omega arith in let all : 0 + rest ≡ rest = omega arith in rw (none, all) refl)
+rows_behind (suc first) rest queues numbers =
+    let size : suc first * queues ≡ queues + first * queues = (let e = suc-mul first queues in omega arith) in
+    let all : suc first + rest ≡ suc (first + rest) = omega arith in
+    rw all (rows_behind first rest queues (drop queues numbers) ∙ ap (rows rest queues) (drop-drop (first * queues) queues numbers ∙ ap (λ (k : ℕ). drop k numbers) (sym size)))
+
+-- some of the states
+pub rows_part : (total queues first count size : ℕ) (numbers : List ℕ) → first + count ≤ total → size ≡ count * queues
+    → rows count queues (take size (drop (first * queues) numbers)) ≡ take count (drop first (rows total queues numbers))
+rows_part total queues first count size numbers small is =
+    let rest : total ≡ first + (count + (total - (first + count))) = omega arith in
+    let behind : drop first (rows total queues numbers) ≡ rows (count + (total - (first + count))) queues (drop (first * queues) numbers) =
+    ap (λ (n : ℕ). drop first (rows n queues numbers)) rest ∙ rows_behind first (count + (total - (first + count))) queues numbers in
+    ap (λ (n : ℕ). rows count queues (take n (drop (first * queues) numbers))) is
+    ∙ rows_front count (total - (first + count)) queues (drop (first * queues) numbers) ∙ ap (take count) (sym behind)
+
+sum_mul : (first count queues : ℕ) → first * queues + count * queues ≡ (first + count) * queues
+sum_mul zero count queues = (let all : zero + count ≡ count = omega arith in rw all (omega arith))
+sum_mul (suc first) count queues =
+    let next : suc first + count ≡ suc (first + count) = omega arith in
+    let one = suc-mul first queues in
+    let more = suc-mul (first + count) queues in
+    let rest = sum_mul first count queues in
+    rw next (omega arith)
+
+pub rows_until : (total queues first count : ℕ) → first + count ≤ total → first * queues + count * queues ≤ total * queues
+rows_until total queues first count small =
+    let most = mul-le (first + count) queues total queues small (omega arith) in
+    let sum = sum_mul first count queues in
+    omega arith
+
+-- the first number in which two states differ tells which one is below
+one_differs : (x y : ℕ) (o : Ordering) → (x ≡ y → ⊥) → is_lt (ordering_then (nat_cmp x y) o) ≡ nat_lt x y
+one_differs x y o differ = grind (arith, common_steps)
+
+pub less_differs : (xs ys : List ℕ) (i : ℕ) → take i xs ≡ take i ys → i < length xs → i < length ys → (get_or xs i 0 ≡ get_or ys i 0 → ⊥)
+    → is_lt (slice_cmp nat_cmp xs ys) ≡ nat_lt (get_or xs i 0) (get_or ys i 0)
+less_differs [] ys i same left right differ = absurd (omega arith)
+less_differs (x ∷ xs) [] i same left right differ = absurd (omega arith)
+less_differs (x ∷ xs) (y ∷ ys) zero same left right differ = one_differs x y (slice_cmp nat_cmp xs ys) differ
+less_differs (x ∷ xs) (y ∷ ys) (suc i) same left right differ =
+    let e : x ≡ y = cc in
+    let rest : take i xs ≡ take i ys = cc in
+    let tied : Equal ≡ nat_cmp x y = nat_cmp_is x y Equal e in
+    rw (← tied) (less_differs xs ys i rest (omega arith) (omega arith) differ)
+
+pub less_never : (xs ys : List ℕ) → xs ≡ ys → is_lt (slice_cmp nat_cmp xs ys) ≡ false
+less_never [] [] same = refl
+less_never [] (y ∷ ys) same = absurd cc
+less_never (x ∷ xs) [] same = absurd cc
+less_never (x ∷ xs) (y ∷ ys) same =
+    let tied : Equal ≡ nat_cmp x y = nat_cmp_is x y Equal cc in
+    rw (← tied) (less_never xs ys cc)

@@ -3,6 +3,8 @@ use Rattle.std.specs.Prelude.{◌<◌, List, [], length, slice_index_or}
 use Rattle.psi_state.specs.State.{Corners}
 use Rattle.psi_state_list.specs.declared.line_list.Kept.{Kept}
 use Rattle.psi_state_list.specs.declared.line_list.Kept.TheVariants as kept
+use Rattle.psi_state_list.specs.declared.line_list.Borrowed.{Borrowed}
+use Rattle.psi_state_list.specs.declared.line_list.Borrowed.TheVariants as borrowed
 use Rattle.psi_state_list.specs.declared.line_list.Line.{Line}
 use Rattle.psi_state_list.specs.declared.line_list.Place.{Place}
 use Rattle.psi_state_list.specs.declared.line_list.Place.TheVariants as place
@@ -11,6 +13,11 @@ use Rattle.psi_state_list.specs.declared.line_list.Slot.{Slot}
 -- what stands past the end of a list of boxes
 abbrev pub nothing : Corners
 nothing = record { lo = []; hi = [] }
+
+-- a region whose box is borrowed
+abbrev pub owned : Borrowed → Kept
+owned (borrowed.Box bounds) = kept.Box bounds.now
+owned (borrowed.Set first count) = kept.Set first count
 
 -- the region of a place
 abbrev pub kept_of : List Corners → Place → Kept

@@ -4,7 +4,9 @@
 
 mod line_list;
 mod room;
+mod row_list;
 mod state_list;
 
-pub use line_list::{Kept, Line, LineList};
+pub use line_list::{Borrowed, Kept, Line, LineList};
+pub use row_list::Rows;
 pub use state_list::StateList;

@@ -2,7 +2,7 @@
 
 ghost use Rattle.std.specs.Prelude.{◌≡◌, ◌∷◌, [], ◌++◌, ◌<◌, length, take, option_map, Some, IfOk, OnOk, OnErr};
 ghost use Rattle.std.specs.List.{slice_get};
-ghost use Rattle.psi_state_list.specs.Placed.{line_of, IsPlaced};
+ghost use Rattle.psi_state_list.specs.Placed.{line_of, owned, IsPlaced};
 
 use crate::room::make_room;
 use psi_state::{Bounds, Step};
@@ -16,6 +16,30 @@ pub enum Kept {
     Box(Bounds),
     /// So many states of the list, from a place on.
     Set { first: usize, count: u16 },
+}
+
+/// A region of a log, its box borrowed.
+#[derive(Clone, Copy, Debug)]
+pub enum Borrowed<'l> {
+    /// The box between two corners.
+    Box(&'l Bounds),
+    /// So many states of the list, from a place on.
+    Set { first: usize, count: u16 },
+}
+
+impl Kept {
+    /// The region, its box borrowed.
+    pub fn borrow(&self) -> Borrowed<'_>
+        ensures { owned result ≡ self.entry.now }
+    {
+        match self {
+            Kept::Box(bounds) => Borrowed::Box(bounds),
+            Kept::Set { first, count } => Borrowed::Set {
+                first: *first,
+                count: *count,
+            },
+        }
+    }
 }
 
 /// A step and the region after it.
@@ -140,6 +164,18 @@ impl LineList {
         match self.slots[i].region {
             Place::Box { place } => Kept::Box(self.boxes[place]),
             Place::Set { first, count } => Kept::Set { first, count },
+        }
+    }
+
+    /// The region after the step of the line at a place, counted from 0. A box isn't copied.
+    #[inline]
+    pub fn look(&self, i: usize) -> Borrowed<'_>
+        requires { i < length self.now }
+        ensures { option_map (λ line. line.region) (slice_get self.entry.now i) ≡ Some (owned result) }
+    {
+        match self.slots[i].region {
+            Place::Box { place } => Borrowed::Box(&self.boxes[place]),
+            Place::Set { first, count } => Borrowed::Set { first, count },
         }
     }
 }

@@ -8,6 +8,7 @@ ghost use Rattle.psi_state.specs.State.{IsBelow};
 ghost use Rattle.psi_state_list.specs.Rows.{States, rows};
 
 use crate::room::make_room;
+use crate::row_list::Rows;
 use psi_state::State;
 use std::alloc::{AllocError, Global};
 use std::marker::Model;
@@ -43,35 +44,6 @@ fn push_numbers(numbers: &mut Vec<u16>, x: &State) -> Result<(), AllocError>
         numbers.push_reserved(x.get(queue));
     }
     Ok(())
-}
-
-// Whether the numbers of a state are each at most those of another.
-fn is_below(row: &[u16], most: &State) -> bool
-    ensures { IsTrue result ↔ IsBelow row.now most.now }
-{
-    if row.len() != most.len() as usize {
-        return false;
-    }
-    for queue in 0..most.len() {
-        if row[queue as usize] > most.get(queue) {
-            return false;
-        }
-    }
-    true
-}
-
-// The state of these numbers.
-fn state_of(row: &[u16], queues: u8) -> State
-    requires some { 1 ≤ queues }
-    requires few { queues ≤ 32 }
-    requires count { length row.now ≡ queues }
-    ensures { result ≡ row.now }
-{
-    let mut x = State::zero(queues);
-    for queue in 0..queues {
-        x.set(queue, row[queue as usize]);
-    }
-    x
 }
 
 impl StateList {
@@ -114,34 +86,30 @@ impl StateList {
         Ok(())
     }
 
+    /// All states, borrowed.
+    #[inline]
+    pub fn all(&self) -> Rows<'_>
+        ensures { result ≡ self.entry.now }
+    {
+        Rows::new(self.queues, self.count, self.numbers.as_slice())
+    }
+
     /// The state at a place, counted from 0. It takes time for the state's queues, wherever it stands.
     pub fn get(&self, place: usize) -> State
         requires { place < length self.now.states }
         ensures { slice_get self.now.states place ≡ Some result }
     {
-        state_of(self.row(place), self.queues)
-    }
-
-    // The numbers of the state at a place.
-    #[tactic(auto, using(crate::proofs::RowsLemmas::length_rows, crate::proofs::RowsLemmas::rows_get, crate::proofs::RowsLemmas::rows_room))]
-    fn row(&self, place: usize) -> &[u16]
-        requires { place < length self.now.states }
-        ensures state { slice_get self.now.states place ≡ Some result.now }
-        ensures count { length result.now ≡ self.now.queues }
-    {
-        let first = place * self.queues as usize;
-        &self.numbers[first..first + self.queues as usize]
+        self.all().get(place)
     }
 
     /// Whether the state at a place, counted from 0, is lexicographically below the next one: below it in the first
     /// queue in which the two differ. Neither is copied.
+    #[inline]
     pub fn is_below_next(&self, place: usize) -> bool
         requires { place + 1 < length self.now.states }
         ensures { MatchOption (slice_get self.now.states place) ⊥ (λ x. MatchOption (slice_get self.now.states (place + 1)) ⊥ (λ y. result ≡ is_lt (slice_cmp nat_cmp x y))) }
     {
-        // Called for its clause: the number of states fits its type.
-        let _count = self.len();
-        self.row(place).cmp(self.row(place + 1)).is_lt()
+        self.all().is_below_next(place)
     }
 
     /// Whether the state at a place, counted from 0, is componentwise at most another: it has as many queues, and in
@@ -150,6 +118,6 @@ impl StateList {
         requires { place < length self.now.states }
         ensures { MatchOption (slice_get self.now.states place) ⊥ (λ x. IsTrue result ↔ IsBelow x most.now) }
     {
-        is_below(self.row(place), most)
+        self.all().leq(place, most)
     }
 }

@@ -10,4 +10,4 @@ use Rattle.psi_replay.proofs.covering.covers.Goals as goal
 pub covers_box-requires-clause-before : goal.covers_box-requires-clause-before
 covers_box-requires-clause-before g c =
     let caps = g.E.EventLaw.capacities c.args.event.now in
-    within_high caps c.in-Box.bounds (subst (λ (r : Shown). is_within caps (seen r) ≡ true) c.in-Box.is c.requires.before) c.len-queues.ensures.ordered
+    within_high caps c.in-Box.bounds.now (subst (λ (r : Shown). is_within caps (seen r) ≡ true) c.in-Box.is c.requires.before) c.len-queues.ensures.ordered

@@ -4,7 +4,8 @@ use Rattle.std.proofs.Common.{◌∙◌, ap, sym, subst}
 use Rattle.psi_log_text.specs.Log.{in_set, Certificate}
 use Rattle.psi_log.specs.Told.{region_at}
 use Rattle.psi_log.specs.Kept.{region_of, IsThere}
-use Rattle.psi_state_list.specs.declared.line_list.Kept.{Kept}
+use Rattle.psi_state_list.specs.declared.line_list.Borrowed.{Borrowed}
+use Rattle.psi_state_list.specs.Placed.{owned}
 use Rattle.psi_log.proofs.ToldLemmas.{set_state}
 use Rattle.psi_log.proofs.log.Log.state.Goals as goal
 
@@ -13,7 +14,7 @@ returns-in-Set c =
     let queues = c.self.inside.parts.header.queues in
     let states = c.self.inside.parts.states.states in
     let value : region_at c.args.self.now c.args.i ≡ Some (in_set (take c.in-Set.count (drop c.in-Set.first states))) =
-    ap (λ (log : Certificate). region_at log c.args.i) (sym c.self.view_is) ∙ (c.region_of.ensures.value ∙ ap (λ (k : Kept). Some (region_of states k)) c.in-Set.is) in
-    let there : c.in-Set.first + c.in-Set.count ≤ length states = subst (λ (k : Kept). IsThere queues states k) c.in-Set.is c.region_of.ensures.there in
+    ap (λ (log : Certificate). region_at log c.args.i) (sym c.self.view_is) ∙ (c.region_of.ensures.value ∙ ap (λ (k : Borrowed). Some (region_of states (owned k))) c.in-Set.is) in
+    let there : c.in-Set.first + c.in-Set.count ≤ length states = subst (λ (k : Borrowed). IsThere queues states (owned k)) c.in-Set.is c.region_of.ensures.there in
     let small = rw value at c.requires.place in
     rw value (set_state queues states c.in-Set.first c.in-Set.count c.args.j c.get.result there small c.get.ensures)

@@ -5,7 +5,8 @@ use Rattle.psi_state.specs.State.{IsBelow}
 use Rattle.psi_log_text.specs.Log.{in_set, Certificate}
 use Rattle.psi_log.specs.Told.{region_at}
 use Rattle.psi_log.specs.Kept.{region_of, IsThere}
-use Rattle.psi_state_list.specs.declared.line_list.Kept.{Kept}
+use Rattle.psi_state_list.specs.declared.line_list.Borrowed.{Borrowed}
+use Rattle.psi_state_list.specs.Placed.{owned}
 use Rattle.psi_log.proofs.ToldLemmas.{set_leq}
 use Rattle.psi_log.proofs.log.Log.state_leq.Goals as goal
 
@@ -14,7 +15,7 @@ returns-in-Set c =
     let queues = c.self.inside.parts.header.queues in
     let states = c.self.inside.parts.states.states in
     let value : region_at c.args.self.now c.args.i ≡ Some (in_set (take c.in-Set.count (drop c.in-Set.first states))) =
-    ap (λ (log : Certificate). region_at log c.args.i) (sym c.self.view_is) ∙ (c.region_of.ensures.value ∙ ap (λ (k : Kept). Some (region_of states k)) c.in-Set.is) in
-    let there : c.in-Set.first + c.in-Set.count ≤ length states = subst (λ (k : Kept). IsThere queues states k) c.in-Set.is c.region_of.ensures.there in
+    ap (λ (log : Certificate). region_at log c.args.i) (sym c.self.view_is) ∙ (c.region_of.ensures.value ∙ ap (λ (k : Borrowed). Some (region_of states (owned k))) c.in-Set.is) in
+    let there : c.in-Set.first + c.in-Set.count ≤ length states = subst (λ (k : Borrowed). IsThere queues states (owned k)) c.in-Set.is c.region_of.ensures.there in
     let small = rw value at c.requires.place in
     rw value (set_leq queues states c.in-Set.first c.in-Set.count c.args.j (λ (x : List ℕ). IsTrue c.leq.result ↔ IsBelow x c.args.most.now) there small c.leq.ensures)

@@ -8,5 +8,5 @@ use Rattle.psi_replay.proofs.regions.Region.holds.Goals as goal
 
 pub returns-in-Box : goal.returns-in-Box
 returns-in-Box c =
-    box_holds c.in-Box.bounds c.args.x.now c.holds.result c.holds.ensures
+    box_holds c.in-Box.bounds.now c.args.x.now c.holds.result c.holds.ensures
     ∙ ap (λ (r : Shown). has (states_of (seen r)) c.args.x.now) (sym c.in-Box.is)

@@ -1,6 +1,6 @@
--- Invariants of the loops of `state_list::is_below`.
+-- Invariants of the loops of `row_list::is_below`.
 use Rattle.std.specs.Prelude.{ℕ, ◌<◌, ◌≤◌, slice_index}
-use Rattle.psi_state_list.proofs.state_list.is_below.Given as goal
+use Rattle.psi_state_list.proofs.row_list.is_below.Given as goal
 
 -- the numbers so far are at most the others
 abbrev pub invariant-loop-queue : goal.invariant-loop-queue

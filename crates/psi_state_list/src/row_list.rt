@@ -1,0 +1,184 @@
+//! States one behind another, borrowed from the vector of their numbers.
+
+ghost use Rattle.std.specs.Prelude.{◌≡◌, ◌↔◌, IsTrue, MatchOption, ◌+◌, ◌*◌, ◌<◌, ◌≤◌, length, take, drop, Some};
+ghost use Rattle.std.specs.Ordering.{is_lt, nat_cmp};
+ghost use Rattle.std.specs.Cmp.Lexicographic.{slice_cmp};
+ghost use Rattle.std.specs.List.{slice_get};
+ghost use Rattle.psi_state.specs.State.{IsBelow};
+ghost use Rattle.psi_state_list.specs.Rows.{rows};
+
+use psi_state::State;
+use std::marker::Model;
+
+/// States of so many queues, 1 to 32, that stand one behind another in a list of states, borrowed from it. They are
+/// seen as the number of queues and the states.
+#[derive(Drop)]
+pub struct Rows<'l> {
+    queues: u8,
+    count: usize,
+    numbers: &'l [u16],
+}
+
+impl<'l> Model for Rows<'l> {
+    ghost use Rattle.std.specs.Prelude.{◌≡◌, ◌*◌, ◌≤◌, length};
+    ghost use Rattle.psi_state_list.specs.Rows.{States, rows};
+
+    ghost Value = { States };
+
+    ghost view = { λ s. record { queues = s.queues; states = rows s.count s.queues s.numbers.now } };
+
+    ghost invariant = { λ s. (1 ≤ s.queues) × (s.queues ≤ 32) × (length s.numbers.now ≡ s.count * s.queues) };
+}
+
+// Whether the numbers of a state are each at most those of another.
+#[inline]
+fn is_below(row: &[u16], most: &State) -> bool
+    ensures { IsTrue result ↔ IsBelow row.now most.now }
+{
+    if row.len() != most.len() as usize {
+        return false;
+    }
+    for queue in 0..most.len() {
+        if row[queue as usize] > most.get(queue) {
+            return false;
+        }
+    }
+    true
+}
+
+// Whether the numbers are those of a state.
+#[inline]
+fn is_same(row: &[u16], x: &State) -> bool
+    ensures { IsTrue result ↔ (row.now ≡ x.now) }
+{
+    if row.len() != x.len() as usize {
+        return false;
+    }
+    for queue in 0..x.len() {
+        if row[queue as usize] != x.get(queue) {
+            return false;
+        }
+    }
+    true
+}
+
+// Whether the numbers of a state are lexicographically below those of another with as many queues.
+#[inline]
+fn is_less(row: &[u16], next: &[u16]) -> bool
+    requires { length row.now ≡ length next.now }
+    ensures { result ≡ is_lt (slice_cmp nat_cmp row.now next.now) }
+{
+    for queue in 0..row.len() {
+        if row[queue] != next[queue] {
+            return row[queue] < next[queue];
+        }
+    }
+    false
+}
+
+// The state of these numbers.
+#[inline]
+fn state_of(row: &[u16], queues: u8) -> State
+    requires some { 1 ≤ queues }
+    requires few { queues ≤ 32 }
+    requires count { length row.now ≡ queues }
+    ensures { result ≡ row.now }
+{
+    let mut x = State::zero(queues);
+    for queue in 0..queues {
+        x.set(queue, row[queue as usize]);
+    }
+    x
+}
+
+impl<'l> Rows<'l> {
+    // So many states, whose numbers these are.
+    pub(crate) fn new(queues: u8, count: usize, numbers: &'l [u16]) -> Rows<'l>
+        requires some { 1 ≤ queues }
+        requires few { queues ≤ 32 }
+        requires length { length numbers.now ≡ count * queues }
+        ensures { result ≡ record { queues = queues; states = rows count queues numbers.entry.now } }
+    {
+        Rows {
+            queues,
+            count,
+            numbers,
+        }
+    }
+
+    /// The number of states.
+    #[inline]
+    #[tactic(auto, using(crate::proofs::RowsLemmas::length_rows))]
+    pub fn len(&self) -> usize
+        ensures { result ≡ length self.now.states }
+    {
+        self.count
+    }
+
+    /// So many of the states, from a place on; places are counted from 0.
+    #[tactic(auto, using(crate::proofs::RowsLemmas::length_rows, crate::proofs::RowsLemmas::rows_part, crate::proofs::RowsLemmas::rows_until))]
+    pub fn part(&self, first: usize, count: usize) -> Rows<'l>
+        requires { first + count ≤ length self.now.states }
+        ensures { result ≡ record { queues = self.now.queues; states = take count (drop first self.now.states) } }
+    {
+        let queues = self.queues as usize;
+        let start = first * queues;
+        Rows {
+            queues: self.queues,
+            count,
+            numbers: &self.numbers[start..start + count * queues],
+        }
+    }
+
+    /// The state at a place, counted from 0. It takes time for the state's queues, wherever it stands.
+    #[inline]
+    pub fn get(&self, place: usize) -> State
+        requires { place < length self.now.states }
+        ensures { slice_get self.now.states place ≡ Some result }
+    {
+        state_of(self.row(place), self.queues)
+    }
+
+    // The numbers of the state at a place.
+    #[inline]
+    #[tactic(auto, using(crate::proofs::RowsLemmas::length_rows, crate::proofs::RowsLemmas::rows_get, crate::proofs::RowsLemmas::rows_room))]
+    fn row(&self, place: usize) -> &'l [u16]
+        requires { place < length self.now.states }
+        ensures state { slice_get self.now.states place ≡ Some result.now }
+        ensures count { length result.now ≡ self.now.queues }
+    {
+        let first = place * self.queues as usize;
+        &self.numbers[first..first + self.queues as usize]
+    }
+
+    /// Whether the state at a place, counted from 0, is lexicographically below the next one: below it in the first
+    /// queue in which the two differ. Neither is copied.
+    #[inline]
+    pub fn is_below_next(&self, place: usize) -> bool
+        requires { place + 1 < length self.now.states }
+        ensures { MatchOption (slice_get self.now.states place) ⊥ (λ x. MatchOption (slice_get self.now.states (place + 1)) ⊥ (λ y. result ≡ is_lt (slice_cmp nat_cmp x y))) }
+    {
+        // Called for its clause: the number of states fits its type.
+        let _count = self.len();
+        is_less(self.row(place), self.row(place + 1))
+    }
+
+    /// Whether the state at a place, counted from 0, is componentwise at most another: it has as many queues, and in
+    /// each at most as many customers. It isn't copied.
+    #[inline]
+    pub fn leq(&self, place: usize, most: &State) -> bool
+        requires { place < length self.now.states }
+        ensures { MatchOption (slice_get self.now.states place) ⊥ (λ x. IsTrue result ↔ IsBelow x most.now) }
+    {
+        is_below(self.row(place), most)
+    }
+
+    /// Whether a state is the one at a place, counted from 0. It isn't copied.
+    #[inline]
+    pub fn is_at(&self, place: usize, x: &State) -> bool
+        requires { place < length self.now.states }
+        ensures { MatchOption (slice_get self.now.states place) ⊥ (λ y. IsTrue result ↔ (y ≡ x.now)) }
+    {
+        is_same(self.row(place), x)
+    }
+}
