@@ -7,6 +7,9 @@ use Rattle.std.proofs.lemmas.List.{take_all, length-take-le, take-append-drop, d
 use Rattle.std.specs.declared.alloc.Global.{Global}
 use Rattle.psi_io.specs.Shelf.{Read}
 use Rattle.psi_io.proofs.CountsLemmas.{rose-over}
+use Rattle.psi_program.specs.Seen.{ShelfSeen, IsUnread, HasAsked}
+use Rattle.psi_program.specs.Reply.{line_reply}
+use Rattle.psi_program.specs.Ending.{MayReply}
 use Rattle.psi_reports.specs.Contents.{Contents}
 use Rattle.psi_reports.specs.Text.{text_of}
 use Rattle.psi_reports.specs.Merging.{merged, Merges}
@@ -16,8 +19,11 @@ use Rattle.psi_merge.specs.declared.ending.Ending.{Ending}
 use Rattle.psi_merge.specs.declared.ending.Ending.TheVariants.{Merged, Usage, Refused, OtherNetwork, TooLarge, Unread, OutOfMemory}
 use Rattle.psi_merge.specs.Reports.{report_in}
 use Rattle.psi_merge.specs.Reply.{Reply, report_reply, report_at, merge_reply, go_on, with_file, with_files, whole_of, is_file, are_files, whole_reply, reply_to, text_reply}
-use Rattle.psi_merge.specs.Seen.{ShelfSeen, IsUnread, read_of, HasAsked, IsNext}
-use Rattle.psi_merge.specs.Ended.{MayEnd, MayBe, MayReply, IsUnreadOf, IsTold, IsMissed, AreMissed, AreRead, IsFound, AreFound, IsCaused, IsEnding}
+use Rattle.psi_merge.specs.declared.status.Status.{Status}
+use Rattle.psi_merge.specs.declared.status.Status.TheVariants as status
+use Rattle.psi_merge.specs.Status.{IsReplied}
+use Rattle.psi_merge.specs.Seen.{read_of, IsNext}
+use Rattle.psi_merge.specs.Ended.{ending_of, ending_reply, MayEnd, MayBe, IsUnreadOf, IsTold, IsMissed, AreMissed, AreRead, IsFound, AreFound, IsReplyTo, IsCaused, IsEnding}
 use Rattle.psi_merge.specs.Spared.{AreNextGiven, AreGiven, HasRead}
 
 -- the front of a file is judged as the file
@@ -357,7 +363,7 @@ last-of name (other ∷ names) =
     let rest = last-of other names in (name ∷ rest.0, rest.1, ap (λ (all : List (List ℕ)). name ∷ all) rest.2)
 
 -- files that are all read and merged, of which there is one at least
-all-read : (shelf : ShelfSeen) (words : List (List ℕ)) → are_files words ≡ true → HasAsked shelf words → IfSome (whole_of shelf.told words) IsOk → AreRead shelf words
+all-read : (shelf : ShelfSeen) (words : List (List ℕ)) → are_files words ≡ true → HasAsked shelf (map read_of words) → IfSome (whole_of shelf.told words) IsOk → AreRead shelf words
 unfolding are_files
 all-read shelf [] are asked merged = absurd cc
 all-read shelf (word ∷ words) are asked merged =
@@ -371,7 +377,7 @@ all-read shelf (word ∷ words) are asked merged =
           place = last.2;
           merged = front-merged shelf.told last.0 (last.1 ∷ []) (subst (λ (all : List (List ℕ)). IfSome (whole_of shelf.told all) IsOk) (sym last.2) merged);
         };
-        asked = subst (λ (all : List (List ℕ)). HasAsked shelf all) (sym last.2) asked;
+        asked = subst (λ (all : List (List ℕ)). HasAsked shelf (map read_of all)) (sym last.2) asked;
       };
       all = refl;
     }
@@ -392,20 +398,26 @@ pub files-all : (word : List ℕ) (words : List (List ℕ)) → are_files (word 
 unfolding are_files
 files-all word words = refl
 
-pub ended-usage : (shelf : ShelfSeen) (words : List (List ℕ)) → are_files words ≡ false → shelf.asked_after ≡ shelf.asked_before → IsEnding shelf words Usage
+pub ended-usage : (shelf : ShelfSeen) (words : List (List ℕ)) → are_files words ≡ false → shelf.asked_after ≡ shelf.asked_before → IsEnding shelf words (ending_of Usage)
 unfolding reply_to
-ended-usage shelf words are same = record { reply = rw are refl; cause = (are, same ∙ sym (append-nil shelf.asked_before)) }
+ended-usage shelf words are same = record {
+  reply = rw are refl;
+  cause = record { replied = tt; usage = λ e. are; no_files = λ e. refl; reported = λ kind. refl; printed = λ e. absurd cc };
+  asked = inl (are, same ∙ sym (append-nil shelf.asked_before));
+}
 
 -- there is no memory for the text of the report of all
-pub ended-memory : (shelf : ShelfSeen) (words : List (List ℕ)) (c : Contents) → are_files words ≡ true → AreFound shelf (whole_of shelf.told) words (Ok c) → IsEnding shelf words OutOfMemory
+may-memory : (t : Option Reply) → IfSome t (MayReply (ending_of OutOfMemory))
+may-memory None = tt
+may-memory (Some reply) = tt
+
+pub ended-memory : (shelf : ShelfSeen) (words : List (List ℕ)) (c : Contents) → are_files words ≡ true → AreFound shelf (whole_of shelf.told) words (Ok c)
+    → IsEnding shelf words (ending_of OutOfMemory)
 ended-memory shelf words c are found = record {
-  reply = memory (reply_to shelf.told words);
-  cause = (are, (all-read shelf words are found.asked (has-ok (whole_of shelf.told words) c found.answer)).last);
+  reply = may-memory (reply_to shelf.told words);
+  cause = are;
+  asked = inr (record { files = are; last = (all-read shelf words are found.asked (has-ok (whole_of shelf.told words) c found.answer)).last; all = λ e. absurd cc });
 }
-  where
-    memory : (t : Option Reply) → IfSome t (MayReply OutOfMemory)
-    memory None = tt
-    memory (Some reply) = tt
 
 replied : (t : Option (Result Contents Reply)) (Is : Reply → Type 0) (May : Result Contents Reply → Type 0) → IfSome t May → ((whole : Result Contents Reply) → May whole → Is (whole_reply whole))
     → IfSome (option_and_then (λ whole. Some (whole_reply whole)) t) Is
@@ -413,15 +425,18 @@ replied None Is May may make = tt
 replied (Some whole) Is May may make = make whole may
 
 pub ended-merged : (shelf : ShelfSeen) (words : List (List ℕ)) (text : Vec ℕ Global) (c : Contents) → are_files words ≡ true → AreFound shelf (whole_of shelf.told) words (Ok c)
-    → text.items ≡ text_of c → IsEnding shelf words (Merged text)
+    → text.items ≡ text_of c → IsEnding shelf words (ending_of (Merged text))
 unfolding reply_to
-ended-merged shelf words text c are found is = record {
-  reply = rw are (replied (whole_of shelf.told words) (MayReply (Merged text)) (MayBe (Ok c)) found.answer (λ whole same. (rw same (ap text_reply is))));
-  cause = (are, all-read shelf words are found.asked (has-ok (whole_of shelf.told words) c found.answer));
-}
+ended-merged shelf words text c are found is =
+    let read = all-read shelf words are found.asked (has-ok (whole_of shelf.told words) c found.answer) in
+    record {
+      reply = rw are (replied (whole_of shelf.told words) (MayReply (ending_of (Merged text))) (MayBe (Ok c)) found.answer (λ whole same. (rw same (ap text_reply is))));
+      cause = record { replied = tt; usage = λ e. absurd cc; no_files = λ none. absurd cc; reported = λ kind. absurd kind; printed = λ e. refl };
+      asked = inr (record { files = are; last = read.last; all = λ e. read.all });
+    }
 
 -- an ending for want of a report replies
-may-reply : (ending : Ending) (whole : Result Contents Reply) → MayEnd ending whole → MayReply ending (whole_reply whole)
+may-reply : (ending : Ending) (whole : Result Contents Reply) → MayEnd ending whole → MayReply (ending_of ending) (whole_reply whole)
 may-reply (Merged text) whole may = absurd may
 may-reply Usage whole may = absurd may
 may-reply (Refused line) whole may = rw may refl
@@ -430,20 +445,44 @@ may-reply (TooLarge line) whole may = rw may refl
 may-reply (Unread line) whole may = tt
 may-reply OutOfMemory whole may = tt
 
-missed-cause : (shelf : ShelfSeen) (words : List (List ℕ)) (ending : Ending) → are_files words ≡ true → AreMissed shelf (whole_of shelf.told) words ending → IsCaused shelf words ending
+-- a line on a file is a reply to words that are files
+line-own : (words : List (List ℕ)) (code : Status) (line : List ℕ) → are_files words ≡ true → IsReplied code → (code ≡ status.Usage → ⊥) → (code ≡ status.Done → ⊥)
+    → IsReplyTo words (line_reply code line)
+line-own words code line are kind usage done = record {
+  replied = kind;
+  usage = λ e. absurd (usage e);
+  no_files = λ none. absurd cc;
+  reported = λ kind. refl;
+  printed = λ e. absurd (done e);
+}
+
+missed-cause : (shelf : ShelfSeen) (words : List (List ℕ)) (ending : Ending) → are_files words ≡ true → AreMissed shelf (whole_of shelf.told) words ending
+    → IsCaused shelf words (ending_of ending)
 missed-cause shelf words (Merged text) are missed = absurd missed.cause
 missed-cause shelf words Usage are missed = absurd missed.cause
-missed-cause shelf words (Refused line) are missed = (are, missed)
-missed-cause shelf words (OtherNetwork line) are missed = (are, missed)
-missed-cause shelf words (TooLarge line) are missed = (are, missed)
-missed-cause shelf words (Unread line) are missed = (are, missed)
-missed-cause shelf words OutOfMemory are missed = (are, missed.last)
+missed-cause shelf words (Refused line) are missed = line-own words status.Refused line.items are tt (λ e. absurd cc) (λ e. absurd cc)
+missed-cause shelf words (OtherNetwork line) are missed = line-own words status.OtherNetwork line.items are tt (λ e. absurd cc) (λ e. absurd cc)
+missed-cause shelf words (TooLarge line) are missed = line-own words status.TooLarge line.items are tt (λ e. absurd cc) (λ e. absurd cc)
+missed-cause shelf words (Unread line) are missed = (record { files = are; last = missed.last; unread = missed.cause.0 }, missed.cause.1)
+missed-cause shelf words OutOfMemory are missed = are
 
-pub ended-missed : (shelf : ShelfSeen) (words : List (List ℕ)) (ending : Ending) → are_files words ≡ true → AreFound shelf (whole_of shelf.told) words (Err ending) → IsEnding shelf words ending
+-- such an ending isn't done
+not-done : (shelf : ShelfSeen) (name : List ℕ) (ending : Ending) → IsMissed shelf name ending → (ending_reply ending).status ≡ status.Done → ⊥
+not-done shelf name (Merged text) missed is = absurd missed
+not-done shelf name Usage missed is = absurd missed
+not-done shelf name (Refused line) missed is = absurd cc
+not-done shelf name (OtherNetwork line) missed is = absurd cc
+not-done shelf name (TooLarge line) missed is = absurd cc
+not-done shelf name (Unread line) missed is = absurd cc
+not-done shelf name OutOfMemory missed is = absurd cc
+
+pub ended-missed : (shelf : ShelfSeen) (words : List (List ℕ)) (ending : Ending) → are_files words ≡ true → AreFound shelf (whole_of shelf.told) words (Err ending)
+    → IsEnding shelf words (ending_of ending)
 unfolding reply_to
 ended-missed shelf words ending are found = record {
-  reply = rw are (replied (whole_of shelf.told words) (MayReply ending) (MayBe (Err ending)) found.answer (λ whole may. may-reply ending whole may));
+  reply = rw are (replied (whole_of shelf.told words) (MayReply (ending_of ending)) (MayBe (Err ending)) found.answer (λ whole may. may-reply ending whole may));
   cause = missed-cause shelf words ending are found.cause;
+  asked = inr (record { files = are; last = found.cause.last; all = λ e. absurd (not-done shelf found.cause.last.name ending found.cause.cause e) });
 }
 
 -- ---- the words, one after another

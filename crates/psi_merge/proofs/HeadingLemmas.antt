@@ -17,8 +17,9 @@ use Rattle.psi_merge.specs.declared.status.Status.TheVariants.{OutOfMemory}
 use Rattle.psi_merge.specs.Status.{IsReplied}
 use Rattle.psi_merge.specs.Reports.{report_in}
 use Rattle.psi_merge.specs.Reply.{text_reply, report_at, with_files, whole_of, are_files, reply_to}
-use Rattle.psi_merge.specs.Seen.{Grew}
-use Rattle.psi_merge.specs.Call.{Call, reply_to_call, IsRun, AreReports, AreFewOf, all_of, MergesReports}
+use Rattle.psi_program.specs.Seen.{Grew}
+use Rattle.psi_program.specs.Call.{Call}
+use Rattle.psi_merge.specs.Call.{reply_to_call, IsRun, AreReports, AreFewOf, all_of, MergesReports}
 
 -- ---- samples in two parts
 

@@ -1,6 +1,8 @@
 -- What a call of the program is seen to do.
 use Rattle.std.specs.Prelude.{◌≡◌, ℕ, ◌<◌, ◌^◌, List, [], ◌∷◌, length, Option, Some, IfSome, true, false, ◌⊎◌}
 use Rattle.std.specs.List.{flat_map}
+use Rattle.psi_program.specs.Seen.{Grew, IsUnchanged, HasFailed}
+use Rattle.psi_program.specs.Call.{Call, ReadFaulted, OutFaulted, ErrFaulted, MemoryLacked}
 use Rattle.psi_state.specs.declared.Outcome.{Outcome}
 use Rattle.psi_model.specs.Network.{Network}
 use Rattle.psi_report.specs.Report.{report_text}
@@ -9,48 +11,19 @@ use Rattle.psi_merge.specs.declared.status.Status.{Status}
 use Rattle.psi_merge.specs.declared.status.Status.TheVariants.{Done, Usage, ReadFault, WriteFault, OutOfMemory}
 use Rattle.psi_merge.specs.Status.{IsReplied, IsReported}
 use Rattle.psi_merge.specs.Reply.{Reply, are_files, reply_to, unread_line, memory_line}
-use Rattle.psi_merge.specs.Seen.{ShelfSeen, HasUnread, AreAsked, SinkSeen, Grew, GrewByPart, IsUnchanged, HasFailed}
-
--- a call: its words, the shelf that it reads and the two sinks that it writes
-pub record Call : Type 0 where
-  pub words : List (List ℕ)
-  pub shelf : ShelfSeen
-  pub out : SinkSeen
-  pub err : SinkSeen
+use Rattle.psi_merge.specs.Seen.{HasUnread, AreAsked}
 
 -- the reply to a call, where its shelf tells the files that are read
 abbrev pub reply_to_call : Call → Option Reply
 reply_to_call call = reply_to call.shelf.told call.words
 
--- a file couldn't be read, and err tells which
-pub record ReadFaulted (call : Call) : Type 0 where
-  pub cause : HasUnread call.shelf call.words
-  pub out : IsUnchanged call.out
-  pub err : Grew call.err (unread_line cause.last.name)
+-- the line on a failed read of a call
+abbrev pub unread_line_of : (call : Call) → HasUnread call.shelf call.words → List ℕ
+unread_line_of call cause = unread_line cause.last.name
 
--- out failed within the reply's text
-pub record OutFaulted (call : Call) : Type 0 where
-  pub cause : HasFailed call.out
-  pub out : IfSome (reply_to_call call) (λ reply. GrewByPart call.out reply.out)
-  pub err : IsUnchanged call.err
-
--- what err holds where it failed: a prefix of the reply's line, of the line on a failed read, or where the words are files, of the line on want of memory
-abbrev pub EndsWithin : Call → Reply → Type 0
-EndsWithin call reply =
-    GrewByPart call.err reply.err
-    ⊎ (((cause : HasUnread call.shelf call.words) × GrewByPart call.err (unread_line cause.last.name)) ⊎ ((are_files call.words ≡ true) × GrewByPart call.err memory_line))
-
--- err failed within its text
-pub record ErrFaulted (call : Call) : Type 0 where
-  pub cause : HasFailed call.err
-  pub out : IsUnchanged call.out
-  pub err : IfSome (reply_to_call call) (EndsWithin call)
-
--- memory ran out before anything was written, and err tells it
-pub record MemoryLacked (call : Call) : Type 0 where
-  pub words : are_files call.words ≡ true
-  pub out : IsUnchanged call.out
-  pub err : Grew call.err memory_line
+-- the words of a call are files
+abbrev pub HasFiles : Call → Type 0
+HasFiles call = are_files call.words ≡ true
 
 -- what the status of a call says of it
 pub record IsRun (call : Call) (result : Status) : Type 0 where
@@ -67,9 +40,9 @@ pub record IsRun (call : Call) (result : Status) : Type 0 where
   pub usage : result ≡ Usage → are_files call.words ≡ false
   pub no_files : are_files call.words ≡ false → (result ≡ Usage) ⊎ (result ≡ WriteFault)
   -- the causes of the statuses 6, 7 and 8, with what was written
-  pub read_fault : result ≡ ReadFault → ReadFaulted call
-  pub write_fault : result ≡ WriteFault → OutFaulted call ⊎ ErrFaulted call
-  pub no_memory : result ≡ OutOfMemory → MemoryLacked call
+  pub read_fault : result ≡ ReadFault → ReadFaulted call (unread_line_of call)
+  pub write_fault : result ≡ WriteFault → OutFaulted call (reply_to_call call) ⊎ ErrFaulted call (reply_to_call call) (unread_line_of call) (HasFiles call) memory_line
+  pub no_memory : result ≡ OutOfMemory → MemoryLacked call (HasFiles call) memory_line
   -- with the statuses 2 to 6 and 8 nothing is written to out, and with 0 nothing to err
   pub silent_out : IsReported result → IsUnchanged call.out
   pub silent_err : result ≡ Done → IsUnchanged call.err

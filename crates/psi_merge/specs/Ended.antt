@@ -1,29 +1,44 @@
--- How the work of a call ends, before anything is written, and how that is written.
-use Rattle.std.specs.Prelude.{◌≡◌, ℕ, List, [], Option, Result, Ok, Err, MatchResult, IfSome, IfOk, IfErr, true, false, ◌⊎◌}
-use Rattle.psi_io.specs.declared.sink.SinkFault.{SinkFault}
+-- How the work of a call ends, before anything is written.
+use Rattle.std.specs.Prelude.{◌≡◌, ℕ, List, [], map, Option, Result, Ok, Err, IfSome, IfOk, IfErr, true, false}
+use Rattle.psi_program.specs.Seen.{ShelfSeen, IsUnread, HasAsked}
+use Rattle.psi_program.specs.Reply.{line_reply}
+use Rattle.psi_program.specs.Ending.{Ending as AnyEnding, replied, unread, no_memory, Faults, ending_reply as ended_reply, MayReply, IsCaused as IsCausedBy}
 use Rattle.psi_reports.specs.Contents.{Contents}
 use Rattle.psi_merge.specs.declared.status.Status.{Status}
 use Rattle.psi_merge.specs.declared.status.Status.TheVariants as status
 use Rattle.psi_merge.specs.declared.ending.Ending.{Ending}
 use Rattle.psi_merge.specs.declared.ending.Ending.TheVariants.{Merged, Usage, Refused, OtherNetwork, TooLarge, Unread, OutOfMemory}
-use Rattle.psi_merge.specs.Reply.{Reply, text_reply, line_reply, usage_line, memory_line, unread_line, whole_of, are_files, reply_to}
-use Rattle.psi_merge.specs.Seen.{ShelfSeen, IsUnread, HasAsked, HasAskedTo, SinkSeen, Grew, GrewByPart, IsUnchanged, HasFailed}
+use Rattle.psi_merge.specs.Status.{IsReplied, IsReported}
+use Rattle.psi_merge.specs.Reply.{Reply, text_reply, usage_line, memory_line, unread_line, whole_of, are_files, reply_to}
+use Rattle.psi_merge.specs.Seen.{read_of, HasAskedTo, HasUnread, AreAsked}
 
--- the reply that an ending is
+-- how the work of a call ends
+abbrev pub Ended : Type 0
+Ended = AnyEnding Status (List ℕ)
+
+-- how the program tells of faults; a file that couldn't be read comes with its line
+abbrev pub faults : Faults Status (List ℕ)
+faults = record {
+  read_fault = status.ReadFault;
+  write_fault = status.WriteFault;
+  out_of_memory = status.OutOfMemory;
+  unread_line = λ line. line;
+  memory_line = memory_line;
+}
+
+-- the ending that the program's own is
+abbrev pub ending_of : Ending → Ended
+ending_of (Merged text) = replied (text_reply text.items)
+ending_of Usage = replied (line_reply status.Usage usage_line)
+ending_of (Refused line) = replied (line_reply status.Refused line.items)
+ending_of (OtherNetwork line) = replied (line_reply status.OtherNetwork line.items)
+ending_of (TooLarge line) = replied (line_reply status.TooLarge line.items)
+ending_of (Unread line) = unread line.items
+ending_of OutOfMemory = no_memory
+
+-- the reply that it is
 abbrev pub ending_reply : Ending → Reply
-ending_reply (Merged text) = text_reply text.items
-ending_reply Usage = line_reply status.Usage usage_line
-ending_reply (Refused line) = line_reply status.Refused line.items
-ending_reply (OtherNetwork line) = line_reply status.OtherNetwork line.items
-ending_reply (TooLarge line) = line_reply status.TooLarge line.items
-ending_reply (Unread line) = line_reply status.ReadFault line.items
-ending_reply OutOfMemory = line_reply status.OutOfMemory memory_line
-
--- the work ends with this reply, unless a file couldn't be read or memory ran out
-abbrev pub MayReply : Ending → Reply → Type 0
-MayReply (Unread line) reply = Unit {0}
-MayReply OutOfMemory reply = Unit {0}
-MayReply ending reply = ending_reply ending ≡ reply
+ending_reply ending = ended_reply faults (ending_of ending)
 
 -- the work on files ends for want of a report: with this reply, unless a file couldn't be read or memory ran out
 abbrev pub MayEnd : Ending → Result Contents Reply → Type 0
@@ -50,12 +65,17 @@ pub record AreRead (shelf : ShelfSeen) (words : List (List ℕ)) : Type 0 where
   pub last : HasAskedTo shelf (whole_of shelf.told) words
   pub all : last.next.behind ≡ []
 
--- the cause of an ending: the words aren't files, all are read, or the last that is read is missed
-abbrev pub IsCaused : ShelfSeen → List (List ℕ) → Ending → Type 0
-IsCaused shelf words Usage = (are_files words ≡ false) × HasAsked shelf []
-IsCaused shelf words (Merged text) = (are_files words ≡ true) × AreRead shelf words
-IsCaused shelf words OutOfMemory = (are_files words ≡ true) × HasAskedTo shelf (whole_of shelf.told) words
-IsCaused shelf words ending = (are_files words ≡ true) × AreMissed shelf (whole_of shelf.told) words ending
+-- a reply that the words can have, whatever files hold: one text, and the usage where they aren't files
+pub record IsReplyTo (words : List (List ℕ)) (reply : Reply) : Type 0 where
+  pub replied : IsReplied reply.status
+  pub usage : reply.status ≡ status.Usage → are_files words ≡ false
+  pub no_files : are_files words ≡ false → reply.status ≡ status.Usage
+  pub reported : IsReported reply.status → reply.out ≡ []
+  pub printed : reply.status ≡ status.Done → reply.err ≡ []
+
+-- the cause of an ending: a reply is one that the words can have, a file is unread, or memory ran out in the work on files
+abbrev pub IsCaused : ShelfSeen → List (List ℕ) → Ended → Type 0
+IsCaused shelf words = IsCausedBy (IsReplyTo words) (λ line. (cause : HasUnread shelf words) × (line ≡ unread_line cause.last.name)) (are_files words ≡ true)
 
 -- the line of a failed read, or memory ran out
 abbrev pub IsUnreadOf : List ℕ → Ending → Type 0
@@ -83,31 +103,11 @@ pub record IsFound (shelf : ShelfSeen) (name : List ℕ) (found : Option (Result
 -- what is found of files together
 pub record AreFound (shelf : ShelfSeen) (found : List (List ℕ) → Option (Result Contents Reply)) (names : List (List ℕ)) (result : Result Contents Ending) : Type 0 where
   pub answer : IfSome (found names) (MayBe result)
-  pub asked : IfOk result (λ c. HasAsked shelf names)
+  pub asked : IfOk result (λ c. HasAsked shelf (map read_of names))
   pub cause : IfErr result (AreMissed shelf found names)
 
--- the work for the words ended so
-pub record IsEnding (shelf : ShelfSeen) (words : List (List ℕ)) (ending : Ending) : Type 0 where
+-- the work for the words ended so: with their reply where the files that are needed are told, by its cause, and with the reads that it tells
+pub record IsEnding (shelf : ShelfSeen) (words : List (List ℕ)) (ending : Ended) : Type 0 where
   pub reply : IfSome (reply_to shelf.told words) (MayReply ending)
   pub cause : IsCaused shelf words ending
-
--- each sink grew by its text
-pub record IsWhole (reply : Reply) (out err : SinkSeen) : Type 0 where
-  pub printed : Grew out reply.out
-  pub reported : Grew err reply.err
-
--- a sink failed within its text, and nothing was written to the other
-pub record IsCut (text : List ℕ) (failed other : SinkSeen) : Type 0 where
-  pub cause : HasFailed failed
-  pub part : GrewByPart failed text
-  pub rest : IsUnchanged other
-
--- the reply was written whole, or the sink of its text failed
-abbrev pub IsWritten : Reply → SinkSeen → SinkSeen → Result (Unit {0}) SinkFault → Type 0
-IsWritten reply out err result =
-    MatchResult result (λ _. IsWhole reply out err) (λ _. IsCut reply.out out err ⊎ IsCut reply.err err out)
-
--- a reply was written whole and the status is its own, or a sink failed within its text and the status tells that
-abbrev pub IsWrittenAs : Reply → SinkSeen → SinkSeen → Status → Type 0
-IsWrittenAs reply out err result =
-    ((result ≡ reply.status) × IsWhole reply out err) ⊎ ((result ≡ status.WriteFault) × (IsCut reply.out out err ⊎ IsCut reply.err err out))
+  pub asked : AreAsked shelf words (ended_reply faults ending).status

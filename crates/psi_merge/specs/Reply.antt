@@ -2,6 +2,7 @@
 use Rattle.std.specs.Prelude.{ℕ, List, [], ◌∷◌, ◌++◌, codes, Bool, true, false, ◌==◌, not, Option, Some, None, option_and_then, Result, Ok, Err, if◌then◌else◌}
 use Rattle.std.specs.List.{list_all}
 use Rattle.std.specs.Fmt.{decimal}
+use Rattle.psi_program.specs.Reply.{Reply as AnyReply, text_reply as printed, line_reply}
 use Rattle.psi_reports.specs.Contents.{Contents}
 use Rattle.psi_reports.specs.Text.{text_of}
 use Rattle.psi_reports.specs.Merging.{merged}
@@ -50,18 +51,12 @@ unread_line name = codes "psi_merge: cannot read " ++ name ++ codes "\n"
 -- ---- replies
 
 -- how a call ends: its status, with a text for out and a text for err
-pub record Reply : Type 0 where
-  pub status : Status
-  pub out : List ℕ
-  pub err : List ℕ
+abbrev pub Reply : Type 0
+Reply = AnyReply Status
 
 -- a text for out
 abbrev pub text_reply : List ℕ → Reply
-text_reply text = record { status = Done; out = text; err = [] }
-
--- a line for err
-abbrev pub line_reply : Status → List ℕ → Reply
-line_reply status line = record { status = status; out = []; err = line }
+text_reply text = printed Done text
 
 -- ---- the report of all files
 

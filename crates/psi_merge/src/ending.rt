@@ -3,6 +3,7 @@
 ghost use Rattle.std.specs.Prelude.{◌≡◌};
 
 use crate::status::Status;
+use psi_program::Text;
 
 /// How the work of a call ends, once its memory is taken and before anything is written. Each line ends with a line
 /// feed and tells the name of the file.
@@ -25,6 +26,7 @@ pub(crate) enum Ending {
 }
 
 impl Ending {
+    ghost use Rattle.psi_program.specs.Written.{reply_with};
     ghost use Rattle.psi_merge.specs.Ended.{ending_reply};
 
     /// The status of the call, once the text of the ending is written whole.
@@ -39,6 +41,21 @@ impl Ending {
             Ending::TooLarge(_) => Status::TooLarge,
             Ending::Unread(_) => Status::ReadFault,
             Ending::OutOfMemory => Status::OutOfMemory,
+        }
+    }
+
+    /// The text of the call: the report for out, or a line for err.
+    pub(crate) fn text(&self) -> Text<'_>
+        ensures { reply_with (ending_reply self.now).status result ≡ ending_reply self.now }
+    {
+        match self {
+            Ending::Merged(text) => Text::Printed(text.as_slice()),
+            Ending::Usage => Text::Reported(b"psi_merge: usage: psi_merge FILE..\n"),
+            Ending::Refused(line) => Text::Reported(line.as_slice()),
+            Ending::OtherNetwork(line) => Text::Reported(line.as_slice()),
+            Ending::TooLarge(line) => Text::Reported(line.as_slice()),
+            Ending::Unread(line) => Text::Reported(line.as_slice()),
+            Ending::OutOfMemory => Text::Reported(b"psi_merge: out of memory\n"),
         }
     }
 }

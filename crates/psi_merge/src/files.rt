@@ -4,9 +4,10 @@ ghost use Rattle.std.specs.Prelude.{◌≡◌, ◌≤◌, ℕ, List, [], ◌∷�
 ghost use Rattle.std.specs.List.{list_all};
 ghost use Rattle.psi_reports.specs.declared.error.MergeError.{MergeError};
 ghost use Rattle.psi_merge.specs.declared.status.Status.TheVariants as status;
-ghost use Rattle.psi_merge.specs.Reply.{line_reply, refused_line, merge_reply, report_at, with_file, with_files, whole_of, is_file};
+ghost use Rattle.psi_program.specs.Reply.{line_reply};
+ghost use Rattle.psi_merge.specs.Reply.{refused_line, merge_reply, report_at, with_file, with_files, whole_of, is_file};
 ghost use Rattle.psi_merge.specs.Seen.{read_of};
-ghost use Rattle.psi_merge.specs.Ended.{MayEnd, IsUnreadOf, IsTold, IsFound, AreFound, IsEnding};
+ghost use Rattle.psi_merge.specs.Ended.{ending_of, MayEnd, IsUnreadOf, IsTold, IsFound, AreFound, IsEnding};
 ghost use Rattle.psi_merge.specs.Spared.{AreNextGiven, AreGiven, HasRead};
 
 use crate::ending::Ending;
@@ -177,7 +178,7 @@ fn all_files(words: &[String]) -> bool
 
 /// The work for the words, before the first byte is written. Words that aren't names of files take no memory.
 pub(crate) fn work<F: Shelf>(alloc: Global, words: &[String], shelf: &mut F) -> Ending
-    ensures ending { IsEnding (record { told = F.told shelf.old; asked_before = F.asked shelf.old; asked_after = F.asked shelf.new; faults_before = F.faults shelf.old; faults_after = F.faults shelf.new }) (map string_bytes words.now) result }
+    ensures ending { IsEnding (record { told = F.told shelf.old; asked_before = F.asked shelf.old; asked_after = F.asked shelf.new; faults_before = F.faults shelf.old; faults_after = F.faults shelf.new }) (map string_bytes words.now) (ending_of result) }
     // Where the shelf gives each file that is needed, no read failed, and no count rose.
     ensures read { AreGiven (F.gives shelf.old) (F.told shelf.old) (map string_bytes words.now) → HasRead result }
     ensures spared { AreGiven (F.gives shelf.old) (F.told shelf.old) (map string_bytes words.now) → F.faults shelf.new ≡ F.faults shelf.old }

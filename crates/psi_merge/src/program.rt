@@ -3,12 +3,12 @@
 ghost use Rattle.std.specs.Prelude.{◌≡◌, ◌⊎◌, Some, map, string_bytes};
 ghost use Rattle.psi_merge.specs.Reply.{Reply, reply_to};
 ghost use Rattle.psi_merge.specs.Spared.{AreGiven, AreTaken};
-ghost use Rattle.psi_merge.specs.Call.{Call, IsRun, MergesReports};
+ghost use Rattle.psi_merge.specs.Call.{IsRun, MergesReports};
 
 use crate::files::work;
 use crate::status::Status;
-use crate::writing::finish;
 use psi_io::{Shelf, Sink};
+use psi_program::finish;
 use std::alloc::Global;
 
 /// Reads the reports in the files that the words name, and prints the report of all their samples; it answers how that
@@ -77,5 +77,6 @@ pub(crate) fn run<F: Shelf, O: Sink, E: Sink>(
         → (F.faults shelf.new ≡ F.faults shelf.old) × (O.faults out.new ≡ O.faults out.old) × (E.faults err.new ≡ E.faults err.old)
         × ((result ≡ reply.status) ⊎ (result ≡ Status.OutOfMemory)) }
 {
-    finish(&work(alloc, words, shelf), out, err)
+    let ending = work(alloc, words, shelf);
+    finish(ending.status(), Status::WriteFault, ending.text(), out, err)
 }

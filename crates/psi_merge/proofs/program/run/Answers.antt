@@ -1,21 +1,23 @@
 -- Answers in the proof of `run`.
-use Rattle.std.specs.Prelude.{map, string_bytes}
+use Rattle.psi_program.proofs.SparingLemmas.{spared}
+use Rattle.psi_merge.specs.Ended.{faults}
 use Rattle.psi_merge.proofs.RunningLemmas.{run_is}
 use Rattle.psi_merge.proofs.HeadingLemmas.{merges}
-use Rattle.psi_merge.proofs.SparingLemmas.{out-taken, err-taken, status-taken}
 use Rattle.psi_merge.proofs.program.run.Goals as goal
 
 pub returns-clause-call : goal.returns-clause-call
-returns-clause-call g c = run_is _ c.work.result c.work.ensures.ending c.finish.result c.finish.ensures.written
+returns-clause-call g c =
+    let written = rw (c.status.ensures, c.text.ensures) at c.finish.ensures.written in
+    run_is _ _ c.work-ending.ensures.ending c.finish.result written
 
 pub returns-clause-headline : goal.returns-clause-headline
-returns-clause-headline g c = merges _ c.finish.result (run_is _ c.work.result c.work.ensures.ending c.finish.result c.finish.ensures.written)
+returns-clause-headline g c =
+    let written = rw (c.status.ensures, c.text.ensures) at c.finish.ensures.written in
+    merges _ c.finish.result (run_is _ _ c.work-ending.ensures.ending c.finish.result written)
 
 pub returns-clause-spared : goal.returns-clause-spared
 returns-clause-spared g c reply there given taken =
-    let words = map string_bytes c.args.words.now in
-    let read = c.work.ensures.read given in
-    let out = out-taken _ words reply _ _ c.work.result c.work.ensures.ending read there taken in
-    let err = err-taken _ words reply _ _ c.work.result c.work.ensures.ending read there taken in
-    let written = c.finish.ensures.taken out err in
-    (c.work.ensures.spared given, written.1, written.2, status-taken _ words reply _ _ c.work.result c.work.ensures.ending read there taken c.finish.result written.0)
+    let is = rw (c.status.ensures, c.text.ensures) at c.finish.ensures.taken in
+    let ends = c.work-ending.ensures.ending in
+    let written = spared faults _ _ _ _ reply there _ _ taken c.finish.result _ ends.reply ends.cause (c.work-ending.ensures.read given) is in
+    (c.work-ending.ensures.spared given, written.0, written.1, written.2)

@@ -1,0 +1,4 @@
+-- The lemmas of this crate.
+pub mod RunningLemmas
+pub mod SparingLemmas
+pub mod FinishingLemmas

@@ -1,0 +1,7 @@
+-- The definitions of this crate.
+pub mod Seen
+pub mod Reply
+pub mod Ending
+pub mod Written
+pub mod Finished
+pub mod Call

@@ -1,0 +1,50 @@
+//! Writing the text with which a call ends.
+
+ghost use Rattle.std.specs.Prelude.{◌≡◌, IsOk, OnOk, OnErr, MatchResult};
+ghost use Rattle.psi_program.specs.Written.{reply_with, IsWrittenAs, IsSpared};
+
+use psi_io::{Sink, SinkFault, write_all};
+
+/// The text with which a call ends.
+#[derive(Clone, Copy, Debug)]
+pub enum Text<'t> {
+    /// A text for out.
+    Printed(&'t [u8]),
+    /// A line for err.
+    Reported(&'t [u8]),
+}
+
+// The status once a text is written, or that of a failed write.
+fn status_of<S: Copy>(written: Result<(), SinkFault>, status: S, fault: S) -> S
+    ensures { MatchResult written (λ _. result ≡ status) (λ _. result ≡ fault) }
+{
+    match written {
+        Ok(()) => status,
+        Err(_) => fault,
+    }
+}
+
+/// Writes the text with which a call ends, as one piece, and answers the call's status, or the one of a fault where the
+/// text couldn't be written whole. It takes no memory.
+pub fn finish<S: Copy, O: Sink, E: Sink>(
+    status: S,
+    fault: S,
+    text: Text<'_>,
+    out: &mut O,
+    err: &mut E,
+) -> S
+    ensures written { IsWrittenAs (reply_with status text.entry) fault
+        (record { before = O.held out.old; after = O.held out.new; faults_before = O.faults out.old; faults_after = O.faults out.new })
+        (record { before = E.held err.old; after = E.held err.new; faults_before = E.faults err.old; faults_after = E.faults err.new })
+        result }
+    // Where each sink takes its text, the status is the call's, and no count rose.
+    ensures taken { IsSpared (O.takes out.old) (E.takes err.old) (reply_with status text.entry)
+        (record { before = O.held out.old; after = O.held out.new; faults_before = O.faults out.old; faults_after = O.faults out.new })
+        (record { before = E.held err.old; after = E.held err.new; faults_before = E.faults err.old; faults_after = E.faults err.new })
+        result }
+{
+    match text {
+        Text::Printed(text) => status_of(write_all(out, text), status, fault),
+        Text::Reported(line) => status_of(write_all(err, line), status, fault),
+    }
+}
