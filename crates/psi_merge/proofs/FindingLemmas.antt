@@ -10,8 +10,8 @@ use Rattle.psi_io.proofs.CountsLemmas.{rose-over}
 use Rattle.psi_program.specs.Seen.{ShelfSeen, IsUnread, HasAsked}
 use Rattle.psi_program.specs.Reply.{line_reply}
 use Rattle.psi_program.specs.Ending.{MayReply}
-use Rattle.psi_reports.specs.Contents.{Contents}
-use Rattle.psi_reports.specs.Text.{text_of}
+use Rattle.psi_report.specs.Contents.{Contents}
+use Rattle.psi_report.specs.Text.{text_of}
 use Rattle.psi_reports.specs.Merging.{merged, Merges}
 use Rattle.psi_reports.specs.declared.error.MergeError.{MergeError}
 use Rattle.psi_reports.specs.declared.error.MergeError.TheVariants as merge

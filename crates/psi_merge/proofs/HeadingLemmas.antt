@@ -5,9 +5,7 @@ use Rattle.std.proofs.lemmas.Bool.{le-leb}
 use Rattle.std.proofs.lemmas.List.{append-nil, length-append}
 use Rattle.psi_state.specs.declared.Outcome.{Outcome}
 use Rattle.psi_model.specs.Network.{Network}
-use Rattle.psi_report.specs.Report.{report_text}
-use Rattle.psi_reports.specs.Outcomes.{contents_of}
-use Rattle.psi_reports.proofs.OutcomesLemmas.{report_text-contents}
+use Rattle.psi_report.specs.Report.{report_text, contents_of}
 use Rattle.psi_reports.proofs.SampleLemmas.{of-left, of-right}
 use Rattle.psi_reports.proofs.SampleLawLemmas.{samples-read, samples-merged}
 use Rattle.psi_reports.proofs.SoundLemmas.{report-sound}
@@ -74,7 +72,7 @@ reply-merged : (net : Network) (told : List ℕ → Option (List ℕ)) (words : 
     → AreFewOf net (all_of lists) → reply_to told words ≡ Some (text_reply (report_text net (all_of lists)))
 unfolding reply_to
 reply-merged net told words lists files are samples =
-    rw (files, whole-merged net told words lists files are samples) (ap (λ text. Some (text_reply text)) (sym (report_text-contents net (all_of lists))))
+    rw (files, whole-merged net told words lists files are samples) refl
 
 -- ---- the call
 

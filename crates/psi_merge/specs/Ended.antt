@@ -3,7 +3,7 @@ use Rattle.std.specs.Prelude.{◌≡◌, ℕ, List, [], map, Option, Result, Ok,
 use Rattle.psi_program.specs.Seen.{ShelfSeen, IsUnread, HasAsked}
 use Rattle.psi_program.specs.Reply.{line_reply}
 use Rattle.psi_program.specs.Ending.{Ending as AnyEnding, replied, unread, no_memory, Faults, ending_reply as ended_reply, MayReply, IsCaused as IsCausedBy}
-use Rattle.psi_reports.specs.Contents.{Contents}
+use Rattle.psi_report.specs.Contents.{Contents}
 use Rattle.psi_merge.specs.declared.status.Status.{Status}
 use Rattle.psi_merge.specs.declared.status.Status.TheVariants as status
 use Rattle.psi_merge.specs.declared.ending.Ending.{Ending}

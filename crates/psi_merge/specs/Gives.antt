@@ -1,6 +1,6 @@
 -- An answer on a file, as the report's or its refusal.
 use Rattle.std.specs.Prelude.{◌≡◌, Result, Ok, Err}
-use Rattle.psi_reports.specs.Contents.{Contents}
+use Rattle.psi_report.specs.Contents.{Contents}
 use Rattle.psi_merge.specs.declared.reports.ReportError.{ReportError}
 use Rattle.psi_merge.specs.declared.reports.ReportError.TheVariants.{Refused, OutOfMemory}
 use Rattle.psi_merge.specs.Reports.{Refusal}

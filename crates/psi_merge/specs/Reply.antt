@@ -3,8 +3,8 @@ use Rattle.std.specs.Prelude.{ℕ, List, [], ◌∷◌, ◌++◌, codes, Bool, t
 use Rattle.std.specs.List.{list_all}
 use Rattle.std.specs.Fmt.{decimal}
 use Rattle.psi_program.specs.Reply.{Reply as AnyReply, text_reply as printed, line_reply}
-use Rattle.psi_reports.specs.Contents.{Contents}
-use Rattle.psi_reports.specs.Text.{text_of}
+use Rattle.psi_report.specs.Contents.{Contents}
+use Rattle.psi_report.specs.Text.{text_of}
 use Rattle.psi_reports.specs.Merging.{merged}
 use Rattle.psi_reports.specs.declared.error.MergeError.{MergeError}
 use Rattle.psi_reports.specs.declared.error.MergeError.TheVariants as merge

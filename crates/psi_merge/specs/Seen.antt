@@ -2,7 +2,7 @@
 use Rattle.std.specs.Prelude.{◌≡◌, ℕ, ◌⊎◌, List, [], ◌∷◌, ◌++◌, map, Option, Result, IsOk, IfSome, true, false}
 use Rattle.psi_io.specs.Shelf.{Read}
 use Rattle.psi_program.specs.Seen.{ShelfSeen, IsUnread, HasAsked}
-use Rattle.psi_reports.specs.Contents.{Contents}
+use Rattle.psi_report.specs.Contents.{Contents}
 use Rattle.psi_merge.specs.declared.status.Status.{Status}
 use Rattle.psi_merge.specs.declared.status.Status.TheVariants.{Done}
 use Rattle.psi_merge.specs.Reply.{Reply, are_files, whole_of}

@@ -2,7 +2,7 @@
 use Rattle.std.specs.Prelude.{◌≡◌, ℕ, List, Option, Result, true}
 use Rattle.psi_program.specs.Ending.{HasRead as HasReadAll}
 use Rattle.psi_program.specs.Call.{AreTaken as AreTakenOf}
-use Rattle.psi_reports.specs.Contents.{Contents}
+use Rattle.psi_report.specs.Contents.{Contents}
 use Rattle.psi_merge.specs.declared.ending.Ending.{Ending}
 use Rattle.psi_merge.specs.Reply.{Reply, are_files, memory_line}
 use Rattle.psi_merge.specs.Seen.{IsNext, IsNeeded}

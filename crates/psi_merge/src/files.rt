@@ -14,7 +14,8 @@ use crate::ending::Ending;
 use crate::lines::{large_line, other_line, refused_line, unread_line};
 use crate::reports::{Cause, MOST_BYTES, ReportError, report_in};
 use psi_io::{Shelf, ShelfFault};
-use psi_reports::{MergeError, Report};
+use psi_report::Report;
+use psi_reports::{MergeError, merged};
 use std::alloc::Global;
 
 // The ending on a file that is no report.
@@ -106,7 +107,7 @@ fn with_file<F: Shelf>(
         Ok(report) => report,
         Err(ending) => return Err(ending),
     };
-    match whole.merged(alloc, report) {
+    match merged(alloc, whole, report) {
         Ok(both) => Ok(both),
         Err(error) => Err(unmerged(alloc, name, error)),
     }

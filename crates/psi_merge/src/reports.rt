@@ -4,7 +4,8 @@ ghost use Rattle.std.specs.Prelude.{◌≡◌};
 ghost use Rattle.psi_merge.specs.Reports.{unread_at, report_in};
 ghost use Rattle.psi_merge.specs.Gives.{refused, Gives};
 
-use psi_reports::{ReadError, Report, read};
+use psi_report::Report;
+use psi_reports::{ReadError, flaw_of, read};
 use std::alloc::Global;
 
 /// The most bytes that a file may have.
@@ -59,7 +60,7 @@ pub(crate) fn report_in(alloc: Global, bytes: &[u8]) -> Result<Report, ReportErr
         });
     }
     match read(alloc, bytes) {
-        Ok(report) => match report.flaw() {
+        Ok(report) => match flaw_of(&report) {
             Some(line) => Err(ReportError::Refused {
                 line,
                 cause: Cause::Samples,

@@ -17,7 +17,7 @@ use Rattle.psi_reply.specs.Trial.{trial_text, IsTrial}
 use Rattle.psi_reply.proofs.SamplingLemmas.{sampled-drawn}
 
 -- a sample that is met has a state within the capacities, and its horizon is a power of two of at most 2^22
-drawn-sample : (net : Network) (seed stream : ℕ) (outcome : Outcome) → net.limit ≤ 22 → IsDrawn net seed stream outcome → IsSampleOf net outcome
+pub drawn-sample : (net : Network) (seed stream : ℕ) (outcome : Outcome) → net.limit ≤ 22 → IsDrawn net seed stream outcome → IsSampleOf net outcome
 drawn-sample net seed stream (Met horizon state) limit drawn =
     let first = drawn.least in
     let few : first.exponent ≤ net.limit = first.within in
@@ -47,7 +47,7 @@ ok_given P (Ok b) some a holds is found = (let e : b ≡ a = cc in subst P e hol
 ok_given P (Err e) some a holds is found = absurd cc
 
 -- each of them is that of coupling from the past
-samples-drawn : (net : Network) (seed first count : ℕ) → IsNetwork net → AreDrawn net seed first (samples_of net seed first count)
+pub samples-drawn : (net : Network) (seed first count : ℕ) → IsNetwork net → AreDrawn net seed first (samples_of net seed first count)
 samples-drawn net seed first zero kept = tt
 samples-drawn net seed first (suc count) kept = (sampled-drawn net seed first kept, samples-drawn net seed (suc first) count kept)
 

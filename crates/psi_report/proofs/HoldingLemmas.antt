@@ -1,4 +1,4 @@
--- One more record in a table.
+-- One more row in a table.
 use Rattle.std.proofs.Common.{◌≡◌, ℕ, List, [], ◌∷◌, ◌++◌, Some, false, ap, ◌∙◌, subst}
 use Rattle.std.specs.Prelude.{Vec, ◌≢◌}
 use Rattle.std.specs.declared.alloc.Global.{Global}
@@ -8,14 +8,14 @@ use Rattle.csv.specs.Writing.{default_writer, row_text, text_written, fields_wri
 use Rattle.csv.specs.declared.writer.Writer.{Writer}
 use Rattle.csv.specs.declared.writer.WriterBuilder.{WriterBuilder}
 use Rattle.csv.specs.declared.writer.QuoteStyle.TheVariants as style
-use Rattle.psi_report.specs.Report.{rows_text}
+use Rattle.psi_report.specs.Text.{rows_text}
 use Rattle.psi_report.specs.Holding.{Holds}
 
 rows_text-push : (rows : List (List (List ℕ))) (fields : List (List ℕ)) → rows_text rows ++ row_text default_writer fields ≡ rows_text (rows ++ fields ∷ [])
 unfolding rows_text
 rows_text-push rows fields = flat_map_more (row_text default_writer) [] rows fields
 
--- a record that is written at the end of others
+-- a row that is written at the end of others
 pub holds_more : (old new : Writer (Vec ℕ Global)) (rows : List (List (List ℕ))) (fields : List (List ℕ)) → Holds old rows
     → (fields_written old ≡ 0 → has_written old ≡ false → (writer_setup old).style ≢ style.NonNumeric
     → Appends (text_written (λ v. Some v.items) old) (text_written (λ v. Some v.items) new) (row_text (writer_setup old) fields))

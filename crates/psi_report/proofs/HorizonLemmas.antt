@@ -9,17 +9,18 @@ use Rattle.psi_state.specs.State.{numbers_from}
 use Rattle.psi_state.specs.Members.{In}
 use Rattle.psi_report.specs.Distinct.{insert_number, distinct}
 use Rattle.psi_report.specs.Samples.{IsHorizon}
-use Rattle.psi_report.specs.Report.{times, horizon_row, horizon_rows}
+use Rattle.psi_report.specs.declared.figure.HorizonCount.{HorizonCount}
+use Rattle.psi_report.specs.Report.{times, horizon_count}
 use Rattle.psi_report.specs.Totals.{powers}
-use Rattle.psi_report.specs.Rows.{count_row, count_rows}
+use Rattle.psi_report.specs.Figures.{count_of, counts_of}
 
 -- each number of the list is above this one
-abbrev AreAbove : ℕ → List ℕ → Type 0
+abbrev pub AreAbove : ℕ → List ℕ → Type 0
 AreAbove x [] = Unit {0}
 AreAbove x (y ∷ ys) = (x < y) × AreAbove x ys
 
 -- each number is below all that follow it
-abbrev Ascends : List ℕ → Type 0
+abbrev pub Ascends : List ℕ → Type 0
 Ascends [] = Unit {0}
 Ascends (x ∷ xs) = AreAbove x xs × Ascends xs
 
@@ -110,13 +111,16 @@ powers-member e k (suc n) low high = elim (cases_eq e k) [
   | inr other ↦ inr (powers-member e (suc k) n (omega arith) (omega arith))
 ]
 
-count_rows-powers : (f : ℕ → ℕ) (k n : ℕ)
-    → count_rows k (map f (powers_from k n)) ≡ map (λ t. horizon_row t (f t)) (filter (λ t. nat_lt 0 (f t)) (powers_from k n))
-unfolding count_rows count_row
-count_rows-powers f k zero = refl
-count_rows-powers f k (suc n) = elim (cases_Bool (nat_lt 0 (f (2 ^ k)))) [
-  | inl is ↦ rw (is, add-one, count_rows-powers f (suc k) n) refl
-  | inr is ↦ rw (is, add-one, count_rows-powers f (suc k) n) refl
+-- a horizon with its number
+abbrev pub counted : (ℕ → ℕ) → ℕ → HorizonCount
+counted f t = record { horizon = t; count = f t }
+
+counts_of-powers : (f : ℕ → ℕ) (k n : ℕ) → counts_of k (map f (powers_from k n)) ≡ map (counted f) (filter (λ t. nat_lt 0 (f t)) (powers_from k n))
+unfolding counts_of count_of
+counts_of-powers f k zero = refl
+counts_of-powers f k (suc n) = elim (cases_Bool (nat_lt 0 (f (2 ^ k)))) [
+  | inl is ↦ rw (is, add-one, counts_of-powers f (suc k) n) refl
+  | inr is ↦ rw (is, add-one, counts_of-powers f (suc k) n) refl
 ]
 
 horizons-among : (hs : List ℕ) → All IsHorizon hs → (k : ℕ) → In k hs → In k (powers_from 0 23)
@@ -126,8 +130,8 @@ horizons-among (h ∷ hs) all k (inl same) =
     subst (λ (n : ℕ). In n (powers_from 0 23)) (sym (same ∙ is.power)) (powers-member is.exponent 0 23 (omega arith) (let few = is.few in omega arith))
 horizons-among (h ∷ hs) all k (inr later) = horizons-among hs (All-tail IsHorizon h hs all) k later
 
--- the rows of horizons, from how often each power of two is one
-pub count_rows-horizons : (hs : List ℕ) → All IsHorizon hs → count_rows 0 (map (λ t. times t hs) powers) ≡ horizon_rows hs
-count_rows-horizons hs all =
-    count_rows-powers (λ t. times t hs) 0 23
-    ∙ ap (λ ts. map (λ t. horizon_row t (times t hs)) ts) (sym (distinct-filter (powers_from 0 23) hs (powers-ascend 0 23) (horizons-among hs all)))
+-- the horizons that samples have, from how often each power of two is one
+pub counts_of-horizons : (hs : List ℕ) → All IsHorizon hs → counts_of 0 (map (λ t. times t hs) powers) ≡ map (horizon_count hs) (distinct hs)
+counts_of-horizons hs all =
+    counts_of-powers (λ t. times t hs) 0 23
+    ∙ ap (λ ts. map (horizon_count hs) ts) (sym (distinct-filter (powers_from 0 23) hs (powers-ascend 0 23) (horizons-among hs all)))

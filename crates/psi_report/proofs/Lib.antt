@@ -7,6 +7,7 @@ pub mod TotalsLemmas
 mod RewardLemmas
 mod StandsLemmas
 mod HoldingLemmas
-mod HorizonLemmas
-mod RowsLemmas
+pub mod HorizonLemmas
+mod FiguresLemmas
+mod RowLemmas
 mod TakingLemmas

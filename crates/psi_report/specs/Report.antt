@@ -1,86 +1,71 @@
--- The report of samples: comma-separated records of three fields (RFC 4180, with a line feed alone at each end).
-use Rattle.std.specs.Prelude.{ℕ, ◌-◌, ℤ, List, [], ◌∷◌, ◌++◌, map, length, codes, ◌==◌, count_by}
+-- The report of samples of a network: what it tells, and its text.
+use Rattle.std.specs.Prelude.{ℕ, ℤ, List, [], ◌∷◌, ◌++◌, map, length, ◌==◌, count_by}
 use Rattle.std.specs.List.{flat_map}
-use Rattle.std.specs.Fmt.{decimal, signed_decimal}
-use Rattle.csv.specs.Writing.{row_text, default_writer}
 use Rattle.psi_reward.specs.Ranges.{least, greatest}
 use Rattle.psi_state.specs.declared.Outcome.{Outcome}
 use Rattle.psi_model.specs.Network.{Network}
 use Rattle.psi_report.specs.Samples.{met_states, met_horizons}
 use Rattle.psi_report.specs.Distinct.{distinct}
 use Rattle.psi_report.specs.Quantities.{Quantity, queue_quantities, reward_quantities, sum_of}
-
--- a record: what it tells, of what, and how much it is
-abbrev pub row : (item name value : List ℕ) → List (List ℕ)
-row item name value = item ∷ name ∷ value ∷ []
-
--- a record of a number of samples
-abbrev pub samples_row : List ℕ → ℕ → List (List ℕ)
-samples_row item n = row item (codes "-") (decimal n)
-
--- how many samples there are, how many of them are met, and how many aren't
-abbrev pub sample_rows : List Outcome → List (List (List ℕ))
-sample_rows outcomes =
-    samples_row (codes "samples") (length outcomes)
-    ∷ samples_row (codes "met") (length (met_states outcomes))
-    ∷ samples_row (codes "uncoupled") (length outcomes - length (met_states outcomes))
-    ∷ []
+use Rattle.psi_report.specs.declared.figure.Item.{Item}
+use Rattle.psi_report.specs.declared.figure.Item.TheVariants.{Sum, Least, Greatest, RewardSum, RewardLeast, RewardGreatest}
+use Rattle.psi_report.specs.declared.figure.HorizonCount.{HorizonCount}
+use Rattle.psi_report.specs.declared.figure.Figure.{Figure}
+use Rattle.psi_report.specs.Contents.{Contents}
+use Rattle.psi_report.specs.Text.{text_of}
 
 -- how often a number stands in a list
 abbrev pub times : ℕ → List ℕ → ℕ
 times n ns = count_by (λ m. m == n) ns
 
--- a horizon, and how many samples have it
-unfoldable pub horizon_row : ℕ → ℕ → List (List ℕ)
-horizon_row horizon n = row (codes "horizon") (decimal horizon) (decimal n)
+-- a horizon, and how often it stands in a list
+abbrev pub horizon_count : List ℕ → ℕ → HorizonCount
+horizon_count horizons horizon = record { horizon = horizon; count = times horizon horizons }
 
--- each horizon that some sample has, ascending, with how many have it
-abbrev pub horizon_rows : List ℕ → List (List (List ℕ))
-horizon_rows horizons = map (λ horizon. horizon_row horizon (times horizon horizons)) (distinct horizons)
+-- what the figures of a quantity are
+pub record Trio : Type 0 where
+  pub sum : Item
+  pub least : Item
+  pub greatest : Item
 
--- what records of quantities are called
-pub record Items : Type 0 where
-  pub sum : List ℕ
-  pub least : List ℕ
-  pub greatest : List ℕ
+-- of a queue
+abbrev pub queue_trio : Trio
+queue_trio = record { sum = Sum; least = Least; greatest = Greatest }
 
--- records on queues
-abbrev pub queue_items : Items
-queue_items = record { sum = codes "sum"; least = codes "least"; greatest = codes "greatest" }
+-- of a reward
+abbrev pub reward_trio : Trio
+reward_trio = record { sum = RewardSum; least = RewardLeast; greatest = RewardGreatest }
 
--- records on rewards
-abbrev pub reward_items : Items
-reward_items = record { sum = codes "reward-sum"; least = codes "reward-least"; greatest = codes "reward-greatest" }
+-- a figure
+abbrev pub figure : Item → List ℕ → ℤ → Figure
+figure item name value = record { item = item; name = name; value = value }
 
--- records of these names
-module _ (items : Items) where
+-- figures of these items
+module _ (trio : Trio) where
   -- the least and the greatest of values, where there are any
-  unfoldable pub extreme_rows : List ℕ → List ℤ → List (List (List ℕ))
-  extreme_rows name [] = []
-  extreme_rows name (z ∷ zs) =
-      row items.least name (signed_decimal (least (z ∷ zs))) ∷ row items.greatest name (signed_decimal (greatest (z ∷ zs))) ∷ []
+  abbrev pub extremes : List ℕ → List ℤ → List Figure
+  extremes name [] = []
+  extremes name (z ∷ zs) = figure trio.least name (least (z ∷ zs)) ∷ figure trio.greatest name (greatest (z ∷ zs)) ∷ []
 
-  -- the sum of values; and where there are any, the least and the greatest of them
-  unfoldable pub value_rows : List ℕ → List ℤ → List (List (List ℕ))
-  value_rows name zs = row items.sum name (signed_decimal (sum_of zs)) ∷ extreme_rows name zs
+  -- the sum of values, and where there are any, the least and the greatest of them
+  abbrev pub figures_of : List ℕ → List ℤ → List Figure
+  figures_of name zs = figure trio.sum name (sum_of zs) ∷ extremes name zs
 
-  -- the records of a quantity over states
-  abbrev pub quantity_rows : List (List ℕ) → Quantity → List (List (List ℕ))
-  quantity_rows states quantity = value_rows quantity.name (map quantity.value states)
+  -- the figures of a quantity over states
+  abbrev pub quantity_figures : List (List ℕ) → Quantity → List Figure
+  quantity_figures states quantity = figures_of quantity.name (map quantity.value states)
 
--- the records of a report: its heading, the numbers of samples, their horizons, the queues and the rewards
-abbrev pub report_rows : Network → List Outcome → List (List (List ℕ))
-report_rows net outcomes =
-    row (codes "item") (codes "name") (codes "value")
-    ∷ (sample_rows outcomes
-    ++ horizon_rows (met_horizons outcomes)
-    ++ flat_map (quantity_rows queue_items (met_states outcomes)) (queue_quantities net)
-    ++ flat_map (quantity_rows reward_items (met_states outcomes)) (reward_quantities net))
-
--- the text of records
-unfoldable pub rows_text : List (List (List ℕ)) → List ℕ
-rows_text rows = flat_map (row_text default_writer) rows
+-- what the report of samples of a network tells: how many there are and how many of them are met; each horizon that some have, ascending, with how many have
+-- it; and over the states of those that are met the figures of the queues and of the rewards
+unfoldable pub contents_of : Network → List Outcome → Contents
+contents_of net outcomes = record {
+  samples = length outcomes;
+  met = length (met_states outcomes);
+  horizons = map (horizon_count (met_horizons outcomes)) (distinct (met_horizons outcomes));
+  figures = flat_map (quantity_figures queue_trio (met_states outcomes)) (queue_quantities net)
+      ++ flat_map (quantity_figures reward_trio (met_states outcomes)) (reward_quantities net);
+}
 
 -- the report of samples of a network
-unfoldable pub report_text : Network → List Outcome → List ℕ
-report_text net outcomes = rows_text (report_rows net outcomes)
+abbrev pub report_text : Network → List Outcome → List ℕ
+report_text net outcomes = text_of (contents_of net outcomes)

@@ -8,7 +8,7 @@ ghost use Rattle.psi_report.specs.Samples.{IsHorizon, IsSampleOf};
 ghost use Rattle.psi_report.specs.Totals.{StandsFor};
 ghost use Rattle.psi_report.specs.Joined.{paired, with_reward, AreSmall};
 
-mod text;
+mod reporting;
 
 use crate::summary::{Summary, add_customers, join_all, of_none};
 use psi_model::{Net, OutOfMemory};

@@ -4,7 +4,6 @@ use Rattle.std.proofs.Common.{ap, sym, ◌∙◌, subst, arith}
 use Rattle.std.proofs.lemmas.List.Elements.{All-nil, All-cons}
 use Rattle.psi_io.specs.Sink.{appended}
 use Rattle.psi_state.specs.declared.Outcome.{Outcome}
-use Rattle.psi_state.specs.declared.Outcome.TheVariants.{Met, NotMet}
 use Rattle.psi_model.specs.Network.{Network}
 use Rattle.psi_model.specs.Valid.{IsNetwork}
 use Rattle.psi_net_document.specs.declared.refusals.NetRefusal.{NetRefusal}
@@ -12,15 +11,13 @@ use Rattle.psi_net_document.proofs.ReadingLemmas.{bind_ok}
 use Rattle.psi_net.specs.Reading.{file_text, text_network, network_of}
 use Rattle.psi_net.proofs.NetworkLemmas.{network_kept}
 use Rattle.psi_report.specs.Samples.{IsSampleOf}
-use Rattle.psi_report.specs.Report.{report_text}
+use Rattle.psi_report.specs.Report.{report_text, contents_of}
 use Rattle.psi_command.specs.declared.status.Status.TheVariants.{Done, NetRefused}
 use Rattle.psi_command.specs.Command.{report}
-use Rattle.psi_reply.specs.Sample.{sampled, IsDrawn}
+use Rattle.psi_reply.specs.Sample.{sampled}
 use Rattle.psi_reply.specs.Reply.{Reply, text_reply, refused_reply}
 use Rattle.psi_reply.specs.Report.{samples_of, AreDrawn}
-use Rattle.psi_reply.proofs.ReportingLemmas.{sampled_counts, samples_number}
-use Rattle.psi_reports.specs.Outcomes.{contents_of}
-use Rattle.psi_reports.proofs.OutcomesLemmas.{report_text-contents}
+use Rattle.psi_reply.proofs.ReportingLemmas.{drawn-sample, samples_number, samples-drawn}
 use Rattle.psi_run.specs.Reply.{reply_to, reply_of, judged_reply}
 use Rattle.psi_report_laws.specs.Described.{AreCounted}
 use Rattle.psi_report_laws.specs.Printed.{IsReadAs, PrintedReportsAreRead, IsPrinted, PrintedReportsAreMerged}
@@ -33,23 +30,14 @@ net-kept : (bytes : List ℕ) (net : Network) → network_of bytes ≡ Ok net �
 unfolding network_of
 net-kept bytes net h = (let text = bind_ok (file_text bytes) text_network net h in network_kept text.0 net text.2)
 
--- a sample that is drawn is one that totals may count
-drawn-counts : (net : Network) (seed stream : ℕ) (outcome : Outcome) → net.limit ≤ 22 → IsDrawn net seed stream outcome → IsSampleOf net outcome
-drawn-counts net seed stream (Met horizon state) limit drawn =
-    let first = drawn.least in
-    let few : first.exponent ≤ net.limit = first.within in
-    (record { exponent = first.exponent; few = omega arith; power = first.power }, drawn.within)
-drawn-counts net seed stream (NotMet l) limit drawn = tt
-
+-- samples that are drawn are such that totals may count
 all-drawn : (net : Network) (seed first : ℕ) (outcomes : List Outcome) → net.limit ≤ 22 → AreDrawn net seed first outcomes → All (IsSampleOf net) outcomes
 all-drawn net seed first [] limit drawn = All-nil (IsSampleOf net)
 all-drawn net seed first (outcome ∷ outcomes) limit drawn =
-    All-cons (IsSampleOf net) outcome outcomes (drawn-counts net seed first outcome limit drawn.0) (all-drawn net seed (suc first) outcomes limit drawn.1)
+    All-cons (IsSampleOf net) outcome outcomes (drawn-sample net seed first outcome limit drawn.0) (all-drawn net seed (suc first) outcomes limit drawn.1)
 
 all-sampled : (net : Network) (seed first count : ℕ) → IsNetwork net → All (IsSampleOf net) (samples_of net seed first count)
-all-sampled net seed first zero kept = All-nil (IsSampleOf net)
-all-sampled net seed first (suc count) kept =
-    All-cons (IsSampleOf net) (sampled net seed first) (samples_of net seed (suc first) count) (sampled_counts net seed first kept) (all-sampled net seed (suc first) count kept)
+all-sampled net seed first count kept = all-drawn net seed first (samples_of net seed first count) kept.limit (samples-drawn net seed first count kept)
 
 are-counted : (net : Network) (seed first count : ℕ) → IsNetwork net → count < 2 ^ 64 → AreCounted net (samples_of net seed first count)
 are-counted net seed first count kept few = record {
@@ -154,5 +142,5 @@ printed-merged told name seed first m n front back whole few one other all =
       other_is = read-as has.bytes has.net others back has.is (are-counted has.net seed (first + m) n kept (omega arith))
           (text-printed told name has.bytes has.net seed (first + m) n back has.told_is has.is other);
       merging = merging;
-      text = sym (report_text-contents has.net (ones ++ others)) ∙ ap (report_text has.net) parts ∙ text-printed told name has.bytes has.net seed first (m + n) whole has.told_is has.is all;
+      text = ap (report_text has.net) parts ∙ text-printed told name has.bytes has.net seed first (m + n) whole has.told_is has.is all;
     }

@@ -4,9 +4,8 @@ use Rattle.psi_state.specs.declared.Outcome.{Outcome}
 use Rattle.psi_model.specs.Network.{Network}
 use Rattle.psi_model.specs.Generated.{generated_network}
 use Rattle.psi_report.specs.Samples.{IsSampleOf}
-use Rattle.psi_report.specs.Report.{report_text}
+use Rattle.psi_report.specs.Report.{report_text, contents_of}
 use Rattle.psi_net.specs.Reading.{network_of}
-use Rattle.psi_reports.specs.Outcomes.{contents_of}
 use Rattle.psi_reports.specs.Reading.{read}
 use Rattle.psi_reports.specs.Samples.{IsDescribed}
 use Rattle.psi_reports.specs.Sound.{flaw_of}

@@ -8,9 +8,9 @@ use Rattle.psi_command.specs.declared.status.Status.TheVariants.{Done}
 use Rattle.psi_command.specs.Command.{report}
 use Rattle.psi_reply.specs.Reply.{text_reply}
 use Rattle.psi_reply.specs.Report.{AreDrawn}
-use Rattle.psi_reports.specs.Contents.{Contents}
-use Rattle.psi_reports.specs.Text.{text_of}
-use Rattle.psi_reports.specs.Outcomes.{contents_of}
+use Rattle.psi_report.specs.Contents.{Contents}
+use Rattle.psi_report.specs.Text.{text_of}
+use Rattle.psi_report.specs.Report.{contents_of}
 use Rattle.psi_reports.specs.Reading.{read}
 use Rattle.psi_reports.specs.Sound.{flaw_of}
 use Rattle.psi_reports.specs.Merging.{merged}

@@ -4,21 +4,11 @@ use Rattle.std.specs.List.{insert}
 use Rattle.std.proofs.Common.{get_or, set, ap, sym, ◌∙◌, inl, inr, arith}
 use Rattle.std.proofs.lemmas.Bool.{cases_order, cases_Bool, eq-eqb, ne_eqb, lt-ltb, le-ltb, le-leb, lt-leb, ltb-false}
 use Rattle.std.proofs.lemmas.List.{take_more}
-use Rattle.psi_reports.specs.declared.figure.HorizonCount.{HorizonCount}
+use Rattle.psi_report.specs.declared.figure.HorizonCount.{HorizonCount}
 use Rattle.psi_reports.specs.Counts.{with_count, place_of, joined_counts}
 use Rattle.psi_reports.specs.Merging.{is_count, counts_fit}
 
 -- ---- the place of a horizon
-
-pub place-within : (t : ℕ) (cs : List HorizonCount) → place_of t cs ≤ length cs
-place-within t [] = omega arith
-place-within t (c ∷ cs) = elim (cases_order t c.horizon) [
-  | inl same ↦ rw (le-leb t c.horizon (omega arith)) (omega arith)
-  | inr apart ↦ elim apart [
-    | inl less ↦ rw (le-leb t c.horizon (omega arith)) (omega arith)
-    | inr more ↦ rw (lt-leb t c.horizon more) (let rest = place-within t cs in omega arith)
-  ]
-]
 
 place-here : (t : ℕ) (c : HorizonCount) (cs : List HorizonCount) → t ≤ c.horizon → place_of t (c ∷ cs) ≡ 0
 place-here t c cs low = rw (le-leb t c.horizon low) refl

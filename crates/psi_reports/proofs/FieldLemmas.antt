@@ -8,14 +8,12 @@ use Rattle.std.proofs.lemmas.List.{append-nil, take-map, length-map, length-appe
 use Rattle.std.proofs.lemmas.List.Elements.{All-head, All-tail}
 use Rattle.csv.specs.Writing.{default_writer, row_text}
 use Rattle.psi_model.specs.Name.{is_name, is_name_byte}
-use Rattle.psi_report.specs.Report.{row, horizon_row, rows_text}
-use Rattle.psi_report.specs.Rows.{number_rows}
-use Rattle.psi_reports.specs.declared.figure.Item.{Item}
-use Rattle.psi_reports.specs.declared.figure.Item.TheVariants.{Sum, Least, Greatest, RewardSum, RewardLeast, RewardGreatest}
-use Rattle.psi_reports.specs.declared.figure.HorizonCount.{HorizonCount}
-use Rattle.psi_reports.specs.declared.figure.Figure.{Figure}
-use Rattle.psi_reports.specs.Contents.{Contents}
-use Rattle.psi_reports.specs.Text.{item_text, figure_row, count_row, contents_rows, text_of}
+use Rattle.psi_report.specs.Text.{row, horizon_row, rows_text, number_rows, item_text, figure_row, count_row, contents_rows, text_of}
+use Rattle.psi_report.specs.declared.figure.Item.{Item}
+use Rattle.psi_report.specs.declared.figure.Item.TheVariants.{Sum, Least, Greatest, RewardSum, RewardLeast, RewardGreatest}
+use Rattle.psi_report.specs.declared.figure.HorizonCount.{HorizonCount}
+use Rattle.psi_report.specs.declared.figure.Figure.{Figure}
+use Rattle.psi_report.specs.Contents.{Contents}
 use Rattle.psi_reports.specs.Reading.{is_comma, item_of, IsReport}
 use Rattle.psi_reports.specs.Numbers.{count_in, integer_of}
 use Rattle.psi_reports.specs.Lines.{lines_of, BeginAlike}

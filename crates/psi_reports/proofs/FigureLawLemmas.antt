@@ -11,10 +11,10 @@ use Rattle.std.proofs.lemmas.List.Sums.{sum_by_push}
 use Rattle.std.proofs.lemmas.Slice.Eq.{bytes_eq-Decides}
 use Rattle.psi_reward.specs.Ranges.{least, greatest}
 use Rattle.psi_report.specs.Quantities.{Quantity, sum_of}
-use Rattle.psi_reports.specs.declared.figure.Item.{Item}
-use Rattle.psi_reports.specs.declared.figure.Item.TheVariants.{Sum, Greatest, RewardSum}
-use Rattle.psi_reports.specs.declared.figure.Figure.{Figure}
-use Rattle.psi_reports.specs.Outcomes.{Trio, queue_trio, reward_trio, figure, quantity_figures}
+use Rattle.psi_report.specs.declared.figure.Item.{Item}
+use Rattle.psi_report.specs.declared.figure.Item.TheVariants.{Sum, Greatest, RewardSum}
+use Rattle.psi_report.specs.declared.figure.Figure.{Figure}
+use Rattle.psi_report.specs.Report.{Trio, queue_trio, reward_trio, figure, quantity_figures}
 use Rattle.psi_reports.specs.Sound.{item_follows, is_sum, may_end, same_sum, is_alike, most_of, is_new, is_customers, is_worth, is_extreme, is_ordered, extreme_follows, agrees, may_stand, flaw_behind, figures_flaw}
 use Rattle.psi_reports.proofs.AllowLemmas.{allowed, ordered, allows-allowed}
 use Rattle.psi_reports.proofs.WorthLemmas.{least-has, greatest-has}

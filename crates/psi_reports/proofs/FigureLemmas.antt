@@ -1,31 +1,15 @@
 -- Figures, one after another as a loop takes them.
-use Rattle.std.specs.Prelude.{◌≡◌, ℕ, zero, suc, ◌+◌, ◌<◌, ◌≤◌, ◌⊎◌, List, [], ◌∷◌, length, take, drop, min, pos, true, false, Some, None, refl}
+use Rattle.std.specs.Prelude.{◌≡◌, ℕ, zero, suc, ◌+◌, ◌<◌, ◌≤◌, ◌⊎◌, List, [], ◌∷◌, length, take, drop, min, pos, true, false, Some, refl}
 use Rattle.std.proofs.Common.{get_or, ap, sym, ◌∙◌, inl, inr, arith}
 use Rattle.std.proofs.lemmas.Bool.{cases_order}
 use Rattle.std.proofs.lemmas.List.{drop_more, drop_all, get_or_default}
 use Rattle.psi_report.specs.Joined.{paired}
 use Rattle.psi_report.proofs.PairLemmas.{paired_all, length_paired, get_or-paired}
-use Rattle.psi_reports.specs.declared.figure.Item.TheVariants.{Sum}
-use Rattle.psi_reports.specs.declared.figure.Figure.{Figure}
-use Rattle.psi_reports.specs.Sound.{is_alike}
+use Rattle.psi_report.specs.declared.figure.Item.TheVariants.{Sum}
+use Rattle.psi_report.specs.declared.figure.Figure.{Figure}
 use Rattle.psi_reports.specs.Merging.{difference, joined_value, joined_figure, is_value, large_figure}
 
 -- the first place of two lists at which sums differ
-pub difference-alike : (fs gs : List Figure) (i : ℕ) (f g : Figure) → i < length fs → i < length gs → f ≡ get_or fs i f → g ≡ get_or gs i g → is_alike f g ≡ true
-    → difference (i + 1) (drop (i + 1) fs) (drop (i + 1) gs) ≡ difference i (drop i fs) (drop i gs)
-difference-alike fs gs i f g one two first second alike =
-    let both : is_alike (get_or fs i f) (get_or gs i g) ≡ true = rw (← first, ← second) alike in
-    rw (drop_more fs i f one, drop_more gs i g two, both) refl
-
-pub difference-other : (fs gs : List Figure) (i : ℕ) (f g : Figure) → i < length fs → i < length gs → f ≡ get_or fs i f → g ≡ get_or gs i g → is_alike f g ≡ false
-    → difference i (drop i fs) (drop i gs) ≡ Some i
-difference-other fs gs i f g one two first second other =
-    let both : is_alike (get_or fs i f) (get_or gs i g) ≡ false = rw (← first, ← second) other in
-    rw (drop_more fs i f one, drop_more gs i g two, both) refl
-
-pub difference-end : (fs gs : List Figure) (i : ℕ) → length fs ≤ i → length gs ≤ i → difference i (drop i fs) (drop i gs) ≡ None
-difference-end fs gs i one two = rw (drop_all i fs one, drop_all i gs two) refl
-
 pub difference-shorter : (fs gs : List Figure) (i : ℕ) (d : Figure) → length fs ≤ i → i < length gs → difference i (drop i fs) (drop i gs) ≡ Some i
 difference-shorter fs gs i d one two = rw (drop_all i fs one, drop_more gs i d two) refl
 

@@ -15,10 +15,10 @@ use Rattle.psi_state.specs.Members.{In}
 use Rattle.psi_model.specs.Name.{is_name}
 use Rattle.psi_reward.specs.Ranges.{least, greatest}
 use Rattle.psi_report.specs.Quantities.{sum_of}
-use Rattle.psi_reports.specs.declared.figure.Item.{Item}
-use Rattle.psi_reports.specs.declared.figure.Item.TheVariants.{Sum, Least, Greatest, RewardSum, RewardLeast, RewardGreatest}
-use Rattle.psi_reports.specs.declared.figure.Figure.{Figure}
-use Rattle.psi_reports.specs.Outcomes.{queue_trio, figure, figures_of}
+use Rattle.psi_report.specs.declared.figure.Item.{Item}
+use Rattle.psi_report.specs.declared.figure.Item.TheVariants.{Sum, Least, Greatest, RewardSum, RewardLeast, RewardGreatest}
+use Rattle.psi_report.specs.declared.figure.Figure.{Figure}
+use Rattle.psi_report.specs.Report.{queue_trio, figure, figures_of}
 use Rattle.psi_reports.specs.Reached.{is_of_queue, AreOfQueues}
 use Rattle.psi_reports.specs.Sound.{item_follows, is_sum, may_begin, may_end, same_sum, is_new, is_customers, extreme_follows, allows, AreSummed, agrees, sum_stands, may_stand, flaw_behind, figures_flaw}
 use Rattle.psi_reports.proofs.BetweenLemmas.{between}

@@ -10,10 +10,10 @@ use Rattle.psi_model.specs.Network.{Network}
 use Rattle.psi_report.specs.Quantities.{Quantity, queue_quantities, reward_quantities, sum_of}
 use Rattle.psi_report.specs.Joined.{paired}
 use Rattle.psi_report.proofs.SummaryLemmas.{sum_of-append, least-append, greatest-append}
-use Rattle.psi_reports.specs.declared.figure.Item.{Item}
-use Rattle.psi_reports.specs.declared.figure.Item.TheVariants.{Sum, RewardSum}
-use Rattle.psi_reports.specs.declared.figure.Figure.{Figure}
-use Rattle.psi_reports.specs.Outcomes.{Trio, queue_trio, reward_trio, figure, figures_of, quantity_figures}
+use Rattle.psi_report.specs.declared.figure.Item.{Item}
+use Rattle.psi_report.specs.declared.figure.Item.TheVariants.{Sum, RewardSum}
+use Rattle.psi_report.specs.declared.figure.Figure.{Figure}
+use Rattle.psi_report.specs.Report.{Trio, queue_trio, reward_trio, figure, figures_of, quantity_figures}
 use Rattle.psi_reports.specs.Sound.{is_sum, same_sum}
 use Rattle.psi_reports.specs.Merging.{sums_of, difference, joined_figure, joined_figures}
 

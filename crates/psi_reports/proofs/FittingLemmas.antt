@@ -5,9 +5,9 @@ use Rattle.std.proofs.lemmas.Bool.{and_parts, ltb-true}
 use Rattle.std.proofs.lemmas.List.Elements.{All-nil, All-cons, All-head, All-tail, All-weaker}
 use Rattle.psi_model.specs.Name.{is_name}
 use Rattle.psi_report.specs.Joined.{paired}
-use Rattle.psi_reports.specs.declared.figure.HorizonCount.{HorizonCount}
-use Rattle.psi_reports.specs.declared.figure.Figure.{Figure}
-use Rattle.psi_reports.specs.Contents.{Contents}
+use Rattle.psi_report.specs.declared.figure.HorizonCount.{HorizonCount}
+use Rattle.psi_report.specs.declared.figure.Figure.{Figure}
+use Rattle.psi_report.specs.Contents.{Contents}
 use Rattle.psi_reports.specs.Counts.{with_count, joined_counts}
 use Rattle.psi_reports.specs.Reading.{IsReport}
 use Rattle.psi_reports.specs.Sound.{figures_line}

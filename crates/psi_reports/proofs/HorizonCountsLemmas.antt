@@ -4,10 +4,10 @@ use Rattle.std.proofs.Common.{ap, sym, ◌∙◌, inl, inr, arith}
 use Rattle.std.proofs.lemmas.Bool.{cases_order, eq-eqb, ne_eqb, lt-ltb, le-ltb}
 use Rattle.std.proofs.lemmas.List.Sums.{sum_by-cons}
 use Rattle.psi_report.specs.Distinct.{insert_number, distinct}
-use Rattle.psi_report.specs.Report.{times}
-use Rattle.psi_reports.specs.declared.figure.HorizonCount.{HorizonCount}
+use Rattle.psi_report.specs.Report.{times, horizon_count}
+use Rattle.psi_report.proofs.HorizonLemmas.{AreAbove, Ascends, counted}
+use Rattle.psi_report.specs.declared.figure.HorizonCount.{HorizonCount}
 use Rattle.psi_reports.specs.Counts.{with_count, joined_counts}
-use Rattle.psi_reports.specs.Outcomes.{horizon_count}
 use Rattle.psi_reports.proofs.CountLemmas.{with_count-same, with_count-lower, with_count-higher}
 
 -- ---- counts that are added one after another
@@ -76,16 +76,6 @@ joined-with k (a ∷ cs) bs = elim (cases_order k.horizon a.horizon) [
 ]
 
 -- ---- ascending numbers
-
--- each number of the list is above this one
-abbrev pub AreAbove : ℕ → List ℕ → Type 0
-AreAbove x [] = Unit {0}
-AreAbove x (y ∷ ys) = (x < y) × AreAbove x ys
-
--- each number is below all that follow it
-abbrev pub Ascends : List ℕ → Type 0
-Ascends [] = Unit {0}
-Ascends (x ∷ xs) = AreAbove x xs × Ascends xs
 
 above-below : (x y : ℕ) (zs : List ℕ) → x < y → AreAbove y zs → AreAbove x zs
 above-below x y [] less above = tt
@@ -159,10 +149,6 @@ lacks-times t [] lacks = refl
 lacks-times t (h ∷ hs) lacks =
     let own = lacks-insert t h (distinct hs) lacks in
     times-other h t hs (λ e. own.0 (sym e)) ∙ lacks-times t hs own.1
-
--- numbers, each with how many there are
-abbrev pub counted : (ℕ → ℕ) → ℕ → HorizonCount
-counted f t = record { horizon = t; count = f t }
 
 counted-above : (t : ℕ) (f g : ℕ → ℕ) (ds : List ℕ) → ((s : ℕ) → (t ≡ s → ⊥) → g s ≡ f s) → AreAbove t ds → map (counted f) ds ≡ map (counted g) ds
 counted-above t f g [] same above = refl

@@ -7,7 +7,7 @@ use Rattle.std.proofs.lemmas.List.{length-append, length-replicate}
 use Rattle.std.proofs.lemmas.List.Elements.{All-nil, All-append, All-replicate}
 use Rattle.psi_report.specs.Samples.{IsHorizon}
 use Rattle.psi_report.specs.Distinct.{distinct}
-use Rattle.psi_reports.specs.declared.figure.HorizonCount.{HorizonCount}
+use Rattle.psi_report.specs.declared.figure.HorizonCount.{HorizonCount}
 use Rattle.psi_reports.specs.Counts.{with_count}
 use Rattle.psi_reports.specs.Sound.{is_horizon, is_above, is_next, horizons_flaw}
 use Rattle.psi_reports.proofs.CountLemmas.{with_count-same, with_count-lower}

@@ -3,9 +3,9 @@ use Rattle.std.specs.Prelude.{◌≡◌, ℕ, ◌+◌, ◌-◌, ◌<◌, ◌≤�
 use Rattle.std.proofs.Common.{ap, sym, ◌∙◌, arith}
 use Rattle.std.proofs.lemmas.List.{take_more, drop_more, get_or_default, length-take-le, length-drop, take_all}
 use Rattle.std.proofs.lemmas.Bool.{lt-ltb, le-ltb}
-use Rattle.psi_reports.specs.declared.figure.Item.TheVariants.{Sum}
-use Rattle.psi_reports.specs.declared.figure.Figure.{Figure}
-use Rattle.psi_reports.specs.Contents.{Contents}
+use Rattle.psi_report.specs.declared.figure.Item.TheVariants.{Sum}
+use Rattle.psi_report.specs.declared.figure.Figure.{Figure}
+use Rattle.psi_report.specs.Contents.{Contents}
 use Rattle.psi_reports.specs.Sound.{horizons_flaw, may_stand, flaw_behind, first_flaw, line_at, flaw_of}
 
 -- a figure that is never read

@@ -1,11 +1,8 @@
 -- The lemmas of this crate.
-pub mod OutcomesLemmas
 mod NumberLemmas
 mod DigitLemmas
 mod NameLemmas
 mod LineLemmas
-mod HoldingLemmas
-mod RowLemmas
 mod PlainLemmas
 mod RowReadsLemmas
 mod ReadLemmas

@@ -3,7 +3,7 @@ use Rattle.std.specs.Prelude.{◌≡◌, ℕ, ◌+◌, ◌<◌, ◌≤◌, List,
 use Rattle.std.specs.List.{slice_split}
 use Rattle.std.proofs.Common.{get_or}
 use Rattle.std.proofs.lemmas.List.{drop_more, drop_all}
-use Rattle.psi_reports.specs.Contents.{Contents}
+use Rattle.psi_report.specs.Contents.{Contents}
 use Rattle.psi_reports.specs.Reading.{is_comma, with_row, read_lines, Took}
 
 pub line_taken : {V : Type 0} (view : V → List ℕ) (lines : List V) (i n : ℕ) (e : V) (c d : Contents) (t : Bool) → i < length lines

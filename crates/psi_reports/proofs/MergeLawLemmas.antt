@@ -6,8 +6,8 @@ use Rattle.psi_state.specs.declared.Outcome.{Outcome}
 use Rattle.psi_model.specs.Network.{Network}
 use Rattle.psi_report.specs.Samples.{met_states, met_horizons}
 use Rattle.psi_report.proofs.TotalsLemmas.{met_states-append, met_horizons-append}
-use Rattle.psi_reports.specs.Contents.{Contents}
-use Rattle.psi_reports.specs.Outcomes.{contents_of}
+use Rattle.psi_report.specs.Contents.{Contents}
+use Rattle.psi_report.specs.Report.{contents_of}
 use Rattle.psi_reports.specs.Merging.{joined, fitting, ReportsAreMerged}
 use Rattle.psi_reports.proofs.SmallLemmas.{contents-fit}
 use Rattle.psi_reports.proofs.MergeLemmas.{accepted, report-fits, merged-fitting}

@@ -6,11 +6,11 @@ use Rattle.std.proofs.lemmas.List.Elements.{All-head, All-tail}
 use Rattle.std.specs.Int.RustNames.{unsigned_abs}
 use Rattle.psi_model.specs.Name.{is_name}
 use Rattle.psi_reports.specs.Reading.{IsReport}
-use Rattle.psi_reports.specs.declared.figure.HorizonCount.{HorizonCount}
-use Rattle.psi_reports.specs.declared.figure.Figure.{Figure}
+use Rattle.psi_report.specs.declared.figure.HorizonCount.{HorizonCount}
+use Rattle.psi_report.specs.declared.figure.Figure.{Figure}
 use Rattle.psi_reports.specs.declared.error.MergeError.{MergeError}
 use Rattle.psi_reports.specs.declared.error.MergeError.TheVariants.{OtherNetwork, TooLarge}
-use Rattle.psi_reports.specs.Contents.{Contents}
+use Rattle.psi_report.specs.Contents.{Contents}
 use Rattle.psi_reports.specs.Counts.{joined_counts}
 use Rattle.psi_reports.specs.Sound.{line_at}
 use Rattle.psi_reports.specs.Merging.{sums_of, difference, line_of_sum, is_count, counts_fit, large_figure, too_large, joined_figures, joined, fitting, merged, Merges}

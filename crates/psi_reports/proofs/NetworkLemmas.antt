@@ -8,19 +8,18 @@ use Rattle.std.proofs.lemmas.Slice.Eq.{bytes_eq-Decides}
 use Rattle.psi_state.specs.declared.Outcome.{Outcome}
 use Rattle.psi_model.specs.Network.{Network}
 use Rattle.psi_report.specs.Samples.{met_states}
-use Rattle.psi_reports.specs.declared.figure.Item.{Item}
-use Rattle.psi_reports.specs.declared.figure.Item.TheVariants.{Least, RewardLeast}
-use Rattle.psi_reports.specs.declared.figure.HorizonCount.{HorizonCount}
-use Rattle.psi_reports.specs.declared.figure.Figure.{Figure}
+use Rattle.psi_report.specs.declared.figure.Item.{Item}
+use Rattle.psi_report.specs.declared.figure.Item.TheVariants.{Least, RewardLeast}
+use Rattle.psi_report.specs.declared.figure.HorizonCount.{HorizonCount}
+use Rattle.psi_report.specs.declared.figure.Figure.{Figure}
 use Rattle.psi_reports.specs.declared.error.MergeError.TheVariants.{OtherNetwork}
-use Rattle.psi_reports.specs.Contents.{Contents}
-use Rattle.psi_reports.specs.Text.{figure_row, count_row, contents_rows, text_of}
-use Rattle.psi_reports.specs.Outcomes.{contents_of}
+use Rattle.psi_report.specs.Contents.{Contents}
+use Rattle.psi_report.specs.Text.{figure_row, count_row, contents_rows}
+use Rattle.psi_report.specs.Report.{contents_of}
 use Rattle.psi_reports.specs.Reading.{IsReport}
 use Rattle.psi_reports.specs.Sound.{is_sum, same_sum, is_alike, is_greatest, item_follows, may_begin, may_end, sum_stands, may_stand, extreme_follows, flaw_behind, figures_flaw, first_of, varying_reward, line_at, flaw_of}
 use Rattle.psi_reports.specs.Merging.{sums_of, difference, line_of_sum, too_large, fitting_unless, merged_unless, joined, merged}
-use Rattle.psi_reports.specs.Lines.{IsNumbered, BeginAlike, shown, TellsNetwork, NetworksAreTold, OtherLinesAreNone}
-use Rattle.psi_reports.proofs.OutcomesLemmas.{report_text-contents}
+use Rattle.psi_reports.specs.Lines.{IsNumbered, shown, TellsNetwork, NetworksAreTold, OtherLinesAreNone}
 use Rattle.psi_reports.proofs.SampleLemmas.{samples-fit}
 use Rattle.psi_reports.proofs.FiguresJoinedLemmas.{difference-none}
 use Rattle.psi_reports.proofs.FieldLemmas.{FitsFigure, last_line, rows-alike, lines-count, figure-same, figure-last}
@@ -434,7 +433,6 @@ other-lines a b line numbered right is net outcomes others are own few same alik
         let most = difference-most 0 (sums_of a.figures) (sums_of b.figures) k at in
         let sums = sums-few b.figures in
         let other = samples-fit net others own few in
-        let text = subst (BeginAlike line (text_of b)) (report_text-contents net others) alike in
-        let rows = rows-alike line b (contents_of net others) numbered.report other text in
+        let rows = rows-alike line b (contents_of net others) numbered.report other alike in
         lines-apart a b (contents_of net others) numbered right other none k at (rows-few b k numbered (omega arith))
         (subst (λ (m : ℕ). take m (contents_rows b ++ last_line) ≡ take m (contents_rows (contents_of net others) ++ last_line)) (sym place) rows)

@@ -18,17 +18,16 @@ use Rattle.psi_model.specs.declared.entries.NamedEvent.{NamedEvent}
 use Rattle.psi_model.specs.declared.entries.Queue.{Queue}
 use Rattle.psi_report.specs.Samples.{IsHorizon, IsSampleOf, met_states, met_horizons}
 use Rattle.psi_report.specs.Quantities.{queues_from}
-use Rattle.psi_reports.specs.declared.figure.Figure.{Figure}
-use Rattle.psi_reports.specs.Contents.{Contents}
-use Rattle.psi_reports.specs.Outcomes.{queue_trio, reward_trio, quantity_figures, contents_of}
+use Rattle.psi_report.specs.declared.figure.Figure.{Figure}
+use Rattle.psi_report.specs.Contents.{Contents}
+use Rattle.psi_report.specs.Report.{queue_trio, reward_trio, quantity_figures, contents_of}
 use Rattle.psi_reports.specs.Samples.{AreNames, IsDescribed}
-use Rattle.psi_reports.specs.Text.{text_of}
+use Rattle.psi_report.specs.Text.{text_of}
 use Rattle.psi_reports.specs.Reached.{IsReached, QueueReportsAreReached}
 use Rattle.psi_reports.specs.Sound.{horizons_flaw, figures_flaw, varying_reward, first_of, first_flaw, figures_line, rows_line, flaw_of}
 use Rattle.psi_reports.proofs.ColumnLemmas.{rows_of, length-rows, HaveColumns, have-columns, rows-below}
 use Rattle.psi_reports.proofs.HorizonReachLemmas.{AreCounted, horizons-reached}
 use Rattle.psi_reports.proofs.FigureReachLemmas.{Held, held_figures, AreHeld, figures-reached}
-use Rattle.psi_reports.proofs.OutcomesLemmas.{report_text-contents}
 
 -- ---- what isn't wrong
 
@@ -248,7 +247,7 @@ module _ (n : ℕ) (figures : List Figure) (held : AreHeld n [] figures) where
         kept = kept some;
         are = record { network = described some; samples = samples-are net (c.samples - c.met) counted.horizons rows counted.each rows-within };
         contents = told;
-        text = report_text-contents net outcomes ∙ ap text_of told;
+        text = ap text_of told;
       }
     where
       contents-are : (c : Contents) → c.figures ≡ figures → c.met ≡ n → c.met ≤ c.samples → (counted : AreCounted n c.horizons)

@@ -5,10 +5,9 @@ use Rattle.std.specs.Str.{bytes_eq}
 use Rattle.std.proofs.Common.{ap, sym, ◌∙◌}
 use Rattle.std.proofs.lemmas.List.{append-nil}
 use Rattle.std.proofs.lemmas.Slice.Eq.{bytes_eq-Decides}
-use Rattle.psi_report.specs.Report.{rows_text}
-use Rattle.psi_reports.specs.Contents.{Contents, blank}
-use Rattle.psi_reports.specs.Text.{contents_rows, text_of}
-use Rattle.psi_reports.specs.Reading.{is_feed, with_row, read_lines, matching, read, IsReport, ReadIsText, TextIsRead}
+use Rattle.psi_report.specs.Text.{rows_text, contents_rows, text_of}
+use Rattle.psi_report.specs.Contents.{Contents}
+use Rattle.psi_reports.specs.Reading.{blank, is_feed, with_row, read_lines, matching, read, IsReport, ReadIsText, TextIsRead}
 use Rattle.psi_reports.proofs.RowReadsLemmas.{rows-read}
 
 matching-text : (text : List ℕ) (reading : Result Contents ℕ) (c : Contents) → matching text reading ≡ Ok c → text_of c ≡ text

@@ -9,15 +9,13 @@ use Rattle.std.proofs.lemmas.List.Concat.{flat_map-append}
 use Rattle.std.proofs.lemmas.List.Elements.{All-head, All-tail}
 use Rattle.csv.specs.Writing.{default_writer, row_text}
 use Rattle.psi_model.specs.Name.{is_name, is_name_byte}
-use Rattle.psi_report.specs.Report.{row, horizon_row, rows_text}
-use Rattle.psi_report.specs.Rows.{number_rows}
-use Rattle.psi_reports.specs.declared.figure.Item.{Item}
-use Rattle.psi_reports.specs.declared.figure.Item.TheVariants.{Sum, Least, Greatest, RewardSum, RewardLeast, RewardGreatest}
-use Rattle.psi_reports.specs.declared.figure.HorizonCount.{HorizonCount}
-use Rattle.psi_reports.specs.declared.figure.Figure.{Figure}
-use Rattle.psi_reports.specs.Contents.{Contents, blank}
-use Rattle.psi_reports.specs.Text.{item_text, figure_row, count_row, contents_rows}
-use Rattle.psi_reports.specs.Reading.{is_feed, item_of, with_samples, with_met, with_fields, with_row, read_lines, behind, IsReport}
+use Rattle.psi_report.specs.Text.{row, horizon_row, rows_text, number_rows, item_text, figure_row, count_row, contents_rows}
+use Rattle.psi_report.specs.declared.figure.Item.{Item}
+use Rattle.psi_report.specs.declared.figure.Item.TheVariants.{Sum, Least, Greatest, RewardSum, RewardLeast, RewardGreatest}
+use Rattle.psi_report.specs.declared.figure.HorizonCount.{HorizonCount}
+use Rattle.psi_report.specs.declared.figure.Figure.{Figure}
+use Rattle.psi_report.specs.Contents.{Contents}
+use Rattle.psi_reports.specs.Reading.{blank, is_feed, item_of, with_samples, with_met, with_fields, with_row, read_lines, behind, IsReport}
 use Rattle.psi_reports.proofs.DigitLemmas.{count-decimal, integer-signed}
 use Rattle.psi_reports.proofs.NameLemmas.{name-bytes, name-again}
 use Rattle.psi_reports.proofs.PlainLemmas.{IsPlain, name-bytes-plain, decimal-plain, signed-plain, row-line, line-ends, line-fields}

@@ -2,11 +2,9 @@
 use Rattle.std.specs.Prelude.{◌++◌}
 use Rattle.std.proofs.Common.{ap, ◌∙◌}
 use Rattle.psi_report.specs.Samples.{met_states}
-use Rattle.psi_reports.specs.Outcomes.{contents_of}
-use Rattle.psi_reports.specs.Reading.{read}
+use Rattle.psi_report.specs.Report.{contents_of}
 use Rattle.psi_reports.specs.Samples.{SamplesAreRead}
 use Rattle.psi_reports.specs.Merging.{fitting, SamplesAreMerged}
-use Rattle.psi_reports.proofs.OutcomesLemmas.{report_text-contents}
 use Rattle.psi_reports.proofs.ReadLemmas.{text-is-read}
 use Rattle.psi_reports.proofs.FiguresJoinedLemmas.{difference-none}
 use Rattle.psi_reports.proofs.MergeLemmas.{accepted, report-fits, merged-fitting}
@@ -14,7 +12,7 @@ use Rattle.psi_reports.proofs.MergeLawLemmas.{contents-joined}
 use Rattle.psi_reports.proofs.SampleLemmas.{samples-fit}
 
 pub samples-read : SamplesAreRead
-samples-read net outcomes are few = ap read (report_text-contents net outcomes) ∙ text-is-read (contents_of net outcomes) (samples-fit net outcomes are few)
+samples-read net outcomes are few = text-is-read (contents_of net outcomes) (samples-fit net outcomes are few)
 
 pub samples-merged : SamplesAreMerged
 unfolding contents_of

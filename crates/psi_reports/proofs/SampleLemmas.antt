@@ -22,7 +22,7 @@ use Rattle.psi_model.proofs.QueueLemmas.{capacities_kept}
 use Rattle.psi_reward.specs.Worth.{worth_of}
 use Rattle.psi_report.specs.Samples.{IsHorizon, IsSampleOf, met_states, met_horizons}
 use Rattle.psi_report.specs.Quantities.{Quantity, queues_from, queue_quantities, reward_quantities}
-use Rattle.psi_reports.specs.Outcomes.{contents_of}
+use Rattle.psi_report.specs.Report.{contents_of}
 use Rattle.psi_reports.specs.Reading.{IsReport}
 use Rattle.psi_reports.specs.Samples.{AreOf}
 use Rattle.psi_reports.specs.Sound.{is_horizon, is_customers, is_worth}

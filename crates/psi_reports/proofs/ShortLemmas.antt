@@ -15,21 +15,19 @@ use Rattle.psi_model.specs.Name.{is_name, is_name_byte}
 use Rattle.psi_report.specs.Samples.{IsHorizon, met_states, met_horizons}
 use Rattle.psi_report.specs.Distinct.{distinct}
 use Rattle.psi_report.specs.Quantities.{Quantity, queue_quantities, reward_quantities}
-use Rattle.psi_report.specs.Report.{row, horizon_row, rows_text, report_text}
-use Rattle.psi_report.specs.Rows.{number_rows}
-use Rattle.psi_reports.specs.declared.figure.Item.{Item}
-use Rattle.psi_reports.specs.declared.figure.Item.TheVariants.{Sum, Least, Greatest, RewardSum, RewardLeast, RewardGreatest}
-use Rattle.psi_reports.specs.declared.figure.HorizonCount.{HorizonCount}
-use Rattle.psi_reports.specs.declared.figure.Figure.{Figure}
-use Rattle.psi_reports.specs.Contents.{Contents}
-use Rattle.psi_reports.specs.Text.{item_text, figure_row, count_row, heading, contents_rows, text_of}
-use Rattle.psi_reports.specs.Outcomes.{Trio, queue_trio, reward_trio, quantity_figures, figures_of, horizon_count, contents_of}
+use Rattle.psi_report.specs.Text.{row, horizon_row, rows_text, number_rows, item_text, figure_row, count_row, heading, contents_rows, text_of}
+use Rattle.psi_report.specs.Report.{Trio, queue_trio, reward_trio, quantity_figures, figures_of, horizon_count, contents_of}
+use Rattle.psi_report.specs.declared.figure.Item.{Item}
+use Rattle.psi_report.specs.declared.figure.Item.TheVariants.{Sum, Least, Greatest, RewardSum, RewardLeast, RewardGreatest}
+use Rattle.psi_report.specs.declared.figure.HorizonCount.{HorizonCount}
+use Rattle.psi_report.specs.declared.figure.Figure.{Figure}
+use Rattle.psi_report.specs.Contents.{Contents}
 use Rattle.psi_reports.specs.Reading.{IsReport}
 use Rattle.psi_reports.specs.Samples.{ReportsAreShort}
 use Rattle.psi_reports.proofs.FieldLemmas.{FitsCount, FitsFigure, literal, item-plain}
-use Rattle.psi_reports.proofs.HorizonCountsLemmas.{AreAbove, Ascends, ascends-distinct}
+use Rattle.psi_report.proofs.HorizonLemmas.{AreAbove, Ascends}
+use Rattle.psi_reports.proofs.HorizonCountsLemmas.{ascends-distinct}
 use Rattle.psi_reports.proofs.NameLemmas.{name-bytes}
-use Rattle.psi_reports.proofs.OutcomesLemmas.{report_text-contents}
 use Rattle.psi_reports.proofs.PlainLemmas.{IsPlain, name-bytes-plain, decimal-plain, signed-plain, line, row-line}
 use Rattle.psi_reports.proofs.SampleLemmas.{met-horizons, queues-shown, rewards-shown, samples-fit}
 use Rattle.psi_reports.proofs.SmallLemmas.{distinct-all}
@@ -178,7 +176,6 @@ unfolding contents_of
 reports-short net outcomes are few =
     let states = met_states outcomes in
     let steps = met_horizons outcomes in
-    let same : length (report_text net outcomes) ≡ length (text_of (contents_of net outcomes)) = ap length (report_text-contents net outcomes) in
     let long = text-length (contents_of net outcomes) (samples-fit net outcomes are few) in
     let counts = length-map (distinct steps) (horizon_count steps) in
     let horizons = horizons-few (distinct steps) (ascends-distinct steps) (distinct-all IsHorizon steps (met-horizons net outcomes are.samples)) in

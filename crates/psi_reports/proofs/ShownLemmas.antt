@@ -17,9 +17,9 @@ use Rattle.psi_model.specs.Network.{Network, NamedReward, caps_of}
 use Rattle.psi_model.specs.Valid.{IsQueue, IsReward}
 use Rattle.psi_model.specs.declared.entries.Queue.{Queue}
 use Rattle.psi_model.proofs.RewardLemmas.{reward_accepted}
-use Rattle.psi_reports.specs.declared.figure.Item.{Item}
-use Rattle.psi_reports.specs.declared.figure.Item.TheVariants.{Sum, Least, Greatest, RewardSum, RewardLeast, RewardGreatest}
-use Rattle.psi_reports.specs.declared.figure.Figure.{Figure}
+use Rattle.psi_report.specs.declared.figure.Item.{Item}
+use Rattle.psi_report.specs.declared.figure.Item.TheVariants.{Sum, Least, Greatest, RewardSum, RewardLeast, RewardGreatest}
+use Rattle.psi_report.specs.declared.figure.Figure.{Figure}
 use Rattle.psi_reports.specs.Reached.{is_of_queue}
 use Rattle.psi_reports.specs.Samples.{AreNames}
 use Rattle.psi_reports.specs.Sound.{item_follows, is_sum, may_begin, same_sum, most_of, is_new, agrees, sum_stands, may_stand, extreme_follows, flaw_behind, figures_flaw}

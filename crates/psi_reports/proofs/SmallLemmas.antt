@@ -2,7 +2,7 @@
 use Rattle.std.specs.Prelude.{◌≡◌, ℕ, suc, ◌+◌, ◌*◌, ◌^◌, ◌<◌, ◌≤◌, ℤ, ◌+ℤ◌, List, [], ◌∷◌, map, length, All, ◌==◌, nat_lt, true}
 use Rattle.std.specs.Int.RustNames.{unsigned_abs}
 use Rattle.std.specs.List.{flat_map}
-use Rattle.std.proofs.Common.{ap, ◌∙◌, arith}
+use Rattle.std.proofs.Common.{◌∙◌, arith}
 use Rattle.std.proofs.Math.Nat.{suc-mul, mul-le-mul_right}
 use Rattle.std.proofs.lemmas.Bool.{cond_both}
 use Rattle.std.proofs.lemmas.Int.{ints}
@@ -17,13 +17,11 @@ use Rattle.psi_reward.specs.Ranges.{least, greatest}
 use Rattle.psi_report.specs.Samples.{met_states, met_horizons}
 use Rattle.psi_report.specs.Distinct.{insert_number, distinct}
 use Rattle.psi_report.specs.Quantities.{Quantity, queue_quantities, reward_quantities, sum_of}
-use Rattle.psi_report.specs.Report.{times}
-use Rattle.psi_reports.specs.declared.figure.HorizonCount.{HorizonCount}
-use Rattle.psi_reports.specs.declared.figure.Figure.{Figure}
-use Rattle.psi_reports.specs.Outcomes.{Trio, queue_trio, reward_trio, figure, figures_of, quantity_figures, horizon_count, contents_of}
-use Rattle.psi_reports.specs.Reading.{read, IsReport}
+use Rattle.psi_report.specs.Report.{Trio, times, queue_trio, reward_trio, figure, figures_of, quantity_figures, horizon_count, contents_of}
+use Rattle.psi_report.specs.declared.figure.HorizonCount.{HorizonCount}
+use Rattle.psi_report.specs.declared.figure.Figure.{Figure}
+use Rattle.psi_reports.specs.Reading.{IsReport}
 use Rattle.psi_reports.specs.Small.{IsMeasured, AreSamples, ReportIsRead}
-use Rattle.psi_reports.proofs.OutcomesLemmas.{report_text-contents}
 use Rattle.psi_reports.proofs.WorthLemmas.{least-has, greatest-has}
 use Rattle.psi_reports.proofs.ReadLemmas.{text-is-read}
 
@@ -133,4 +131,4 @@ contents-fit net outcomes are =
     (measured-most (met_states outcomes) (reward_quantities net) are.rewards)
 
 pub report-is-read : ReportIsRead
-report-is-read net outcomes are = ap read (report_text-contents net outcomes) ∙ text-is-read (contents_of net outcomes) (contents-fit net outcomes are)
+report-is-read net outcomes are = text-is-read (contents_of net outcomes) (contents-fit net outcomes are)

@@ -8,14 +8,14 @@ use Rattle.psi_state.specs.declared.Outcome.TheVariants.{Met, NotMet}
 use Rattle.psi_report.specs.Samples.{met_states, met_horizons}
 use Rattle.psi_report.specs.Distinct.{distinct}
 use Rattle.psi_report.specs.Quantities.{queue_quantities, reward_quantities}
-use Rattle.psi_report.specs.Report.{times}
+use Rattle.psi_report.specs.Report.{times, contents_of}
 use Rattle.psi_report.proofs.TotalsLemmas.{length-met_states}
-use Rattle.psi_reports.specs.declared.figure.HorizonCount.{HorizonCount}
-use Rattle.psi_reports.specs.Outcomes.{contents_of}
+use Rattle.psi_report.specs.declared.figure.HorizonCount.{HorizonCount}
 use Rattle.psi_reports.specs.Counts.{with_count}
 use Rattle.psi_reports.specs.Sound.{is_horizon, is_above, horizons_flaw, ReportIsSound}
 use Rattle.psi_reports.proofs.CountLemmas.{with_count-same, with_count-lower, with_count-higher}
-use Rattle.psi_reports.proofs.HorizonCountsLemmas.{AreAbove, Ascends, ascends-distinct, counted, horizons_of, horizons-more}
+use Rattle.psi_report.proofs.HorizonLemmas.{AreAbove, Ascends, counted}
+use Rattle.psi_reports.proofs.HorizonCountsLemmas.{ascends-distinct, horizons_of, horizons-more}
 use Rattle.psi_reports.proofs.JudgeLemmas.{flaw-none}
 use Rattle.psi_reports.proofs.SmallLemmas.{distinct-all}
 use Rattle.psi_reports.proofs.SampleLemmas.{are-horizons, queues-some, queues-shown, rewards-shown}

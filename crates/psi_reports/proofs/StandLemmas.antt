@@ -5,11 +5,10 @@ use Rattle.std.proofs.Common.{ap, sym, ◌∙◌, subst, inl, inr, arith}
 use Rattle.std.proofs.lemmas.Bool.{and_parts, cases_lt, lt-ltb, eq-eqb, ne_eqb}
 use Rattle.std.proofs.lemmas.List.{length-map}
 use Rattle.std.proofs.lemmas.Option.{slice_get_within}
-use Rattle.psi_report.specs.Rows.{number_rows}
-use Rattle.psi_reports.specs.declared.figure.HorizonCount.{HorizonCount}
-use Rattle.psi_reports.specs.declared.figure.Figure.{Figure}
-use Rattle.psi_reports.specs.Contents.{Contents}
-use Rattle.psi_reports.specs.Text.{figure_row, count_row, contents_rows}
+use Rattle.psi_report.specs.Text.{number_rows, figure_row, count_row, contents_rows}
+use Rattle.psi_report.specs.declared.figure.HorizonCount.{HorizonCount}
+use Rattle.psi_report.specs.declared.figure.Figure.{Figure}
+use Rattle.psi_report.specs.Contents.{Contents}
 use Rattle.psi_reports.specs.Sound.{is_sum, is_greatest, item_follows, may_begin, sum_stands, flaw_behind, figures_flaw, horizon_line, figure_line}
 use Rattle.psi_reports.specs.Merging.{sums_of}
 use Rattle.psi_reports.specs.Lines.{IsNumbered, row_on, RowsStandOnLines}

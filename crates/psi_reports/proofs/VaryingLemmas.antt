@@ -16,8 +16,8 @@ use Rattle.psi_model.specs.declared.entries.Queue.{Queue}
 use Rattle.psi_reward.specs.Ranges.{least, greatest}
 use Rattle.psi_report.specs.Samples.{met_states}
 use Rattle.psi_report.specs.Quantities.{Quantity, queues_from, queue_quantities, reward_quantities}
-use Rattle.psi_reports.specs.declared.figure.Figure.{Figure}
-use Rattle.psi_reports.specs.Outcomes.{queue_trio, reward_trio, quantity_figures}
+use Rattle.psi_report.specs.declared.figure.Figure.{Figure}
+use Rattle.psi_report.specs.Report.{queue_trio, reward_trio, quantity_figures}
 use Rattle.psi_reports.specs.Samples.{AreOf}
 use Rattle.psi_reports.specs.Sound.{is_greatest, varies, varying_behind, varying_reward}
 use Rattle.psi_reports.proofs.SampleLemmas.{met-below}

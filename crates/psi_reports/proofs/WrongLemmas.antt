@@ -4,18 +4,16 @@ use Rattle.std.specs.Str.{bytes_eq}
 use Rattle.std.proofs.Common.{ap, sym, ◌∙◌, subst, append_assoc, arith}
 use Rattle.std.proofs.lemmas.List.{length-map}
 use Rattle.std.proofs.Math.Seq.{drop-append-add}
-use Rattle.psi_report.specs.Rows.{number_rows}
-use Rattle.psi_reports.specs.declared.figure.Item.{Item}
-use Rattle.psi_reports.specs.declared.figure.Item.TheVariants.{Sum, Least, Greatest, RewardSum, RewardLeast, RewardGreatest}
-use Rattle.psi_reports.specs.declared.figure.HorizonCount.{HorizonCount}
-use Rattle.psi_reports.specs.declared.figure.Figure.{Figure}
-use Rattle.psi_reports.specs.Contents.{Contents}
-use Rattle.psi_reports.specs.Text.{item_text, figure_row, count_row, contents_rows, text_of}
-use Rattle.psi_reports.specs.Outcomes.{contents_of}
+use Rattle.psi_report.specs.Text.{number_rows, item_text, figure_row, count_row, contents_rows}
+use Rattle.psi_report.specs.declared.figure.Item.{Item}
+use Rattle.psi_report.specs.declared.figure.Item.TheVariants.{Sum, Least, Greatest, RewardSum, RewardLeast, RewardGreatest}
+use Rattle.psi_report.specs.declared.figure.HorizonCount.{HorizonCount}
+use Rattle.psi_report.specs.declared.figure.Figure.{Figure}
+use Rattle.psi_report.specs.Contents.{Contents}
+use Rattle.psi_report.specs.Report.{contents_of}
 use Rattle.psi_reports.specs.Reading.{IsReport}
 use Rattle.psi_reports.specs.Sound.{is_sum, horizons_flaw, first_flaw, line_at, figures_line, rows_line, flaw_of}
-use Rattle.psi_reports.specs.Lines.{IsNumbered, begins_with_sum, lines_judged, BeginAlike, WrongLinesAreNone}
-use Rattle.psi_reports.proofs.OutcomesLemmas.{report_text-contents}
+use Rattle.psi_reports.specs.Lines.{IsNumbered, begins_with_sum, lines_judged, WrongLinesAreNone}
 use Rattle.psi_reports.proofs.SampleLemmas.{samples-fit}
 use Rattle.psi_reports.proofs.SoundLemmas.{report-sound}
 use Rattle.psi_reports.proofs.FieldLemmas.{last_line, rows-alike, lines-count, number-same}
@@ -211,7 +209,5 @@ module _ (c d : Contents) (numbered : IsNumbered c) (other : IsReport d) (right 
 pub wrong-lines : WrongLinesAreNone
 wrong-lines c line numbered wrong net outcomes are few alike =
     let other = samples-fit net outcomes are few in
-    let text = report_text-contents net outcomes in
-    let own = subst (BeginAlike (lines_judged c line) (text_of c)) text alike in
     wrong-apart c (contents_of net outcomes) numbered other (report-sound net outcomes are) line wrong
-    (rows-alike (lines_judged c line) c (contents_of net outcomes) numbered.report other own)
+    (rows-alike (lines_judged c line) c (contents_of net outcomes) numbered.report other alike)

@@ -4,10 +4,10 @@ use Rattle.std.proofs.Common.{ap, sym, ◌∙◌, inl, inr, ◌⊎◌, arith}
 use Rattle.std.proofs.lemmas.Bool.{cases_order}
 use Rattle.std.proofs.lemmas.List.{length-append, take-take}
 use Rattle.std.proofs.lemmas.List.Elements.{All-head, All-tail}
-use Rattle.psi_reports.specs.declared.figure.Item.{Item}
-use Rattle.psi_reports.specs.declared.figure.HorizonCount.{HorizonCount}
-use Rattle.psi_reports.specs.declared.figure.Figure.{Figure}
-use Rattle.psi_reports.specs.Text.{figure_row, count_row}
+use Rattle.psi_report.specs.declared.figure.Item.{Item}
+use Rattle.psi_report.specs.declared.figure.HorizonCount.{HorizonCount}
+use Rattle.psi_report.specs.declared.figure.Figure.{Figure}
+use Rattle.psi_report.specs.Text.{figure_row, count_row}
 use Rattle.psi_reports.specs.Sound.{is_next, horizons_flaw, is_sum, agrees_behind, may_begin, sum_stands, may_stand, may_end, item_follows, extreme_follows, flaw_behind, figures_flaw, varies, if_reward, varying_behind, varying_reward, first_of, first_flaw}
 use Rattle.psi_reports.proofs.FieldLemmas.{FitsCount, FitsFigure, last_line, count-same, figure-same, count-figure, count-last, figure-last}
 

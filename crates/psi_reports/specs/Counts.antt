@@ -1,6 +1,6 @@
 -- How many samples have each horizon, over two lists of samples.
 use Rattle.std.specs.Prelude.{ℕ, suc, ◌+◌, List, [], ◌∷◌, ◌==◌, nat_le, nat_lt, if◌then◌else◌}
-use Rattle.psi_reports.specs.declared.figure.HorizonCount.{HorizonCount}
+use Rattle.psi_report.specs.declared.figure.HorizonCount.{HorizonCount}
 
 -- counts with one more: it is added where its horizon is there, else it goes before the first that is higher
 abbrev pub with_count : HorizonCount → List HorizonCount → List HorizonCount

@@ -1,7 +1,4 @@
 -- The definitions of this crate.
-pub mod Contents
-pub mod Text
-pub mod Outcomes
 pub mod Numbers
 pub mod Reading
 pub mod Small

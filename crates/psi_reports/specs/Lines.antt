@@ -5,16 +5,15 @@ use Rattle.std.specs.Str.{bytes_eq}
 use Rattle.psi_state.specs.declared.Outcome.{Outcome}
 use Rattle.psi_model.specs.Network.{Network, NamedReward}
 use Rattle.psi_model.specs.declared.entries.Queue.{Queue}
-use Rattle.psi_report.specs.Report.{report_text}
-use Rattle.psi_reports.specs.declared.figure.Item.{Item}
-use Rattle.psi_reports.specs.declared.figure.Item.TheVariants.{Sum, RewardSum}
-use Rattle.psi_reports.specs.declared.figure.HorizonCount.{HorizonCount}
-use Rattle.psi_reports.specs.declared.figure.Figure.{Figure}
+use Rattle.psi_report.specs.Report.{report_text, contents_of}
+use Rattle.psi_report.specs.declared.figure.Item.{Item}
+use Rattle.psi_report.specs.declared.figure.Item.TheVariants.{Sum, RewardSum}
+use Rattle.psi_report.specs.declared.figure.HorizonCount.{HorizonCount}
+use Rattle.psi_report.specs.declared.figure.Figure.{Figure}
 use Rattle.psi_reports.specs.declared.error.MergeError.{MergeError}
 use Rattle.psi_reports.specs.declared.error.MergeError.TheVariants.{OtherNetwork}
-use Rattle.psi_reports.specs.Contents.{Contents}
-use Rattle.psi_reports.specs.Text.{item_text, figure_row, count_row, contents_rows, text_of}
-use Rattle.psi_reports.specs.Outcomes.{contents_of}
+use Rattle.psi_report.specs.Contents.{Contents}
+use Rattle.psi_report.specs.Text.{item_text, figure_row, count_row, contents_rows, text_of}
 use Rattle.psi_reports.specs.Reading.{is_feed, IsReport}
 use Rattle.psi_reports.specs.Samples.{IsDescribed, AreOf}
 use Rattle.psi_reports.specs.Sound.{horizon_line, figure_line, flaw_of}

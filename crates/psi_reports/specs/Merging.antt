@@ -6,16 +6,16 @@ use Rattle.std.specs.List.{list_all}
 use Rattle.psi_state.specs.declared.Outcome.{Outcome}
 use Rattle.psi_model.specs.Network.{Network}
 use Rattle.psi_report.specs.Joined.{paired}
-use Rattle.psi_reports.specs.declared.figure.Item.{Item}
-use Rattle.psi_reports.specs.declared.figure.Item.TheVariants.{Sum, Least, Greatest, RewardSum, RewardLeast, RewardGreatest}
-use Rattle.psi_reports.specs.declared.figure.HorizonCount.{HorizonCount}
-use Rattle.psi_reports.specs.declared.figure.Figure.{Figure}
+use Rattle.psi_report.specs.declared.figure.Item.{Item}
+use Rattle.psi_report.specs.declared.figure.Item.TheVariants.{Sum, Least, Greatest, RewardSum, RewardLeast, RewardGreatest}
+use Rattle.psi_report.specs.declared.figure.HorizonCount.{HorizonCount}
+use Rattle.psi_report.specs.declared.figure.Figure.{Figure}
 use Rattle.psi_reports.specs.declared.error.MergeError.{MergeError}
 use Rattle.psi_reports.specs.declared.error.MergeError.TheVariants.{OtherNetwork, TooLarge, OutOfMemory}
-use Rattle.psi_reports.specs.Contents.{Contents}
+use Rattle.psi_report.specs.Contents.{Contents}
 use Rattle.psi_reports.specs.Counts.{joined_counts}
 use Rattle.psi_reports.specs.Sound.{is_sum, is_alike, figure_line, figures_line}
-use Rattle.psi_reports.specs.Outcomes.{contents_of}
+use Rattle.psi_report.specs.Report.{contents_of}
 use Rattle.psi_reports.specs.Small.{AreSamples}
 use Rattle.psi_reports.specs.Samples.{AreOf}
 

@@ -6,13 +6,12 @@ use Rattle.psi_reward.specs.Worth.{worth_of}
 use Rattle.psi_reward.specs.declared.RewardKind.{RewardKind}
 use Rattle.psi_model.specs.Network.{Network}
 use Rattle.psi_model.specs.Valid.{IsReward, IsNetwork}
-use Rattle.psi_report.specs.Report.{report_text}
-use Rattle.psi_reports.specs.declared.figure.Item.{Item}
-use Rattle.psi_reports.specs.declared.figure.Item.TheVariants.{Sum, Least, Greatest}
-use Rattle.psi_reports.specs.declared.figure.Figure.{Figure}
-use Rattle.psi_reports.specs.Contents.{Contents}
-use Rattle.psi_reports.specs.Text.{text_of}
-use Rattle.psi_reports.specs.Outcomes.{contents_of}
+use Rattle.psi_report.specs.Report.{report_text, contents_of}
+use Rattle.psi_report.specs.declared.figure.Item.{Item}
+use Rattle.psi_report.specs.declared.figure.Item.TheVariants.{Sum, Least, Greatest}
+use Rattle.psi_report.specs.declared.figure.Figure.{Figure}
+use Rattle.psi_report.specs.Contents.{Contents}
+use Rattle.psi_report.specs.Text.{text_of}
 use Rattle.psi_reports.specs.Reading.{IsReport}
 use Rattle.psi_reports.specs.Samples.{AreOf}
 use Rattle.psi_reports.specs.Sound.{is_worth, flaw_of}

@@ -4,15 +4,19 @@ use Rattle.std.specs.Int.RustNames.{unsigned_abs}
 use Rattle.std.specs.List.{slice_split}
 use Rattle.std.specs.Str.{bytes_eq, is_utf8}
 use Rattle.psi_model.specs.Name.{name_of, is_name}
-use Rattle.psi_reports.specs.declared.figure.Item.{Item}
-use Rattle.psi_reports.specs.declared.figure.Item.TheVariants.{Sum, Least, Greatest, RewardSum, RewardLeast, RewardGreatest}
-use Rattle.psi_reports.specs.declared.figure.HorizonCount.{HorizonCount}
-use Rattle.psi_reports.specs.declared.figure.Figure.{Figure}
+use Rattle.psi_report.specs.declared.figure.Item.{Item}
+use Rattle.psi_report.specs.declared.figure.Item.TheVariants.{Sum, Least, Greatest, RewardSum, RewardLeast, RewardGreatest}
+use Rattle.psi_report.specs.declared.figure.HorizonCount.{HorizonCount}
+use Rattle.psi_report.specs.declared.figure.Figure.{Figure}
 use Rattle.psi_reports.specs.declared.error.ReadError.{ReadError}
 use Rattle.psi_reports.specs.declared.error.ReadError.TheVariants.{Refused, OutOfMemory}
-use Rattle.psi_reports.specs.Contents.{Contents, blank}
+use Rattle.psi_report.specs.Contents.{Contents}
 use Rattle.psi_reports.specs.Numbers.{count_in, integer_of}
-use Rattle.psi_reports.specs.Text.{text_of}
+use Rattle.psi_report.specs.Text.{text_of}
+
+-- a report that tells nothing yet
+abbrev pub blank : Contents
+blank = record { samples = 0; met = 0; horizons = []; figures = [] }
 
 -- a line feed
 abbrev pub is_feed : ℕ → Bool

@@ -6,8 +6,7 @@ use Rattle.psi_model.specs.Name.{is_name}
 use Rattle.psi_model.specs.Network.{Network, caps_of}
 use Rattle.psi_model.specs.Valid.{AreListed, IsReward}
 use Rattle.psi_report.specs.Samples.{IsSampleOf}
-use Rattle.psi_report.specs.Report.{report_text}
-use Rattle.psi_reports.specs.Outcomes.{contents_of}
+use Rattle.psi_report.specs.Report.{report_text, contents_of}
 use Rattle.psi_reports.specs.Reading.{read}
 
 -- names, of which no two are the same

@@ -6,8 +6,7 @@ use Rattle.psi_model.specs.Name.{is_name}
 use Rattle.psi_model.specs.Network.{Network}
 use Rattle.psi_report.specs.Samples.{met_states, met_horizons}
 use Rattle.psi_report.specs.Quantities.{Quantity, queue_quantities, reward_quantities}
-use Rattle.psi_report.specs.Report.{report_text}
-use Rattle.psi_reports.specs.Outcomes.{contents_of}
+use Rattle.psi_report.specs.Report.{report_text, contents_of}
 use Rattle.psi_reports.specs.Reading.{read}
 
 -- a value of 64 bits

@@ -9,12 +9,12 @@ use Rattle.psi_reward.specs.Ranges.{least, greatest}
 use Rattle.psi_state.specs.declared.Outcome.{Outcome}
 use Rattle.psi_model.specs.Network.{Network}
 use Rattle.psi_report.specs.Quantities.{sum_of}
-use Rattle.psi_reports.specs.declared.figure.Item.{Item}
-use Rattle.psi_reports.specs.declared.figure.Item.TheVariants.{Sum, Least, Greatest, RewardSum, RewardLeast, RewardGreatest}
-use Rattle.psi_reports.specs.declared.figure.HorizonCount.{HorizonCount}
-use Rattle.psi_reports.specs.declared.figure.Figure.{Figure}
-use Rattle.psi_reports.specs.Contents.{Contents}
-use Rattle.psi_reports.specs.Outcomes.{contents_of}
+use Rattle.psi_report.specs.declared.figure.Item.{Item}
+use Rattle.psi_report.specs.declared.figure.Item.TheVariants.{Sum, Least, Greatest, RewardSum, RewardLeast, RewardGreatest}
+use Rattle.psi_report.specs.declared.figure.HorizonCount.{HorizonCount}
+use Rattle.psi_report.specs.declared.figure.Figure.{Figure}
+use Rattle.psi_report.specs.Contents.{Contents}
+use Rattle.psi_report.specs.Report.{contents_of}
 use Rattle.psi_reports.specs.Samples.{AreOf}
 
 -- ---- horizons

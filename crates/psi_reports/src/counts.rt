@@ -1,11 +1,11 @@
 //! How many samples have each horizon, over two lists of samples.
 
 ghost use Rattle.std.specs.Prelude.{◌≡◌, ◌<◌, ◌≤◌, true, false, length, slice_index_or, IfOk, MatchBool};
-ghost use Rattle.psi_reports.specs.declared.figure.HorizonCount.{HorizonCount};
+ghost use Rattle.psi_report.specs.declared.figure.HorizonCount.{HorizonCount};
 ghost use Rattle.psi_reports.specs.Counts.{with_count, place_of, joined_counts};
 ghost use Rattle.psi_reports.specs.Merging.{counts_fit};
 
-use crate::figure::HorizonCount;
+use psi_report::HorizonCount;
 use std::alloc::AllocError;
 
 // The place of the first count whose horizon isn't lower.

@@ -5,7 +5,7 @@ ghost use Rattle.psi_report.specs.Joined.{paired};
 ghost use Rattle.psi_reports.specs.Sound.{is_sum, same_sum, is_alike};
 ghost use Rattle.psi_reports.specs.Merging.{sums_of, difference, joined_value, joined_figure, is_value, large_figure};
 
-use crate::figure::{Figure, Item};
+use psi_report::{Figure, Item};
 use std::alloc::{AllocError, Global};
 
 // The magnitude that no figure of a report has: 10^37.

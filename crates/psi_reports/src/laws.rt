@@ -1,6 +1,5 @@
 //! Laws on reports, each the contract of a function that does nothing.
 
-ghost use Rattle.psi_reports.specs.Outcomes.{ReportIsText};
 ghost use Rattle.psi_reports.specs.Reading.{ReadIsText, TextIsRead};
 ghost use Rattle.psi_reports.specs.Small.{ReportIsRead};
 ghost use Rattle.psi_reports.specs.Samples.{SamplesAreRead, ReportsAreShort};
@@ -8,11 +7,6 @@ ghost use Rattle.psi_reports.specs.Merging.{ReportsAreMerged, SamplesAreMerged};
 ghost use Rattle.psi_reports.specs.Sound.{ReportIsSound, SumsAreReached};
 ghost use Rattle.psi_reports.specs.Reached.{QueueReportsAreReached, WorthsAreReached};
 ghost use Rattle.psi_reports.specs.Lines.{RowsStandOnLines, WrongLinesAreNone, ReportsShowNetworks, NetworksAreTold, OtherLinesAreNone, MergedIsReport, FittingAreMerged};
-
-/// The report of samples of a network is the text of what it tells.
-pub fn report_is_text()
-    ensures { ReportIsText }
-{}
 
 /// A text that is read is that of the report, and the text of each report is read as this report: what reads and what
 /// writes are each other's inverse.
@@ -42,7 +36,7 @@ pub fn reports_are_merged()
 {}
 
 /// The report of samples of a network that a file may describe has no line that no report of samples has there:
-/// [`Report::flaw`](crate::Report::flaw) answers none of it.
+/// [`flaw_of`](crate::flaw_of) answers none of it.
 pub fn report_is_sound()
     ensures { ReportIsSound }
 {}
@@ -59,13 +53,13 @@ pub fn worths_are_reached()
     ensures { WorthsAreReached }
 {}
 
-/// The judgement of a report of queues alone is exact: where [`Report::flaw`](crate::Report::flaw) answers none, there
+/// The judgement of a report of queues alone is exact: where [`flaw_of`](crate::flaw_of) answers none, there
 /// are a network that a file may describe and samples of it whose report it is.
 pub fn queue_reports_are_reached()
     ensures { QueueReportsAreReached }
 {}
 
-/// Each report of which [`Report::flaw`](crate::Report::flaw) answers none, with rewards or without, shows the queues and
+/// Each report of which [`flaw_of`](crate::flaw_of) answers none, with rewards or without, shows the queues and
 /// the rewards of a network that a file may describe: so many of each, under such names.
 pub fn reports_show_networks()
     ensures { ReportsShowNetworks }
@@ -76,14 +70,14 @@ pub fn rows_stand_on_lines()
     ensures { RowsStandOnLines }
 {}
 
-/// The line that [`Report::flaw`](crate::Report::flaw) answers is wrong whatever stands behind it: no samples of a
+/// The line that [`flaw_of`](crate::flaw_of) answers is wrong whatever stands behind it: no samples of a
 /// network that a file may describe have a report with the lines up to it, and where it has a sum, with two more, which
 /// may have its extremes.
 pub fn wrong_lines_are_none()
     ensures { WrongLinesAreNone }
 {}
 
-/// [`Report::merged`](crate::Report::merged) answers `OtherNetwork` exactly where two reports don't show the same queues
+/// [`merged`](crate::merged) answers `OtherNetwork` exactly where two reports don't show the same queues
 /// and the same rewards, each by its name and in the same order; so it merges only reports that do.
 pub fn networks_are_told()
     ensures { NetworksAreTold }
@@ -95,7 +89,7 @@ pub fn other_lines_are_none()
     ensures { OtherLinesAreNone }
 {}
 
-/// What [`Report::merged`](crate::Report::merged) gives of two reports is a report, whose text is read as it; and two that
+/// What [`merged`](crate::merged) gives of two reports is a report, whose text is read as it; and two that
 /// show the same queues and rewards are merged wherever what they tell together is one: `TooLarge` is the answer exactly
 /// where it would have a count of 2^64 or more, or a figure whose magnitude is 10^37 or more.
 pub fn merged_are_reports()

@@ -6,10 +6,9 @@ ghost use Rattle.psi_reports.specs.Merging.{sums_of, difference, line_of_sum, jo
 
 use crate::counts::{have_64_bits, join_counts};
 use crate::error::MergeError;
-use crate::figure::Figure;
 use crate::figures::{difference, join_figures, large_figure, sums_of};
 use crate::judging::line_at;
-use crate::report::Report;
+use psi_report::{Figure, Report};
 use std::alloc::{AllocError, Global};
 
 // The first place at which the sums of two reports aren't of the same queue or reward.
@@ -107,23 +106,21 @@ fn joined(report: Report, other: Report) -> Result<Report, MergeError>
     }
 }
 
-impl Report {
-    /// The report of the samples of this report and of those of another, of the same network.
-    ///
-    /// # Errors
-    ///
-    /// [`MergeError::OtherNetwork`] where the queues and rewards of the other report aren't those of this one: the
-    /// sums with which their figures begin differ in a name, in their number, or in whether they are of a queue or of a
-    /// reward. [`MergeError::TooLarge`] where the report of both would tell a count of 2^64 or more, or a sum whose
-    /// magnitude is 10^37 or more. [`MergeError::OutOfMemory`] where there is no memory.
-    pub fn merged(self, alloc: Global, other: Report) -> Result<Report, MergeError>
-        ensures { Merges result (merged self other) }
-    {
-        if let Some(place) = difference_of(alloc, &self, &other)? {
-            return Err(MergeError::OtherNetwork {
-                line: line_of_sum(&other, place),
-            });
-        }
-        joined(self, other)
+/// The report of the samples of a report and of those of another, of the same network.
+///
+/// # Errors
+///
+/// [`MergeError::OtherNetwork`] where the queues and rewards of the other report aren't those of the first: the
+/// sums with which their figures begin differ in a name, in their number, or in whether they are of a queue or of a
+/// reward. [`MergeError::TooLarge`] where the report of both would tell a count of 2^64 or more, or a sum whose
+/// magnitude is 10^37 or more. [`MergeError::OutOfMemory`] where there is no memory.
+pub fn merged(alloc: Global, report: Report, other: Report) -> Result<Report, MergeError>
+    ensures { Merges result (merged report other) }
+{
+    if let Some(place) = difference_of(alloc, &report, &other)? {
+        return Err(MergeError::OtherNetwork {
+            line: line_of_sum(&other, place),
+        });
     }
+    joined(report, other)
 }

@@ -2,13 +2,12 @@
 
 ghost use Rattle.std.specs.Prelude.{◌≡◌, map, IfOk};
 ghost use Rattle.std.specs.List.{slice_split};
-ghost use Rattle.psi_reports.specs.Contents.{blank};
-ghost use Rattle.psi_reports.specs.Text.{text_of};
-ghost use Rattle.psi_reports.specs.Reading.{is_feed, read_lines, read, Gives};
+ghost use Rattle.psi_reports.specs.Reading.{blank, is_feed, read_lines, read, Gives};
+ghost use Rattle.psi_report.specs.Text.{text_of};
 
 use crate::error::ReadError;
-use crate::report::Report;
 use crate::rows::take_line;
+use psi_report::Report;
 use std::alloc::{AllocError, Global};
 
 // The lines of a text: two are parted by each line feed.
@@ -18,12 +17,24 @@ fn lines_of(alloc: Global, text: &[u8]) -> Result<Vec<&[u8]>, AllocError>
     text.split(|byte| *byte == b'\n').collect(alloc)
 }
 
+// A report that tells nothing yet.
+fn blank(alloc: Global) -> Report
+    ensures { result ≡ blank }
+{
+    Report {
+        samples: 0,
+        met: 0,
+        horizons: Vec::new(alloc),
+        figures: Vec::new(alloc),
+    }
+}
+
 // What lines tell one after another.
 #[tactic(auto, using(crate::proofs::LineLemmas::lines_end))]
 fn read_lines(alloc: Global, lines: &[&[u8]]) -> Result<Report, ReadError>
     ensures { Gives result (read_lines 1 blank (map (λ line. line.now) lines.now)) }
 {
-    let mut report = Report::blank(alloc);
+    let mut report = blank(alloc);
     for (place, line) in lines.iter().enumerate() {
         if !take_line(alloc, &mut report, line)? {
             return Err(ReadError::Refused {

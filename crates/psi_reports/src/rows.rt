@@ -4,10 +4,9 @@ ghost use Rattle.std.specs.Prelude.{◌≡◌, map, IfOk};
 ghost use Rattle.std.specs.List.{slice_split};
 ghost use Rattle.psi_reports.specs.Reading.{is_comma, item_of, name_in, with_samples, with_met, with_horizon, with_figure, with_fields, with_row, Took};
 
-use crate::figure::{Figure, HorizonCount, Item};
 use crate::numbers::{count_in, integer_of};
-use crate::report::Report;
 use psi_model::{Name, OutOfMemory, name_of};
+use psi_report::{Figure, HorizonCount, Item, Report};
 use std::alloc::{AllocError, Global};
 
 // The item of a figure's row.

@@ -4,9 +4,9 @@ ghost use Rattle.std.specs.Prelude.{◌≡◌, ◌≤◌, true, not, count_by, u
 ghost use Rattle.std.specs.List.{list_all};
 ghost use Rattle.psi_reports.specs.Sound.{item_follows, may_begin, may_end, same_sum, is_alike, most_of, is_new, are_extremes, agrees_with, agrees, sum_stands, may_stand, figures_flaw};
 
-use crate::figure::{Figure, Item};
 use crate::figures::{is_alike, is_sum, same_sum};
 use crate::values::{allows, extreme_follows};
+use psi_report::{Figure, Item};
 
 // Whether an item may follow another, where samples are met or not.
 fn item_follows(some: bool, last: Item, item: Item) -> bool

@@ -3,7 +3,7 @@
 ghost use Rattle.std.specs.Prelude.{◌≡◌, ◌≤◌, true, unsigned_abs};
 ghost use Rattle.psi_reports.specs.Sound.{is_customers, is_worth, is_extreme, is_ordered, extreme_follows, all_but_one, allows};
 
-use crate::figure::{Figure, Item};
+use psi_report::{Figure, Item};
 
 // The most customers that a queue holds.
 const MOST_CUSTOMERS: i128 = 65_535;

@@ -3,8 +3,8 @@
 ghost use Rattle.std.specs.Prelude.{◌≡◌};
 ghost use Rattle.psi_reports.specs.Sound.{is_greatest, varies, if_reward, varying_reward, first_of, first_flaw};
 
-use crate::figure::{Figure, Item};
 use crate::standing::figures_flaw;
+use psi_report::{Figure, Item};
 
 // Whether it is the greatest of a queue's or a reward's values.
 fn is_greatest(item: Item) -> bool

@@ -1,7 +1,7 @@
 -- Answers in the proof of `counts::add_count`.
 use Rattle.std.proofs.Common.{◌≡◌, arith, sym, ap, ◌∙◌}
 use Rattle.std.proofs.lemmas.List.{get_or_default}
-use Rattle.psi_reports.specs.declared.figure.HorizonCount.{HorizonCount}
+use Rattle.psi_report.specs.declared.figure.HorizonCount.{HorizonCount}
 use Rattle.psi_reports.proofs.CountLemmas.{with_count-set, with_count-insert, added-large}
 use Rattle.psi_reports.proofs.counts.add_count.Goals as goal
 

@@ -1,7 +1,6 @@
 -- The lines that are left tell what all tell.
 use Rattle.std.proofs.Common.{◌≡◌, ◌+◌, map, drop}
-use Rattle.psi_reports.specs.Contents.{blank}
-use Rattle.psi_reports.specs.Reading.{read_lines}
+use Rattle.psi_reports.specs.Reading.{blank, read_lines}
 use Rattle.psi_reports.proofs.reading.read_lines.Given as goal
 
 abbrev pub invariant-loop-place : goal.invariant-loop-place
