@@ -6,17 +6,17 @@ ghost use Rattle.psi_piecewise.specs.Piecewise.{Does};
 use crate::piecewise::Piecewise;
 use psi_event::{EventLaw, Idle};
 
-/// An event that may tell of which pieces it is.
+/// An event that may tell of which pieces it is. One that tells none needs no more than `impl PiecewiseLaw for
+/// It {}`.
 ///
 /// No call takes memory.
 pub trait PiecewiseLaw: EventLaw {
     /// The pieces that do to each state within the capacities what the event does, where the event tells them.
     fn piecewise(&self) -> Option<Piecewise>
-        ensures { IfSome result (λ pieces. Does (Self.capacities self.now) pieces (Self.function self.now)) };
-}
-
-impl PiecewiseLaw for Idle {
-    fn piecewise(&self) -> Option<Piecewise> {
+        ensures { IfSome result (λ pieces. Does (Self.capacities self.now) pieces (Self.function self.now)) }
+    {
         None
     }
 }
+
+impl PiecewiseLaw for Idle {}

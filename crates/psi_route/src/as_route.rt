@@ -5,14 +5,17 @@ ghost use Rattle.std.specs.Prelude.{◌≡◌, IfSome};
 use crate::route::Route;
 use psi_event::{EventLaw, Idle};
 
-/// An event that may be a route.
+/// An event that may be a route. One that is none needs no more than `impl RouteLaw for It {}`.
 ///
 /// No call takes memory.
 pub trait RouteLaw: EventLaw {
     /// The route that does what the event does, where the event is a route.
     fn as_route(&self) -> Option<&Route>
         ensures capacities { IfSome result (λ route. ⟦<Route as EventLaw>⟧.capacities route.now ≡ Self.capacities self.now) }
-        ensures function { IfSome result (λ route. ⟦<Route as EventLaw>⟧.function route.now ≡ Self.function self.now) };
+        ensures function { IfSome result (λ route. ⟦<Route as EventLaw>⟧.function route.now ≡ Self.function self.now) }
+    {
+        None
+    }
 }
 
 impl RouteLaw for Route {
@@ -21,8 +24,4 @@ impl RouteLaw for Route {
     }
 }
 
-impl RouteLaw for Idle {
-    fn as_route(&self) -> Option<&Route> {
-        None
-    }
-}
+impl RouteLaw for Idle {}
