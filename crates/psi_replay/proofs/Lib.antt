@@ -2,7 +2,6 @@
 pub mod ListLemmas
 pub mod SetLemmas
 pub mod RegionLemmas
-pub mod WindowLemmas
 pub mod JudgingLemmas
 pub mod AcceptedLemmas
 mod Worked

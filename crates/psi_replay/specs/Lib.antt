@@ -3,4 +3,3 @@ pub mod Verdict
 pub mod Numbered
 pub mod Seen
 pub mod Judging
-pub mod Window

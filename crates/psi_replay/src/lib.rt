@@ -7,7 +7,6 @@
 #![tactic(auto)]
 
 mod answers;
-mod backward;
 mod causes;
 mod covering;
 mod judging;

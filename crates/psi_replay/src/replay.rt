@@ -6,11 +6,10 @@ ghost use Rattle.psi_rate.specs.Composition.{system_functions};
 ghost use Rattle.psi_replay.specs.Verdict.{judged, verdict_of, event_numbers, ReachesAccepted, AcceptsWithin};
 
 use crate::answers::Verdict;
-use crate::backward::Backward;
 use crate::judging::judged;
 use psi_event::EventLaw;
 use psi_log::Log;
-use psi_past::SeedPast;
+use psi_past::{SeedPast, Windowed};
 use psi_rate::System;
 
 /// The verdict on a log of a network: accepted where it breaks no rule, whoever wrote it, and rejected else, at
@@ -41,7 +40,7 @@ pub fn verdict<E: EventLaw>(system: &System<'_, E>, log: &Log) -> Verdict
     // Called for its clause: the events fit the capacities.
     let _caps = system.caps();
     let header = log.header();
-    let mut past = Backward::new(SeedPast::new(header.seed, header.stream));
+    let mut past = Windowed::new(SeedPast::new(header.seed, header.stream));
     match judged(system, &mut past, log) {
         Ok(()) => Verdict::Accepted {
             horizon: header.horizon,

@@ -7,7 +7,7 @@ use psi_event::{EventLaw, Idle};
 use psi_index::IndexTable;
 use psi_io::{MemorySink, Sink, StdSink, write_all};
 use psi_net::Net;
-use psi_past::{Kept, ListPast, Past, SeedPast};
+use psi_past::{ListPast, Past, SeedPast, Windowed};
 use psi_pool::Pool;
 use psi_region::Region;
 use std::alloc::Global;
@@ -21,28 +21,23 @@ pub(crate) fn make(alloc: Global, calls: bool, net: &Net) -> Option<()> {
     make_sinks(alloc, calls)
 }
 
-// Room for eight words, of which none is kept yet, and a list of words.
+// The words of a seed, of a list and of another past by windows.
 fn make_words(alloc: Global, calls: bool) -> Option<()> {
-    let Ok(mut kept) = Kept::reserve(alloc, SeedPast::new(0, 0), 8) else {
-        return None;
-    };
     let words = [3, 1, 4].to_vec(alloc).ok()?;
+    let mut list = ListPast::new(words);
+    let mut past = Windowed::new(SeedPast::new(0, 0));
     if calls {
-        call_kept(&mut kept);
-        let mut list = ListPast::new(words);
-        let _words = (list.word(2), list.word(3));
+        read(&mut list);
+        read(&mut past);
+        past.replace(SeedPast::new(1, 1));
+        read(&mut past);
     }
     Some(())
 }
 
-fn call_kept(kept: &mut Kept<SeedPast>)
-    requires { kept.old.most ≡ 8 }
-{
-    kept.extend_to(4);
-    kept.extend_to(8);
-    let _word = kept.at(7);
-    kept.replace(SeedPast::new(1, 1));
-    kept.extend_to(8);
+fn read<P: Past>(past: &mut P) {
+    let _words = (past.word(2), past.word(3));
+    past.fill(0, &mut [0; 100]);
 }
 
 // A table of eight values.

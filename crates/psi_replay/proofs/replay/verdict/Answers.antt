@@ -17,7 +17,7 @@ returns-in-Ok-clause-value g c =
     let system = c.args.system.now in
     let log = c.args.log.now in
     let rules_of = λ (w : ℕ → ℕ). judged system.caps system.limit (event_numbers system w) (system_functions g.E.EventLaw.function system w) log in
-    let words = c.new-past.ensures ∙ ap (λ (s : Seeded). seed_word s.seed s.stream) c.new.ensures ∙ ap (λ (h : Header). seed_word h.seed h.stream) c.header-header.ensures.value in
+    let words = ap (λ (s : Seeded). seed_word s.seed s.stream) (c.new-past.ensures ∙ c.new.ensures) ∙ ap (λ (h : Header). seed_word h.seed h.stream) c.header-header.ensures.value in
     let right = sym (ap rules_of words) ∙ c.in-Ok.ensures.value in
     ap (λ (h : Header). Accepted h.horizon c.end.result) c.header-header.ensures.value ∙ ap (λ (s : List ℕ). Accepted log.header.horizon s) c.end.ensures
     ∙ sym (ap (λ rules. verdict_of log rules) right)
@@ -47,6 +47,6 @@ returns-in-Err-clause-value g c =
     let system = c.args.system.now in
     let log = c.args.log.now in
     let rules_of = λ (w : ℕ → ℕ). judged system.caps system.limit (event_numbers system w) (system_functions g.E.EventLaw.function system w) log in
-    let words = c.new-past.ensures ∙ ap (λ (s : Seeded). seed_word s.seed s.stream) c.new.ensures ∙ ap (λ (h : Header). seed_word h.seed h.stream) c.header-header.ensures.value in
+    let words = ap (λ (s : Seeded). seed_word s.seed s.stream) (c.new-past.ensures ∙ c.new.ensures) ∙ ap (λ (h : Header). seed_word h.seed h.stream) c.header-header.ensures.value in
     let broken = sym (ap rules_of words) ∙ c.in-Err.ensures.value in
     ap (λ (n : ℕ). Rejected c.in-Err.rejection.line n) c.code.ensures ∙ sym (ap (λ rules. verdict_of log rules) broken)
