@@ -1,10 +1,10 @@
 -- Boxes of states between two packed corners, and what is made of the corners while the boxes have many states
 -- (Bušić, Gaujal and Vincent 2008).
-use Rattle.std.specs.Prelude.{◌≡◌, ℕ, suc, ◌*◌, ◌-◌, ◌<◌, ◌≤◌, ◌⊎◌, ◌↔◌, List, [], ◌∷◌, length, drop, slice_index, slice_index_or, Bool, true, false, IsTrue}
+use Rattle.std.specs.Prelude.{◌≡◌, ℕ, suc, ◌+◌, ◌*◌, ◌-◌, ◌%◌, ◌^◌, ◌<◌, ◌≤◌, ◌⊎◌, ◌↔◌, List, [], ◌∷◌, length, drop, slice_index, slice_index_or, Bool, true, false, IsTrue}
 use Rattle.psi_state.specs.State.{IsBelow, box}
 use Rattle.psi_event.specs.Law.{Function, IsMonotone}
 use Rattle.psi_event.specs.Numbers.{follow_numbers}
-use Rattle.psi_packed.specs.Packed.{Packing, packed}
+use Rattle.psi_packed.specs.Packed.{Packing, IsPacking, packed}
 use Rattle.psi_packed.specs.Programs.{Prepared, Prepares}
 
 -- how many lists have at each place at most the number of this list
@@ -27,6 +27,15 @@ pub record AreCorners (count : ℕ) (p : Packing) (low_words high_words lo hi : 
 -- it is told whether the box has at most so many states
 abbrev pub TellsFew : ℕ → Packing → List ℕ → List ℕ → ℕ → Bool → Type 0
 TellsFew count p low high most told = (lo hi : List ℕ) → AreCorners count p low high lo hi → IsTrue told ↔ length (box lo hi) ≤ most
+
+-- words are the gaps of two packed states: what the high one's are above the low one's, modulo 2^64
+abbrev pub AreGaps : ℕ → List ℕ → List ℕ → List ℕ → Type 0
+AreGaps count low high gaps = (w : ℕ) → w < count → slice_index gaps w ≡ (slice_index high w + (2 ^ 64 - slice_index low w)) % 2 ^ 64
+
+-- it is told whether the boxes that have these gaps have at most so many states
+abbrev pub GapsTell : ℕ → ℕ → ℕ → List ℕ → Bool → Type 0
+GapsTell count bits most gaps told =
+    (p : Packing) (low high : List ℕ) → IsPacking count p → p.bits ≡ bits → AreGaps count low high gaps → TellsFew count p low high most told
 
 -- the event of the number at this place halts
 abbrev pub halts_at : List Bool → List ℕ → ℕ → Bool

@@ -1,11 +1,12 @@
 //! Boxes of states between two packed corners: how many states they have, and runs that follow the corners while these
 //! are many.
 
-ghost use Rattle.std.specs.Prelude.{◌≡◌, ◌+◌, ◌-◌, ◌*◌, ◌%◌, ◌^◌, ◌<◌, ◌≤◌, ℕ, List, length, slice_index, EachIndex};
-ghost use Rattle.psi_packed.specs.Packed.{Packing, IsPacking, word_of};
-ghost use Rattle.psi_packed.specs.Boxes.{widths, IsCount, TellsFew, FollowsBox};
+ghost use Rattle.std.specs.Prelude.{◌≡◌, ◌*◌, ◌^◌, ◌<◌, ◌≤◌, ℕ, List, length, slice_index, EachIndex, false};
+ghost use Rattle.psi_packed.specs.Packed.{word_of};
+ghost use Rattle.psi_packed.specs.Boxes.{widths, IsCount, GapsTell, TellsFew, FollowsBox};
 ghost use Rattle.psi_packed.specs.Views.{lows, highs};
 
+use crate::layout::Packed;
 use crate::pairs::Pairs;
 use crate::program::Program;
 
@@ -15,7 +16,7 @@ impl<const K: usize> Program<K> {
     pub fn box_has_at_most(&self, x: &Pairs<K>, most: u32) -> bool
         ensures { TellsFew K self.now.packing (lows x.now) (highs x.now) most result }
     {
-        has_at_most(x, self.layout.bits(), most)
+        has_at_most(&x.gaps(), self.layout.bits(), most)
     }
 
     /// Follows the events of these numbers, the last number's first, as long as the box between the two packed states
@@ -39,12 +40,18 @@ impl<const K: usize> Program<K> {
         let bits = self.layout.bits();
         // In a variable of its own it stays in registers.
         let mut own = *x;
+        let mut tested = own.gaps();
+        if has_at_most(&tested, bits, most) {
+            return numbers.len();
+        }
         for place in (0..numbers.len()).rev() {
             let event = numbers[place] as usize;
-            if has_at_most(&own, bits, most) || halts[event] {
+            let gaps = own.gaps();
+            if became_few(&gaps, &tested, bits, most) || halts[event] {
                 *x = own;
                 return place + 1;
             }
+            tested = gaps;
             moves[event].advance(&mut own);
         }
         *x = own;
@@ -52,17 +59,31 @@ impl<const K: usize> Program<K> {
     }
 }
 
-// Whether the box between the two packed states has at most so many states, by fields of so many bits.
+// Whether boxes of these gaps have at most so many states, where those of the gaps that were tested have more: most events
+// move both corners alike.
 #[inline]
-fn has_at_most<const K: usize>(x: &Pairs<K>, bits: u8, most: u32) -> bool
+fn became_few<const K: usize>(gaps: &Packed<K>, tested: &Packed<K>, bits: u8, most: u32) -> bool
     requires some { 1 ≤ bits }
     requires few { bits ≤ 16 }
-    ensures { (p : Packing) → IsPacking K p → p.bits ≡ bits → TellsFew K p (lows x.now) (highs x.now) most result }
+    requires many { GapsTell K bits most tested.now.words false }
+    ensures { GapsTell K bits most gaps.now.words result }
+{
+    if gaps.is(tested) {
+        return false;
+    }
+    has_at_most(gaps, bits, most)
+}
+
+// Whether the boxes of these gaps have at most so many states, by fields of so many bits.
+#[inline]
+fn has_at_most<const K: usize>(gaps: &Packed<K>, bits: u8, most: u32) -> bool
+    requires some { 1 ≤ bits }
+    requires few { bits ≤ 16 }
+    ensures { GapsTell K bits most gaps.now.words result }
 {
     let mut count = 1;
     for at in 0..K {
-        let widths = x.pairs[at].high().wrapping_sub(x.pairs[at].low());
-        count = times_widths(widths, bits, most, count);
+        count = times_widths(gaps.words[at], bits, most, count);
     }
     count <= most as u64
 }

@@ -1,6 +1,7 @@
 //! Two packed states side by side, so that one operation does both.
 
 ghost use Rattle.std.specs.Prelude.{◌≡◌, ◌↔◌, ◌+◌, ◌%◌, ◌^◌, ◌-◌, IsTrue, nat_eq, bit_and, replicate, if◌then◌else◌};
+ghost use Rattle.psi_packed.specs.Boxes.{AreGaps};
 ghost use Rattle.psi_packed.specs.Views.{low_word, high_word, lows, highs};
 
 use crate::layout::Packed;
@@ -129,6 +130,18 @@ impl<const K: usize> Pairs<K> {
         let mut words = [0; K];
         for at in 0..K {
             words[at] = self.pairs[at].high();
+        }
+        Packed { words }
+    }
+
+    // What the high one's words are above the low one's, modulo 2^64.
+    #[inline]
+    pub(crate) fn gaps(&self) -> Packed<K>
+        ensures { AreGaps K (lows self.now) (highs self.now) result.words }
+    {
+        let mut words = [0; K];
+        for at in 0..K {
+            words[at] = self.pairs[at].high().wrapping_sub(self.pairs[at].low());
         }
         Packed { words }
     }

@@ -1,46 +1,62 @@
 use Rattle.std.proofs.Common.{◌≡◌, ◌+◌, ◌-◌, ◌<◌, ◌≤◌, inl, inr, length, map, slice_index, slice_index_or, ap, sym, subst, ◌∙◌, refl, arith}
 use Rattle.psi_packed.specs.Moves.{Moving, IsMoved, no_move}
 use Rattle.psi_packed.specs.Programs.{Prepared}
-use Rattle.psi_packed.specs.Boxes.{AreFollowed, Ends, box_from}
+use Rattle.psi_packed.specs.Boxes.{AreFollowed, Ends, GapsTell, box_from}
 use Rattle.psi_packed.specs.Views.{lows, highs, low_word, high_word, moving_by}
 use Rattle.psi_packed.proofs.FollowingLemmas.{move-read}
 use Rattle.psi_packed.proofs.DescendingLemmas.{many-told, followed-none, followed-more}
 use Rattle.psi_packed.proofs.program.Program.follow_while_many.Goals as goal
-use Rattle.psi_packed.proofs.program.Program.follow_while_many.Goals.{then-has_at_most-via-then-has_at_most, then-has_at_most-via-else-has_at_most+then-halts-event}
-
-pub loop-place-init : goal.loop-place-init
-loop-place-init g c = λ caps functions lo hi prepared monotone corners.
-    followed-none g.row.K c.args.self.now caps functions c.args.numbers.now c.args.halts.now c.args.most lo hi prepared monotone (lows c.args.x.now) (highs c.args.x.now) corners
-
-pub loop-place-preserved : goal.loop-place-preserved
-loop-place-preserved g c = λ caps functions lo hi prepared monotone corners.
-    let p = c.args.self.now in
-    let numbers = c.args.numbers.now in
-    let i = c.loop-place.place in
-    let own = c.loop-place.own in
-    let new = c.advance.new.x in
-    let items = c.self.inside.moves.items in
-    let some : 1 ≤ i = c.loop-place-test.true in
-    let within : i ≤ length numbers = c.loop-place.auto.place in
-    let number = slice_index numbers (i - 1) in
-    let small : number < length p.moves = c.requires.numbers (i - 1) (omega arith) in
-    let m = c.index-moves-event.result in
-    let low_moves : map (moving_by {K = g.row.K} low_word) items ≡ p.moves = ap (λ (q : Prepared). q.moves) c.self.view_is in
-    let low_move : moving_by low_word m ≡ slice_index_or p.moves number no_move =
-    move-read p (moving_by low_word) items c.as_slice-moves.result.now number m low_moves c.as_slice-moves.ensures.value c.index-moves-event.is small in
-    let high_move : moving_by high_word m ≡ slice_index_or p.moves number no_move =
-    move-read p (moving_by high_word) items c.as_slice-moves.result.now number m (c.self.invariant.same ∙ low_moves) c.as_slice-moves.ensures.value c.index-moves-event.is small in
-    let bits : p.packing.bits ≡ c.bits-bits.result = sym (ap (λ (q : Prepared). q.packing.bits) c.self.view_is) ∙ sym c.bits-bits.ensures.value in
-    let followed = c.loop-place.invariant caps functions lo hi prepared monotone corners in
-    let tells = c.has_at_most.ensures p.packing prepared.packing bits _ _ followed.corners in
-    let many : c.args.most < length (box_from functions numbers lo hi i) = many-told c.has_at_most.result (length (box_from functions numbers lo hi i)) c.args.most tells c.if-has_at_most.false in
-    followed-more g.row.K p caps functions numbers c.args.halts.now c.args.most lo hi prepared monotone i (lows own) (highs own) some within small followed (lows new) (highs new)
-    many c.if-halts-event.false
-    (subst (λ (n : Moving). IsMoved g.row.K n (lows own) (lows new)) low_move c.advance.ensures.low)
-    (subst (λ (n : Moving). IsMoved g.row.K n (highs own) (highs new)) high_move c.advance.ensures.high)
+use Rattle.psi_packed.proofs.program.Program.follow_while_many.Goals.{then-became_few-via-then-became_few, then-became_few-via-else-became_few+then-halts-event}
 
 pub returns-then-has_at_most-clause-run : goal.returns-then-has_at_most-clause-run
 returns-then-has_at_most-clause-run g c = λ caps functions lo hi prepared monotone corners.
+    let p = c.args.self.now in
+    let numbers = c.args.numbers.now in
+    let x = c.args.x.now in
+    let bits : p.packing.bits ≡ c.bits-bits.result = sym (ap (λ (q : Prepared). q.packing.bits) c.self.view_is) ∙ sym c.bits-bits.ensures.value in
+    let followed = followed-none g.row.K p caps functions numbers c.args.halts.now c.args.most lo hi prepared monotone (lows x) (highs x) corners in
+    let tells = c.has_at_most.ensures p.packing (lows x) (highs x) prepared.packing bits c.gaps-tested.ensures _ _ followed.corners in
+    (followed, inr (inl (tells.0 c.if-has_at_most.true)))
+
+pub loop-place-init : goal.loop-place-init
+loop-place-init g c = record {
+  run = λ caps functions lo hi prepared monotone corners.
+      followed-none g.row.K c.args.self.now caps functions c.args.numbers.now c.args.halts.now c.args.most lo hi prepared monotone (lows c.args.x.now) (highs c.args.x.now) corners;
+  tested = subst (λ told. GapsTell g.row.K c.bits-bits.result c.args.most c.gaps-tested.result.words told) c.if-has_at_most.false c.has_at_most.ensures;
+}
+
+pub loop-place-preserved : goal.loop-place-preserved
+loop-place-preserved g c = record {
+  run = λ caps functions lo hi prepared monotone corners.
+      let p = c.args.self.now in
+      let numbers = c.args.numbers.now in
+      let i = c.loop-place.place in
+      let own = c.loop-place.own in
+      let new = c.advance.new.x in
+      let items = c.self.inside.moves.items in
+      let some : 1 ≤ i = c.loop-place-test.true in
+      let within : i ≤ length numbers = c.loop-place.auto.place in
+      let number = slice_index numbers (i - 1) in
+      let small : number < length p.moves = c.requires.numbers (i - 1) (omega arith) in
+      let m = c.index-moves-event.result in
+      let low_moves : map (moving_by {K = g.row.K} low_word) items ≡ p.moves = ap (λ (q : Prepared). q.moves) c.self.view_is in
+      let low_move : moving_by low_word m ≡ slice_index_or p.moves number no_move =
+      move-read p (moving_by low_word) items c.as_slice-moves.result.now number m low_moves c.as_slice-moves.ensures.value c.index-moves-event.is small in
+      let high_move : moving_by high_word m ≡ slice_index_or p.moves number no_move =
+      move-read p (moving_by high_word) items c.as_slice-moves.result.now number m (c.self.invariant.same ∙ low_moves) c.as_slice-moves.ensures.value c.index-moves-event.is small in
+      let bits : p.packing.bits ≡ c.bits-bits.result = sym (ap (λ (q : Prepared). q.packing.bits) c.self.view_is) ∙ sym c.bits-bits.ensures.value in
+      let followed = c.loop-place.invariant.run caps functions lo hi prepared monotone corners in
+      let tells = c.became_few.ensures p.packing (lows own) (highs own) prepared.packing bits c.gaps-gaps.ensures _ _ followed.corners in
+      let many : c.args.most < length (box_from functions numbers lo hi i) = many-told c.became_few.result (length (box_from functions numbers lo hi i)) c.args.most tells c.if-became_few.false in
+      followed-more g.row.K p caps functions numbers c.args.halts.now c.args.most lo hi prepared monotone i (lows own) (highs own) some within small followed (lows new) (highs new)
+      many c.if-halts-event.false
+      (subst (λ (n : Moving). IsMoved g.row.K n (lows own) (lows new)) low_move c.advance.ensures.low)
+      (subst (λ (n : Moving). IsMoved g.row.K n (highs own) (highs new)) high_move c.advance.ensures.high);
+  tested = subst (λ told. GapsTell g.row.K c.bits-bits.result c.args.most c.gaps-gaps.result.words told) c.if-became_few.false c.became_few.ensures;
+}
+
+pub returns-then-became_few-clause-run : goal.returns-then-became_few-clause-run
+returns-then-became_few-clause-run g c = λ caps functions lo hi prepared monotone corners.
     let p = c.args.self.now in
     let numbers = c.args.numbers.now in
     let halts = c.args.halts.now in
@@ -49,11 +65,11 @@ returns-then-has_at_most-clause-run g c = λ caps functions lo hi prepared monot
     let some : 1 ≤ i = c.loop-place-test.true in
     let same : i ≡ i - 1 + 1 = omega arith in
     let bits : p.packing.bits ≡ c.bits-bits.result = sym (ap (λ (q : Prepared). q.packing.bits) c.self.view_is) ∙ sym c.bits-bits.ensures.value in
-    let followed = c.loop-place.invariant caps functions lo hi prepared monotone corners in
-    let tells = c.has_at_most.ensures p.packing prepared.packing bits _ _ followed.corners in
-    let ends : Ends functions numbers halts c.args.most lo hi i = elim c.then-has_at_most.branch [
-      | then-has_at_most-via-then-has_at_most w ↦ inr (inl (tells.0 w.if-has_at_most.true))
-      | then-has_at_most-via-else-has_at_most+then-halts-event w ↦ inr (inr w.if-halts-event.true)
+    let followed = c.loop-place.invariant.run caps functions lo hi prepared monotone corners in
+    let tells = c.became_few.ensures p.packing (lows own) (highs own) prepared.packing bits c.gaps-gaps.ensures _ _ followed.corners in
+    let ends : Ends functions numbers halts c.args.most lo hi i = elim c.then-became_few.branch [
+      | then-became_few-via-then-became_few w ↦ inr (inl (tells.0 w.if-became_few.true))
+      | then-became_few-via-else-became_few+then-halts-event w ↦ inr (inr w.if-halts-event.true)
     ] in
     subst (λ n. AreFollowed g.row.K p.packing functions numbers halts c.args.most lo hi (lows own) (highs own) n × Ends functions numbers halts c.args.most lo hi n) same (followed, ends)
 
@@ -61,6 +77,6 @@ pub returns-clause-run : goal.returns-clause-run
 returns-clause-run g c = λ caps functions lo hi prepared monotone corners.
     let none : c.loop-place.place ≡ 0 = omega arith in (
       subst (λ n. AreFollowed g.row.K c.args.self.now.packing functions c.args.numbers.now c.args.halts.now c.args.most lo hi (lows c.loop-place.own) (highs c.loop-place.own) n) none
-          (c.loop-place.invariant caps functions lo hi prepared monotone corners),
+          (c.loop-place.invariant.run caps functions lo hi prepared monotone corners),
       inl refl,
     )
