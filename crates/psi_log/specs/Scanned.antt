@@ -1,6 +1,7 @@
 -- What stands in a text from a place on.
-use Rattle.std.specs.Prelude.{◌≡◌, ℕ, ◌<◌, ◌≤◌, ◌^◌, List, length, map, take, drop, true, Option, Result, Ok}
-use Rattle.std.specs.List.{list_all}
+use Rattle.std.specs.Prelude.{◌≡◌, ℕ, ◌<◌, ◌≤◌, ◌^◌, List, [], ◌∷◌, ◌++◌, length, map, take, drop, true, Option, Result, Ok}
+use Rattle.std.specs.List.{list_all, flat_map}
+use Rattle.std.specs.Fmt.{decimal}
 use Rattle.psi_state.specs.State.{Corners}
 use Rattle.psi_state.specs.Members.{In}
 use Rattle.psi_log_text.specs.declared.header.Header.{Header}
@@ -15,6 +16,14 @@ use Rattle.psi_log.specs.Reading.{read_step}
 -- the words stand in the text from one place to another
 abbrev pub Stands : List ℕ → ℕ → ℕ → List ℕ → Type 0
 Stands text at end word = Puts text text at end word
+
+-- a number with a comma behind it
+abbrev pub with_comma : ℕ → List ℕ
+with_comma n = decimal n ++ (44 ∷ [])
+
+-- numbers, each with a comma behind it
+unfoldable pub with_commas : List ℕ → List ℕ
+with_commas numbers = flat_map with_comma numbers
 
 -- the states that were put behind the old ones are of so many queues, and stand in the text from one place to another, each behind a space
 pub record AreScanned (queues : ℕ) (text : List ℕ) (at end : ℕ) (old new : List (List ℕ)) : Type 0 where

@@ -3,9 +3,7 @@
 
 ghost use Rattle.std.specs.Prelude.{◌≡◌, ◌∷◌, [], ◌+◌, ◌<◌, ◌≤◌, length, decimal, IsTrue, IfSome};
 ghost use Rattle.psi_log_text.specs.Text.{numbers_text};
-ghost use Rattle.psi_log.specs.Scanned.{Stands};
-
-use psi_state::State;
+ghost use Rattle.psi_log.specs.Scanned.{Stands, with_comma};
 
 /// Whether a byte stands at a place.
 #[inline]
@@ -27,6 +25,18 @@ pub(crate) fn has_word(text: &[u8], at: usize, word: &[u8]) -> bool
     }
     let part = &text[at..at + word.len()];
     part == word
+}
+
+// The digit that a byte is.
+#[inline]
+fn digit_of(byte: u8) -> Option<u32>
+    ensures small { IfSome result (λ digit. digit ≤ 9) }
+    ensures value { IfSome result (λ digit. 48 + digit ≡ byte) }
+{
+    if byte.is_ascii_digit() {
+        return Some((byte - b'0') as u32);
+    }
+    None
 }
 
 // The digit at a place.
@@ -99,24 +109,63 @@ pub(crate) fn small_at(text: &[u8], at: usize) -> Option<(u16, usize)>
     any_small_at(text, at)
 }
 
-/// The state of so many queues that stands at a place, and the place behind it.
-pub(crate) fn state_at(text: &[u8], at: usize, queues: u8) -> Option<(State, usize)>
-    requires some { 1 ≤ queues }
-    requires few { queues ≤ 32 }
-    ensures count { IfSome result (λ read. length read.0 ≡ queues) }
+// The number of 16 bits that stands at a place with a comma behind it, and the place behind the comma.
+#[inline(never)]
+fn any_with_comma(text: &[u8], at: usize) -> Option<(u16, usize)>
     ensures within { IfSome result (λ read. read.1 ≤ length text.now) }
-    ensures there { IfSome result (λ read. Stands text.now at read.1 (numbers_text read.0)) }
+    ensures there { IfSome result (λ read. Stands text.now at read.1 (with_comma read.0)) }
 {
-    let (first, mut end) = small_at(text, at)?;
-    let mut x = State::zero(queues);
-    x.set(0, first);
-    for queue in 1..queues {
-        if !has_byte(text, end, b',') {
-            return None;
-        }
-        let (number, next) = small_at(text, end + 1)?;
-        x.set(queue, number);
+    let (number, end) = any_small_at(text, at)?;
+    if !has_byte(text, end, b',') {
+        return None;
+    }
+    Some((number, end + 1))
+}
+
+// The same; at once where it has one or two digits. At `last`, and before it, two bytes more stand behind a place.
+#[inline]
+fn small_with_comma(text: &[u8], at: usize, last: usize) -> Option<(u16, usize)>
+    requires { last + 2 < length text.now }
+    ensures within { IfSome result (λ read. read.1 ≤ length text.now) }
+    ensures there { IfSome result (λ read. Stands text.now at read.1 (with_comma read.0)) }
+{
+    if at > last {
+        return any_with_comma(text, at);
+    }
+    let first = digit_of(text[at])?;
+    if text[at + 1] == b',' {
+        return Some((first as u16, at + 2));
+    }
+    let second = digit_of(text[at + 1])?;
+    if first >= 1 && text[at + 2] == b',' {
+        let number = 10 * first + second;
+        return Some((number as u16, at + 3));
+    }
+    any_with_comma(text, at)
+}
+
+/// Reads the numbers that stand at a place, joined by commas, as many as the row has, and answers the place behind
+/// them. Where nothing is given, nothing is said of the row.
+#[inline(never)]
+pub(crate) fn read_row_at(text: &[u8], at: usize, row: &mut [u16]) -> Option<usize>
+    requires some { 1 ≤ length row.old }
+    requires within { at ≤ length text.now }
+    ensures count { length row.new ≡ length row.old }
+    ensures within { IfSome result (λ end. end ≤ length text.now) }
+    ensures there { IfSome result (λ end. Stands text.now at end (numbers_text row.new)) }
+{
+    if text.len() < 3 {
+        return None;
+    }
+    let last = text.len() - 3;
+    let most = row.len() - 1;
+    let mut end = at;
+    for queue in 0..most {
+        let (number, next) = small_with_comma(text, end, last)?;
+        row[queue] = number;
         end = next;
     }
-    Some((x, end))
+    let (number, end) = small_at(text, end)?;
+    row[most] = number;
+    Some(end)
 }

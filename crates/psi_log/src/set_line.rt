@@ -1,6 +1,6 @@
 //! The line of a step with a set, read in one pass over its bytes.
 
-ghost use Rattle.std.specs.Prelude.{◌≡◌, ◌∷◌, [], ◌++◌, ℕ, Option, ◌≤◌, length, take, codes, decimal, Ok, IfOk, IfSome, OnOk};
+ghost use Rattle.std.specs.Prelude.{◌≡◌, ◌∷◌, [], ◌++◌, ℕ, Option, ◌<◌, ◌≤◌, ◌^◌, length, slice_index, take, codes, decimal, Ok, IfOk, IfSome, OnOk};
 ghost use Rattle.psi_state.specs.State.{Corners};
 ghost use Rattle.psi_log_text.specs.Log.{greatest_horizon};
 ghost use Rattle.psi_log_text.specs.Room.{spaced_words};
@@ -9,7 +9,7 @@ ghost use Rattle.psi_log.specs.Scanned.{Stands, AreScanned, next_step};
 
 use crate::header::greatest_horizon;
 use crate::regions::ascends;
-use crate::scan::{has_byte, has_word, number_at, state_at};
+use crate::scan::{has_byte, has_word, number_at, read_row_at};
 use psi_log_text::Header;
 use psi_state::Step;
 use psi_state_list::{Kept, Line, StateList};
@@ -38,6 +38,14 @@ pub(crate) fn step_at(version: u8, text: &[u8]) -> Option<(Step, usize)>
     Some((Step { number, event }, end))
 }
 
+// Does nothing; its clause is the range of the numbers.
+#[inline]
+fn keep_range(row: &[u16])
+    ensures { (i : ℕ) → slice_index row.now i < 2 ^ 16 }
+{
+    let _row = row;
+}
+
 // Puts the states that stand in a text from a place on, each behind a space, behind those of the list, and gives
 // the place behind them: at most 4,096 states.
 fn read_rows(
@@ -55,17 +63,19 @@ fn read_rows(
     ensures more { OnOk result (length states.old.states ≤ length states.new.states) }
     ensures rows { IfOk result (λ read. IfSome read (λ end. AreScanned queues text.now at end states.old.states states.new.states)) }
 {
+    let mut numbers = [0; 32];
+    let row = &mut numbers[..queues as usize];
     let mut end = at;
     for _ in 0..4096 {
         if !has_byte(text, end, b' ') {
             return Ok(Some(end));
         }
-        let Some((x, next)) = state_at(text, end + 1, queues) else {
+        let Some(next) = read_row_at(text, end + 1, row) else {
             return Ok(None);
         };
         // Called for its clause: the range of the numbers.
-        let _queues = x.len();
-        states.push(&x)?;
+        keep_range(row);
+        states.push_row(row)?;
         end = next;
     }
     Ok(Some(end))

@@ -46,6 +46,16 @@ fn push_numbers(numbers: &mut Vec<u16>, x: &State) -> Result<(), AllocError>
     Ok(())
 }
 
+// Puts numbers behind others.
+#[inline]
+fn push_all(numbers: &mut Vec<u16>, row: &[u16]) -> Result<(), AllocError>
+    ensures pushed { OnOk result (numbers.new.items ≡ numbers.old.items ++ row.now) }
+    ensures kept { OnErr result (numbers.new.items ≡ numbers.old.items) }
+{
+    make_room(numbers, row.len())?;
+    numbers.extend_from_slice(row)
+}
+
 impl StateList {
     /// The list of no states, for states of so many queues, 1 to 32. It takes no memory yet.
     pub fn new(alloc: Global, queues: u8) -> StateList
@@ -82,6 +92,24 @@ impl StateList {
         ensures kept { OnErr result (self.new.states ≡ self.old.states) }
     {
         push_numbers(&mut self.numbers, x)?;
+        self.count += 1;
+        Ok(())
+    }
+
+    /// Puts a state behind the others as [`StateList::push`] does, by its numbers.
+    ///
+    /// # Errors
+    ///
+    /// `AllocError` where memory is wanting, and no clause says when that is; the list is then as it was.
+    #[inline]
+    #[tactic(auto, using(crate::proofs::RowsLemmas::rows_push))]
+    pub fn push_row(&mut self, row: &[u16]) -> Result<(), AllocError>
+        requires { length row.now ≡ self.old.queues }
+        ensures queues { self.new.queues ≡ self.old.queues }
+        ensures states { OnOk result (self.new.states ≡ self.old.states ++ row.now ∷ []) }
+        ensures kept { OnErr result (self.new.states ≡ self.old.states) }
+    {
+        push_all(&mut self.numbers, row)?;
         self.count += 1;
         Ok(())
     }
