@@ -1,8 +1,10 @@
 -- Lemmas. What the pieces of a guarded event add and take is what it does.
-use Rattle.std.specs.Prelude.{◌≡◌, ◌≢◌, ℕ, zero, suc, ◌+◌, ◌<◌, ◌≤◌, min, max, ℤ, pos, negsuc, ◌⊎◌, List, [], ◌∷◌, length, slice_index, Bool, true, false, ◌&&◌, ◌||◌, nat_eq, nat_le, nat_lt, if◌then◌else◌, refl}
+use Rattle.std.specs.Prelude.{◌≡◌, ◌≢◌, ℕ, zero, suc, ◌+◌, ◌<◌, ◌≤◌, min, max, ℤ, pos, negsuc, ◌⊎◌, List, [], ◌∷◌, length, slice_index, slice_index_or, Bool, true, false, ◌&&◌, ◌||◌, nat_eq, nat_le, nat_lt, if◌then◌else◌, refl}
 use Rattle.std.proofs.Common.{inl, inr, ap, sym, ◌∙◌, subst, arith}
 use Rattle.std.proofs.lemmas.Bool.{cases_lt, cases_eq, cases_Bool, lt-ltb, le-ltb, le-leb, lt-leb, leb-true, eq-eqb, ne_eqb, eqb-true, and_parts, and_cases, and_from, and_left, and_right, or_cases}
 use Rattle.psi_state.specs.State.{AreCapacities, IsBelow}
+use Rattle.psi_piecewise.specs.declared.sides.Side.{Side}
+use Rattle.psi_piecewise.specs.declared.sides.Side.TheVariants.{Any, AtLeast, Below}
 use Rattle.psi_piecewise.specs.declared.piecewise.Piecewise.{Piecewise}
 use Rattle.psi_piecewise.specs.Piecewise.{is_on, all_on, if_on, first_on, second_on, IsSum, IsPiecewise, Does}
 use Rattle.psi_piecewise.proofs.TestingLemmas.{sum-by}
@@ -16,8 +18,8 @@ use Rattle.psi_guard.specs.Pieces.{ups, downs, is_exact, is_clipped, guard_side,
 
 -- ---- a piece applies where each number is on its side
 
-pub all_on-true : (sides bounds x : List ℕ) → length bounds ≡ length sides → length x ≡ length sides
-    → ((q : ℕ) → q < length x → is_on (slice_index sides q) (slice_index bounds q) (slice_index x q) ≡ true) → all_on sides bounds x ≡ true
+pub all_on-true : (sides : List Side) (bounds x : List ℕ) → length bounds ≡ length sides → length x ≡ length sides
+    → ((q : ℕ) → q < length x → is_on (slice_index_or sides q Any) (slice_index bounds q) (slice_index x q) ≡ true) → all_on sides bounds x ≡ true
 all_on-true [] bounds x long_bounds long_x each = refl
 all_on-true (s ∷ sides) [] x long_bounds long_x each = absurd (omega arith)
 all_on-true (s ∷ sides) (b ∷ bounds) [] long_bounds long_x each = absurd (omega arith)
@@ -25,8 +27,8 @@ all_on-true (s ∷ sides) (b ∷ bounds) (v ∷ x) long_bounds long_x each =
     and_from (is_on s b v) (all_on sides bounds x) (each 0 (omega arith))
     (all_on-true sides bounds x (omega arith) (omega arith) (λ q small. each (suc q) (omega arith)))
 
-pub all_on-each : (sides bounds x : List ℕ) (q : ℕ) → length bounds ≡ length sides → length x ≡ length sides → all_on sides bounds x ≡ true → q < length x
-    → is_on (slice_index sides q) (slice_index bounds q) (slice_index x q) ≡ true
+pub all_on-each : (sides : List Side) (bounds x : List ℕ) (q : ℕ) → length bounds ≡ length sides → length x ≡ length sides → all_on sides bounds x ≡ true → q < length x
+    → is_on (slice_index_or sides q Any) (slice_index bounds q) (slice_index x q) ≡ true
 all_on-each [] bounds x q long_bounds long_x on small = absurd (omega arith)
 all_on-each (s ∷ sides) [] x q long_bounds long_x on small = absurd (omega arith)
 all_on-each (s ∷ sides) (b ∷ bounds) [] q long_bounds long_x on small = absurd (omega arith)
@@ -34,8 +36,8 @@ all_on-each (s ∷ sides) (b ∷ bounds) (v ∷ x) zero long_bounds long_x on sm
 all_on-each (s ∷ sides) (b ∷ bounds) (v ∷ x) (suc q) long_bounds long_x on small =
     all_on-each sides bounds x q (omega arith) (omega arith) (and_parts (is_on s b v) (all_on sides bounds x) on).1 (omega arith)
 
-pub all_on-some : (sides bounds x : List ℕ) → length bounds ≡ length sides → length x ≡ length sides → all_on sides bounds x ≡ false
-    → (q : ℕ) × (q < length x) × (is_on (slice_index sides q) (slice_index bounds q) (slice_index x q) ≡ false)
+pub all_on-some : (sides : List Side) (bounds x : List ℕ) → length bounds ≡ length sides → length x ≡ length sides → all_on sides bounds x ≡ false
+    → (q : ℕ) × (q < length x) × (is_on (slice_index_or sides q Any) (slice_index bounds q) (slice_index x q) ≡ false)
 all_on-some [] bounds x long_bounds long_x off = absurd cc
 all_on-some (s ∷ sides) [] x long_bounds long_x off = absurd (omega arith)
 all_on-some (s ∷ sides) (b ∷ bounds) [] long_bounds long_x off = absurd (omega arith)
@@ -46,8 +48,8 @@ all_on-some (s ∷ sides) (b ∷ bounds) (v ∷ x) long_bounds long_x off =
           let small : found.0 < length x = found.1 in (suc found.0, omega arith, found.2))
     ]
 
-pub all_on-out : (sides bounds x : List ℕ) (q : ℕ) → length bounds ≡ length sides → length x ≡ length sides → q < length x
-    → is_on (slice_index sides q) (slice_index bounds q) (slice_index x q) ≡ false → all_on sides bounds x ≡ false
+pub all_on-out : (sides : List Side) (bounds x : List ℕ) (q : ℕ) → length bounds ≡ length sides → length x ≡ length sides → q < length x
+    → is_on (slice_index_or sides q Any) (slice_index bounds q) (slice_index x q) ≡ false → all_on sides bounds x ≡ false
 all_on-out [] bounds x q long_bounds long_x small off = absurd (omega arith)
 all_on-out (s ∷ sides) [] x q long_bounds long_x small off = absurd (omega arith)
 all_on-out (s ∷ sides) (b ∷ bounds) [] q long_bounds long_x small off = absurd (omega arith)
@@ -55,8 +57,8 @@ all_on-out (s ∷ sides) (b ∷ bounds) (v ∷ x) zero long_bounds long_x small 
 all_on-out (s ∷ sides) (b ∷ bounds) (v ∷ x) (suc q) long_bounds long_x small off =
     and_right (is_on s b v) (all_on sides bounds x) (all_on-out sides bounds x q (omega arith) (omega arith) (omega arith) off)
 
-is_on-at : (side bound s b v : ℕ) (on : Bool) → side ≡ s → bound ≡ b → is_on s b v ≡ on → is_on side bound v ≡ on
-is_on-at side bound s b v on is_side is_bound is =
+is_on-at : (side s : Side) (bound b v : ℕ) (on : Bool) → side ≡ s → bound ≡ b → is_on s b v ≡ on → is_on side bound v ≡ on
+is_on-at side s bound b v on is_side is_bound is =
     ap (λ t. is_on t bound v) is_side ∙ ap (λ c. is_on s c v) is_bound ∙ is
 
 if-zero : (b : Bool) (v : ℕ) → v ≡ 0 → if_on b v ≡ 0
@@ -141,16 +143,16 @@ module _ (cap : ℕ) (part : Part) where
   moved-exact facts v low high = shift-exact part.shift part.floor part.ceiling part.least part.most v facts.low facts.high low high
 
   -- the side of a guard and its bound are of one of three kinds
-  guard-by : (P : ℕ → ℕ → Type 0) → (0 < part.least → P 1 part.least) → (part.least ≤ 0 → part.most < cap → P 2 (part.most + 1)) → (part.least ≤ 0 → cap ≤ part.most → P 0 0)
+  guard-by : (P : Side → ℕ → Type 0) → (0 < part.least → P AtLeast part.least) → (part.least ≤ 0 → part.most < cap → P Below (part.most + 1)) → (part.least ≤ 0 → cap ≤ part.most → P Any 0)
       → P (guard_side cap part) (guard_bound cap part)
   guard-by P from to free = elim (cases_lt 0 part.least) [
-    | inl some ↦ subst (λ b. P (if b then 1 else (if nat_lt part.most cap then 2 else 0)) (if b then part.least else (if nat_lt part.most cap then part.most + 1 else 0)))
+    | inl some ↦ subst (λ b. P (if b then AtLeast else (if nat_lt part.most cap then Below else Any)) (if b then part.least else (if nat_lt part.most cap then part.most + 1 else 0)))
         (sym (lt-ltb 0 part.least some)) (from some)
-    | inr none ↦ subst (λ b. P (if b then 1 else (if nat_lt part.most cap then 2 else 0)) (if b then part.least else (if nat_lt part.most cap then part.most + 1 else 0)))
+    | inr none ↦ subst (λ b. P (if b then AtLeast else (if nat_lt part.most cap then Below else Any)) (if b then part.least else (if nat_lt part.most cap then part.most + 1 else 0)))
         (sym (le-ltb 0 part.least none))
         (elim (cases_lt part.most cap) [
-          | inl below ↦ subst (λ b. P (if b then 2 else 0) (if b then part.most + 1 else 0)) (sym (lt-ltb part.most cap below)) (to none below)
-          | inr whole ↦ subst (λ b. P (if b then 2 else 0) (if b then part.most + 1 else 0)) (sym (le-ltb part.most cap whole)) (free none whole)
+          | inl below ↦ subst (λ b. P (if b then Below else Any) (if b then part.most + 1 else 0)) (sym (lt-ltb part.most cap below)) (to none below)
+          | inr whole ↦ subst (λ b. P (if b then Below else Any) (if b then part.most + 1 else 0)) (sym (le-ltb part.most cap whole)) (free none whole)
         ])
   ]
 
@@ -176,10 +178,10 @@ module _ (cap : ℕ) (part : Part) where
 
   -- that of a clipped part, one of two
   clip-fall : ups part.shift ≡ 0 → (v : ℕ) → is_on (clip_side cap part) (clip_bound cap part) v ≡ nat_le 1 v
-  clip-fall none v = ap (λ b. is_on (if b then 1 else 2) (if b then 1 else cap) v) (eq-eqb (ups part.shift) 0 none)
+  clip-fall none v = ap (λ b. is_on (if b then AtLeast else Below) (if b then 1 else cap) v) (eq-eqb (ups part.shift) 0 none)
 
   clip-rise : ups part.shift ≢ 0 → (v : ℕ) → is_on (clip_side cap part) (clip_bound cap part) v ≡ nat_lt v cap
-  clip-rise some v = ap (λ b. is_on (if b then 1 else 2) (if b then 1 else cap) v) (ne_eqb (ups part.shift) 0 some)
+  clip-rise some v = ap (λ b. is_on (if b then AtLeast else Below) (if b then 1 else cap) v) (ne_eqb (ups part.shift) 0 some)
 
   clip-small : 1 ≤ cap → clip_bound cap part ≤ cap
   clip-small some = elim (cases_eq (ups part.shift) 0) [
@@ -250,10 +252,10 @@ module _ (caps : List ℕ) (parts : List Part) (guards : AreGuards caps parts) (
   -- a state
   module _ (x : List ℕ) (below : IsBelow x caps) where
     abbrev first_is_on : ℕ → Bool
-    first_is_on q = is_on (slice_index p.first.sides q) (slice_index p.bounds q) (slice_index x q)
+    first_is_on q = is_on (slice_index_or p.first.sides q Any) (slice_index p.bounds q) (slice_index x q)
 
     abbrev second_is_on : ℕ → Bool
-    second_is_on q = is_on (slice_index p.second.sides q) (slice_index p.bounds q) (slice_index x q)
+    second_is_on q = is_on (slice_index_or p.second.sides q Any) (slice_index p.bounds q) (slice_index x q)
 
     long_bounds_first : length p.bounds ≡ length p.first.sides
     long_bounds_first = tell.bounds ∙ sym tell.first.sides
@@ -278,8 +280,8 @@ module _ (caps : List ℕ) (parts : List Part) (guards : AreGuards caps parts) (
         let small = below.each q there in
         elim (turn-of q some.place) [
           | inl turn ↦ (let off = guard-refuses (cap_at q) (part_at q) turn.facts (slice_index x q) small some.out in
-              let first_off : first_is_on q ≡ false = is_on-at (slice_index p.first.sides q) (slice_index p.bounds q) (guard_side (cap_at q) (part_at q)) (guard_bound (cap_at q) (part_at q)) (slice_index x q) false turn.say.first.side turn.say.bound off in
-              let second_off : second_is_on q ≡ false = is_on-at (slice_index p.second.sides q) (slice_index p.bounds q) (guard_side (cap_at q) (part_at q)) (guard_bound (cap_at q) (part_at q)) (slice_index x q) false turn.say.second.side turn.say.bound off in
+              let first_off : first_is_on q ≡ false = is_on-at (slice_index_or p.first.sides q Any) (guard_side (cap_at q) (part_at q)) (slice_index p.bounds q) (guard_bound (cap_at q) (part_at q)) (slice_index x q) false turn.say.first.side turn.say.bound off in
+              let second_off : second_is_on q ≡ false = is_on-at (slice_index_or p.second.sides q Any) (guard_side (cap_at q) (part_at q)) (slice_index p.bounds q) (guard_bound (cap_at q) (part_at q)) (slice_index x q) false turn.say.second.side turn.say.bound off in
               sum-by p x y false false
               (all_on-out p.first.sides p.bounds x q long_bounds_first long_first there first_off)
               (all_on-out p.second.sides p.bounds x q long_bounds_second long_second there second_off)
@@ -296,9 +298,9 @@ module _ (caps : List ℕ) (parts : List Part) (guards : AreGuards caps parts) (
       allowed-first = all_on-true p.first.sides p.bounds x long_bounds_first long_first (λ q there.
           (let small : q < length caps = (let same = below.same_length in omega arith) in
           elim (turn-of q small) [
-            | inl turn ↦ is_on-at (slice_index p.first.sides q) (slice_index p.bounds q) (guard_side (cap_at q) (part_at q)) (guard_bound (cap_at q) (part_at q)) (slice_index x q) true turn.say.first.side turn.say.bound
+            | inl turn ↦ is_on-at (slice_index_or p.first.sides q Any) (guard_side (cap_at q) (part_at q)) (slice_index p.bounds q) (guard_bound (cap_at q) (part_at q)) (slice_index x q) true turn.say.first.side turn.say.bound
                 (guard-allows (cap_at q) (part_at q) (slice_index x q) (allows.low q small) (allows.high q small))
-            | inr turn ↦ is_on-at (slice_index p.first.sides q) (slice_index p.bounds q) 0 (clip_bound (cap_at q) (part_at q)) (slice_index x q) true turn.say.first.side turn.say.bound refl
+            | inr turn ↦ is_on-at (slice_index_or p.first.sides q Any) Any (slice_index p.bounds q) (clip_bound (cap_at q) (part_at q)) (slice_index x q) true turn.say.first.side turn.say.bound refl
           ]))
 
       -- an exact part changes its queue in the first piece
@@ -314,12 +316,12 @@ module _ (caps : List ℕ) (parts : List Part) (guards : AreGuards caps parts) (
           omega (arith, made, at, up, down, no_up, no_down)
 
       clip-at : (q : ℕ) (on : Bool) → ClippedTurn caps parts p q → is_on (clip_side (cap_at q) (part_at q)) (clip_bound (cap_at q) (part_at q)) (slice_index x q) ≡ on → second_is_on q ≡ on
-      clip-at q on turn is = is_on-at (slice_index p.second.sides q) (slice_index p.bounds q) (clip_side (cap_at q) (part_at q)) (clip_bound (cap_at q) (part_at q)) (slice_index x q) on turn.say.second.side turn.say.bound is
+      clip-at q on turn is = is_on-at (slice_index_or p.second.sides q Any) (clip_side (cap_at q) (part_at q)) (slice_index p.bounds q) (clip_bound (cap_at q) (part_at q)) (slice_index x q) on turn.say.second.side turn.say.bound is
 
       -- where a part is clipped, the second piece applies where its queue is on its side
       clipped-only : (q r : ℕ) → q < length caps → r < length caps → ClippedTurn caps parts p q → second_is_on r ≡ false → second_is_on q ≡ true → ⊥
       clipped-only q r small r_small turn r_off q_on = elim (turn-of r r_small) [
-        | inl other ↦ (let on = is_on-at (slice_index p.second.sides r) (slice_index p.bounds r) (guard_side (cap_at r) (part_at r)) (guard_bound (cap_at r) (part_at r)) (slice_index x r) true other.say.second.side other.say.bound
+        | inl other ↦ (let on = is_on-at (slice_index_or p.second.sides r Any) (guard_side (cap_at r) (part_at r)) (slice_index p.bounds r) (guard_bound (cap_at r) (part_at r)) (slice_index x r) true other.say.second.side other.say.bound
             (guard-allows (cap_at r) (part_at r) (slice_index x r) (allows.low r r_small) (allows.high r r_small)) in
             true-false (second_is_on r) on r_off)
         | inr other ↦ (let same = told.alone q r small r_small turn.is other.is in

@@ -3,6 +3,8 @@ use Rattle.std.specs.Prelude.{◌≡◌, ◌≢◌, ℕ, ◌+◌, ◌<◌, List,
 use Rattle.std.proofs.Common.{inl, inr, ap, sym, ◌∙◌, subst, arith, below_more, length-set, get_or-set_same, get_or-set_other}
 use Rattle.std.proofs.lemmas.Bool.{cases_eq}
 use Rattle.std.proofs.lemmas.List.{length-replicate}
+use Rattle.psi_piecewise.specs.declared.sides.Side.{Side}
+use Rattle.psi_piecewise.specs.declared.sides.Side.TheVariants.{Any}
 use Rattle.psi_piecewise.specs.declared.piecewise.Piece.{Piece}
 use Rattle.psi_piecewise.specs.declared.piecewise.Piecewise.{Piecewise}
 use Rattle.psi_piecewise.specs.Piecewise.{empty_piece}
@@ -73,7 +75,7 @@ module _ (caps : List ℕ) (parts : List Part) where
 
 long-empty : (n m : ℕ) (p : Piece) → p ≡ empty_piece m → m ≡ n → IsLong n p
 long-empty n m p is same = record {
-  sides = ap (λ (x : Piece). length x.sides) is ∙ length-replicate {A = ℕ} m 0 ∙ same;
+  sides = ap (λ (x : Piece). length x.sides) is ∙ length-replicate {A = Side} m Any ∙ same;
   ups = ap (λ (x : Piece). length x.ups) is ∙ length-replicate {A = ℕ} m 0 ∙ same;
   downs = ap (λ (x : Piece). length x.downs) is ∙ length-replicate {A = ℕ} m 0 ∙ same;
 }
@@ -91,21 +93,21 @@ tell-start caps parts m bounds first second is is_first is_second same = record 
 
 long-with : (n : ℕ) (p : Piece) (q : ℕ) (own : PieceAt) → IsLong n p → IsLong n (piece_with p q own)
 long-with n p q own long = record {
-  sides = length-set {A = ℕ} p.sides q own.side ∙ long.sides;
+  sides = length-set {A = Side} p.sides q own.side ∙ long.sides;
   ups = length-set {A = ℕ} p.ups q own.up ∙ long.ups;
   downs = length-set {A = ℕ} p.downs q own.down ∙ long.downs;
 }
 
 says-same : (n : ℕ) (p : Piece) (q : ℕ) (own : PieceAt) → IsLong n p → q < n → SaysOf (piece_with p q own) q own
 says-same n p q own long small = record {
-  side = get_or-set_same {A = ℕ} p.sides q own.side 0 (let is = long.sides in omega arith);
+  side = get_or-set_same {A = Side} p.sides q own.side Any (let is = long.sides in omega arith);
   up = get_or-set_same {A = ℕ} p.ups q own.up 0 (let is = long.ups in omega arith);
   down = get_or-set_same {A = ℕ} p.downs q own.down 0 (let is = long.downs in omega arith);
 }
 
 says-other : (p : Piece) (q k : ℕ) (own other : PieceAt) → k ≢ q → SaysOf p k other → SaysOf (piece_with p q own) k other
 says-other p q k own other apart says = record {
-  side = get_or-set_other {A = ℕ} p.sides q k own.side 0 apart ∙ says.side;
+  side = get_or-set_other {A = Side} p.sides q k own.side Any apart ∙ says.side;
   up = get_or-set_other {A = ℕ} p.ups q k own.up 0 apart ∙ says.up;
   down = get_or-set_other {A = ℕ} p.downs q k own.down 0 apart ∙ says.down;
 }

@@ -1,6 +1,8 @@
 -- The pieces of a guarded event, queue by queue: the parts that are exact change their queues in the first piece, and one that is
 -- clipped changes its queue in the second.
-use Rattle.std.specs.Prelude.{◌≡◌, ℕ, suc, ◌+◌, ◌<◌, ℤ, pos, negsuc, ◌⊎◌, Bool, true, false, ◌&&◌, ◌||◌, nat_eq, nat_lt, nat_le, if◌then◌else◌, List, length, slice_index, slice_set}
+use Rattle.std.specs.Prelude.{◌≡◌, ℕ, suc, ◌+◌, ◌<◌, ℤ, pos, negsuc, ◌⊎◌, Bool, true, false, ◌&&◌, ◌||◌, nat_eq, nat_lt, nat_le, if◌then◌else◌, List, length, slice_index, slice_index_or, slice_set}
+use Rattle.psi_piecewise.specs.declared.sides.Side.{Side}
+use Rattle.psi_piecewise.specs.declared.sides.Side.TheVariants.{Any, AtLeast, Below}
 use Rattle.psi_piecewise.specs.declared.piecewise.Piece.{Piece}
 use Rattle.psi_piecewise.specs.declared.piecewise.Piecewise.{Piecewise}
 use Rattle.psi_guard.specs.declared.parts.Part.{Part}
@@ -32,15 +34,15 @@ module _ (cap : ℕ) (part : Part) where
       && (nat_eq (ups part.shift + downs part.shift) 1 && (nat_le part.floor (ups part.shift) && nat_le cap (part.ceiling + downs part.shift)))
 
   -- the side of the guard that isn't open, and its bound
-  abbrev pub guard_side : ℕ
-  guard_side = if nat_lt 0 part.least then 1 else (if nat_lt part.most cap then 2 else 0)
+  abbrev pub guard_side : Side
+  guard_side = if nat_lt 0 part.least then AtLeast else (if nat_lt part.most cap then Below else Any)
 
   abbrev pub guard_bound : ℕ
   guard_bound = if nat_lt 0 part.least then part.least else (if nat_lt part.most cap then part.most + 1 else 0)
 
   -- the side on which there is room for the customer who comes, or one who leaves, and its bound
-  abbrev pub clip_side : ℕ
-  clip_side = if nat_eq (ups part.shift) 0 then 1 else 2
+  abbrev pub clip_side : Side
+  clip_side = if nat_eq (ups part.shift) 0 then AtLeast else Below
 
   abbrev pub clip_bound : ℕ
   clip_bound = if nat_eq (ups part.shift) 0 then 1 else cap
@@ -56,7 +58,7 @@ module _ (cap : ℕ) (part : Part) where
   abbrev pub clipped_at : PiecesAt
   clipped_at = record {
     bound = clip_bound;
-    first = record { side = 0; up = 0; down = 0 };
+    first = record { side = Any; up = 0; down = 0 };
     second = record { side = clip_side; up = ups part.shift; down = downs part.shift };
   }
 
@@ -75,7 +77,7 @@ pub record IsLong (n : ℕ) (p : Piece) : Type 0 where
 
 -- what a piece says of a queue
 pub record SaysOf (p : Piece) (q : ℕ) (own : PieceAt) : Type 0 where
-  pub side : slice_index p.sides q ≡ own.side
+  pub side : slice_index_or p.sides q Any ≡ own.side
   pub up : slice_index p.ups q ≡ own.up
   pub down : slice_index p.downs q ≡ own.down
 

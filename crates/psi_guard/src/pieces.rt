@@ -6,7 +6,7 @@ ghost use Rattle.psi_guard.specs.Pieces.{AreTold, Tell, clipped_at, downs, exact
 
 use crate::guarded::Guarded;
 use crate::parts::Part;
-use psi_piecewise::{AT_LEAST, BELOW, Piece, Piecewise, PiecewiseLaw};
+use psi_piecewise::{Piece, Piecewise, PiecewiseLaw, Side};
 use psi_state::State;
 
 impl PiecewiseLaw for Guarded {
@@ -22,7 +22,7 @@ impl PiecewiseLaw for Guarded {
 // What a piece says of a queue.
 #[derive(Clone, Copy)]
 pub(crate) struct PieceAt {
-    pub side: u16,
+    pub side: Side,
     pub up: u16,
     pub down: u16,
 }
@@ -136,11 +136,11 @@ fn exact_at(cap: u16, part: Part) -> PiecesAt
     ensures { result ≡ exact_at cap part }
 {
     let (side, bound) = if part.least > 0 {
-        (AT_LEAST, part.least)
+        (Side::AtLeast, part.least)
     } else if part.most < cap {
-        (BELOW, part.most + 1)
+        (Side::Below, part.most + 1)
     } else {
-        (0, 0)
+        (Side::Any, 0)
     };
     let first = PieceAt {
         side,
@@ -168,12 +168,12 @@ fn clipped_at(cap: u16, part: Part) -> PiecesAt
     PiecesAt {
         bound: if falls { 1 } else { cap },
         first: PieceAt {
-            side: 0,
+            side: Side::Any,
             up: 0,
             down: 0,
         },
         second: PieceAt {
-            side: if falls { AT_LEAST } else { BELOW },
+            side: if falls { Side::AtLeast } else { Side::Below },
             up,
             down: downs(part.shift),
         },

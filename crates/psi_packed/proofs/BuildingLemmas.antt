@@ -1,5 +1,5 @@
 -- How a word is made field by field, and read.
-use Rattle.std.specs.Prelude.{◌≡◌, ℕ, suc, ◌+◌, ◌-◌, ◌*◌, ◌/◌, ◌%◌, ◌^◌, ◌<◌, ◌≤◌, List, length, map, slice_index, bit_and}
+use Rattle.std.specs.Prelude.{◌≡◌, ℕ, suc, ◌+◌, ◌-◌, ◌*◌, ◌/◌, ◌%◌, ◌^◌, ◌<◌, ◌≤◌, List, length, map, slice_index, slice_index_or, bit_and}
 use Rattle.std.proofs.Common.{ap, ap₂, sym, subst, ◌∙◌, arith, pow_mono, pow_pos, add-one-le, below_more, ⊎_elim}
 use Rattle.std.proofs.lemmas.Bool.{cases_lt}
 use Rattle.std.proofs.lemmas.List.{get_or_past, length-map}
@@ -8,10 +8,12 @@ use Rattle.std.proofs.lemmas.Nat.{one_shl, and_mask, div_below, mod_below, leadi
 use Rattle.std.proofs.lemmas.Grind.{same_number_lists}
 use Rattle.std.specs.Int.Count.{count_leading_zeros}
 use Rattle.psi_state.specs.State.{IsBelow}
+use Rattle.psi_piecewise.specs.declared.sides.Side.{Side}
+use Rattle.psi_piecewise.specs.declared.sides.Side.TheVariants.{Any}
 use Rattle.psi_packed.specs.Packed.{Packing, IsPacking, LeavesFree, packed}
 use Rattle.psi_packed.proofs.DigitsLemmas.{digits, digits-same, digits-zero, digits-lt, digits-at}
 use Rattle.psi_packed.proofs.WordsLemmas.{fields_of, Fit, AreDigits-fields, packed-at, below-fit}
-use Rattle.psi_packed.proofs.TestingLemmas.{mapped-at}
+use Rattle.psi_packed.proofs.TestingLemmas.{mapped-at, sided-at}
 
 -- numbers that fit up to the last queue fit everywhere
 pub fit-from : (bits : ℕ) (x : List ℕ) → ((q : ℕ) → q < length x → slice_index x q < 2 ^ bits) → Fit bits x
@@ -77,6 +79,10 @@ number-is count p x words queue is small below same =
 pub same-mapped : (f : ℕ → ℕ) (x y : List ℕ) → length y ≡ length x → ((q : ℕ) → q < length x → slice_index y q ≡ f (slice_index x q)) → y ≡ map f x
 same-mapped f x y long each =
     same_number_lists y (map f x) (long ∙ sym (length-map x f)) (λ q small. let within : q < length x = omega arith in each q within ∙ sym (mapped-at f x q within))
+
+pub same-sided : (f : Side → ℕ) (sides : List Side) (y : List ℕ) → length y ≡ length sides → ((q : ℕ) → q < length sides → slice_index y q ≡ f (slice_index_or sides q Any)) → y ≡ map f sides
+same-sided f sides y long each =
+    same_number_lists y (map f sides) (long ∙ sym (length-map sides f)) (λ q small. let within : q < length sides = omega arith in each q within ∙ sym (sided-at f sides q within))
 
 -- how many bits a number of 16 bits needs
 pub own-fits : (v : ℕ) → v < 2 ^ 16 → v < 2 ^ (17 - count_leading_zeros 16 v - 1)

@@ -1,5 +1,5 @@
 -- The tests of all words are the tests of all numbers.
-use Rattle.std.specs.Prelude.{◌≡◌, ℕ, zero, suc, ◌+◌, ◌-◌, ◌*◌, ◌%◌, ◌^◌, ◌<◌, ◌≤◌, Bool, ◌&&◌, List, length, map, slice_index, nat_eq, bit_and}
+use Rattle.std.specs.Prelude.{◌≡◌, ℕ, zero, suc, ◌+◌, ◌-◌, ◌*◌, ◌%◌, ◌^◌, ◌<◌, ◌≤◌, Bool, ◌&&◌, List, length, map, slice_index, slice_index_or, nat_eq, bit_and}
 use Rattle.std.proofs.Common.{ap, ap₂, sym, ◌∙◌, arith, pow_mono, ⊎_elim}
 use Rattle.std.proofs.lemmas.Bool.{cases_lt}
 use Rattle.std.proofs.lemmas.List.{get_or_past}
@@ -7,13 +7,15 @@ use Rattle.std.proofs.Math.Nat.{mod-eq_of_lt}
 use Rattle.std.specs.Int.Bits.{and_zero_r}
 use Rattle.std.proofs.lemmas.Nat.{and_le_r}
 use Rattle.psi_state.specs.State.{IsBelow}
+use Rattle.psi_piecewise.specs.declared.sides.Side.{Side}
+use Rattle.psi_piecewise.specs.declared.sides.Side.TheVariants.{Any}
 use Rattle.psi_piecewise.specs.declared.piecewise.Piece.{Piece}
 use Rattle.psi_piecewise.specs.Piecewise.{is_on, all_on, IsPiece}
 use Rattle.psi_packed.specs.Packed.{Packing, IsPacking, packed}
 use Rattle.psi_packed.specs.Moves.{Masks, holds, guard, guard_of, wanted_of, AreMasksOf}
 use Rattle.psi_packed.proofs.DigitsLemmas.{digits, all_below, AreDigits, digits-add, digits-lt, digits-and, digits-test}
 use Rattle.psi_packed.proofs.WordsLemmas.{fields_of, Fit, AreDigits-fields, packed-at, below-guard, twice-guard}
-use Rattle.psi_packed.proofs.TestingLemmas.{all_below-add, all_on-is, test_at, field-test, guard_of-lt, wanted_of-lt, mapped-at, mapped-past, mapped-fit}
+use Rattle.psi_packed.proofs.TestingLemmas.{all_below-add, all_on-is, test_at, field-test, guard_of-lt, wanted_of-lt, mapped-at, mapped-past, sided-at, sided-fit}
 
 -- the numbers of four packed lists in one field: the second raises the first so that, of the guards of the third, those of the
 -- fourth are up exactly where a test holds
@@ -75,7 +77,7 @@ module _ (count : ℕ) (p : Packing) (x o g w : List ℕ) (t : ℕ → Bool) (is
 
 -- ---- the masks of a piece
 
-module _ (count : ℕ) (p : Packing) (sides bounds x : List ℕ) (is : IsPacking count p)
+module _ (count : ℕ) (p : Packing) (sides : List Side) (bounds x : List ℕ) (is : IsPacking count p)
     (along : length sides ≡ length p.caps) (bounded : IsBelow bounds p.caps) (below : IsBelow x p.caps) where
   some : 1 ≤ p.bits
   some = omega (arith, is.least)
@@ -93,20 +95,20 @@ module _ (count : ℕ) (p : Packing) (sides bounds x : List ℕ) (is : IsPacking
       ap (λ n. nat_eq (bit_and (slice_index x q + n) (slice_index (map (guard_of p.bits) sides) q)) (slice_index (map (wanted_of p.bits) sides) q))
       (mapped-at (λ v. guard p.bits - v) bounds q small)
       ∙ ap₂ (λ a b. nat_eq (bit_and (slice_index x q + (guard p.bits - slice_index bounds q)) a) b)
-      (mapped-at (guard_of p.bits) sides q marked) (mapped-at (wanted_of p.bits) sides q marked)
-      ∙ field-test p.bits (slice_index x q) (slice_index bounds q) some (below-guard count p x is below q) (below-guard count p bounds is bounded q) (slice_index sides q))
+      (sided-at (guard_of p.bits) sides q marked) (sided-at (wanted_of p.bits) sides q marked)
+      ∙ field-test p.bits (slice_index x q) (slice_index bounds q) some (below-guard count p x is below q) (below-guard count p bounds is bounded q) (slice_index_or sides q Any))
       (λ past. let unmarked : length sides ≤ q = omega (arith, along, bounded.same_length) in
       ap₂ (λ a b. nat_eq (bit_and (slice_index x q + slice_index (map (λ v. guard p.bits - v) bounds) q) a) b)
       (mapped-past (guard_of p.bits) sides q unmarked) (mapped-past (wanted_of p.bits) sides q unmarked)
       ∙ ap (λ n. nat_eq n 0) (and_zero_r (slice_index x q + slice_index (map (λ v. guard p.bits - v) bounds) q))
-      ∙ ap (λ s. is_on s (slice_index bounds q) (slice_index x q)) (sym (get_or_past sides q 0 unmarked)))
+      ∙ ap (λ s. is_on s (slice_index bounds q) (slice_index x q)) (sym (get_or_past sides q Any unmarked)))
       (cases_lt q (length bounds))
 
   masks-tested : AreTested p.bits x (map (λ v. guard p.bits - v) bounds) (map (guard_of p.bits) sides) (map (wanted_of p.bits) sides) (test_at sides bounds x)
   masks-tested = record {
     raised = raised-at;
-    guards = mapped-fit p.bits (guard_of p.bits) sides (λ q small. guard_of-lt p.bits (slice_index sides q) some);
-    wanted = mapped-fit p.bits (wanted_of p.bits) sides (λ q small. wanted_of-lt p.bits (slice_index sides q) some);
+    guards = sided-fit p.bits (guard_of p.bits) sides (λ side. guard_of-lt p.bits side some);
+    wanted = sided-fit p.bits (wanted_of p.bits) sides (λ side. wanted_of-lt p.bits side some);
     test = test-at;
   }
 

@@ -1,11 +1,13 @@
 -- One addition a word tells on which side of their bounds the numbers are.
-use Rattle.std.specs.Prelude.{◌≡◌, ℕ, zero, suc, ◌+◌, ◌-◌, ◌*◌, ◌/◌, ◌%◌, ◌^◌, ◌<◌, ◌≤◌, Bool, true, false, ◌&&◌, List, [], ◌∷◌, length, map, slice_index, nat_eq, nat_le, nat_lt, bit_and, if◌then◌else◌}
+use Rattle.std.specs.Prelude.{◌≡◌, ℕ, zero, suc, ◌+◌, ◌-◌, ◌*◌, ◌/◌, ◌%◌, ◌^◌, ◌<◌, ◌≤◌, Bool, true, false, ◌&&◌, List, [], ◌∷◌, length, map, slice_index, slice_index_or, nat_eq, nat_le, nat_lt, bit_and}
 use Rattle.std.proofs.Common.{refl, ap, ap₂, sym, subst, ◌∙◌, arith, pow_pos, ⊎_elim, eq-eqb, ne_eqb, le-leb, lt-ltb, le-ltb}
 use Rattle.std.proofs.lemmas.Bool.{cases_lt, lt-leb}
 use Rattle.std.proofs.lemmas.List.{get_or_past, get_or-map, length-map}
 use Rattle.std.proofs.lemmas.Nat.Bits.{and_pow}
 use Rattle.std.proofs.Math.Nat.{div-eq_of_lt, div-eq_of_lt-le}
 use Rattle.std.specs.Int.Bits.{and_zero_r}
+use Rattle.psi_piecewise.specs.declared.sides.Side.{Side}
+use Rattle.psi_piecewise.specs.declared.sides.Side.TheVariants.{Any, AtLeast, Below}
 use Rattle.psi_piecewise.specs.Piecewise.{is_on, all_on}
 use Rattle.psi_packed.specs.Moves.{guard, guard_of, wanted_of}
 use Rattle.psi_packed.proofs.DigitsLemmas.{all_below}
@@ -38,10 +40,10 @@ all_below-true zero p each = refl
 all_below-true (suc n) p each = ap₂ ◌&&◌ (each 0) (all_below-true n (λ j. p (suc j)) (λ j. each (suc j)))
 
 -- the test of the number at a place
-abbrev pub test_at : List ℕ → List ℕ → List ℕ → ℕ → Bool
-test_at sides bounds x q = is_on (slice_index sides q) (slice_index bounds q) (slice_index x q)
+abbrev pub test_at : List Side → List ℕ → List ℕ → ℕ → Bool
+test_at sides bounds x q = is_on (slice_index_or sides q Any) (slice_index bounds q) (slice_index x q)
 
-pub all_on-is : (n : ℕ) (sides bounds x : List ℕ) → length sides ≡ length x → length bounds ≡ length x → length x ≤ n
+pub all_on-is : (n : ℕ) (sides : List Side) (bounds x : List ℕ) → length sides ≡ length x → length bounds ≡ length x → length x ≤ n
     → all_on sides bounds x ≡ all_below n (test_at sides bounds x)
 all_on-is n [] [] [] same long few = sym (all_below-true n (test_at [] [] []) (λ j. refl))
 all_on-is n [] [] (v ∷ x) same long few = absurd (omega arith)
@@ -87,47 +89,41 @@ module _ (bits v b : ℕ) (some : 1 ≤ bits) (small : v < 2 ^ (bits - 1)) (boun
       ne_eqb _ _ (λ same. omega (arith, up, same, pow_pos (bits - 1))) ∙ sym (le-ltb v b above))
       (cases_lt v b)
 
-  side-test : (one two : Bool)
-      → nat_eq (bit_and (v + (2 ^ (bits - 1) - b)) (if one then 2 ^ (bits - 1) else if two then 2 ^ (bits - 1) else 0)) (if one then 2 ^ (bits - 1) else 0)
-      ≡ (if one then nat_le b v else if two then nat_lt v b else true)
-  side-test true two = at_least
-  side-test false true = below
-  side-test false false = ap (λ n. nat_eq n 0) (and_zero_r (v + (2 ^ (bits - 1) - b)))
-
-  pub field-test : (side : ℕ) → nat_eq (bit_and (v + (guard bits - b)) (guard_of bits side)) (wanted_of bits side) ≡ is_on side b v
-  field-test side = side-test (nat_eq side 1) (nat_eq side 2)
+  pub field-test : (side : Side) → nat_eq (bit_and (v + (guard bits - b)) (guard_of bits side)) (wanted_of bits side) ≡ is_on side b v
+  field-test Any = ap (λ n. nat_eq n 0) (and_zero_r (v + (2 ^ (bits - 1) - b)))
+  field-test AtLeast = at_least
+  field-test Below = below
 
 -- ---- the numbers of the masks
 
 guard-lt : (bits : ℕ) → 1 ≤ bits → 2 ^ (bits - 1) < 2 ^ bits
 guard-lt bits some = omega (arith, twice-guard bits some, pow_pos (bits - 1))
 
-pub guard_of-lt : (bits side : ℕ) → 1 ≤ bits → guard_of bits side < 2 ^ bits
-guard_of-lt bits side some = by (nat_eq side 1) (nat_eq side 2)
-  where
-    by : (one two : Bool) → (if one then 2 ^ (bits - 1) else if two then 2 ^ (bits - 1) else 0) < 2 ^ bits
-    by true two = guard-lt bits some
-    by false true = guard-lt bits some
-    by false false = pow_pos bits
+pub guard_of-lt : (bits : ℕ) (side : Side) → 1 ≤ bits → guard_of bits side < 2 ^ bits
+guard_of-lt bits Any some = pow_pos bits
+guard_of-lt bits AtLeast some = guard-lt bits some
+guard_of-lt bits Below some = guard-lt bits some
 
-pub wanted_of-lt : (bits side : ℕ) → 1 ≤ bits → wanted_of bits side < 2 ^ bits
-wanted_of-lt bits side some = by (nat_eq side 1)
-  where
-    by : (one : Bool) → (if one then 2 ^ (bits - 1) else 0) < 2 ^ bits
-    by true = guard-lt bits some
-    by false = pow_pos bits
+pub wanted_of-lt : (bits : ℕ) (side : Side) → 1 ≤ bits → wanted_of bits side < 2 ^ bits
+wanted_of-lt bits Any some = pow_pos bits
+wanted_of-lt bits AtLeast some = guard-lt bits some
+wanted_of-lt bits Below some = pow_pos bits
 
 -- a number of a list that is made number by number
 pub mapped-at : (f : ℕ → ℕ) (x : List ℕ) (q : ℕ) → q < length x → slice_index (map f x) q ≡ f (slice_index x q)
 mapped-at f x q small = get_or-map f x q 0 0 small
 
-pub mapped-past : (f : ℕ → ℕ) (x : List ℕ) (q : ℕ) → length x ≤ q → slice_index (map f x) q ≡ 0
+-- and one that is made of a side
+pub sided-at : (f : Side → ℕ) (sides : List Side) (q : ℕ) → q < length sides → slice_index (map f sides) q ≡ f (slice_index_or sides q Any)
+sided-at f sides q small = get_or-map f sides q Any 0 small
+
+pub mapped-past : {A : Type 0} (f : A → ℕ) (x : List A) (q : ℕ) → length x ≤ q → slice_index (map f x) q ≡ 0
 mapped-past f x q past = get_or_past (map f x) q 0 (omega (arith, length-map x f))
 
-pub mapped-fit : (bits : ℕ) (f : ℕ → ℕ) (x : List ℕ) → ((q : ℕ) → q < length x → f (slice_index x q) < 2 ^ bits) → Fit bits (map f x)
-mapped-fit bits f x each = record {
+pub sided-fit : (bits : ℕ) (f : Side → ℕ) (sides : List Side) → ((side : Side) → f side < 2 ^ bits) → Fit bits (map f sides)
+sided-fit bits f sides each = record {
   each = λ q. ⊎_elim
-      (λ small. subst (λ v. v < 2 ^ bits) (sym (mapped-at f x q small)) (each q small))
-      (λ past. subst (λ v. v < 2 ^ bits) (sym (mapped-past f x q past)) (pow_pos bits))
-      (cases_lt q (length x));
+      (λ small. subst (λ v. v < 2 ^ bits) (sym (sided-at f sides q small)) (each (slice_index_or sides q Any)))
+      (λ past. subst (λ v. v < 2 ^ bits) (sym (mapped-past f sides q past)) (pow_pos bits))
+      (cases_lt q (length sides));
 }

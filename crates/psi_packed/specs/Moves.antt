@@ -1,6 +1,8 @@
 -- What an event of pieces does to packed states: one addition tests the bounds of all queues, since it brings up the guards of
 -- those that are at their bounds or above them.
-use Rattle.std.specs.Prelude.{◌≡◌, ℕ, zero, suc, ◌+◌, ◌-◌, ◌%◌, ◌^◌, ◌<◌, List, [], length, map, slice_index, Bool, true, ◌&&◌, nat_eq, bit_and, if◌then◌else◌}
+use Rattle.std.specs.Prelude.{◌≡◌, ℕ, zero, suc, ◌+◌, ◌-◌, ◌%◌, ◌^◌, ◌<◌, List, [], length, map, slice_index, Bool, true, ◌&&◌, nat_eq, bit_and}
+use Rattle.psi_piecewise.specs.declared.sides.Side.{Side}
+use Rattle.psi_piecewise.specs.declared.sides.Side.TheVariants.{Any, AtLeast, Below}
 use Rattle.psi_piecewise.specs.declared.piecewise.Piece.{Piece}
 use Rattle.psi_piecewise.specs.declared.piecewise.Piecewise.{Piecewise}
 use Rattle.psi_piecewise.specs.Piecewise.{if_on}
@@ -44,11 +46,15 @@ abbrev pub guard : ℕ → ℕ
 guard bits = 2 ^ (bits - 1)
 
 -- the guard where a side asks for it, up or down, and where it asks for it up
-abbrev pub guard_of : ℕ → ℕ → ℕ
-guard_of bits side = if nat_eq side 1 then guard bits else if nat_eq side 2 then guard bits else 0
+abbrev pub guard_of : ℕ → Side → ℕ
+guard_of bits Any = 0
+guard_of bits AtLeast = guard bits
+guard_of bits Below = guard bits
 
-abbrev pub wanted_of : ℕ → ℕ → ℕ
-wanted_of bits side = if nat_eq side 1 then guard bits else 0
+abbrev pub wanted_of : ℕ → Side → ℕ
+wanted_of bits Any = 0
+wanted_of bits AtLeast = guard bits
+wanted_of bits Below = 0
 
 -- the masks are those of a piece: a change is what comes less what leaves, modulo 2^64
 pub record AreMasksOf (count : ℕ) (p : Packing) (piece : Piece) (m : Masks) : Type 0 where

@@ -5,7 +5,7 @@ ghost use Rattle.psi_state.specs.State.{AreCapacities, IsBelow};
 ghost use Rattle.psi_packed.specs.Packed.{packed, LeavesFree};
 ghost use Rattle.psi_packed.specs.Moves.{guard, guard_of, wanted_of};
 
-use psi_piecewise::{AT_LEAST, BELOW};
+use psi_piecewise::{Side, Sides};
 use psi_state::State;
 use std::marker::Model;
 
@@ -151,32 +151,49 @@ impl<const K: usize> Layout<K> {
     }
 
     // The guards of the queues that are to be on a side.
-    pub(crate) fn guards(&self, sides: &State) -> Packed<K>
+    pub(crate) fn guards(&self, sides: &Sides) -> Packed<K>
         requires { length sides.now ≡ length self.now.caps }
         ensures { result.words ≡ packed K self.now (map (guard_of self.now.bits) sides.now) }
     {
-        let guard = self.guard();
-        let mut guards = *sides;
+        let mut guards = self.caps();
         for queue in 0..sides.len() {
-            let side = sides.get(queue);
-            let is_bound = side == AT_LEAST || side == BELOW;
-            guards.set(queue, if is_bound { guard } else { 0 });
+            guards.set(queue, self.guard_of(sides.get(queue)));
         }
         self.pack_numbers(&guards)
     }
 
+    // The guard where a side asks for it, up or down.
+    fn guard_of(&self, side: Side) -> u16
+        ensures { result ≡ guard_of self.now.bits side }
+    {
+        match side {
+            Side::Any => 0,
+            Side::AtLeast => self.guard(),
+            Side::Below => self.guard(),
+        }
+    }
+
     // The guards of the queues that are to be at their bounds or above them.
-    pub(crate) fn wanted(&self, sides: &State) -> Packed<K>
+    pub(crate) fn wanted(&self, sides: &Sides) -> Packed<K>
         requires { length sides.now ≡ length self.now.caps }
         ensures { result.words ≡ packed K self.now (map (wanted_of self.now.bits) sides.now) }
     {
-        let guard = self.guard();
-        let mut wanted = *sides;
+        let mut wanted = self.caps();
         for queue in 0..sides.len() {
-            let side = sides.get(queue);
-            wanted.set(queue, if side == AT_LEAST { guard } else { 0 });
+            wanted.set(queue, self.wanted_of(sides.get(queue)));
         }
         self.pack_numbers(&wanted)
+    }
+
+    // The guard where a side asks for it up.
+    fn wanted_of(&self, side: Side) -> u16
+        ensures { result ≡ wanted_of self.now.bits side }
+    {
+        match side {
+            Side::Any => 0,
+            Side::AtLeast => self.guard(),
+            Side::Below => 0,
+        }
     }
 
     // The guard of a field.

@@ -1,18 +1,20 @@
 -- Lemmas. The tests of a piece, queue by queue.
-use Rattle.std.specs.Prelude.{◌≡◌, ℕ, zero, suc, ◌<◌, List, [], ◌∷◌, length, replicate, slice_index, slice_set, Bool, true, false, ◌+◌, ◌&&◌, refl}
+use Rattle.std.specs.Prelude.{◌≡◌, ℕ, zero, suc, ◌<◌, List, [], ◌∷◌, length, replicate, slice_index, slice_index_or, slice_set, Bool, true, false, ◌+◌, ◌&&◌, refl}
 use Rattle.std.proofs.Common.{ap, sym, ◌∙◌, subst, arith}
+use Rattle.psi_piecewise.specs.declared.sides.Side.{Side}
+use Rattle.psi_piecewise.specs.declared.sides.Side.TheVariants.{Any}
 use Rattle.psi_piecewise.specs.declared.piecewise.Piecewise.{Piecewise}
 use Rattle.psi_piecewise.specs.Piecewise.{is_on, all_on, if_on, first_on, second_on, IsSum}
 
 -- where no queue has a side, the piece applies
-pub free-on : (n : ℕ) (bounds x : List ℕ) → all_on (replicate n 0) bounds x ≡ true
+pub free-on : (n : ℕ) (bounds x : List ℕ) → all_on (replicate n Any) bounds x ≡ true
 free-on zero bounds x = refl
 free-on (suc n) [] x = refl
 free-on (suc n) (bound ∷ bounds) [] = refl
 free-on (suc n) (bound ∷ bounds) (v ∷ x) = free-on n bounds x
 
 -- a queue that had no side gets one: its test is asked beside the others
-pub set-on : (sides : List ℕ) (q side : ℕ) (bounds x : List ℕ) → q < length sides → q < length bounds → q < length x → slice_index sides q ≡ 0
+pub set-on : (sides : List Side) (q : ℕ) (side : Side) (bounds x : List ℕ) → q < length sides → q < length bounds → q < length x → slice_index_or sides q Any ≡ Any
     → all_on (slice_set sides q side) bounds x ≡ (is_on side (slice_index bounds q) (slice_index x q) && all_on sides bounds x)
 set-on [] q side bounds x in_sides in_bounds in_x free = absurd (omega arith)
 set-on (s ∷ sides) q side [] x in_sides in_bounds in_x free = absurd (omega arith)

@@ -1,20 +1,24 @@
 -- Events that are homogeneous by pieces (Bušić, Durand, Gaujal and Perronnin 2015).
-use Rattle.std.specs.Prelude.{◌≡◌, ℕ, ◌+◌, ◌<◌, List, [], ◌∷◌, length, replicate, slice_index, Bool, true, ◌&&◌, nat_eq, nat_le, nat_lt, if◌then◌else◌}
+use Rattle.std.specs.Prelude.{◌≡◌, ℕ, ◌+◌, ◌<◌, List, [], ◌∷◌, length, replicate, slice_index, Bool, true, ◌&&◌, nat_le, nat_lt, if◌then◌else◌}
 use Rattle.psi_state.specs.State.{IsBelow}
 use Rattle.psi_event.specs.Law.{Function}
+use Rattle.psi_piecewise.specs.declared.sides.Side.{Side}
+use Rattle.psi_piecewise.specs.declared.sides.Side.TheVariants.{Any, AtLeast, Below}
 use Rattle.psi_piecewise.specs.declared.piecewise.Piece.{Piece}
 use Rattle.psi_piecewise.specs.declared.piecewise.Piecewise.{Piecewise}
 
 -- the piece that applies to each state and changes nothing
 abbrev pub empty_piece : ℕ → Piece
-empty_piece queues = record { sides = replicate queues 0; ups = replicate queues 0; downs = replicate queues 0 }
+empty_piece queues = record { sides = replicate queues Any; ups = replicate queues 0; downs = replicate queues 0 }
 
--- a number is on a side of a bound: 1 is at the bound or above it, 2 below it, and any other anywhere
-abbrev pub is_on : ℕ → ℕ → ℕ → Bool
-is_on side bound v = if nat_eq side 1 then nat_le bound v else if nat_eq side 2 then nat_lt v bound else true
+-- a number is on a side of a bound
+abbrev pub is_on : Side → ℕ → ℕ → Bool
+is_on Any bound v = true
+is_on AtLeast bound v = nat_le bound v
+is_on Below bound v = nat_lt v bound
 
 -- each number is on its side of its bound
-abbrev pub all_on : List ℕ → List ℕ → List ℕ → Bool
+abbrev pub all_on : List Side → List ℕ → List ℕ → Bool
 all_on [] bounds x = true
 all_on (side ∷ sides) [] x = true
 all_on (side ∷ sides) (bound ∷ bounds) [] = true

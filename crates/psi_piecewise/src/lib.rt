@@ -4,6 +4,8 @@
 
 mod law;
 mod piecewise;
+mod sides;
 
 pub use law::PiecewiseLaw;
-pub use piecewise::{AT_LEAST, BELOW, Piece, Piecewise};
+pub use piecewise::{Piece, Piecewise};
+pub use sides::{Side, Sides};

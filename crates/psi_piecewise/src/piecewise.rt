@@ -2,20 +2,14 @@
 
 ghost use Rattle.std.specs.Prelude.{◌≡◌, ◌≤◌, replicate};
 
+use crate::sides::Sides;
 use psi_state::State;
-
-/// The side of a queue whose number has to be at its bound or above it for a piece to apply. Where the side is
-/// neither this nor [`BELOW`], the number may be any.
-pub const AT_LEAST: u16 = 1;
-
-/// The side of a queue whose number has to be below its bound for a piece to apply.
-pub const BELOW: u16 = 2;
 
 /// What is added to a state and taken from it where each queue's number is on its side of the queue's bound.
 #[derive(Clone, Copy, Debug)]
 pub struct Piece {
-    /// The side for each queue: `AT_LEAST`, `BELOW`, or 0 where any number will do.
-    pub sides: State,
+    /// On which side of its bound each queue's number has to be.
+    pub sides: Sides,
     /// How many customers come to each queue.
     pub ups: State,
     /// How many customers leave each queue.
@@ -33,7 +27,7 @@ impl Piece {
     {
         let zero = State::zero(queues);
         Piece {
-            sides: zero,
+            sides: Sides::any(queues),
             ups: zero,
             downs: zero,
         }

@@ -1,17 +1,19 @@
 -- Lemmas. What the pieces of a route add and take is what it does.
-use Rattle.std.specs.Prelude.{◌≡◌, ◌≢◌, ℕ, ◌+◌, ◌<◌, ◌≤◌, List, length, slice_index, slice_set, Bool, true, false, ◌&&◌, nat_le, nat_lt, if◌then◌else◌, refl}
+use Rattle.std.specs.Prelude.{◌≡◌, ◌≢◌, ℕ, ◌+◌, ◌<◌, ◌≤◌, List, length, replicate, slice_index, slice_index_or, slice_set, Bool, true, false, ◌&&◌, nat_le, nat_lt, if◌then◌else◌, refl}
 use Rattle.std.proofs.Common.{inl, inr, ap, sym, ◌∙◌, subst, arith, length-set, get_or-set_same, get_or-set_other}
 use Rattle.std.proofs.lemmas.Bool.{cases_lt, cases_eq, cases_Bool, lt-ltb, le-ltb, le-leb, lt-leb}
 use Rattle.std.proofs.lemmas.List.{set_past, get_or-replicate, length-replicate}
 use Rattle.psi_state.specs.State.{IsBelow, zeros}
 use Rattle.psi_state.proofs.StatesLemmas.{zeros-caps}
+use Rattle.psi_piecewise.specs.declared.sides.Side.{Side}
+use Rattle.psi_piecewise.specs.declared.sides.Side.TheVariants.{Any, AtLeast, Below}
 use Rattle.psi_piecewise.specs.Piecewise.{is_on, all_on, first_on, second_on, IsSum, Does}
 use Rattle.psi_piecewise.proofs.TestingLemmas.{free-on, set-on, sum-by}
 use Rattle.psi_route.specs.Routing.{Shape, routing, act, routed, taken, HasRoom, Lacks}
 use Rattle.psi_route.specs.Acting.{NoRoom}
 use Rattle.psi_route.specs.ActingLaws.{act-idle}
 use Rattle.psi_route.specs.Accepted.{IsRouteShape}
-use Rattle.psi_route.specs.Pieces.{for_source, for_target, bound_of, leaving, joining}
+use Rattle.psi_route.specs.Pieces.{for_source, for_target, serving, on_side, bound_of, leaving, joining}
 use Rattle.psi_route.proofs.AcceptedLemmas.{routing-is, source-most}
 use Rattle.psi_route.proofs.ActingLemmas.{act-some, act-lost, act-stay, taken-other, taken-same, length-taken, room_or_lacks}
 use Rattle.psi_route.proofs.PlainLemmas.{first_best}
@@ -61,16 +63,26 @@ module _ (s : Shape) (is : IsRouteShape s) where
   pub source-other : (v q : ℕ) → q < length s.caps → q ≢ r_source → slice_index (for_source s v) q ≡ 0
   source-other v q small other = get_or-set_other {A = ℕ} (zeros s.caps) r_source q v 0 other ∙ at-zero s.caps q small
 
+  -- the sides where it serves
+  abbrev anywhere : List Side
+  anywhere = replicate (length s.caps) Any
+
+  pub long_serving : length (serving s) ≡ length s.caps
+  long_serving = length-set {A = Side} anywhere r_source AtLeast ∙ length-replicate {A = Side} (length s.caps) Any
+
+  pub serving-other : (q : ℕ) → q < length s.caps → q ≢ r_source → slice_index_or (serving s) q Any ≡ Any
+  serving-other q small other = get_or-set_other {A = Side} anywhere r_source q AtLeast Any other ∙ get_or-replicate {A = Side} (length s.caps) q Any Any small
+
   -- the source serves exactly where its test holds
   pub serve-test : (bounds x : List ℕ) → length bounds ≡ length s.caps → length x ≡ length s.caps
       → (r_source < length s.caps → slice_index bounds r_source ≡ (routing s).least)
-      → all_on (for_source s 1) bounds x ≡ nat_le ((routing s).least) (slice_index x r_source)
+      → all_on (serving s) bounds x ≡ nat_le ((routing s).least) (slice_index x r_source)
   serve-test bounds x long_bounds long_x at_source = elim (cases_lt r_source (length s.caps)) [
-    | inl small ↦ set-on (zeros s.caps) r_source 1 bounds x (let long = long-zero s.caps in omega arith) (omega arith) (omega arith) (at-zero s.caps r_source small)
+    | inl small ↦ set-on anywhere r_source AtLeast bounds x (let long = length-replicate {A = Side} (length s.caps) Any in omega arith) (omega arith) (omega arith) (get_or-replicate {A = Side} (length s.caps) r_source Any Any small)
         ∙ ap (λ b. nat_le (slice_index bounds r_source) (slice_index x r_source) && b) (free-on (length s.caps) bounds x)
         ∙ and-true (nat_le (slice_index bounds r_source) (slice_index x r_source))
         ∙ ap (λ n. nat_le n (slice_index x r_source)) (at_source small)
-    | inr past ↦ ap (λ (sides : List ℕ). all_on sides bounds x) (set_past {X = ℕ} (zeros s.caps) r_source 1 (let long = long-zero s.caps in omega arith))
+    | inr past ↦ ap (λ (sides : List Side). all_on sides bounds x) (set_past {X = Side} anywhere r_source AtLeast (let long = length-replicate {A = Side} (length s.caps) Any in omega arith))
         ∙ free-on (length s.caps) bounds x
         ∙ sym (le-leb ((routing s).least) (slice_index x r_source) (elim (routing-is s is).sourced [
           | inl small ↦ absurd (omega arith)
@@ -129,6 +141,9 @@ module _ (s : Shape) (is : IsRouteShape s) where
     long_target : (list : List ℕ) (v : ℕ) → length list ≡ length s.caps → length (for_target s 0 list v) ≡ length s.caps
     long_target list v long = length-set {A = ℕ} list t_queue v ∙ long
 
+    long_side : (side : Side) → length (on_side s 0 (serving s) side) ≡ length s.caps
+    long_side side = length-set {A = Side} (serving s) t_queue side ∙ long_serving
+
     target-same : (list : List ℕ) (v : ℕ) → length list ≡ length s.caps → slice_index (for_target s 0 list v) t_queue ≡ v
     target-same list v long = get_or-set_same {A = ℕ} list t_queue v 0 (let small = t_small in omega arith)
 
@@ -136,15 +151,15 @@ module _ (s : Shape) (is : IsRouteShape s) where
     target-other list v q other = get_or-set_other {A = ℕ} list t_queue q v 0 other
 
     -- a piece applies exactly where the target is on its side and the source serves
-    target-test : (side : ℕ) (x : List ℕ) → length x ≡ length s.caps
-        → all_on (for_target s 0 (for_source s 1) side) bounds x
+    target-test : (side : Side) (x : List ℕ) → length x ≡ length s.caps
+        → all_on (on_side s 0 (serving s) side) bounds x
         ≡ (is_on side (bound_of s 0) (slice_index x t_queue) && nat_le ((routing s).least) (slice_index x r_source))
     target-test side x long_x =
         let small = t_small in
-        let long_sides = long_source 1 in
+        let long_sides = long_serving in
         let long_least = long_source ((routing s).least) in
         let long_bounds = long_target (for_source s ((routing s).least)) (bound_of s 0) long_least in
-        set-on (for_source s 1) t_queue side bounds x (omega arith) (omega arith) (omega arith) (source-other 1 t_queue small t_other)
+        set-on (serving s) t_queue side bounds x (omega arith) (omega arith) (omega arith) (serving-other t_queue small t_other)
         ∙ ap (λ b. is_on side (slice_index bounds t_queue) (slice_index x t_queue) && b)
         (serve-test bounds x long_bounds long_x
         (λ source_small. target-other (for_source s ((routing s).least)) (bound_of s 0) r_source s_other ∙ source-same ((routing s).least) source_small))
@@ -155,12 +170,12 @@ module _ (s : Shape) (is : IsRouteShape s) where
     first-is : (x : List ℕ) (room serves : Bool) → length x ≡ length s.caps → nat_lt (slice_index x t_queue) (bound_of s 0) ≡ room
         → nat_le ((routing s).least) (slice_index x r_source) ≡ serves → first_on (joining s) x ≡ (room && serves)
     first-is x room serves long_x is_room is_served =
-        target-test 2 x long_x ∙ ap (λ b. b && nat_le ((routing s).least) (slice_index x r_source)) is_room ∙ ap (λ b. room && b) is_served
+        target-test Below x long_x ∙ ap (λ b. b && nat_le ((routing s).least) (slice_index x r_source)) is_room ∙ ap (λ b. room && b) is_served
 
     second-is : (x : List ℕ) (full serves : Bool) → length x ≡ length s.caps → nat_le (bound_of s 0) (slice_index x t_queue) ≡ full
         → nat_le ((routing s).least) (slice_index x r_source) ≡ serves → second_on (joining s) x ≡ (full && serves)
     second-is x full serves long_x is_full is_served =
-        target-test 1 x long_x ∙ ap (λ b. b && nat_le ((routing s).least) (slice_index x r_source)) is_full ∙ ap (λ b. full && b) is_served
+        target-test AtLeast x long_x ∙ ap (λ b. b && nat_le ((routing s).least) (slice_index x r_source)) is_full ∙ ap (λ b. full && b) is_served
 
     -- what the pieces add and take, queue by queue: at the target, at the source and elsewhere
     module _ (x : List ℕ) (below : IsBelow x s.caps) where
@@ -284,8 +299,8 @@ module _ (s : Shape) (is : IsRouteShape s) where
   leaving-does none = record {
     valid = record {
       bounds = least-below;
-      first = record { sides = long_source 1; ups = zeros-caps s.caps; downs = one-below };
-      second = record { sides = long-zero s.caps; ups = zeros-caps s.caps; downs = zeros-caps s.caps };
+      first = record { sides = long_serving; ups = zeros-caps s.caps; downs = one-below };
+      second = record { sides = length-replicate {A = Side} (length s.caps) Any; ups = zeros-caps s.caps; downs = zeros-caps s.caps };
     };
     each = λ x below. leaving-sum none x below;
   }
@@ -296,12 +311,12 @@ module _ (s : Shape) (is : IsRouteShape s) where
     valid = record {
       bounds = set-below s.caps (for_source s ((routing s).least)) (slice_index s.targets 0) (bound_of s 0) least-below (λ small. (let fits = is.fits 0 (omega arith) in omega arith));
       first = record {
-        sides = long_target one (for_source s 1) 2 (long_source 1);
+        sides = long_side one Below;
         ups = set-below s.caps (zeros s.caps) (slice_index s.targets 0) s.size (zeros-caps s.caps) (λ small. is.fits 0 (omega arith));
         downs = one-below;
       };
       second = record {
-        sides = long_target one (for_source s 1) 1 (long_source 1);
+        sides = long_side one AtLeast;
         ups = zeros-caps s.caps;
         downs = lost-below ((routing s).lost);
       };

@@ -4,17 +4,19 @@ use Rattle.std.proofs.Common.{inl, inr, ap, sym, ◌∙◌, subst, arith, length
 use Rattle.std.proofs.lemmas.Bool.{cases_lt, cases_eq, cases_Bool, lt-ltb, le-ltb, le-leb, lt-leb}
 use Rattle.psi_state.specs.State.{IsBelow, zeros}
 use Rattle.psi_state.proofs.StatesLemmas.{zeros-caps}
+use Rattle.psi_piecewise.specs.declared.sides.Side.{Side}
+use Rattle.psi_piecewise.specs.declared.sides.Side.TheVariants.{Any, AtLeast, Below}
 use Rattle.psi_piecewise.specs.Piecewise.{is_on, all_on, first_on, second_on, IsSum, Does}
 use Rattle.psi_piecewise.proofs.TestingLemmas.{set-on, sum-by}
 use Rattle.psi_route.specs.Routing.{Shape, routing, act, routed, taken, HasRoom, Lacks}
 use Rattle.psi_route.specs.Acting.{NoRoom}
 use Rattle.psi_route.specs.ActingLaws.{act-idle}
 use Rattle.psi_route.specs.Accepted.{IsRouteShape}
-use Rattle.psi_route.specs.Pieces.{for_source, for_target, bound_of, choosing, Stays}
+use Rattle.psi_route.specs.Pieces.{for_source, for_target, serving, on_side, bound_of, choosing, Stays}
 use Rattle.psi_route.proofs.AcceptedLemmas.{routing-is}
 use Rattle.psi_route.proofs.ActingLemmas.{act-some, act-lost, act-stay, taken-other, taken-same, taken-past, length-taken, room_or_lacks}
 use Rattle.psi_route.proofs.PlainLemmas.{first_best}
-use Rattle.psi_route.proofs.PiecesLemmas.{and-no, at-zero, set-below, long-zero, r_source, long_source, source-same, source-other, serve-test, one-below, least-below}
+use Rattle.psi_route.proofs.PiecesLemmas.{and-no, at-zero, set-below, long-zero, r_source, long_source, long_serving, serving-other, source-same, source-other, serve-test, one-below, least-below}
 
 module _ (s : Shape) (is : IsRouteShape s) (two : length s.targets ≡ 2) where
   -- the queue of a place
@@ -44,6 +46,9 @@ module _ (s : Shape) (is : IsRouteShape s) (two : length s.targets ≡ 2) where
 
   long_target : (i : ℕ) (list : List ℕ) (v : ℕ) → length list ≡ length s.caps → length (for_target s i list v) ≡ length s.caps
   long_target i list v long = length-set {A = ℕ} list (target i) v ∙ long
+
+  long_side : (i : ℕ) (sides : List Side) (side : Side) → length sides ≡ length s.caps → length (on_side s i sides side) ≡ length s.caps
+  long_side i sides side long = length-set {A = Side} sides (target i) side ∙ long
 
   target-same : (i : ℕ) (list : List ℕ) (v : ℕ) → i < 2 → length list ≡ length s.caps → slice_index (for_target s i list v) (target i) ≡ v
   target-same i list v place long = get_or-set_same {A = ℕ} list (target i) v 0 (let small = target-small i place in omega arith)
@@ -86,14 +91,14 @@ module _ (s : Shape) (is : IsRouteShape s) (two : length s.targets ≡ 2) where
     y = act (routing s) x
 
     -- the source serves, and the first target is on a side
-    side-test : (side : ℕ) → all_on (for_target s 0 (for_source s 1) side) bounds x
+    side-test : (side : Side) → all_on (on_side s 0 (serving s) side) bounds x
         ≡ (is_on side (bound_of s 0) (slice_index x (target 0)) && nat_le least (slice_index x source))
     side-test side =
         let small = target-small 0 (omega arith) in
-        let long_sides = long_source s is 1 in
+        let long_sides = long_serving s is in
         let long_bound = long_bounds in
-        set-on (for_source s 1) (target 0) side bounds x (omega arith) (omega arith) (omega arith)
-        (source-other s is 1 (target 0) small (target-source 0 (omega arith)))
+        set-on (serving s) (target 0) side bounds x (omega arith) (omega arith) (omega arith)
+        (serving-other s is (target 0) small (target-source 0 (omega arith)))
         ∙ (ap (λ b. is_on side (slice_index bounds (target 0)) (slice_index x (target 0)) && b) (serve-test s is bounds x long_bounds long_x bound-source)
         ∙ ap (λ v. is_on side v (slice_index x (target 0)) && nat_le least (slice_index x source)) bound-first)
 
@@ -102,17 +107,17 @@ module _ (s : Shape) (is : IsRouteShape s) (two : length s.targets ≡ 2) where
         ≡ (nat_lt (slice_index x (target 1)) (bound_of s 1) && (nat_le (bound_of s 0) (slice_index x (target 0)) && nat_le least (slice_index x source)))
     second-test =
         let small = target-small 1 (omega arith) in
-        let long_sides = long_target 0 (for_source s 1) 1 (long_source s is 1) in
+        let long_sides = long_side 0 (serving s) AtLeast (long_serving s is) in
         let long_bound = long_bounds in
-        set-on (for_target s 0 (for_source s 1) 1) (target 1) 2 bounds x (omega arith) (omega arith) (omega arith)
-        (target-other 0 (for_source s 1) 1 (target 1) second-first ∙ source-other s is 1 (target 1) small (target-source 1 (omega arith)))
-        ∙ (ap (λ b. nat_lt (slice_index x (target 1)) (slice_index bounds (target 1)) && b) (side-test 1)
+        set-on (on_side s 0 (serving s) AtLeast) (target 1) Below bounds x (omega arith) (omega arith) (omega arith)
+        (get_or-set_other {A = Side} (serving s) (target 0) (target 1) AtLeast Any second-first ∙ serving-other s is (target 1) small (target-source 1 (omega arith)))
+        ∙ (ap (λ b. nat_lt (slice_index x (target 1)) (slice_index bounds (target 1)) && b) (side-test AtLeast)
         ∙ ap (λ v. nat_lt (slice_index x (target 1)) v && (nat_le (bound_of s 0) (slice_index x (target 0)) && nat_le least (slice_index x source))) bound-second)
 
     -- the tests of the two pieces, where it is known which targets have room and whether the source serves
     first-is : (room serves : Bool) → nat_lt (slice_index x (target 0)) (bound_of s 0) ≡ room → nat_le least (slice_index x source) ≡ serves
         → first_on (choosing s) x ≡ (room && serves)
-    first-is room serves is_room is_served = side-test 2 ∙ (ap (λ b. b && nat_le least (slice_index x source)) is_room ∙ ap (λ b. room && b) is_served)
+    first-is room serves is_room is_served = side-test Below ∙ (ap (λ b. b && nat_le least (slice_index x source)) is_room ∙ ap (λ b. room && b) is_served)
 
     second-is : (room full serves : Bool) → nat_lt (slice_index x (target 1)) (bound_of s 1) ≡ room → nat_le (bound_of s 0) (slice_index x (target 0)) ≡ full
         → nat_le least (slice_index x source) ≡ serves → second_on (choosing s) x ≡ (room && (full && serves))
@@ -258,12 +263,12 @@ module _ (s : Shape) (is : IsRouteShape s) (two : length s.targets ≡ 2) where
       bounds = set-below s.caps first_bounds (target 1) (bound_of s 1)
           (set-below s.caps (for_source s least) (target 0) (bound_of s 0) (least-below s is) (bound-fits 0 (omega arith))) (bound-fits 1 (omega arith));
       first = record {
-        sides = long_target 0 (for_source s 1) 2 (long_source s is 1);
+        sides = long_side 0 (serving s) Below (long_serving s is);
         ups = set-below s.caps (zeros s.caps) (target 0) s.size (zeros-caps s.caps) (size-fits 0 (omega arith));
         downs = one-below s is;
       };
       second = record {
-        sides = long_target 1 (for_target s 0 (for_source s 1) 1) 2 (long_target 0 (for_source s 1) 1 (long_source s is 1));
+        sides = long_side 1 (on_side s 0 (serving s) AtLeast) Below (long_side 0 (serving s) AtLeast (long_serving s is));
         ups = set-below s.caps (zeros s.caps) (target 1) s.size (zeros-caps s.caps) (size-fits 1 (omega arith));
         downs = one-below s is;
       };

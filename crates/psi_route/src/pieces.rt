@@ -5,7 +5,7 @@ ghost use Rattle.psi_piecewise.specs.Piecewise.{Does};
 
 use crate::parts::Full;
 use crate::route::Route;
-use psi_piecewise::{AT_LEAST, BELOW, Piece, Piecewise, PiecewiseLaw};
+use psi_piecewise::{Piece, Piecewise, PiecewiseLaw, Side, Sides};
 use psi_state::State;
 
 impl PiecewiseLaw for Route {
@@ -23,7 +23,7 @@ impl PiecewiseLaw for Route {
 }
 
 impl Route {
-    ghost use Rattle.psi_route.specs.Pieces.{for_source, for_target, bound_of, leaving, joining, choosing, Stays};
+    ghost use Rattle.psi_route.specs.Pieces.{for_source, for_target, serving, on_side, bound_of, leaving, joining, choosing, Stays};
     ghost use Rattle.psi_route.specs.Route.{shape_of};
 
     // The pieces where there is no target.
@@ -35,7 +35,7 @@ impl Route {
         Piecewise {
             bounds: self.for_source(self.server.least),
             first: Piece {
-                sides: self.for_source(AT_LEAST),
+                sides: self.serving(),
                 ups: State::zero(one.len()),
                 downs: one,
             },
@@ -50,16 +50,16 @@ impl Route {
     {
         let one = self.for_source(1);
         let zero = State::zero(one.len());
-        let serving = self.for_source(AT_LEAST);
+        let serving = self.serving();
         Piecewise {
             bounds: self.for_target(0, self.for_source(self.server.least), self.bound(0)),
             first: Piece {
-                sides: self.for_target(0, serving, BELOW),
+                sides: self.on_side(0, serving, Side::Below),
                 ups: self.for_target(0, zero, self.size),
                 downs: one,
             },
             second: Piece {
-                sides: self.for_target(0, serving, AT_LEAST),
+                sides: self.on_side(0, serving, Side::AtLeast),
                 ups: zero,
                 downs: if self.full == Full::Lost { one } else { zero },
             },
@@ -81,16 +81,17 @@ impl Route {
         let one = self.for_source(1);
         let zero = State::zero(one.len());
         let least = self.for_target(0, self.for_source(self.server.least), self.bound(0));
-        let full = self.for_target(0, one, AT_LEAST);
+        let serving = self.serving();
+        let full = self.on_side(0, serving, Side::AtLeast);
         Piecewise {
             bounds: self.for_target(1, least, self.bound(1)),
             first: Piece {
-                sides: self.for_target(0, one, BELOW),
+                sides: self.on_side(0, serving, Side::Below),
                 ups: self.for_target(0, zero, self.size),
                 downs: one,
             },
             second: Piece {
-                sides: self.for_target(1, full, BELOW),
+                sides: self.on_side(1, full, Side::Below),
                 ups: self.for_target(1, zero, self.size),
                 downs: one,
             },
@@ -118,6 +119,30 @@ impl Route {
     {
         let mut changed = list;
         changed.set(self.target(i), number);
+        changed
+    }
+
+    // The sides where the source serves, if there is one: at its bound or above it.
+    fn serving(&self) -> Sides
+        ensures value { result ≡ serving (shape_of self.now) }
+        ensures length { length result ≡ length self.now.caps }
+    {
+        let mut sides = Sides::any(self.caps.len());
+        if let Some(source) = self.source {
+            sides.set(source.queue, Side::AtLeast);
+        }
+        sides
+    }
+
+    // A side for the target at place `i`, and those of a list for the other queues.
+    fn on_side(&self, i: u8, sides: Sides, side: Side) -> Sides
+        requires place { i < length self.now.targets }
+        requires length { length sides ≡ length self.now.caps }
+        ensures value { result ≡ on_side (shape_of self.now) i sides side }
+        ensures length { length result ≡ length self.now.caps }
+    {
+        let mut changed = sides;
+        changed.set(self.target(i), side);
         changed
     }
 

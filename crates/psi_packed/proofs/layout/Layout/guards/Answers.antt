@@ -1,8 +1,9 @@
-use Rattle.std.proofs.Common.{rules, ◌<◌, ◌^◌, arith, ap, sym, subst, ◌∙◌, slice_index}
+use Rattle.std.proofs.Common.{rules, ◌<◌, ◌^◌, arith, ap, sym, subst, ◌∙◌, slice_index_or}
+use Rattle.psi_piecewise.specs.declared.sides.Side.TheVariants.{Any}
 use Rattle.psi_packed.specs.Packed.{packed}
 use Rattle.psi_packed.specs.Moves.{guard_of}
 use Rattle.psi_packed.proofs.TestingLemmas.{guard_of-lt}
-use Rattle.psi_packed.proofs.BuildingLemmas.{same-mapped}
+use Rattle.psi_packed.proofs.BuildingLemmas.{same-sided}
 use Rattle.psi_packed.proofs.layout.Layout.guards.Goals as goal
 
 pub pack_numbers-requires : goal.pack_numbers-requires
@@ -14,7 +15,7 @@ pack_numbers-requires g c = (
       omega (arith, c.loop-queue.invariant.long, c.requires),
       λ q small.
           subst (λ v. v < 2 ^ c.args.self.now.bits) (sym (c.loop-queue.invariant.each q (omega (arith, c.loop-queue.invariant.long, c.len-queue-end.ensures.value))))
-          (guard_of-lt c.args.self.now.bits (slice_index c.args.sides.now q) (omega (arith, c.guard-guard.ensures.valid.least))),
+          (guard_of-lt c.args.self.now.bits (slice_index_or c.args.sides.now q Any) (omega (arith, c.caps-guards.ensures.valid.least))),
     ),
   ),
 )
@@ -22,5 +23,5 @@ pack_numbers-requires g c = (
 pub returns : goal.returns
 returns g c =
     c.pack_numbers.ensures ∙ ap (packed g.row.K c.args.self.now)
-    (same-mapped (guard_of c.args.self.now.bits) c.args.sides.now c.loop-queue.guards c.loop-queue.invariant.long
+    (same-sided (guard_of c.args.self.now.bits) c.args.sides.now c.loop-queue.guards c.loop-queue.invariant.long
     (λ q small. c.loop-queue.invariant.each q (omega (arith, c.len-queue-end.ensures.value))))

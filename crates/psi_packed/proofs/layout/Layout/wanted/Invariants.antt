@@ -1,9 +1,10 @@
-use Rattle.std.proofs.Common.{◌≡◌, ◌<◌, ℕ, length, slice_index}
+use Rattle.std.proofs.Common.{◌≡◌, ◌<◌, ℕ, length, slice_index, slice_index_or}
+use Rattle.psi_piecewise.specs.declared.sides.Side.TheVariants.{Any}
 use Rattle.psi_packed.specs.Moves.{wanted_of}
 use Rattle.psi_packed.proofs.layout.Layout.wanted.Given as goal
 
 abbrev pub invariant-loop-queue : goal.invariant-loop-queue
 invariant-loop-queue g l = record {
   long : length l.wanted ≡ length l.sides;
-  each : (q : ℕ) → q < l.queue → slice_index l.wanted q ≡ wanted_of l.self.bits (slice_index l.sides q);
+  each : (q : ℕ) → q < l.queue → slice_index l.wanted q ≡ wanted_of l.self.bits (slice_index_or l.sides q Any);
 }
