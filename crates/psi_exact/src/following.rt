@@ -12,7 +12,7 @@ ghost use Rattle.psi_exact.specs.Surveys.{meeting_of, meeting_within, IsMeeting,
 
 use crate::answers::{Meeting, Survey};
 use crate::map_table::MapTable;
-use crate::moves::Moves;
+use crate::moves::{Moves, wide_for};
 use crate::sizes::Sizes;
 use crate::table::Table;
 use psi_event::EventLaw;
@@ -55,16 +55,31 @@ pub fn survey<E: EventLaw, P: Past>(
     follow_all(system, past, &mut table.table, &table.moves, h)
 }
 
-// Learns the first events of the system, at most so many, as far as there is room.
+// Learns the first events of the system, at most so many, as far as there is room: in wide rows, which are
+// quicker, where these have room for all of them.
 fn learn_each<E: EventLaw>(system: &System<'_, E>, moves: &mut Moves, most: u16)
     requires few { length (all_states system.now.caps) ≤ 65536 }
     requires valid { IsMoves (length (all_states system.now.caps)) moves.old }
     ensures valid { IsMoves (length (all_states system.now.caps)) moves.new }
     ensures learned { AreLearned system.now.caps (map E.function system.now.events) moves.new }
 {
-    // Called for its clause: the events are of the system's capacities.
-    let _caps = system.caps();
-    moves.clear();
+    let events = system.wheel().events().min(most);
+    learn_rows(system, moves, events, wide_for(events));
+    if moves.known < events {
+        learn_rows(system, moves, events, 0);
+    }
+}
+
+// Learns the first events of the system, at most so many, as far as there is room, in rows of `limit` states at
+// most, where that isn't too narrow.
+fn learn_rows<E: EventLaw>(system: &System<'_, E>, moves: &mut Moves, most: u16, limit: u32)
+    requires few { length (all_states system.now.caps) ≤ 65536 }
+    requires limit { limit ≤ 65536 }
+    requires valid { IsMoves (length (all_states system.now.caps)) moves.old }
+    ensures valid { IsMoves (length (all_states system.now.caps)) moves.new }
+    ensures learned { AreLearned system.now.caps (map E.function system.now.events) moves.new }
+{
+    moves.clear(&system.caps(), limit);
     for number in 0..system.wheel().events().min(most) {
         if !moves.place(system.event(number)) {
             return;

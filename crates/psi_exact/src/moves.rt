@@ -1,6 +1,6 @@
 //! What the events of a network make of all states, learned once for all steps.
 
-ghost use Rattle.std.specs.Prelude.{◌≡◌, ℕ, ◌+◌, ◌*◌, ◌/◌, ◌<◌, ◌≤◌, length, slice_index, vec_capacity, IfOk, IsTrue};
+ghost use Rattle.std.specs.Prelude.{◌≡◌, ℕ, ◌+◌, ◌*◌, ◌/◌, ◌<◌, ◌≤◌, length, slice_index, vec_capacity, IfOk, IfSome, IsTrue};
 ghost use Rattle.psi_state.specs.State.{all_states};
 ghost use Rattle.psi_exact.specs.Shifts.{AreCovered};
 ghost use Rattle.psi_exact.specs.Moves.{IsMoves, HasRows, AreMovesOf, ArePlaced, IsLonger, IsPrefix, moved};
@@ -24,7 +24,7 @@ const MOST_NUMBERS: u32 = 32_768;
 // The greatest number of events of a network.
 const MOST_EVENTS: u32 = 1_024;
 
-// A row is as short as the states of the last queues allow, but not shorter than this.
+// A row is at least as long as this, where there are so many states.
 const LEAST_WIDTH: u32 = 256;
 
 /// The ranks of what events make of each state, one event after another, in rows: the states that
@@ -48,7 +48,7 @@ impl Moves {
         requires few { size ≤ 65536 }
         ensures { IfOk result (λ moves. IsMoves size moves) }
     {
-        let width = fitting(width_of(caps), size);
+        let width = fitting(width_of(caps, 0), size);
         let ranks = MOST_RANKS.min(MOST_EVENTS * size);
         let numbers = MOST_NUMBERS.min(MOST_EVENTS * (size / width));
         Ok(Moves {
@@ -62,15 +62,17 @@ impl Moves {
         })
     }
 
-    /// Forgets all events.
-    pub(crate) fn clear(&mut self)
+    /// Forgets all events. Rows have `limit` states at most from now on, where that is no less than the least width.
+    pub(crate) fn clear(&mut self, caps: &State, limit: u32)
+        requires some { 1 ≤ self.old.size }
+        requires limit { limit ≤ 65536 }
         ensures kept { (count : ℕ) → IsMoves count self.old → IsMoves count self.new }
         ensures none { length self.new.numbers.items ≡ 0 }
         ensures known { self.new.known ≡ 0 }
         ensures size { self.new.size ≡ self.old.size }
-        ensures width { self.new.width ≡ self.old.width }
     {
         self.known = 0;
+        self.width = fitting(width_of(caps, limit), self.size);
         self.rows.clear();
         self.shifts.clear();
         self.numbers.clear();
@@ -170,29 +172,45 @@ fn place_rows(
     true
 }
 
-// The number of states that differ in the last queues only, for as few queues as have at least the least
-// width.
-fn width_of(caps: &State) -> u32
+// The greatest width of rows with which the room lasts for so many events, where each has two different ones.
+pub(crate) fn wide_for(events: u16) -> u32
+    ensures { result ≤ 65536 }
+{
+    (MOST_RANKS / (2 * (events as u32).max(1))).min(65_536)
+}
+
+// The number of states that differ in the last queues only, for as many queues as `limit` allows, but for as few
+// at least as have the least width.
+fn width_of(caps: &State, limit: u32) -> u32
+    requires { limit ≤ 65536 }
     ensures { 1 ≤ result }
 {
     let mut width = 1;
     for place in (0..caps.len()).rev() {
-        width = widened(width, caps.get(place));
+        match widened(width, caps.get(place), limit) {
+            Some(wider) => width = wider,
+            None => return width,
+        }
     }
     width
 }
 
-// The width with one queue more, where it isn't wide enough without.
-fn widened(width: u32, capacity: u16) -> u32
+// The width with one queue more, where it isn't wide enough without, or not wider than the limit with it.
+fn widened(width: u32, capacity: u16, limit: u32) -> Option<u32>
     requires some { 1 ≤ width }
     requires few { width ≤ 16777216 }
-    ensures some { 1 ≤ result }
-    ensures few { result ≤ 16777216 }
+    requires limit { limit ≤ 65536 }
+    ensures some { IfSome result (λ wider. 1 ≤ wider) }
+    ensures few { IfSome result (λ wider. wider ≤ 16777216) }
 {
-    if width >= LEAST_WIDTH {
-        return width;
+    if width < LEAST_WIDTH {
+        return Some(width * (capacity as u32 + 1));
     }
-    width * (capacity as u32 + 1)
+    let wider = width as u64 * (capacity as u64 + 1);
+    if wider > limit as u64 {
+        return None;
+    }
+    Some(wider as u32)
 }
 
 // The width where it divides the size, and otherwise the size.

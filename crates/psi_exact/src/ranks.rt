@@ -1,14 +1,18 @@
 //! Tables of ranks: the rank of a state is its place in the list of all states.
 
-ghost use Rattle.std.specs.Prelude.{◌≡◌, ℕ, ◌<◌, ◌≤◌, List, length, slice_index, MatchOption, IfOk};
-ghost use Rattle.psi_state.specs.State.{all_states};
+ghost use Rattle.std.specs.Prelude.{◌≡◌, ℕ, ◌<◌, ◌≤◌, Some, true, false, List, length, slice_get, slice_index, MatchOption, IfOk};
+ghost use Rattle.psi_state.specs.State.{box, all_states};
+ghost use Rattle.psi_state.specs.Members.{In};
 ghost use Rattle.psi_exact.specs.Mapping.{map_of, sends};
 ghost use Rattle.psi_exact.specs.Table.{table_of, AreRanks, AreRanksOf};
 ghost use Rattle.psi_exact.specs.Distinct.{distinct_count, AreAll, AreMixed};
 
 use psi_event::EventLaw;
-use psi_state::Bounds;
+use psi_state::{Bounds, State};
 use std::alloc::{AllocError, Global};
+
+// How many ranks are compared before it is asked whether all were the same.
+const STRETCH: usize = 512;
 
 /// A list of so many zeros.
 pub(crate) fn zeroed(alloc: Global, count: u32) -> Result<Vec<u16>, AllocError>
@@ -43,9 +47,23 @@ pub(crate) fn write_images<E: EventLaw>(e: &E, ranks: &mut [u16])
     for state in bounds.states() {
         let mut image = state;
         e.apply(&mut image);
-        ranks[rank] = bounds.rank(&image) as u16;
+        ranks[rank] = rank_after(&bounds, &state, rank as u16, &image);
         rank += 1;
     }
+}
+
+// The rank of the image of a state whose rank is told: many states stay as they are.
+#[inline]
+fn rank_after(bounds: &Bounds, state: &State, rank: u16, image: &State) -> u16
+    requires few { length (box bounds.now.lo bounds.now.hi) ≤ 65536 }
+    requires place { slice_get (box bounds.now.lo bounds.now.hi) rank ≡ Some state.now }
+    requires member { In image.now (box bounds.now.lo bounds.now.hi) }
+    ensures { slice_get (box bounds.now.lo bounds.now.hi) result ≡ Some image.now }
+{
+    if image == state {
+        return rank;
+    }
+    bounds.rank(image) as u16
 }
 
 /// Writes the table of the map that sends each state to where a table sends what the event makes of it.
@@ -101,10 +119,27 @@ pub(crate) fn common(ranks: &[u16]) -> Option<u16>
     ensures { MatchOption result (AreMixed ranks.now) (λ rank. AreAll rank ranks.now) }
 {
     let first = ranks[0];
-    for rank in ranks {
-        if *rank != first {
+    let mut from = 0;
+    while from < ranks.len() {
+        let end = from + (ranks.len() - from).min(STRETCH);
+        if !are_same(ranks, from, end, first) {
             return None;
         }
+        from = end;
     }
     Some(first)
+}
+
+// Whether this rank stands at each place from `from` on and below `end`. None of them is left out, so that many
+// are compared at once.
+fn are_same(ranks: &[u16], from: usize, end: usize, rank: u16) -> bool
+    requires { end ≤ length ranks.now }
+    ensures same { result ≡ true → (k : ℕ) → from ≤ k → k < end → slice_index ranks.now k ≡ rank }
+    ensures other { result ≡ false → (k : ℕ) × (k < length ranks.now) × (slice_index ranks.now k ≡ rank → ⊥) }
+{
+    let mut same = true;
+    for place in from..end {
+        same &= ranks[place] == rank;
+    }
+    same
 }

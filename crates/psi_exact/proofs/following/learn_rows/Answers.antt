@@ -1,10 +1,11 @@
--- Answers in the proof of `learn_each`.
+-- Answers in the proof of `learn_rows`.
 use Rattle.std.proofs.Common.{◌≡◌, ◌+◌, ◌*◌, ◌/◌, ◌≤◌, ℕ, List, length, map, refl, ap, sym, ◌∙◌, subst, arith}
 use Rattle.psi_state.specs.State.{all_states}
 use Rattle.psi_exact.specs.Moves.{IsMoves, AreMovesOf}
+use Rattle.psi_exact.proofs.PlacesLemmas.{some-state}
 use Rattle.psi_exact.proofs.MovesLemmas.{learned-longer, learned-next}
 use Rattle.psi_exact.proofs.SurveysLemmas.{event-caps}
-use Rattle.psi_exact.proofs.following.learn_each.Goals as goal
+use Rattle.psi_exact.proofs.following.learn_rows.Goals as goal
 
 pub loop-number-init : goal.loop-number-init
 loop-number-init g c = record {
@@ -17,10 +18,13 @@ loop-number-init g c = record {
   };
 }
 
+pub clear-requires-clause-some : goal.clear-requires-clause-some
+clear-requires-clause-some g c = (let some = some-state c.args.system.now.caps in let same = c.requires.valid.same in omega arith)
+
 pub place-requires : goal.place-requires
 place-requires g c =
     let system = c.args.system.now in
-    let cap = event-caps g.E.EventLaw.capacities system.caps system.events c.loop-number.number c.event.result.now c.caps-caps.ensures.fit.same_caps (sym c.event.ensures) in
+    let cap = event-caps g.E.EventLaw.capacities system.caps system.events c.loop-number.number c.event.result.now c.caps.ensures.fit.same_caps (sym c.event.ensures) in
     record {
       few = subst (λ (caps : List ℕ). length (all_states caps) ≤ 65536) (sym cap) c.requires.few;
       valid = subst (λ (caps : List ℕ). IsMoves (length (all_states caps)) c.loop-number.moves) (sym cap) c.loop-number.invariant.valid;
@@ -29,7 +33,7 @@ place-requires g c =
 pub returns-then-not-place-clause-valid : goal.returns-then-not-place-clause-valid
 returns-then-not-place-clause-valid g c =
     let system = c.args.system.now in
-    let cap = event-caps g.E.EventLaw.capacities system.caps system.events c.loop-number.number c.event.result.now c.caps-caps.ensures.fit.same_caps (sym c.event.ensures) in
+    let cap = event-caps g.E.EventLaw.capacities system.caps system.events c.loop-number.number c.event.result.now c.caps.ensures.fit.same_caps (sym c.event.ensures) in
     subst (λ (caps : List ℕ). IsMoves (length (all_states caps)) c.place.new.self) cap c.place.ensures.valid
 
 pub returns-then-not-place-clause-learned : goal.returns-then-not-place-clause-learned
@@ -44,7 +48,7 @@ loop-number-preserved g c =
     let m = c.loop-number.moves in
     let n = c.place.new.self in
     let longer = c.place.ensures.longer in
-    let cap = event-caps g.E.EventLaw.capacities system.caps system.events c.loop-number.number c.event.result.now c.caps-caps.ensures.fit.same_caps (sym c.event.ensures) in
+    let cap = event-caps g.E.EventLaw.capacities system.caps system.events c.loop-number.number c.event.result.now c.caps.ensures.fit.same_caps (sym c.event.ensures) in
     let valid = subst (λ (caps : List ℕ). IsMoves (length (all_states caps)) n) cap c.place.ensures.valid in
     let blocks : n.size / n.width ≡ m.size / m.width = ap (λ k. k / n.width) longer.same_size ∙ ap (λ k. m.size / k) longer.same_width in
     let are = subst (λ (caps : List ℕ). AreMovesOf caps (g.E.EventLaw.function c.event.result.now) n (length m.numbers.items)) cap (c.place.ensures.learned c.if-not-place.false) in

@@ -1,8 +1,8 @@
--- Invariants of the loops of `learn_each`.
+-- Invariants of the loops of `learn_rows`.
 use Rattle.std.proofs.Common.{◌≡◌, ◌*◌, ◌/◌, length, map}
 use Rattle.psi_state.specs.State.{all_states}
 use Rattle.psi_exact.specs.Moves.{IsMoves, AreLearned}
-use Rattle.psi_exact.proofs.following.learn_each.Given as goal
+use Rattle.psi_exact.proofs.following.learn_rows.Given as goal
 
 -- the events so far are known
 abbrev pub invariant-loop-number : goal.invariant-loop-number
