@@ -82,14 +82,12 @@ walk-only A B i s (v ∷ vs) t each walk =
 
 module _ (arcs : List Arc) (rule : Rule) (n t : ℕ) (ranged : AreRanged n t arcs) (fits : t ≤ 256) where
   -- the marks of the first queue are given
-  pub behind-begun : (low : ℕ) (marks : List Sums) (first : Sums) → low < length marks → ((s v : ℕ) → Listed arcs low s v → (has first s ≡ true) ↔ Before (Only (Listed arcs) (Allows rule)) low s)
-      → MarkBefore (Listed arcs) (Only (Listed arcs) (Allows rule)) low low (slice_set marks low first)
-  behind-begun low marks first within begin = record {
-    each = λ l s v above below listed. (
-        let e : low ≡ l = omega arith in
-        subst (λ k. (is_marked (slice_set marks low first) k s ≡ true) ↔ Before (Only (Listed arcs) (Allows rule)) k s) e
-        (subst (λ (x : Sums). (has x s ≡ true) ↔ Before (Only (Listed arcs) (Allows rule)) low s) (sym (read-own marks low first within))
-        (begin s v (subst (λ k. Listed arcs k s v) (sym e) listed))));
+  pub behind-begun : (low start : ℕ) (marks : List Sums) (first : Sums) → ((i : ℕ) → low ≤ i → i ≤ start → sums_at marks i ≡ first)
+      → ((l s v : ℕ) → low ≤ l → l ≤ start → Listed arcs l s v → (has first s ≡ true) ↔ Before (Only (Listed arcs) (Allows rule)) l s)
+      → MarkBefore (Listed arcs) (Only (Listed arcs) (Allows rule)) low start marks
+  behind-begun low start marks first filled begin = record {
+    each = λ l s v above below listed.
+        subst (λ (x : Sums). (has x s ≡ true) ↔ Before (Only (Listed arcs) (Allows rule)) l s) (sym (filled l above below)) (begin l s v above below listed);
   }
 
   -- one queue more from the front
@@ -124,17 +122,13 @@ module _ (arcs : List Arc) (rule : Rule) (n t : ℕ) (ranged : AreRanged n t arc
   }
 
   -- the marks past the last queue are given
-  pub ahead-begun : (high : ℕ) (marks : List Sums) (last : Sums) → high + 1 < length marks
-      → ((s v : ℕ) → Listed arcs high s v → (has last (s + v) ≡ true) ↔ After (Only (Listed arcs) (Allows rule)) n t (suc high) (s + v))
-      → MarkAfter (Listed arcs) (Only (Listed arcs) (Allows rule)) n t high high (slice_set marks (high + 1) last)
-  ahead-begun high marks last within begin = record {
-    each = λ l s v above below listed. (
-        let e : high ≡ l = omega arith in
-        let f : high + 1 ≡ suc high = omega arith in
-        subst (λ k. (is_marked (slice_set marks (high + 1) last) (suc k) (s + v) ≡ true) ↔ After (Only (Listed arcs) (Allows rule)) n t (suc k) (s + v)) e
-        (subst (λ (x : Sums). (has x (s + v) ≡ true) ↔ After (Only (Listed arcs) (Allows rule)) n t (suc high) (s + v))
-        (sym (ap (λ k. sums_at (slice_set marks (high + 1) last) k) (sym f) ∙ read-own marks (high + 1) last within))
-        (begin s v (subst (λ k. Listed arcs k s v) (sym e) listed))));
+  pub ahead-begun : (stop high : ℕ) (marks : List Sums) (last : Sums) → ((i : ℕ) → stop + 1 ≤ i → i ≤ high + 1 → sums_at marks i ≡ last)
+      → ((l s v : ℕ) → stop ≤ l → l ≤ high → Listed arcs l s v → (has last (s + v) ≡ true) ↔ After (Only (Listed arcs) (Allows rule)) n t (suc l) (s + v))
+      → MarkAfter (Listed arcs) (Only (Listed arcs) (Allows rule)) n t stop high marks
+  ahead-begun stop high marks last filled begin = record {
+    each = λ l s v above below listed.
+        subst (λ (x : Sums). (has x (s + v) ≡ true) ↔ After (Only (Listed arcs) (Allows rule)) n t (suc l) (s + v)) (sym (filled (suc l) (omega arith) (omega arith)))
+        (begin l s v above below listed);
   }
 
   -- one queue more from the back

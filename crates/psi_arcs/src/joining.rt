@@ -132,6 +132,8 @@ impl Arcs {
             spans,
             Rule::any(),
             0,
+            0,
+            last,
             last,
             Sums::of(0),
             Sums::of(total),

@@ -7,6 +7,7 @@ ghost use Rattle.psi_arcs.specs.Held.{Listed};
 ghost use Rattle.psi_arcs.specs.Windows.{IsWithin, Allows, Enters, EntersBelow, Exits, MarkBefore, MarkAfter};
 ghost use Rattle.psi_arcs.specs.Joining.{Only, IsChanging, IsShort, IsFull};
 ghost use Rattle.psi_arcs.specs.Spans.{IsSpan, AreSpans};
+ghost use Rattle.psi_arcs.specs.Rows.{sums_at};
 ghost use Rattle.psi_arcs.specs.Marking.{AreMarked, IsReached, Keeps, TellsUseful};
 
 use crate::arcs::{Arcs, OutOfMemory};
@@ -109,13 +110,25 @@ fn marks_before(of: &Arcs, level: u8, span: Span, window: Window, marks: &Sums) 
     left
 }
 
+// Lets the ends of the queues from `first` to `last` be marked by the same set.
+fn fill(marks: &mut [Sums], first: u8, last: u8, sums: Sums)
+    requires room { length marks.old ≡ 33 }
+    requires inside { last ≤ 32 }
+    ensures { (i : ℕ) → first ≤ i → i ≤ last → sums_at marks.new i ≡ sums }
+{
+    for level in first..last + 1 {
+        marks[level as usize] = sums;
+    }
+}
+
 // Marks the ends that are reached from the first queue over arcs that the rule allows, from queue `low` to queue
-// `high`: those of queue `low` are given.
+// `high`: those of the queues up to `start` are given.
 fn mark_before(
     of: &Arcs,
     spans: &[Span],
     rule: &Rule,
     low: u8,
+    start: u8,
     high: u8,
     first: Sums,
     marks: &mut [Sums],
@@ -123,16 +136,17 @@ fn mark_before(
     requires room { length marks.old ≡ 33 }
     requires span_room { length spans.now ≡ 32 }
     requires spans { AreSpans of.now.arcs of.now.total low high spans.now }
-    requires order { low ≤ high }
+    requires start { low ≤ start }
+    requires order { start ≤ high }
     requires inside { high < of.now.levels }
-    requires begin { (s v : ℕ) → Listed of.now.arcs low s v → (has first s ≡ true) ↔ Before (Only (Listed of.now.arcs) (Allows rule.now)) low s }
+    requires begin { (l s v : ℕ) → low ≤ l → l ≤ start → Listed of.now.arcs l s v → (has first s ≡ true) ↔ Before (Only (Listed of.now.arcs) (Allows rule.now)) l s }
     ensures { MarkBefore (Listed of.now.arcs) (Only (Listed of.now.arcs) (Allows rule.now)) low high marks.new }
 {
     // Called for their clauses: the arcs are in range.
     let _levels = of.levels();
     let _total = of.total();
-    marks[low as usize] = first;
-    for level in low..high {
+    fill(marks, low, start, first);
+    for level in start..high {
         let own = marks[level as usize];
         let past = marks_past(of, level, spans[level as usize], rule.window(level), &own);
         marks[level as usize + 1] = past;
@@ -140,12 +154,13 @@ fn mark_before(
 }
 
 // Marks the ends from which the end past the last queue, with all customers, is reached over arcs that the rule
-// allows, past queue `low` to past queue `high`: those past queue `high` are given.
+// allows, past queue `low` to past queue `high`: those past the queues from `stop` on are given.
 fn mark_after(
     of: &Arcs,
     spans: &[Span],
     rule: &Rule,
     low: u8,
+    stop: u8,
     high: u8,
     last: Sums,
     marks: &mut [Sums],
@@ -153,17 +168,18 @@ fn mark_after(
     requires room { length marks.old ≡ 33 }
     requires span_room { length spans.now ≡ 32 }
     requires spans { AreSpans of.now.arcs of.now.total low high spans.now }
-    requires order { low ≤ high }
+    requires order { low ≤ stop }
+    requires stop { stop ≤ high }
     requires inside { high < of.now.levels }
-    requires begin { (s v : ℕ) → Listed of.now.arcs high s v
-        → (has last (s + v) ≡ true) ↔ After (Only (Listed of.now.arcs) (Allows rule.now)) of.now.levels of.now.total (suc high) (s + v) }
+    requires begin { (l s v : ℕ) → stop ≤ l → l ≤ high → Listed of.now.arcs l s v
+        → (has last (s + v) ≡ true) ↔ After (Only (Listed of.now.arcs) (Allows rule.now)) of.now.levels of.now.total (suc l) (s + v) }
     ensures { MarkAfter (Listed of.now.arcs) (Only (Listed of.now.arcs) (Allows rule.now)) of.now.levels of.now.total low high marks.new }
 {
     // Called for their clauses: the arcs are in range.
     let _levels = of.levels();
     let _total = of.total();
-    marks[high as usize + 1] = last;
-    let mut level = high;
+    fill(marks, stop + 1, high + 1, last);
+    let mut level = stop;
     while level > low {
         let own = marks[level as usize + 1];
         let left = marks_before(of, level, spans[level as usize], rule.window(level), &own);
@@ -183,25 +199,30 @@ impl Marks {
         })
     }
 
-    /// Marks the ends that are reached over arcs that the rule allows, from queue `low` to queue `high`: those of queue
-    /// `low` and those past queue `high` are given, and the spans of these queues.
+    /// Marks the ends that are reached over arcs that the rule allows, from queue `low` to queue `high`: those of the
+    /// queues up to `start` and those past the queues from `stop` on are given, and the spans of all these queues.
     pub(crate) fn mark(
         &mut self,
         of: &Arcs,
         spans: &[Span],
         rule: Rule,
         low: u8,
+        start: u8,
+        stop: u8,
         high: u8,
         first: Sums,
         last: Sums,
     )
         requires span_room { length spans.now ≡ 32 }
         requires spans { AreSpans of.now.arcs of.now.total low high spans.now }
-        requires order { low ≤ high }
+        requires low_start { low ≤ start }
+        requires low_stop { low ≤ stop }
+        requires start_high { start ≤ high }
+        requires stop_high { stop ≤ high }
         requires inside { high < of.now.levels }
-        requires first { (s v : ℕ) → Listed of.now.arcs low s v → (has first s ≡ true) ↔ Before (Only (Listed of.now.arcs) (Allows rule)) low s }
-        requires last { (s v : ℕ) → Listed of.now.arcs high s v
-            → (has last (s + v) ≡ true) ↔ After (Only (Listed of.now.arcs) (Allows rule)) of.now.levels of.now.total (suc high) (s + v) }
+        requires first { (l s v : ℕ) → low ≤ l → l ≤ start → Listed of.now.arcs l s v → (has first s ≡ true) ↔ Before (Only (Listed of.now.arcs) (Allows rule)) l s }
+        requires last { (l s v : ℕ) → stop ≤ l → l ≤ high → Listed of.now.arcs l s v
+            → (has last (s + v) ≡ true) ↔ After (Only (Listed of.now.arcs) (Allows rule)) of.now.levels of.now.total (suc l) (s + v) }
         ensures rule { self.new.rule ≡ rule }
         ensures marked { AreMarked (Listed of.now.arcs) of.now.levels of.now.total low high self.new }
     {
@@ -210,11 +231,21 @@ impl Marks {
             spans,
             &rule,
             low,
+            start,
             high,
             first,
             self.before.as_mut_slice(),
         );
-        mark_after(of, spans, &rule, low, high, last, self.after.as_mut_slice());
+        mark_after(
+            of,
+            spans,
+            &rule,
+            low,
+            stop,
+            high,
+            last,
+            self.after.as_mut_slice(),
+        );
         self.rule = rule;
     }
 
@@ -276,8 +307,11 @@ impl Reach {
         let changing = Rule::changing(from, k, to, room);
         let short = Rule::short(from, k);
         let full = Rule::full(to, room);
-        self.changing.mark(of, spans, changing, low, high, all, all);
-        self.short.mark(of, spans, short, low, high, all, all);
-        self.full.mark(of, spans, full, low, high, all, all);
+        self.changing
+            .mark(of, spans, changing, low, low, high, high, all, all);
+        // Where one queue alone has a window, all ends are reached up to it, and all past it lead to the end.
+        self.short
+            .mark(of, spans, short, low, from, from, high, all, all);
+        self.full.mark(of, spans, full, low, to, to, high, all, all);
     }
 }

@@ -1,5 +1,5 @@
 -- Answers in the proof of `mark_after`.
-use Rattle.std.proofs.Common.{◌≡◌, ◌+◌, [], subst, arith, length-set}
+use Rattle.std.proofs.Common.{◌≡◌, ◌+◌, [], subst, arith}
 use Rattle.psi_arcs.specs.Held.{Listed}
 use Rattle.psi_arcs.specs.Joining.{Only}
 use Rattle.psi_arcs.specs.Windows.{Allows, MarkAfter}
@@ -10,13 +10,11 @@ use Rattle.psi_arcs.proofs.reach.mark_after.Goals as goal
 pub loop-level-init : goal.loop-level-init
 loop-level-init c =
     let of = c.args.of.now in
-    let few = c.levels-levels.ensures.few in
-    let inside = c.requires.inside in
-    let room = c.requires.room in
     record {
       low = c.requires.order;
-      high = omega arith;
-      marked = ahead-begun of.arcs c.args.rule.now of.levels of.total c.total-total.ensures.ranged c.total-total.ensures.small c.args.high c.args.marks.now c.args.last (omega arith) c.requires.begin;
+      high = c.requires.stop;
+      marked = ahead-begun of.arcs c.args.rule.now of.levels of.total c.total-total.ensures.ranged c.total-total.ensures.small c.args.stop c.args.high c.fill.new.marks c.args.last
+          c.fill.ensures c.requires.begin;
     }
 
 pub loop-level-preserved : goal.loop-level-preserved
@@ -26,7 +24,7 @@ loop-level-preserved c =
     let inside = c.requires.inside in
     let room = c.requires.room in
     let long = c.loop-level.auto.marks in
-    let size = length-set c.args.marks.now (c.args.high + 1) c.args.last in
+    let filled = c.fill.auto.marks in
     let test = c.loop-level-test.true in
     let below = c.loop-level.invariant.high in
     record {

@@ -1,5 +1,5 @@
 -- Answers in the proof of `mark_before`.
-use Rattle.std.proofs.Common.{◌≡◌, [], subst, arith, length-set}
+use Rattle.std.proofs.Common.{◌≡◌, [], subst, arith}
 use Rattle.psi_arcs.specs.Held.{Listed}
 use Rattle.psi_arcs.specs.Joining.{Only}
 use Rattle.psi_arcs.specs.Windows.{Allows, MarkBefore}
@@ -10,11 +10,8 @@ use Rattle.psi_arcs.proofs.reach.mark_before.Goals as goal
 pub loop-level-init : goal.loop-level-init
 loop-level-init c =
     let of = c.args.of.now in
-    let few = c.levels-levels.ensures.few in
-    let order = c.requires.order in
-    let inside = c.requires.inside in
-    let room = c.requires.room in
-    behind-begun of.arcs c.args.rule.now of.levels of.total c.total-total.ensures.ranged c.total-total.ensures.small c.args.low c.args.marks.now c.args.first (omega arith) c.requires.begin
+    behind-begun of.arcs c.args.rule.now of.levels of.total c.total-total.ensures.ranged c.total-total.ensures.small c.args.low c.args.start c.fill.new.marks c.args.first
+    c.fill.ensures c.requires.begin
 
 pub loop-level-preserved : goal.loop-level-preserved
 loop-level-preserved c =
@@ -23,7 +20,8 @@ loop-level-preserved c =
     let inside = c.requires.inside in
     let room = c.requires.room in
     let long = c.loop-level.auto.marks in
-    let size = length-set c.args.marks.now c.args.low c.args.first in
+    let filled = c.fill.auto.marks in
+    let start = c.requires.start in
     let test = c.loop-level-test.true in
     let low = c.loop-level.auto.level in
     behind-next of.arcs c.args.rule.now of.levels of.total c.total-total.ensures.ranged c.total-total.ensures.small c.args.low c.loop-level.level c.window.result c.loop-level.marks

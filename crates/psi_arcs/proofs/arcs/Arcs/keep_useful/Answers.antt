@@ -1,7 +1,7 @@
 -- Answers in the proof of `Arcs::keep_useful`.
 use Rattle.std.proofs.Common.{◌≡◌, ◌+◌, ◌-◌, ◌↔◌, ℕ, suc, true, ◌∙◌, subst, sym, arith}
 use Rattle.psi_arcs.specs.Sums.{has}
-use Rattle.psi_arcs.specs.Walks.{After, Useful}
+use Rattle.psi_arcs.specs.Walks.{Before, After, Useful}
 use Rattle.psi_arcs.specs.Held.{Listed}
 use Rattle.psi_arcs.specs.Joining.{Only}
 use Rattle.psi_arcs.specs.Windows.{Allows}
@@ -12,22 +12,24 @@ use Rattle.psi_arcs.proofs.PuttingLemmas.{done-more, done-next, done-all, iff-tr
 use Rattle.psi_arcs.proofs.arcs.Arcs.keep_useful.Goals as goal
 
 pub mark-requires-clause-first : goal.mark-requires-clause-first
-mark-requires-clause-first c s v listed =
-    let range = c.total-total.ensures.ranged (arc_of 0 s v) listed in
+mark-requires-clause-first c l s v above below listed =
+    let range = c.total-total.ensures.ranged (arc_of l s v) listed in
     let sum = range.sum in
     let few = c.total-total.ensures.small in
-    iff-trans (c.of.ensures s (omega arith)) (before-zero (Only (Listed c.args.self.now.arcs) (Allows c.any.result)) s)
+    let e : 0 ≡ l = omega arith in
+    subst (λ k. (has c.of.result s ≡ true) ↔ Before (Only (Listed c.args.self.now.arcs) (Allows c.any.result)) k s) e
+    (iff-trans (c.of.ensures s (omega arith)) (before-zero (Only (Listed c.args.self.now.arcs) (Allows c.any.result)) s))
 
 pub mark-requires-clause-last : goal.mark-requires-clause-last
-mark-requires-clause-last c s v listed =
+mark-requires-clause-last c l s v above below listed =
     let first = c.args.self.now in
-    let range = c.total-total.ensures.ranged (arc_of (c.levels-last.result - 1) s v) listed in
+    let range = c.total-total.ensures.ranged (arc_of l s v) listed in
     let sum = range.sum in
     let few = c.total-total.ensures.small in
     let value = c.total-total.ensures.value in
     let some = c.levels-last.ensures.some in
     let count = c.levels-last.ensures.value in
-    let last : first.levels ≡ suc (c.levels-last.result - 1) = omega arith in
+    let last : first.levels ≡ suc l = omega arith in
     let told = c.of-2.ensures (s + v) (omega arith) in
     let after = after-end (Only (Listed first.arcs) (Allows c.any.result)) first.levels first.total (s + v) in
     subst (λ k. (has c.of-2.result (s + v) ≡ true) ↔ After (Only (Listed first.arcs) (Allows c.any.result)) first.levels first.total k (s + v)) last

@@ -7,46 +7,46 @@ use Rattle.psi_arcs.proofs.MarkedLemmas.{whole-before, whole-after, tells-useful
 use Rattle.psi_arcs.proofs.marks.Reach.mark.Goals as goal
 
 pub mark-requires-clause-first : goal.mark-requires-clause-first
-mark-requires-clause-first c =
+mark-requires-clause-first c = λ l s v above below listed. (
     let of = c.args.of.now in
     let low = c.min-low.ensures in
-    whole-before of.arcs c.changing-changing.result of.levels of.total c.total-total.ensures.ranged c.total-total.ensures.small c.requires.whole c.all-all.result c.all-all.ensures c.min-low.result
-    (λ l v less small. (c.changing-changing.ensures l v small).1 (record { source = λ e. absurd (omega arith); target = λ e. absurd (omega arith) }))
+    whole-before of.arcs c.changing-changing.result of.levels of.total c.total-total.ensures.ranged c.total-total.ensures.small c.requires.whole c.all-all.result c.all-all.ensures l
+    (λ k u less small. (c.changing-changing.ensures k u small).1 (record { source = λ e. absurd (omega arith); target = λ e. absurd (omega arith) })) s v listed)
 
 pub mark-requires-clause-last : goal.mark-requires-clause-last
-mark-requires-clause-last c =
+mark-requires-clause-last c = λ l s v above below listed. (
     let of = c.args.of.now in
     let high = c.max-high.ensures in
-    whole-after of.arcs c.changing-changing.result of.levels of.total c.total-total.ensures.ranged c.total-total.ensures.small c.requires.whole c.all-all.result c.all-all.ensures c.max-high.result
-    (λ l v less small. (c.changing-changing.ensures l v small).1 (record { source = λ e. absurd (omega arith); target = λ e. absurd (omega arith) }))
+    whole-after of.arcs c.changing-changing.result of.levels of.total c.total-total.ensures.ranged c.total-total.ensures.small c.requires.whole c.all-all.result c.all-all.ensures l
+    (λ k u less small. (c.changing-changing.ensures k u small).1 (record { source = λ e. absurd (omega arith); target = λ e. absurd (omega arith) })) s v listed)
 
 pub mark-requires-2-clause-first : goal.mark-requires-2-clause-first
-mark-requires-2-clause-first c =
+mark-requires-2-clause-first c = λ l s v above below listed. (
     let of = c.args.of.now in
     let low = c.min-low.ensures in
-    whole-before of.arcs c.short-short.result of.levels of.total c.total-total.ensures.ranged c.total-total.ensures.small c.requires.whole c.all-all.result c.all-all.ensures c.min-low.result
-    (λ l v less small. (c.short-short.ensures l v small).1 (λ e. absurd (omega arith)))
+    whole-before of.arcs c.short-short.result of.levels of.total c.total-total.ensures.ranged c.total-total.ensures.small c.requires.whole c.all-all.result c.all-all.ensures l
+    (λ k u less small. (c.short-short.ensures k u small).1 (λ e. absurd (omega arith))) s v listed)
 
 pub mark-requires-2-clause-last : goal.mark-requires-2-clause-last
-mark-requires-2-clause-last c =
+mark-requires-2-clause-last c = λ l s v above below listed. (
     let of = c.args.of.now in
     let high = c.max-high.ensures in
-    whole-after of.arcs c.short-short.result of.levels of.total c.total-total.ensures.ranged c.total-total.ensures.small c.requires.whole c.all-all.result c.all-all.ensures c.max-high.result
-    (λ l v less small. (c.short-short.ensures l v small).1 (λ e. absurd (omega arith)))
+    whole-after of.arcs c.short-short.result of.levels of.total c.total-total.ensures.ranged c.total-total.ensures.small c.requires.whole c.all-all.result c.all-all.ensures l
+    (λ k u less small. (c.short-short.ensures k u small).1 (λ e. absurd (omega arith))) s v listed)
 
 pub mark-requires-3-clause-first : goal.mark-requires-3-clause-first
-mark-requires-3-clause-first c =
+mark-requires-3-clause-first c = λ l s v above below listed. (
     let of = c.args.of.now in
     let low = c.min-low.ensures in
-    whole-before of.arcs c.full-full.result of.levels of.total c.total-total.ensures.ranged c.total-total.ensures.small c.requires.whole c.all-all.result c.all-all.ensures c.min-low.result
-    (λ l v less small. (c.full-full.ensures l v small).1 (λ e. absurd (omega arith)))
+    whole-before of.arcs c.full-full.result of.levels of.total c.total-total.ensures.ranged c.total-total.ensures.small c.requires.whole c.all-all.result c.all-all.ensures l
+    (λ k u less small. (c.full-full.ensures k u small).1 (λ e. absurd (omega arith))) s v listed)
 
 pub mark-requires-3-clause-last : goal.mark-requires-3-clause-last
-mark-requires-3-clause-last c =
+mark-requires-3-clause-last c = λ l s v above below listed. (
     let of = c.args.of.now in
     let high = c.max-high.ensures in
-    whole-after of.arcs c.full-full.result of.levels of.total c.total-total.ensures.ranged c.total-total.ensures.small c.requires.whole c.all-all.result c.all-all.ensures c.max-high.result
-    (λ l v less small. (c.full-full.ensures l v small).1 (λ e. absurd (omega arith)))
+    whole-after of.arcs c.full-full.result of.levels of.total c.total-total.ensures.ranged c.total-total.ensures.small c.requires.whole c.all-all.result c.all-all.ensures l
+    (λ k u less small. (c.full-full.ensures k u small).1 (λ e. absurd (omega arith))) s v listed)
 
 pub returns-clause-changing : goal.returns-clause-changing
 returns-clause-changing c =
