@@ -10,7 +10,9 @@ mod surveys;
 mod texts;
 
 pub use lines::{
-    Line, log_refused_line, log_rejected_line, not_closed_line, refused_line, usage_line,
+    Line, log_refused_line, log_rejected_line, log_unread_line, memory_line, network_unread_line,
+    no_total_line, not_closed_line, refused_line, too_long_line, too_many_line, unknown_line,
+    usage_line,
 };
 pub use pieces::{push_number_line, push_pieces, push_state};
 pub use surveys::survey_text;

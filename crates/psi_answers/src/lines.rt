@@ -1,8 +1,9 @@
 //! The lines of err. Each is built on the stack, so that it takes no memory and is written as one piece.
 
-ghost use Rattle.std.specs.Prelude.{◌≡◌, ◌+◌, ◌≤◌, ◌++◌, [], length};
+ghost use Rattle.std.specs.Prelude.{◌≡◌, ℕ, List, ◌+◌, ◌≤◌, ◌++◌, [], length};
+ghost use Rattle.psi_command.specs.Command.{net_file, log_file};
 ghost use Rattle.arrayvec.specs.ArrayVec.{array_vec_len};
-ghost use Rattle.psi_answers.specs.Lines.{refusal_name, section_name, key_text, usage_line, refused_line, grammar_name, verdict_name, log_line, log_refused_line, log_rejected_line, not_closed_line};
+ghost use Rattle.psi_answers.specs.Lines.{refusal_name, section_name, key_text, usage_line, refused_line, grammar_name, verdict_name, log_line, log_refused_line, log_rejected_line, not_closed_line, unread_line, unknown_line, too_long_line, too_many_line, no_total_line, memory_line};
 
 use arrayvec::ArrayVec;
 use itoa::Buffer;
@@ -20,6 +21,65 @@ fn push(line: &mut Line, piece: &[u8])
     ensures count { array_vec_len line.new ≡ array_vec_len line.old + length piece.now }
 {
     let _ = line.try_extend_from_slice(piece);
+}
+
+// A line that is always the same.
+fn fixed_line(text: &[u8]) -> Line
+    requires { length text.now ≤ 192 }
+    ensures { result.items ≡ text.now }
+{
+    let mut line = Line::new();
+    push(&mut line, text);
+    line
+}
+
+/// The line on a network file that can't be read.
+pub fn network_unread_line() -> Line
+    ensures { (name : List ℕ) → result.items ≡ unread_line (net_file name) }
+{
+    fixed_line(b"psi: cannot read network\n")
+}
+
+/// The line on a log file that can't be read.
+pub fn log_unread_line() -> Line
+    ensures { (name : List ℕ) → result.items ≡ unread_line (log_file name) }
+{
+    fixed_line(b"psi: cannot read log\n")
+}
+
+/// The line on a reward that the network hasn't.
+pub fn unknown_line() -> Line
+    ensures { result.items ≡ unknown_line }
+{
+    fixed_line(b"psi: unknown reward\n")
+}
+
+/// The line on the log of a sample that would be too long.
+pub fn too_long_line() -> Line
+    ensures { result.items ≡ too_long_line }
+{
+    fixed_line(b"psi: log too long\n")
+}
+
+/// The line on a network with more states than a table of them may have.
+pub fn too_many_line() -> Line
+    ensures { result.items ≡ too_many_line }
+{
+    fixed_line(b"psi: too many states\n")
+}
+
+/// The line on a number of customers that the queues can't hold.
+pub fn no_total_line() -> Line
+    ensures { result.items ≡ no_total_line }
+{
+    fixed_line(b"psi: no state with this total\n")
+}
+
+/// The line on want of memory.
+pub fn memory_line() -> Line
+    ensures { result.items ≡ memory_line }
+{
+    fixed_line(b"psi: out of memory\n")
 }
 
 /// The line with the place of the word that offends.

@@ -1,6 +1,6 @@
 //! Writing the text with which a call ends.
 
-ghost use Rattle.std.specs.Prelude.{◌≡◌, IsOk, OnOk, OnErr, MatchResult};
+ghost use Rattle.std.specs.Prelude.{◌≡◌, MatchResult};
 ghost use Rattle.psi_program.specs.Written.{reply_with, IsWrittenAs, IsSpared};
 
 use psi_io::{Sink, SinkFault, write_all};

@@ -29,7 +29,8 @@ use Rattle.psi_reply.specs.Networks.{IsSystemOf}
 use Rattle.psi_reply.specs.Replay.{events_by_time, judgement}
 use Rattle.psi_answers.specs.Texts.{accepted_text}
 use Rattle.psi_reply.specs.Certify.{certificate}
-use Rattle.psi_reply.specs.Reply.{text_reply, verdict_reply, judged_log, replay_reply}
+use Rattle.psi_program.specs.Reply.{text_reply}
+use Rattle.psi_reply.specs.Reply.{verdict_reply, judged_log, replay_reply}
 use Rattle.psi_reply.proofs.SamplingLemmas.{functions_by_time-closed, functions-alike}
 
 -- ---- functions that agree on the states within the capacities

@@ -23,7 +23,8 @@ use Rattle.psi_answers.specs.Lines.{too_long_line}
 use Rattle.psi_reply.specs.Sample.{functions_by_time, sampled, IsDrawn}
 use Rattle.psi_reply.specs.Networks.{IsSystemOf}
 use Rattle.psi_reply.specs.Certify.{certificate}
-use Rattle.psi_reply.specs.Reply.{Reply, text_reply, line_reply, log_reply, certify_reply}
+use Rattle.psi_program.specs.Reply.{text_reply, line_reply}
+use Rattle.psi_reply.specs.Reply.{Reply, log_reply, certify_reply}
 use Rattle.psi_reply.specs.Certified.{IsWrittenOf, IsCertified}
 use Rattle.psi_reply.proofs.CertificatesLemmas.{log-by, certificate_log, certificate_replayed}
 use Rattle.psi_reply.proofs.SamplingLemmas.{sampled-drawn}

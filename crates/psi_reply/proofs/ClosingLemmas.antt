@@ -33,7 +33,8 @@ use Rattle.psi_command.specs.declared.status.Status.TheVariants.{NoSuchTotal}
 use Rattle.psi_answers.specs.Lines.{no_total_line}
 use Rattle.psi_reply.specs.Sample.{functions_by_time}
 use Rattle.psi_reply.specs.Closed.{first_other, AreMovesOf, closed_endings, closed_sampled, IsClosedSampled}
-use Rattle.psi_reply.specs.Reply.{line_reply, outcome_reply, total_reply, closed_reply}
+use Rattle.psi_program.specs.Reply.{line_reply}
+use Rattle.psi_reply.specs.Reply.{outcome_reply, total_reply, closed_reply}
 
 -- ---- the moves that events are
 

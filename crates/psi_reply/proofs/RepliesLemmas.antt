@@ -5,7 +5,8 @@ use Rattle.psi_model.specs.Network.{Network, caps_of}
 use Rattle.psi_command.specs.Command.{Command, reward, exact, closed, certify, replay}
 use Rattle.psi_answers.specs.Texts.{outcome_text}
 use Rattle.psi_reply.specs.Sample.{outcome_status}
-use Rattle.psi_reply.specs.Reply.{IsReply, text_reply, line_reply, value_reply, survey_reply, outcome_reply, closed_reply, log_reply, certify_reply, verdict_reply, judged_log, refused_reply}
+use Rattle.psi_program.specs.Reply.{text_reply, line_reply}
+use Rattle.psi_reply.specs.Reply.{IsReply, value_reply, survey_reply, outcome_reply, closed_reply, log_reply, certify_reply, verdict_reply, judged_log, refused_reply}
 use Rattle.psi_arcs.specs.Walks.{customers}
 use Rattle.psi_exact.specs.declared.answers.Meeting.{Meeting}
 use Rattle.psi_exact.specs.declared.answers.Meeting.TheVariants.{Constant, NotConstant}

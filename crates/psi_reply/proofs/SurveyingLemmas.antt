@@ -36,7 +36,8 @@ use Rattle.psi_reply.specs.Sample.{functions_by_time}
 use Rattle.psi_reply.specs.Networks.{IsSystemOf}
 use Rattle.psi_reply.specs.Couple.{endings}
 use Rattle.psi_reply.specs.Exact.{meetings, meeting, sizes, state_count, meeting_status, exact_text, HasMetBy, AreAlike, IsSurveyOf, IsSurveyed, region}
-use Rattle.psi_reply.specs.Reply.{Reply, text_reply, line_reply, survey_reply}
+use Rattle.psi_program.specs.Reply.{text_reply, line_reply}
+use Rattle.psi_reply.specs.Reply.{Reply, survey_reply}
 use Rattle.psi_reply.proofs.SamplingLemmas.{functions_by_time-closed, functions-alike, of_network}
 use Rattle.psi_reply.proofs.CouplingLemmas.{coupled_of-is}
 

@@ -10,7 +10,8 @@ use Rattle.psi_command.specs.declared.status.Status.TheVariants.{Done, NotCouple
 use Rattle.psi_answers.specs.Texts.{outcome_text, accepted_text}
 use Rattle.psi_reply.specs.Sample.{IsDrawn}
 use Rattle.psi_reply.specs.Certify.{certificate}
-use Rattle.psi_reply.specs.Reply.{text_reply, replay_reply}
+use Rattle.psi_program.specs.Reply.{text_reply}
+use Rattle.psi_reply.specs.Reply.{replay_reply}
 
 -- what out held before and holds after, and the status
 module _ (before after : Option (List ℕ)) (result : Status) where

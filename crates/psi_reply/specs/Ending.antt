@@ -1,24 +1,23 @@
 -- How the work of a call ends, before anything is written.
 use Rattle.std.specs.Prelude.{◌≡◌}
-use Rattle.psi_command.specs.declared.status.Status.TheVariants.{ReadFault, OutOfMemory}
+use Rattle.psi_program.specs.Ending.{Ending as AnyEnding, replied, unread, no_memory, Faults, ending_reply as reply_with}
+use Rattle.psi_command.specs.declared.status.Status.{Status}
+use Rattle.psi_command.specs.declared.status.Status.TheVariants.{ReadFault, WriteFault, OutOfMemory}
 use Rattle.psi_command.specs.Command.{File}
 use Rattle.psi_answers.specs.Lines.{unread_line, memory_line}
-use Rattle.psi_reply.specs.Reply.{Reply, line_reply}
+use Rattle.psi_reply.specs.Reply.{Reply}
 
 -- how the work ends
-pub data Ending : Type 0 where
-  -- with a reply
-  replied : Reply → Ending
-  -- a file couldn't be read
-  unread : File → Ending
-  -- there was not enough memory
-  no_memory : Ending
+abbrev pub Ending : Type 0
+Ending = AnyEnding Status File
+
+-- how the program tells of faults
+abbrev pub faults : Faults Status File
+faults = record { read_fault = ReadFault; write_fault = WriteFault; out_of_memory = OutOfMemory; unread_line = unread_line; memory_line = memory_line }
 
 -- the status and the texts with which the call ends, once they are written
 abbrev pub ending_reply : Ending → Reply
-ending_reply (replied reply) = reply
-ending_reply (unread file) = line_reply ReadFault (unread_line file)
-ending_reply no_memory = line_reply OutOfMemory memory_line
+ending_reply ending = reply_with faults ending
 
 -- the work ends with this reply, unless memory ran out
 abbrev pub EndsWith : Ending → Reply → Type 0

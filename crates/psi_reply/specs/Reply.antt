@@ -1,5 +1,6 @@
 -- What each command replies about a network: a status with a text for out and a text for err.
 use Rattle.std.specs.Prelude.{◌≡◌, ℕ, List, [], length, nat_le, if◌then◌else◌, Option, Some, None, Result, Ok, Err}
+use Rattle.psi_program.specs.Reply.{Reply as AnyReply, text_reply, line_reply}
 use Rattle.psi_command.specs.Status.{IsPrinted, IsReported, IsOfCommand}
 use Rattle.psi_command.specs.Command.{Command}
 use Rattle.psi_state.specs.declared.Outcome.{Outcome}
@@ -28,18 +29,8 @@ use Rattle.psi_reply.specs.Certify.{certificate}
 use Rattle.psi_reward.specs.declared.kinds.RewardKind.{RewardKind}
 
 -- a status with a text for out and a text for err
-pub record Reply : Type 0 where
-  pub status : Status
-  pub out : List ℕ
-  pub err : List ℕ
-
--- a text for out
-abbrev pub text_reply : Status → List ℕ → Reply
-text_reply status text = record { status = status; out = text; err = [] }
-
--- a line for err
-abbrev pub line_reply : Status → List ℕ → Reply
-line_reply status line = record { status = status; out = []; err = line }
+abbrev pub Reply : Type 0
+Reply = AnyReply Status
 
 -- words that aren't a command
 abbrev pub usage_reply : ℕ → Reply

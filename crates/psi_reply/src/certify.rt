@@ -4,7 +4,7 @@ ghost use Rattle.std.specs.Prelude.{◌≤◌};
 ghost use Rattle.psi_state.specs.declared.Outcome.TheVariants.{NotMet};
 ghost use Rattle.psi_command.specs.declared.status.Status.TheVariants.{NotCoupled};
 ghost use Rattle.psi_answers.specs.Texts.{outcome_text};
-ghost use Rattle.psi_reply.specs.Reply.{text_reply};
+ghost use Rattle.psi_program.specs.Reply.{text_reply};
 ghost use Rattle.psi_reply.specs.Ending.{EndsWith};
 ghost use Rattle.psi_reply.specs.Ended.{ending_of};
 

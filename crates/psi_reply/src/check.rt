@@ -5,7 +5,7 @@ ghost use Rattle.std.specs.List.{list_all};
 ghost use Rattle.psi_model.specs.Network.{marks_of};
 ghost use Rattle.psi_command.specs.declared.status.Status.TheVariants.{Done};
 ghost use Rattle.psi_reply.specs.Check.{queue_line, mark_text, event_line, monotone_line, queue_lines, event_lines, check_text, AreMarked};
-ghost use Rattle.psi_reply.specs.Reply.{text_reply};
+ghost use Rattle.psi_program.specs.Reply.{text_reply};
 ghost use Rattle.psi_reply.specs.Ending.{EndsWith, HasReplied};
 ghost use Rattle.psi_reply.specs.Ended.{ending_of};
 

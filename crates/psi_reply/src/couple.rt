@@ -3,7 +3,7 @@
 ghost use Rattle.std.specs.Prelude.{◌≡◌, IfOk};
 ghost use Rattle.psi_reply.specs.Couple.{coupling, coupling_status};
 ghost use Rattle.psi_answers.specs.Couplings.{coupling_text, HasLimit};
-ghost use Rattle.psi_reply.specs.Reply.{text_reply};
+ghost use Rattle.psi_program.specs.Reply.{text_reply};
 ghost use Rattle.psi_reply.specs.Ending.{EndsWith};
 ghost use Rattle.psi_reply.specs.Ended.{ending_of};
 

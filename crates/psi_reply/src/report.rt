@@ -8,7 +8,7 @@ ghost use Rattle.psi_command.specs.declared.status.Status.TheVariants.{Done};
 ghost use Rattle.psi_reply.specs.Sample.{sampled};
 ghost use Rattle.psi_reply.specs.Report.{samples_of};
 ghost use Rattle.psi_reply.specs.Networks.{IsSystemOf};
-ghost use Rattle.psi_reply.specs.Reply.{text_reply};
+ghost use Rattle.psi_program.specs.Reply.{text_reply};
 ghost use Rattle.psi_reply.specs.Ending.{EndsWith};
 ghost use Rattle.psi_reply.specs.Ended.{ending_of};
 

@@ -6,7 +6,7 @@ ghost use Rattle.psi_model.specs.Valid.{IsNetwork};
 ghost use Rattle.psi_command.specs.declared.status.Status.TheVariants.{Done};
 ghost use Rattle.psi_reply.specs.Report.{samples_of};
 ghost use Rattle.psi_reply.specs.Trial.{trial_text};
-ghost use Rattle.psi_reply.specs.Reply.{text_reply};
+ghost use Rattle.psi_program.specs.Reply.{text_reply};
 ghost use Rattle.psi_reply.specs.Ending.{EndsWith, HasReplied};
 ghost use Rattle.psi_reply.specs.Ended.{ending_of};
 

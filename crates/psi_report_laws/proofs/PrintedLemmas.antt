@@ -15,7 +15,8 @@ use Rattle.psi_report.specs.Report.{report_text, contents_of}
 use Rattle.psi_command.specs.declared.status.Status.TheVariants.{Done, NetRefused}
 use Rattle.psi_command.specs.Command.{report}
 use Rattle.psi_reply.specs.Sample.{sampled}
-use Rattle.psi_reply.specs.Reply.{Reply, text_reply, refused_reply}
+use Rattle.psi_program.specs.Reply.{text_reply}
+use Rattle.psi_reply.specs.Reply.{Reply, refused_reply}
 use Rattle.psi_reply.specs.Report.{samples_of, AreDrawn}
 use Rattle.psi_reply.proofs.ReportingLemmas.{drawn-sample, samples_number, samples-drawn}
 use Rattle.psi_run.specs.Reply.{reply_to, reply_of, judged_reply}

@@ -6,7 +6,7 @@ use Rattle.psi_net.specs.Reading.{network_of}
 use Rattle.psi_command.specs.declared.status.Status.{Status}
 use Rattle.psi_command.specs.declared.status.Status.TheVariants.{Done}
 use Rattle.psi_command.specs.Command.{report}
-use Rattle.psi_reply.specs.Reply.{text_reply}
+use Rattle.psi_program.specs.Reply.{text_reply}
 use Rattle.psi_reply.specs.Report.{AreDrawn}
 use Rattle.psi_report.specs.Contents.{Contents}
 use Rattle.psi_report.specs.Text.{text_of}

@@ -8,8 +8,10 @@ use Rattle.psi_command.specs.declared.words.Question.{Question}
 use Rattle.psi_command.specs.declared.words.Question.TheVariants.{Sample, Check, Report, Couple, Reward, Exact, Closed, Replay}
 use Rattle.psi_command.specs.Command.{Command, sample, check, report, couple, reward, exact, closed, replay, net_file}
 use Rattle.psi_command.specs.Request.{asked}
-use Rattle.psi_run.specs.Seen.{ShelfSeen, WasLast}
-use Rattle.psi_reply.specs.Ending.{Ending, replied, unread, no_memory}
+use Rattle.psi_program.specs.Seen.{ShelfSeen}
+use Rattle.psi_run.specs.Reads.{WasLast}
+use Rattle.psi_program.specs.Ending.{replied, unread, no_memory}
+use Rattle.psi_reply.specs.Ending.{Ending}
 use Rattle.psi_run.specs.Ending.{IsEnding}
 use Rattle.psi_reply.specs.Ended.{ending_of}
 use Rattle.psi_run.specs.Files.{IsNoNet}

@@ -6,11 +6,13 @@ use Rattle.psi_io.proofs.SinkLemmas.{appended-nothing}
 use Rattle.psi_command.specs.declared.status.Status.{Status}
 use Rattle.psi_command.specs.declared.status.Status.TheVariants as status
 use Rattle.psi_answers.specs.Lines.{too_long_line}
-use Rattle.psi_reply.specs.Reply.{text_reply, line_reply, log_reply}
-use Rattle.psi_run.specs.Seen.{SinkSeen, Grew, GrewByPart, HasFailed}
-use Rattle.psi_reply.specs.Ending.{Ending, replied, EndsWith}
-use Rattle.psi_run.specs.Finished.{IsFinished}
-use Rattle.psi_run.proofs.FinishingLemmas.{finished_with, finished_whole, finished_cut}
+use Rattle.psi_program.specs.Reply.{text_reply, line_reply}
+use Rattle.psi_reply.specs.Reply.{log_reply}
+use Rattle.psi_program.specs.Seen.{SinkSeen, Grew, GrewByPart, HasFailed}
+use Rattle.psi_program.specs.Ending.{replied}
+use Rattle.psi_reply.specs.Ending.{Ending, faults, EndsWith}
+use Rattle.psi_program.specs.Finished.{IsFinished}
+use Rattle.psi_program.proofs.FinishingLemmas.{finished_with, finished_whole, finished_cut}
 
 module _ (text : List ℕ) (out_takes err_takes : ℕ → Type 0) (out err : SinkSeen) where
   abbrev WithLog : Ending → Type 0
@@ -21,7 +23,7 @@ module _ (text : List ℕ) (out_takes err_takes : ℕ → Type 0) (out err : Sin
 
   -- whole
   pub log_written : (result : Status) → result ≡ status.Done → length text ≤ 33554432 → Grew out text → err.after ≡ err.before → err.faults_after ≡ err.faults_before
-      → ((room : ℕ) → out_takes room → length text ≤ room → out.faults_after ≡ out.faults_before) → IsFinished WithLog out_takes err_takes out err result
+      → ((room : ℕ) → out_takes room → length text ≤ room → out.faults_after ≡ out.faults_before) → IsFinished faults WithLog out_takes err_takes out err result
   log_written result done few grew still spared taken =
       finished_with (replied (text_reply status.Done text)) WithLog out_takes err_takes out err result
       (finished_whole (replied (text_reply status.Done text)) out_takes err_takes out err result
@@ -31,7 +33,7 @@ module _ (text : List ℕ) (out_takes err_takes : ℕ → Type 0) (out err : Sin
 
   -- or in part
   pub log_cut : length text ≤ 33554432 → GrewByPart out text → HasFailed out → err.after ≡ err.before
-      → ((room : ℕ) → out_takes room → length text ≤ room → ⊥) → IsFinished WithLog out_takes err_takes out err status.WriteFault
+      → ((room : ℕ) → out_takes room → length text ≤ room → ⊥) → IsFinished faults WithLog out_takes err_takes out err status.WriteFault
   log_cut few part failed still never =
       finished_with (replied (text_reply status.Done text)) WithLog out_takes err_takes out err status.WriteFault
       (finished_cut (replied (text_reply status.Done text)) out_takes err_takes out err (inl (record { cause = failed; part = part; rest = still }))

@@ -24,9 +24,11 @@ use Rattle.psi_reply.specs.Couple.{coupling}
 use Rattle.psi_reply.specs.Reward.{kind_named}
 use Rattle.psi_reply.specs.Closed.{first_other}
 use Rattle.psi_run.specs.Means.{OfNetwork, Means}
-use Rattle.psi_run.specs.Seen.{ShelfSeen, IsRead, WasLast, IsMissed}
-use Rattle.psi_reply.specs.Ending.{Ending, replied, unread, no_memory, EndsWith, HasReplied}
-use Rattle.psi_run.specs.Ending.{MayReply, IsMeant, IsEnding}
+use Rattle.psi_program.specs.Seen.{ShelfSeen}
+use Rattle.psi_run.specs.Reads.{IsRead, WasLast, IsMissed}
+use Rattle.psi_program.specs.Ending.{replied, unread, no_memory, MayReply}
+use Rattle.psi_reply.specs.Ending.{Ending, EndsWith, HasReplied}
+use Rattle.psi_run.specs.Ending.{IsMeant, IsEnding}
 use Rattle.psi_reply.specs.Ended.{ending_of}
 use Rattle.psi_run.specs.Files.{IsNetAt, IsNoNet}
 

@@ -1,7 +1,12 @@
 -- What a call is seen to do, from an ending and how it was written.
-use Rattle.std.specs.Prelude.{◌≡◌, ℕ, List, Option, Some, Result, Ok, Err, ◌⊎◌, refl}
+use Rattle.std.specs.Prelude.{◌≡◌, ℕ, List, Option, Some, Result, Ok, Err, IsOk, ◌⊎◌, refl}
 use Rattle.psi_io.specs.Shelf.{Read}
 use Rattle.std.proofs.Common.{inl, inr, sym, subst}
+use Rattle.psi_program.specs.Seen.{ShelfSeen, SinkSeen, HasFailed, IsUnread}
+use Rattle.psi_program.specs.Finished.{IsFinished}
+use Rattle.psi_program.specs.Call.{Call}
+use Rattle.psi_program.proofs.SparingLemmas.{spared}
+use Rattle.psi_program.proofs.FinishingLemmas.{finished_with}
 use Rattle.psi_model.specs.Network.{Network}
 use Rattle.psi_net.specs.Reading.{network_of}
 use Rattle.psi_command.specs.declared.status.Status.{Status}
@@ -13,51 +18,14 @@ use Rattle.psi_reply.specs.Sample.{IsSampled}
 use Rattle.psi_reply.specs.Reply.{Reply, usage_reply}
 use Rattle.psi_run.specs.Reply.{reply_to}
 use Rattle.psi_run.specs.Means.{Means}
-use Rattle.psi_run.specs.Seen.{ShelfSeen, SinkSeen, HasFailed, IsUnread, AreAsked}
-use Rattle.psi_reply.specs.Ending.{Ending, replied, ending_reply}
+use Rattle.psi_run.specs.Reads.{AreAsked, AreGiven}
+use Rattle.psi_program.specs.Ending.{replied, HasRead}
+use Rattle.psi_reply.specs.Ending.{Ending, faults, ending_reply}
 use Rattle.psi_run.specs.Ending.{IsEnding}
-use Rattle.psi_run.specs.Spared.{AreGiven, IsTaken, AreTaken, HasRead}
-use Rattle.psi_run.specs.Written.{IsWhole, IsCut}
-use Rattle.psi_run.specs.Finished.{IsFinished}
-use Rattle.psi_run.specs.Call.{Call, IsRun}
+use Rattle.psi_run.specs.Call.{AreTaken, IsRun}
 use Rattle.psi_run.proofs.EndingsLemmas.{no_command}
 use Rattle.psi_run.proofs.ReadFilesLemmas.{asked_nothing}
-use Rattle.psi_run.proofs.RunningLemmas.{run_whole, run_cut, run_means, run_headline}
-use Rattle.psi_run.proofs.SparingLemmas.{where-taken, spared-status}
-
--- what holds of an ending holds of what it was finished with
-pub finished_as : (Is Other : Ending → Type 0) (out_takes err_takes : ℕ → Type 0) (out err : SinkSeen) (result : Status) → IsFinished Is out_takes err_takes out err result
-    → ((ending : Ending) → Is ending → Other ending) → IsFinished Other out_takes err_takes out err result
-finished_as Is Other out_takes err_takes out err result finished more =
-    record { ending = finished.ending; is = more finished.ending finished.is; written = finished.written; taken = finished.taken }
-
--- and so does what holds of the ending that it is
-pub finished_with : (given : Ending) (Other : Ending → Type 0) (out_takes err_takes : ℕ → Type 0) (out err : SinkSeen) (result : Status)
-    → IsFinished (λ ending. ending ≡ given) out_takes err_takes out err result → Other given → IsFinished Other out_takes err_takes out err result
-finished_with given Other out_takes err_takes out err result finished holds =
-    finished_as (λ ending. ending ≡ given) Other out_takes err_takes out err result finished (λ ending is. subst Other (sym is) holds)
-
--- an ending that was written whole is finished with its status, and another with a failed write
-module _ (given : Ending) (out_takes err_takes : ℕ → Type 0) (out err : SinkSeen) where
-  pub finished_whole : (result : Status) → IsWhole (ending_reply given) out err
-      → (IsTaken out_takes (ending_reply given).out → IsTaken err_takes (ending_reply given).err → (out.faults_after ≡ out.faults_before) × (err.faults_after ≡ err.faults_before))
-      → result ≡ (ending_reply given).status → IsFinished (λ ending. ending ≡ given) out_takes err_takes out err result
-  finished_whole result whole spared same = record {
-    ending = given;
-    is = refl;
-    written = inl (same, whole);
-    taken = λ o e. (same, (spared o e).0, (spared o e).1);
-  }
-
-  pub finished_cut : IsCut (ending_reply given).out out err ⊎ IsCut (ending_reply given).err err out
-      → (IsTaken out_takes (ending_reply given).out → IsTaken err_takes (ending_reply given).err → ⊥)
-      → IsFinished (λ ending. ending ≡ given) out_takes err_takes out err status.WriteFault
-  finished_cut cut never = record {
-    ending = given;
-    is = refl;
-    written = inr (refl, cut);
-    taken = λ o e. absurd (never o e);
-  }
+use Rattle.psi_run.proofs.RunningLemmas.{run_is, run_means, run_headline}
 
 -- ---- a call whose work and writing are known
 
@@ -67,18 +35,18 @@ EndsFor shelf command gives ending = IsEnding shelf command ending × (AreGiven 
 
 -- what was done for a command was done for the words that ask for it
 pub finished_words : (shelf : ShelfSeen) (words command : Result Command ℕ) (gives : List ℕ → Type 0) (out_takes err_takes : ℕ → Type 0) (out err : SinkSeen) (result : Status)
-    → words ≡ command → IsFinished (EndsFor shelf command gives) out_takes err_takes out err result → IsFinished (EndsFor shelf words gives) out_takes err_takes out err result
+    → words ≡ command → IsFinished faults (EndsFor shelf command gives) out_takes err_takes out err result → IsFinished faults (EndsFor shelf words gives) out_takes err_takes out err result
 finished_words shelf words command gives out_takes err_takes out err result same finished =
-    subst (λ (w : Result Command ℕ). IsFinished (EndsFor shelf w gives) out_takes err_takes out err result) (sym same) finished
+    subst (λ (w : Result Command ℕ). IsFinished faults (EndsFor shelf w gives) out_takes err_takes out err result) (sym same) finished
 
 -- words that aren't a command end with the place of the word that offends, and a shelf that isn't asked is seen as it was
-module _ (told : List ℕ → Option (List ℕ)) (asked : List Read) (faults : List ℕ → ℕ) where
+module _ (told : List ℕ → Option (List ℕ)) (asked : List Read) (counts : List ℕ → ℕ) where
   abbrev unasked : ShelfSeen
-  unasked = record { told = told; asked_before = asked; asked_after = asked; faults_before = faults; faults_after = faults }
+  unasked = record { told = told; asked_before = asked; asked_after = asked; faults_before = counts; faults_after = counts }
 
   pub finished_usage : (words : Result Command ℕ) (place : ℕ) (gives : List ℕ → Type 0) (out_takes err_takes : ℕ → Type 0) (out err : SinkSeen) (result : Status)
-      → words ≡ Err place → IsFinished (λ ending. ending ≡ replied (usage_reply place)) out_takes err_takes out err result
-      → IsFinished (EndsFor unasked words gives) out_takes err_takes out err result
+      → words ≡ Err place → IsFinished faults (λ ending. ending ≡ replied (usage_reply place)) out_takes err_takes out err result
+      → IsFinished faults (EndsFor unasked words gives) out_takes err_takes out err result
   finished_usage words place gives out_takes err_takes out err result wrong finished =
       finished_with (replied (usage_reply place)) (EndsFor unasked words gives) out_takes err_takes out err result finished
       (no_command unasked words place wrong, λ given. tt, asked_nothing unasked words place status.Usage wrong refl)
@@ -86,12 +54,9 @@ module _ (told : List ℕ → Option (List ℕ)) (asked : List Read) (faults : L
 abbrev EndsSo : Call → (List ℕ → Type 0) → Ending → Type 0
 EndsSo call gives = EndsFor call.shelf (command_of call.words) gives
 
-module _ (call : Call) (result : Status) (gives : List ℕ → Type 0) (out_takes err_takes : ℕ → Type 0) (finished : IsFinished (EndsSo call gives) out_takes err_takes call.out call.err result) where
+module _ (call : Call) (result : Status) (gives : List ℕ → Type 0) (out_takes err_takes : ℕ → Type 0) (finished : IsFinished faults (EndsSo call gives) out_takes err_takes call.out call.err result) where
   pub finished_run : IsRun call result
-  finished_run = elim finished.written [
-    | inl whole ↦ run_whole call finished.ending result finished.is.0 finished.is.2 whole.1 whole.0
-    | inr cut ↦ subst (IsRun call) (sym cut.0) (run_cut call finished.ending finished.is.0 finished.is.2 cut.1)
-  ]
+  finished_run = run_is call finished.ending result finished.written finished.is.0 finished.is.2
 
   pub finished_means : (command : Command) → command_of call.words ≡ Ok command → IsReplied result → Means command call.shelf.told call.out.before call.out.after result
   finished_means command asked kind = elim finished.written [
@@ -113,7 +78,5 @@ module _ (call : Call) (result : Status) (gives : List ℕ → Type 0) (out_take
       → (call.out.faults_after ≡ call.out.faults_before) × (call.err.faults_after ≡ call.err.faults_before)
       × ((result ≡ reply.status) ⊎ (result ≡ status.OutOfMemory))
   finished_spared reply there given taken =
-      let read = finished.is.1 given in
-      let command = command_of call.words in
-      let written = where-taken call.shelf command reply out_takes err_takes finished.ending finished.is.0 read there taken finished.taken in
-      (written.1, written.2, spared-status call.shelf command reply finished.ending result finished.is.0 read there written.0)
+      let ends = finished.is.0 in
+      spared faults _ _ (IsOk (command_of call.words)) _ reply there out_takes err_takes taken result finished.ending ends.reply ends.cause (finished.is.1 given) finished.taken

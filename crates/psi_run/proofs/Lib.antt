@@ -6,6 +6,5 @@ pub mod AskedLemmas
 pub mod ReadFilesLemmas
 pub mod FinishingLemmas
 pub mod CertifyingLemmas
-pub mod WrittenLemmas
 pub mod RunningLemmas
 pub mod SparingLemmas

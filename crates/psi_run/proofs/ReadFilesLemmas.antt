@@ -14,7 +14,8 @@ use Rattle.psi_command.specs.Command.{Command, trial, certify, File, net_file, l
 use Rattle.psi_command.specs.Request.{asked}
 use Rattle.psi_reply.specs.declared.ending.Ending.{Ending as Ended}
 use Rattle.psi_reply.specs.declared.ending.Ending.TheVariants.{Printed, Usage, NetRefused, LogRefused, LogRejected, LogTooLong, UnknownReward, TooManyStates, NotClosed, NoSuchTotal, NetUnread, LogUnread, OutOfMemory}
-use Rattle.psi_run.specs.Seen.{ShelfSeen, IsNeeded, read_of, WasLast, AreAsked}
+use Rattle.psi_program.specs.Seen.{ShelfSeen}
+use Rattle.psi_run.specs.Reads.{IsNeeded, read_of, WasLast, AreAsked}
 use Rattle.psi_reply.specs.Ending.{ending_reply}
 use Rattle.psi_reply.specs.Ended.{ending_of}
 use Rattle.psi_run.specs.Files.{IsNetAt, IsNoNet}

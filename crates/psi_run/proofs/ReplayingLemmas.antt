@@ -16,10 +16,13 @@ use Rattle.psi_reply.specs.declared.ending.Ending.TheVariants.{Printed, Usage, N
 use Rattle.psi_command.specs.Command.{replay, net_file, log_file}
 use Rattle.psi_answers.specs.Lines.{log_refused_line}
 use Rattle.psi_reply.specs.Replay.{judgement}
-use Rattle.psi_reply.specs.Reply.{line_reply, verdict_reply, judged_log, replay_reply}
+use Rattle.psi_program.specs.Reply.{line_reply}
+use Rattle.psi_reply.specs.Reply.{verdict_reply, judged_log, replay_reply}
 use Rattle.psi_run.specs.Reply.{reply_to}
-use Rattle.psi_run.specs.Seen.{ShelfSeen, WasLast, IsMissed}
-use Rattle.psi_reply.specs.Ending.{Ending, replied, unread, no_memory, EndsWith}
+use Rattle.psi_program.specs.Seen.{ShelfSeen}
+use Rattle.psi_run.specs.Reads.{WasLast, IsMissed}
+use Rattle.psi_program.specs.Ending.{replied, unread, no_memory}
+use Rattle.psi_reply.specs.Ending.{Ending, EndsWith}
 use Rattle.psi_run.specs.Ending.{IsEnding}
 use Rattle.psi_reply.specs.Ended.{ending_of}
 use Rattle.psi_run.specs.Files.{IsNetAt, IsTextAt, IsNoText}

@@ -1,8 +1,12 @@
 -- What a call is seen to do, from how its work ended and how that was written.
-use Rattle.std.specs.Prelude.{◌≡◌, ℕ, zero, suc, List, [], ◌∷◌, Option, Some, None, Result, Ok, Err, IsOk, IsErr, IsOkAnd, IfOk, IfSome, ◌⊎◌, Contains, refl}
+use Rattle.std.specs.Prelude.{◌≡◌, ℕ, zero, suc, List, [], ◌∷◌, Option, Some, Result, Ok, Err, IsOk, IsErr, IsOkAnd, IfOk, Contains, refl}
 use Rattle.std.proofs.Common.{sym, ap, ◌∙◌, subst, arith, inl, inr}
 use Rattle.psi_io.specs.Sink.{appended}
-use Rattle.psi_io.proofs.SinkLemmas.{appended-nothing, grew-longer}
+use Rattle.psi_program.specs.Seen.{ShelfSeen, IsUnread}
+use Rattle.psi_program.specs.Written.{IsWrittenAs}
+use Rattle.psi_program.specs.Call.{Call}
+use Rattle.psi_program.proofs.RunningLemmas.{IsProgram, runs}
+use Rattle.psi_answers.specs.Lines.{unread_line}
 use Rattle.psi_model.specs.Network.{Network}
 use Rattle.psi_net.specs.Reading.{network_of}
 use Rattle.psi_command.specs.declared.status.Status.{Status}
@@ -14,30 +18,16 @@ use Rattle.psi_reply.specs.Sample.{IsSampled}
 use Rattle.psi_reply.specs.Reply.{Reply}
 use Rattle.psi_run.specs.Reply.{IsReplyTo}
 use Rattle.psi_run.specs.Means.{Means}
-use Rattle.psi_run.specs.Seen.{ShelfSeen, IsUnread, IsRead, AreAsked, SinkSeen, Grew, GrewByPart, IsUnchanged, HasFailed}
-use Rattle.psi_reply.specs.Ending.{Ending, replied, unread, no_memory, ending_reply}
-use Rattle.psi_run.specs.Ending.{IsMeant, IsEnding}
-use Rattle.psi_run.specs.Call.{Call, reply_to_call, OutFaulted, EndsWithin, ErrFaulted, IsRun}
-use Rattle.psi_run.specs.Written.{IsWhole, IsCut}
+use Rattle.psi_run.specs.Reads.{IsRead, AreAsked}
+use Rattle.psi_program.specs.Ending.{replied, unread, no_memory, IsCaused as IsCausedBy}
+use Rattle.psi_reply.specs.Ending.{Ending, faults, ending_reply}
+use Rattle.psi_run.specs.Ending.{IsMeant, IsCaused, IsEnding}
+use Rattle.psi_run.specs.Call.{reply_to_call, IsCommand, ReadFailed, unread_line_of, IsRun}
 use Rattle.psi_run.proofs.ReadFilesLemmas.{asked_cut}
 
 ok-not_err : {A B : Type 0} (r : Result A B) → IsOk r → IsErr r → ⊥
 ok-not_err (Ok a) ok err = absurd cc
 ok-not_err (Err b) ok err = absurd cc
-
--- words that name a file are a command
-read-command : (command : Result Command ℕ) (file : File) → IsRead command file → IsErr command → ⊥
-read-command (Ok command) file read err = absurd cc
-read-command (Err place) file read err = read
-
--- what holds of the reply given holds of the reply that it is
-of-same : (P : Reply → Type 0) (reply : Option Reply) (given : Reply) → IfSome reply (λ r. given ≡ r) → P given → IfSome reply P
-of-same P None given same holds = tt
-of-same P (Some r) given same holds = subst P same holds
-
-of-each : (P : Reply → Type 0) (reply : Option Reply) → ((r : Reply) → P r) → IfSome reply P
-of-each P None each = tt
-of-each P (Some r) each = each r
 
 -- ---- what is known of a reply's status
 
@@ -81,144 +71,84 @@ reply-err : (command : Result Command ℕ) (reply : Reply) → IsReplyTo command
 reply-err (Ok command) reply is printed = is.printed printed
 reply-err (Err place) reply is printed = absurd (subst (λ (r : Reply). IsPrinted r.status) is printed)
 
--- ---- the text of the ending was written whole
+-- ---- what is known of the statuses and the words
 
-still : (sink : SinkSeen) (text : List ℕ) → text ≡ [] → Grew sink text → IsUnchanged sink
-still sink text none grew = grew ∙ ap (appended sink.before) none ∙ appended-nothing sink.before
+printed-replied : (status : Status) → IsPrinted status → IsReplied status
+printed-replied ending.Done printed = tt
+printed-replied ending.NotCoupled printed = tt
+printed-replied status printed = absurd printed
 
-whole-run : (call : Call) (end : Ending) → IsEnding call.shelf (command_of call.words) end → AreAsked call.shelf (command_of call.words) (ending_reply end).status
-    → IsWhole (ending_reply end) call.out call.err → IsRun call (ending_reply end).status
-whole-run call (replied given) is reads whole =
-    let command = command_of call.words in
-    let kind : IsReplied given.status = reply-replied command given is.cause in
-    record {
-      status = of-same (λ r. IsReplied given.status → given.status ≡ r.status) (reply_to_call call) given is.reply (λ k. refl);
-      out = of-same (λ r. IsReplied given.status → Grew call.out r.out) (reply_to_call call) given is.reply (λ k. whole.printed);
-      err = of-same (λ r. IsReplied given.status → Grew call.err r.err) (reply_to_call call) given is.reply (λ k. whole.reported);
-      reads = reads;
-      complete = λ out err read. inl kind;
-      usage = reply-usage command given is.cause;
-      no_command = λ wrong. inl (reply-no_command command given is.cause wrong);
-      log_refused = reply-has command given ending.LogRefused (λ e. absurd cc) is.cause;
-      log_too_long = reply-has command given ending.LogTooLong (λ e. absurd cc) is.cause;
-      unknown_reward = reply-has command given ending.UnknownReward (λ e. absurd cc) is.cause;
-      too_many_states = reply-has command given ending.TooManyStates (λ e. absurd cc) is.cause;
-      not_closed = reply-has command given ending.NotClosed (λ e. absurd cc) is.cause;
-      no_such_total = reply-has command given ending.NoSuchTotal (λ e. absurd cc) is.cause;
-      read_fault = λ e. absurd (subst IsReplied e kind);
-      write_fault = λ e. absurd (subst IsReplied e kind);
-      no_memory = λ e. absurd (subst IsReplied e kind);
-      silent_out = λ k. still call.out given.out (reply-out command given is.cause k) whole.printed;
-      silent_err = λ k. still call.err given.err (reply-err command given is.cause k) whole.reported;
-    }
-whole-run call (unread file) is reads whole = record {
-  status = of-each (λ r. IsReplied ending.ReadFault → ending.ReadFault ≡ r.status) (reply_to_call call) (λ r k. absurd k);
-  out = of-each (λ r. IsReplied ending.ReadFault → Grew call.out r.out) (reply_to_call call) (λ r k. absurd k);
-  err = of-each (λ r. IsReplied ending.ReadFault → Grew call.err r.err) (reply_to_call call) (λ r k. absurd k);
-  reads = reads;
-  complete = λ out err read. absurd (read (record { file = file; missed = is.cause }));
-  usage = λ e. absurd cc;
-  no_command = λ wrong. absurd (read-command (command_of call.words) file is.cause.read wrong);
-  log_refused = λ e. absurd cc;
-  log_too_long = λ e. absurd cc;
-  unknown_reward = λ e. absurd cc;
-  too_many_states = λ e. absurd cc;
-  not_closed = λ e. absurd cc;
-  no_such_total = λ e. absurd cc;
-  read_fault = λ e. record {
-    cause = record { file = file; missed = is.cause };
-    out = still call.out [] refl whole.printed;
-    err = whole.reported;
-  };
-  write_fault = λ e. absurd cc;
-  no_memory = λ e. absurd cc;
-  silent_out = λ k. still call.out [] refl whole.printed;
-  silent_err = λ k. absurd k;
-}
-whole-run call no_memory is reads whole = record {
-  status = of-each (λ r. IsReplied ending.OutOfMemory → ending.OutOfMemory ≡ r.status) (reply_to_call call) (λ r k. absurd k);
-  out = of-each (λ r. IsReplied ending.OutOfMemory → Grew call.out r.out) (reply_to_call call) (λ r k. absurd k);
-  err = of-each (λ r. IsReplied ending.OutOfMemory → Grew call.err r.err) (reply_to_call call) (λ r k. absurd k);
-  reads = reads;
-  complete = λ out err read. inr refl;
-  usage = λ e. absurd cc;
-  no_command = λ wrong. absurd (ok-not_err (command_of call.words) is.cause wrong);
-  log_refused = λ e. absurd cc;
-  log_too_long = λ e. absurd cc;
-  unknown_reward = λ e. absurd cc;
-  too_many_states = λ e. absurd cc;
-  not_closed = λ e. absurd cc;
-  no_such_total = λ e. absurd cc;
-  read_fault = λ e. absurd cc;
-  write_fault = λ e. absurd cc;
-  no_memory = λ e. record { cause = is.cause; out = still call.out [] refl whole.printed; err = whole.reported };
-  silent_out = λ k. still call.out [] refl whole.printed;
-  silent_err = λ k. absurd k;
-}
+read-ok : (command : Result Command ℕ) (file : File) → IsRead command file → IsOk command
+read-ok (Ok command) file read = refl
+read-ok (Err place) file read = absurd read
 
--- the text was written whole, and the status is the ending's
-pub run_whole : (call : Call) (end : Ending) (result : Status) → IsEnding call.shelf (command_of call.words) end
-    → AreAsked call.shelf (command_of call.words) (ending_reply end).status → IsWhole (ending_reply end) call.out call.err → result ≡ (ending_reply end).status → IsRun call result
-run_whole call end result is reads whole same = subst (IsRun call) (sym same) (whole-run call end is reads whole)
+-- ---- a call
 
--- ---- the text of the ending was cut
+module _ (call : Call) where
+  abbrev asked : Result Command ℕ
+  asked = command_of call.words
 
--- a prefix of nothing is a prefix of anything
-part-of_nothing : (sink : SinkSeen) (text : List ℕ) → GrewByPart sink [] → GrewByPart sink text
-part-of_nothing sink text part = grew-longer sink.before sink.after [] text part
+  is-program : IsProgram faults ending.Usage IsReplied IsReported IsPrinted (IsReplyTo asked) call (reply_to_call call) (unread_line_of call) (IsCommand call) (IsErr asked)
+  is-program = record {
+    usage_replied = tt;
+    read_fault = λ kind. kind;
+    write_fault = λ kind. kind;
+    out_of_memory = λ kind. kind;
+    read_write = λ e. absurd cc;
+    read_memory = λ e. absurd cc;
+    write_memory = λ e. absurd cc;
+    silent = λ kind. kind;
+    printed = printed-replied;
+    own = λ given is. record {
+      replied = reply-replied asked given is;
+      other = reply-usage asked given is;
+      told = reply-no_command asked given is;
+      reported = reply-out asked given is;
+      printed = reply-err asked given is;
+    };
+    asked = ok-not_err asked;
+    read = λ cause. read-ok asked cause.file cause.missed.read;
+  }
 
--- out holds a prefix of the reply's text
-out-part : (call : Call) (end : Ending) → IsEnding call.shelf (command_of call.words) end
-    → GrewByPart call.out (ending_reply end).out → IfSome (reply_to_call call) (λ r. GrewByPart call.out r.out)
-out-part call (replied given) is part = of-same (λ r. GrewByPart call.out r.out) (reply_to_call call) given is.reply part
-out-part call (unread file) is part = of-each (λ r. GrewByPart call.out r.out) (reply_to_call call) (λ r. part-of_nothing call.out r.out part)
-out-part call no_memory is part = of-each (λ r. GrewByPart call.out r.out) (reply_to_call call) (λ r. part-of_nothing call.out r.out part)
+  abbrev IsUnreadBy : File → Type 0
+  IsUnreadBy file = (cause : ReadFailed call) × (unread_line file ≡ unread_line_of call cause)
 
--- err holds a prefix of the reply's text, or of the line of the ending's cause
-err-part : (call : Call) (end : Ending) → IsEnding call.shelf (command_of call.words) end
-    → GrewByPart call.err (ending_reply end).err → IfSome (reply_to_call call) (EndsWithin call)
-err-part call (replied given) is part = of-same (EndsWithin call) (reply_to_call call) given is.reply (inl part)
-err-part call (unread file) is part =
-    of-each (EndsWithin call) (reply_to_call call) (λ r. inr (inl (record { file = file; missed = is.cause }, part)))
-err-part call no_memory is part = of-each (EndsWithin call) (reply_to_call call) (λ r. inr (inr (is.cause, part)))
+  cause-of : (end : Ending) → IsCaused call.shelf asked end → IsCausedBy (IsReplyTo asked) IsUnreadBy (IsCommand call) end
+  cause-of (replied given) cause = cause
+  cause-of (unread file) cause = (record { file = file; missed = cause }, refl)
+  cause-of no_memory cause = cause
 
--- a sink that failed
-failed-sink : (call : Call) → OutFaulted call ⊎ ErrFaulted call → HasFailed call.out ⊎ HasFailed call.err
-failed-sink call faulted = elim faulted [ inl out ↦ inl out.cause | inr err ↦ inr err.cause ]
+  module _ (end : Ending) (result : Status) (written : IsWrittenAs (ending_reply end) ending.WriteFault call.out call.err result) where
+    reads-as : IsWrittenAs (ending_reply end) ending.WriteFault call.out call.err result → AreAsked call.shelf asked (ending_reply end).status → AreAsked call.shelf asked result
+    reads-as (inl whole) reads = subst (AreAsked call.shelf asked) (sym whole.0) reads
+    reads-as (inr cut) reads = subst (AreAsked call.shelf asked) (sym cut.0) (asked_cut call.shelf asked (ending_reply end).status reads)
 
-faulted-run : (call : Call) → AreAsked call.shelf (command_of call.words) ending.WriteFault → OutFaulted call ⊎ ErrFaulted call → IsRun call ending.WriteFault
-faulted-run call reads faulted = record {
-  status = of-each (λ r. IsReplied ending.WriteFault → ending.WriteFault ≡ r.status) (reply_to_call call) (λ r k. absurd k);
-  out = of-each (λ r. IsReplied ending.WriteFault → Grew call.out r.out) (reply_to_call call) (λ r k. absurd k);
-  err = of-each (λ r. IsReplied ending.WriteFault → Grew call.err r.err) (reply_to_call call) (λ r k. absurd k);
-  reads = reads;
-  complete = λ out err read. elim (failed-sink call faulted) [ inl o ↦ absurd (out o) | inr e ↦ absurd (err e) ];
-  usage = λ e. absurd cc;
-  no_command = λ wrong. inr refl;
-  log_refused = λ e. absurd cc;
-  log_too_long = λ e. absurd cc;
-  unknown_reward = λ e. absurd cc;
-  too_many_states = λ e. absurd cc;
-  not_closed = λ e. absurd cc;
-  no_such_total = λ e. absurd cc;
-  read_fault = λ e. absurd cc;
-  write_fault = λ e. faulted;
-  no_memory = λ e. absurd cc;
-  silent_out = λ k. absurd k;
-  silent_err = λ k. absurd k;
-}
-
--- the text was cut by a failed write
-pub run_cut : (call : Call) (end : Ending) → IsEnding call.shelf (command_of call.words) end → AreAsked call.shelf (command_of call.words) (ending_reply end).status
-    → IsCut (ending_reply end).out call.out call.err ⊎ IsCut (ending_reply end).err call.err call.out → IsRun call ending.WriteFault
-run_cut call end is reads cut =
-    let asked = asked_cut call.shelf (command_of call.words) (ending_reply end).status reads in
-    elim cut [
-      | inl out ↦ faulted-run call asked (inl (record { cause = out.cause; out = out-part call end is out.part; err = out.rest }))
-      | inr err ↦ faulted-run call asked (inr (record { cause = err.cause; out = err.rest; err = err-part call end is err.part }))
-    ]
-
--- ---- what the status means
+    pub run_is : IsEnding call.shelf asked end → AreAsked call.shelf asked (ending_reply end).status → IsRun call result
+    run_is is reads =
+        let run = runs faults ending.Usage IsReplied IsReported IsPrinted (IsReplyTo asked) call (reply_to_call call) (unread_line_of call) (IsCommand call) (IsErr asked)
+        is-program end (record { may = is.reply; cause = cause-of end is.cause }) result written in
+        let has : (status : Status) → (ending.Usage ≡ status → ⊥) → IsReplied status → result ≡ status → IsOkAnd asked (IsOfCommand status) =
+        λ status no_usage kind same. (let own = run.own (subst IsReplied (sym same) kind) in reply-has asked own.0 status no_usage own.1 (own.2 ∙ same)) in
+        record {
+          status = run.status;
+          out = run.out;
+          err = run.err;
+          reads = reads-as written reads;
+          complete = run.complete;
+          usage = run.other;
+          no_command = run.told;
+          log_refused = has ending.LogRefused (λ e. absurd cc) tt;
+          log_too_long = has ending.LogTooLong (λ e. absurd cc) tt;
+          unknown_reward = has ending.UnknownReward (λ e. absurd cc) tt;
+          too_many_states = has ending.TooManyStates (λ e. absurd cc) tt;
+          not_closed = has ending.NotClosed (λ e. absurd cc) tt;
+          no_such_total = has ending.NoSuchTotal (λ e. absurd cc) tt;
+          read_fault = run.read_fault;
+          write_fault = run.write_fault;
+          no_memory = run.no_memory;
+          silent_out = run.silent_out;
+          silent_err = run.silent_err;
+        }
 
 -- once the ending's text is written whole, a reply's status means what the command says
 pub run_means : (shelf : ShelfSeen) (words : Result Command ℕ) (end : Ending) (before after : Option (List ℕ)) (result : Status) (command : Command)

@@ -1,20 +1,16 @@
 -- What a call of the program is seen to do.
-use Rattle.std.specs.Prelude.{◌≡◌, ℕ, List, Option, IsOk, IsErr, IsOkAnd, IfSome, ◌⊎◌}
+use Rattle.std.specs.Prelude.{◌≡◌, ℕ, List, Option, Result, IsOk, IsErr, IsOkAnd, IfSome, ◌⊎◌}
+use Rattle.psi_program.specs.Seen.{Grew, IsUnchanged, HasFailed}
+use Rattle.psi_program.specs.Call.{Call, ReadFaulted, OutFaulted, ErrFaulted, MemoryLacked, AreTaken as AreTakenOf}
 use Rattle.psi_command.specs.declared.status.Status.{Status}
 use Rattle.psi_command.specs.declared.status.Status.TheVariants.{Usage, LogRefused, LogTooLong, ReadFault, WriteFault, OutOfMemory, UnknownReward, TooManyStates, NotClosed, NoSuchTotal}
 use Rattle.psi_command.specs.Status.{IsReplay, IsCertify, IsReward, IsExact, IsClosed, IsPrinted, IsReported, IsReplied}
+use Rattle.psi_command.specs.Command.{Command}
 use Rattle.psi_command.specs.Words.{command_of}
 use Rattle.psi_answers.specs.Lines.{unread_line, memory_line}
 use Rattle.psi_reply.specs.Reply.{Reply}
 use Rattle.psi_run.specs.Reply.{reply_to}
-use Rattle.psi_run.specs.Seen.{ShelfSeen, HasUnread, AreAsked, SinkSeen, Grew, GrewByPart, IsUnchanged, HasFailed}
-
--- a call: its words, the shelf that it reads and the two sinks that it writes
-pub record Call : Type 0 where
-  pub words : List (List ℕ)
-  pub shelf : ShelfSeen
-  pub out : SinkSeen
-  pub err : SinkSeen
+use Rattle.psi_run.specs.Reads.{HasUnread, AreAsked}
 
 -- the reply to a call, where its shelf tells the file needed
 abbrev pub reply_to_call : Call → Option Reply
@@ -28,35 +24,13 @@ IsCommand call = IsOk (command_of call.words)
 abbrev pub ReadFailed : Call → Type 0
 ReadFailed call = HasUnread call.shelf (command_of call.words)
 
--- a file couldn't be read, and err tells which
-pub record ReadFaulted (call : Call) : Type 0 where
-  pub cause : ReadFailed call
-  pub out : IsUnchanged call.out
-  pub err : Grew call.err (unread_line cause.file)
+-- the line on a failed read of a call
+abbrev pub unread_line_of : (call : Call) → ReadFailed call → List ℕ
+unread_line_of call cause = unread_line cause.file
 
--- out failed within the reply's text
-pub record OutFaulted (call : Call) : Type 0 where
-  pub cause : HasFailed call.out
-  pub out : IfSome (reply_to_call call) (λ reply. GrewByPart call.out reply.out)
-  pub err : IsUnchanged call.err
-
--- what err holds where it failed: a prefix of the reply's text, of the line on a failed read, or of the line on want of memory
-abbrev pub EndsWithin : Call → Reply → Type 0
-EndsWithin call reply =
-    GrewByPart call.err reply.err
-    ⊎ (((cause : ReadFailed call) × GrewByPart call.err (unread_line cause.file)) ⊎ (IsCommand call × GrewByPart call.err memory_line))
-
--- err failed within its text
-pub record ErrFaulted (call : Call) : Type 0 where
-  pub cause : HasFailed call.err
-  pub out : IsUnchanged call.out
-  pub err : IfSome (reply_to_call call) (EndsWithin call)
-
--- memory ran out before anything was written, and err tells it
-pub record MemoryLacked (call : Call) : Type 0 where
-  pub cause : IsCommand call
-  pub out : IsUnchanged call.out
-  pub err : Grew call.err memory_line
+-- out and err take the reply's texts, and where the words are a command, err takes the line on want of memory
+abbrev pub AreTaken : (out_takes err_takes : ℕ → Type 0) → Result Command ℕ → Reply → Type 0
+AreTaken out_takes err_takes command reply = AreTakenOf out_takes err_takes (IsOk command) memory_line reply
 
 -- what the status of a call says of it
 pub record IsRun (call : Call) (result : Status) : Type 0 where
@@ -83,9 +57,9 @@ pub record IsRun (call : Call) (result : Status) : Type 0 where
   pub not_closed : result ≡ NotClosed → IsOkAnd (command_of call.words) IsClosed
   pub no_such_total : result ≡ NoSuchTotal → IsOkAnd (command_of call.words) IsClosed
   -- the causes of the statuses 6, 7 and 8, with what was written
-  pub read_fault : result ≡ ReadFault → ReadFaulted call
-  pub write_fault : result ≡ WriteFault → OutFaulted call ⊎ ErrFaulted call
-  pub no_memory : result ≡ OutOfMemory → MemoryLacked call
+  pub read_fault : result ≡ ReadFault → ReadFaulted call (unread_line_of call)
+  pub write_fault : result ≡ WriteFault → OutFaulted call (reply_to_call call) ⊎ ErrFaulted call (reply_to_call call) (unread_line_of call) (IsCommand call) memory_line
+  pub no_memory : result ≡ OutOfMemory → MemoryLacked call (IsCommand call) memory_line
   -- with the statuses 2 to 6 and 8 to 12 nothing is written to out, and with 0 and 1 nothing to err
   pub silent_out : IsReported result → IsUnchanged call.out
   pub silent_err : IsPrinted result → IsUnchanged call.err

@@ -2,22 +2,16 @@
 use Rattle.std.specs.Prelude.{◌≡◌, ℕ, List, Option, Result, IsOk, IfOk, IfSome}
 use Rattle.psi_io.specs.Sink.{appended}
 use Rattle.psi_command.specs.Command.{Command}
-use Rattle.psi_reply.specs.Reply.{Reply}
 use Rattle.psi_run.specs.Reply.{reply_to, IsReplyTo}
-use Rattle.psi_run.specs.Seen.{ShelfSeen, IsMissed}
+use Rattle.psi_program.specs.Seen.{ShelfSeen}
+use Rattle.psi_run.specs.Reads.{IsMissed}
 use Rattle.psi_run.specs.Means.{Means}
-use Rattle.psi_reply.specs.Ending.{Ending, replied, unread, no_memory}
-
--- the work ends with this reply, unless a file couldn't be read or memory ran out
-abbrev pub MayReply : Ending → Reply → Type 0
-MayReply (replied given) reply = given ≡ reply
-MayReply ending reply = Unit {0}
+use Rattle.psi_program.specs.Ending.{replied, MayReply, IsCaused as IsCausedBy}
+use Rattle.psi_reply.specs.Ending.{Ending}
 
 -- the cause of each ending: a reply is one that the words can have, a file is missed, or memory ran out in the work for a command
 abbrev pub IsCaused : ShelfSeen → Result Command ℕ → Ending → Type 0
-IsCaused shelf command (replied reply) = IsReplyTo command reply
-IsCaused shelf command (unread file) = IsMissed shelf command file
-IsCaused shelf command no_memory = IsOk command
+IsCaused shelf command = IsCausedBy (IsReplyTo command) (IsMissed shelf command) (IsOk command)
 
 -- once the reply's text is in out, it means what the command says
 abbrev pub IsMeant : (List ℕ → Option (List ℕ)) → Ending → Command → Type 0

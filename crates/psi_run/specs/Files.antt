@@ -5,7 +5,7 @@ use Rattle.psi_model.specs.Network.{Network}
 use Rattle.psi_net.specs.Reading.{network_of}
 use Rattle.psi_reply.specs.declared.ending.Ending.{Ending as Ended}
 use Rattle.psi_reply.specs.declared.ending.Ending.TheVariants.{NetRefused, NetUnread, LogUnread, OutOfMemory}
-use Rattle.psi_run.specs.Seen.{ShelfSeen, IsUnread}
+use Rattle.psi_program.specs.Seen.{ShelfSeen, IsUnread}
 
 -- the network is that in the file of the name, where the shelf tells it
 abbrev pub IsNetAt : (List ℕ → Option (List ℕ)) → List ℕ → Network → Type 0

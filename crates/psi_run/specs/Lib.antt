@@ -1,10 +1,7 @@
 -- The definitions of this crate, and the laws that clauses rest on.
 pub mod Reply
 pub mod Means
-pub mod Seen
-pub mod Ending
+pub mod Reads
 pub mod Files
-pub mod Written
-pub mod Spared
-pub mod Finished
+pub mod Ending
 pub mod Call

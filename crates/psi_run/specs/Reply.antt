@@ -15,7 +15,8 @@ use Rattle.psi_reply.specs.Couple.{coupling, coupling_status}
 use Rattle.psi_answers.specs.Couplings.{coupling_text}
 use Rattle.psi_reply.specs.Reward.{kind_named}
 use Rattle.psi_reply.specs.Closed.{first_other}
-use Rattle.psi_reply.specs.Reply.{Reply, text_reply, usage_reply, refused_reply, value_reply, survey_reply, outcome_reply, closed_reply, certify_reply, replay_reply, IsReply}
+use Rattle.psi_program.specs.Reply.{text_reply}
+use Rattle.psi_reply.specs.Reply.{Reply, usage_reply, refused_reply, value_reply, survey_reply, outcome_reply, closed_reply, certify_reply, replay_reply, IsReply}
 
 -- the reply to a command, for its network, where the shelf tells what else it reads
 abbrev pub reply_of : Command → (List ℕ → Option (List ℕ)) → Network → Option Reply

@@ -3,11 +3,12 @@
 ghost use Rattle.std.specs.Prelude.{◌≡◌, ℕ, ◌++◌, List, Ok, map, drop};
 ghost use Rattle.psi_command.specs.Command.{files_of};
 ghost use Rattle.psi_command.specs.Request.{asked, requested, IsInRange, AsksInRange};
-ghost use Rattle.psi_run.specs.Seen.{ShelfSeen, read_of, AreAsked};
-ghost use Rattle.psi_reply.specs.Ending.{ending_reply};
+ghost use Rattle.psi_program.specs.Seen.{ShelfSeen};
+ghost use Rattle.psi_program.specs.Ending.{HasRead};
+ghost use Rattle.psi_program.specs.Finished.{IsFinished};
+ghost use Rattle.psi_run.specs.Reads.{read_of, AreAsked, AreGiven};
+ghost use Rattle.psi_reply.specs.Ending.{faults, ending_reply};
 ghost use Rattle.psi_run.specs.Ending.{IsEnding};
-ghost use Rattle.psi_run.specs.Spared.{AreGiven, HasRead};
-ghost use Rattle.psi_run.specs.Finished.{IsFinished};
 ghost use Rattle.psi_reply.specs.Ended.{ending_of};
 ghost use Rattle.psi_run.specs.Files.{IsNetAt};
 
@@ -37,7 +38,7 @@ pub(crate) fn perform<F: Shelf, O: Sink, E: Sink>(
     // The work has an ending, with the reads that it tells; where the shelf gives each file that is named, no read failed.
     ensures finished { let command = Ok (requested request.entry) in
         let seen : ShelfSeen = record { told = F.told shelf.old; asked_before = F.asked shelf.old; asked_after = F.asked shelf.new; faults_before = F.faults shelf.old; faults_after = F.faults shelf.new } in
-        IsFinished (λ ending. IsEnding seen command ending × (AreGiven (F.gives shelf.old) command → HasRead ending) × AreAsked seen command (ending_reply ending).status)
+        IsFinished faults (λ ending. IsEnding seen command ending × (AreGiven (F.gives shelf.old) command → HasRead ending) × AreAsked seen command (ending_reply ending).status)
         (O.takes out.old) (E.takes err.old)
         (record { before = O.held out.old; after = O.held out.new; faults_before = O.faults out.old; faults_after = O.faults out.new })
         (record { before = E.held err.old; after = E.held err.new; faults_before = E.faults err.old; faults_after = E.faults err.new })

@@ -2,8 +2,8 @@
 
 ghost use Rattle.std.specs.Prelude.{◌≡◌, ◌≤◌, ◌++◌, ℕ, List, [], ◌∷◌, IfOk, IfErr};
 ghost use Rattle.psi_command.specs.Command.{net_file, log_file};
-ghost use Rattle.psi_run.specs.Seen.{read_of};
-ghost use Rattle.psi_run.specs.Spared.{HasRead};
+ghost use Rattle.psi_program.specs.Ending.{HasRead};
+ghost use Rattle.psi_run.specs.Reads.{read_of};
 ghost use Rattle.psi_reply.specs.Ended.{ending_of};
 ghost use Rattle.psi_run.specs.Files.{IsNetAt, IsNoNet, IsTextAt, IsNoText};
 

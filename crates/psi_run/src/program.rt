@@ -12,8 +12,8 @@ ghost use Rattle.psi_reply.specs.Sample.{IsSampled};
 ghost use Rattle.psi_reply.specs.Reply.{Reply};
 ghost use Rattle.psi_run.specs.Reply.{reply_to};
 ghost use Rattle.psi_run.specs.Means.{Means};
-ghost use Rattle.psi_run.specs.Spared.{AreGiven, AreTaken};
-ghost use Rattle.psi_run.specs.Call.{IsRun};
+ghost use Rattle.psi_run.specs.Reads.{AreGiven};
+ghost use Rattle.psi_run.specs.Call.{AreTaken, IsRun};
 
 use crate::commands::perform;
 use crate::writing::finish;

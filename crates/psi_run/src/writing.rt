@@ -1,65 +1,62 @@
 //! Writing what a call ends with.
 
-ghost use Rattle.std.specs.Prelude.{◌≡◌, IsOk};
-ghost use Rattle.psi_reply.specs.Ending.{ending_reply};
+ghost use Rattle.std.specs.Prelude.{◌≡◌};
+ghost use Rattle.psi_program.specs.Written.{reply_with};
+ghost use Rattle.psi_program.specs.Finished.{IsFinished};
+ghost use Rattle.psi_reply.specs.Ending.{faults, ending_reply};
 ghost use Rattle.psi_reply.specs.Ended.{ending_of};
-ghost use Rattle.psi_run.specs.Written.{IsWritten};
-ghost use Rattle.psi_run.specs.Spared.{IsTaken};
-ghost use Rattle.psi_run.specs.Finished.{IsFinished};
 
-use psi_answers::{log_refused_line, log_rejected_line, not_closed_line, refused_line, usage_line};
+use psi_answers::{
+    Line, log_refused_line, log_rejected_line, log_unread_line, memory_line, network_unread_line,
+    no_total_line, not_closed_line, refused_line, too_long_line, too_many_line, unknown_line,
+    usage_line,
+};
 use psi_command::Status;
-use psi_io::{Sink, SinkFault, write_all};
+use psi_io::Sink;
+use psi_program::Text;
 use psi_reply::Ending;
 
-// Writes the text of an ending to out, or its line to err, as one piece.
-//
-// The error comes only where the count of the sink that was written to rose. What that sink holds then
-// grew by a prefix of its text.
-fn write_ending<O: Sink, E: Sink>(
-    ending: &Ending<'_>,
-    out: &mut O,
-    err: &mut E,
-) -> Result<(), SinkFault>
-    ensures written { IsWritten (ending_reply (ending_of ending.now))
-        (record { before = O.held out.old; after = O.held out.new; faults_before = O.faults out.old; faults_after = O.faults out.new })
-        (record { before = E.held err.old; after = E.held err.new; faults_before = E.faults err.old; faults_after = E.faults err.new })
-        result }
-    // Where each sink takes its text, no write failed, and no count rose.
-    ensures taken { IsTaken (O.takes out.old) (ending_reply (ending_of ending.now)).out → IsTaken (E.takes err.old) (ending_reply (ending_of ending.now)).err
-        → IsOk result × (O.faults out.new ≡ O.faults out.old) × (E.faults err.new ≡ E.faults err.old) }
+// The line for err of an ending; none where a text is printed.
+fn line_of(ending: &Ending<'_>) -> Line
+    ensures { result.items ≡ (ending_reply (ending_of ending.now)).err }
 {
     match ending {
-        Ending::Printed { text, .. } => write_all(out, text.as_slice()),
-        Ending::Usage(place) => write_all(err, usage_line(*place).as_slice()),
-        Ending::NetRefused(refusal) => write_all(err, refused_line(refusal).as_slice()),
-        Ending::LogRefused { line, cause } => {
-            write_all(err, log_refused_line(*line, *cause).as_slice())
-        }
-        Ending::LogRejected { line, cause } => {
-            write_all(err, log_rejected_line(*line, *cause).as_slice())
-        }
-        Ending::LogTooLong => write_all(err, b"psi: log too long\n"),
-        Ending::UnknownReward => write_all(err, b"psi: unknown reward\n"),
-        Ending::TooManyStates => write_all(err, b"psi: too many states\n"),
-        Ending::NotClosed(event) => write_all(err, not_closed_line(*event).as_slice()),
-        Ending::NoSuchTotal => write_all(err, b"psi: no state with this total\n"),
-        Ending::NetUnread(_) => write_all(err, b"psi: cannot read network\n"),
-        Ending::LogUnread(_) => write_all(err, b"psi: cannot read log\n"),
-        Ending::OutOfMemory => write_all(err, b"psi: out of memory\n"),
+        Ending::Printed { .. } => Line::new(),
+        Ending::Usage(place) => usage_line(*place),
+        Ending::NetRefused(refusal) => refused_line(refusal),
+        Ending::LogRefused { line, cause } => log_refused_line(*line, *cause),
+        Ending::LogRejected { line, cause } => log_rejected_line(*line, *cause),
+        Ending::LogTooLong => too_long_line(),
+        Ending::UnknownReward => unknown_line(),
+        Ending::TooManyStates => too_many_line(),
+        Ending::NotClosed(event) => not_closed_line(*event),
+        Ending::NoSuchTotal => no_total_line(),
+        Ending::NetUnread(_) => network_unread_line(),
+        Ending::LogUnread(_) => log_unread_line(),
+        Ending::OutOfMemory => memory_line(),
+    }
+}
+
+// The text of an ending for out, or its line for err.
+fn text_of<'t>(ending: &'t Ending<'_>, line: &'t Line) -> Text<'t>
+    requires { line.now.items ≡ (ending_reply (ending_of ending.now)).err }
+    ensures { reply_with (ending_reply (ending_of ending.now)).status result ≡ ending_reply (ending_of ending.now) }
+{
+    match ending {
+        Ending::Printed { text, .. } => Text::Printed(text.as_slice()),
+        _ => Text::Reported(line.as_slice()),
     }
 }
 
 /// Writes the text of an ending to out, or its line to err, and answers the status of the call: that of the
 /// ending, or `WriteFault` where the text couldn't be written whole. It takes no memory.
 pub(crate) fn finish<O: Sink, E: Sink>(ending: &Ending<'_>, out: &mut O, err: &mut E) -> Status
-    ensures { IsFinished (λ end. end ≡ ending_of ending.now) (O.takes out.old) (E.takes err.old)
+    ensures { IsFinished faults (λ end. end ≡ ending_of ending.now) (O.takes out.old) (E.takes err.old)
         (record { before = O.held out.old; after = O.held out.new; faults_before = O.faults out.old; faults_after = O.faults out.new })
         (record { before = E.held err.old; after = E.held err.new; faults_before = E.faults err.old; faults_after = E.faults err.new })
         result }
 {
-    match write_ending(ending, out, err) {
-        Ok(()) => ending.status(),
-        Err(_) => Status::WriteFault,
-    }
+    let line = line_of(ending);
+    let text = text_of(ending, &line);
+    psi_program::finish(ending.status(), Status::WriteFault, text, out, err)
 }

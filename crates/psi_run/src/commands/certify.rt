@@ -6,11 +6,12 @@ ghost use Rattle.psi_log_writer.specs.Recorded.{log_of};
 ghost use Rattle.psi_command.specs.Command.{certify};
 ghost use Rattle.psi_reply.specs.Sample.{sampled};
 ghost use Rattle.psi_reply.specs.Reply.{log_reply, certify_reply};
-ghost use Rattle.psi_run.specs.Seen.{ShelfSeen, AreAsked};
-ghost use Rattle.psi_reply.specs.Ending.{ending_reply, EndsWith};
+ghost use Rattle.psi_program.specs.Seen.{ShelfSeen};
+ghost use Rattle.psi_program.specs.Ending.{HasRead};
+ghost use Rattle.psi_program.specs.Finished.{IsFinished};
+ghost use Rattle.psi_run.specs.Reads.{AreAsked};
+ghost use Rattle.psi_reply.specs.Ending.{faults, ending_reply, EndsWith};
 ghost use Rattle.psi_run.specs.Ending.{IsEnding};
-ghost use Rattle.psi_run.specs.Spared.{HasRead};
-ghost use Rattle.psi_run.specs.Finished.{IsFinished};
 
 use crate::files::network_at;
 use crate::writing::finish;
@@ -43,7 +44,7 @@ fn write_run<L: EventLaw, P: Past + Drop, F: Follower + Drop, O: Sink, E: Sink>(
     requires most { header.now.horizon ≤ 2 ^ plan.old.system.limit }
     requires version { header.now.version ≡ 2 }
     ensures { let text = log_text (log_of L.function plan.old.system (P.words plan.old.past) header.now state.now) in
-        IsFinished (λ ending. EndsWith ending (log_reply text)) (O.takes out.old) (E.takes err.old)
+        IsFinished faults (λ ending. EndsWith ending (log_reply text)) (O.takes out.old) (E.takes err.old)
         (record { before = O.held out.old; after = O.held out.new; faults_before = O.faults out.old; faults_after = O.faults out.new })
         (record { before = E.held err.old; after = E.held err.new; faults_before = E.faults err.old; faults_after = E.faults err.new })
         result }
@@ -73,7 +74,7 @@ fn write_sample<O: Sink, E: Sink>(
     out: &mut O,
     err: &mut E,
 ) -> Status
-    ensures { IsFinished (λ ending. EndsWith ending (certify_reply net.now seed stream (sampled net.now seed stream))) (O.takes out.old) (E.takes err.old)
+    ensures { IsFinished faults (λ ending. EndsWith ending (certify_reply net.now seed stream (sampled net.now seed stream))) (O.takes out.old) (E.takes err.old)
         (record { before = O.held out.old; after = O.held out.new; faults_before = O.faults out.old; faults_after = O.faults out.new })
         (record { before = E.held err.old; after = E.held err.new; faults_before = E.faults err.old; faults_after = E.faults err.new })
         result }
@@ -120,7 +121,7 @@ pub(crate) fn perform<F: Shelf, O: Sink, E: Sink>(
     err: &mut E,
 ) -> Status
     ensures finished { let seen : ShelfSeen = record { told = F.told shelf.old; asked_before = F.asked shelf.old; asked_after = F.asked shelf.new; faults_before = F.faults shelf.old; faults_after = F.faults shelf.new } in
-        IsFinished (λ ending. IsEnding seen (Ok (certify net.now seed stream)) ending × (F.gives shelf.old net.now → HasRead ending)
+        IsFinished faults (λ ending. IsEnding seen (Ok (certify net.now seed stream)) ending × (F.gives shelf.old net.now → HasRead ending)
         × AreAsked seen (Ok (certify net.now seed stream)) (ending_reply ending).status) (O.takes out.old) (E.takes err.old)
         (record { before = O.held out.old; after = O.held out.new; faults_before = O.faults out.old; faults_after = O.faults out.new })
         (record { before = E.held err.old; after = E.held err.new; faults_before = E.faults err.old; faults_after = E.faults err.new })

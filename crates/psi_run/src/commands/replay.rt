@@ -3,9 +3,9 @@
 ghost use Rattle.std.specs.Prelude.{◌≡◌, ◌++◌, ℕ, List, [], ◌∷◌, Ok};
 ghost use Rattle.psi_command.specs.Command.{replay, log_file};
 ghost use Rattle.psi_reply.specs.Ended.{ending_of};
-ghost use Rattle.psi_run.specs.Seen.{read_of};
+ghost use Rattle.psi_program.specs.Ending.{HasRead};
+ghost use Rattle.psi_run.specs.Reads.{read_of};
 ghost use Rattle.psi_run.specs.Ending.{IsEnding};
-ghost use Rattle.psi_run.specs.Spared.{HasRead};
 ghost use Rattle.psi_run.specs.Files.{IsNetAt};
 
 use crate::files::log_bytes;

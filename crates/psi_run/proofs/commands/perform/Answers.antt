@@ -4,7 +4,7 @@ use Rattle.psi_run.proofs.EndingsLemmas.{on_number}
 use Rattle.psi_run.proofs.SparingLemmas.{ends-read, certify_given}
 use Rattle.psi_run.proofs.ReadFilesLemmas.{asked_trial}
 use Rattle.psi_reply.proofs.ReportingLemmas.{trial_printed}
-use Rattle.psi_run.proofs.FinishingLemmas.{finished_with, finished_as}
+use Rattle.psi_program.proofs.FinishingLemmas.{finished_with, finished_as}
 use Rattle.psi_run.proofs.commands.perform.Goals as goal
 
 pub returns-in-About-clause-finished : goal.returns-in-About-clause-finished

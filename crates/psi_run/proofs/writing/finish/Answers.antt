@@ -1,7 +1,10 @@
 -- Answers in the proof of `finish`.
-use Rattle.psi_run.proofs.FinishingLemmas.{finished_whole}
+use Rattle.std.proofs.Common.{refl}
+use Rattle.psi_reply.specs.Ended.{ending_of}
 use Rattle.psi_run.proofs.writing.finish.Goals as goal
 
-pub returns-in-Ok : goal.returns-in-Ok
-returns-in-Ok g c =
-    finished_whole _ _ _ _ _ c.status.result c.in-Ok.ensures.written (λ o e. (let taken = c.in-Ok.ensures.taken o e in (taken.1, taken.2))) c.status.ensures
+pub returns : goal.returns
+returns g c =
+    let written = rw (c.status.ensures, c.text_of-text.ensures) at c.finish.ensures.written in
+    let taken = rw (c.status.ensures, c.text_of-text.ensures) at c.finish.ensures.taken in
+    record { ending = ending_of c.args.ending.now; is = refl; written = written; taken = taken }

@@ -6,7 +6,7 @@ use Rattle.psi_run.proofs.SparingLemmas.{ends-read}
 use Rattle.psi_run.proofs.ReadFilesLemmas.{read_last, asked_certify}
 use Rattle.psi_reply.proofs.CertifyingLemmas.{certified_printed}
 use Rattle.psi_run.proofs.AboutsLemmas.{certify_about}
-use Rattle.psi_run.proofs.FinishingLemmas.{finished_as, finished_with}
+use Rattle.psi_program.proofs.FinishingLemmas.{finished_as, finished_with}
 use Rattle.psi_run.proofs.commands.certify.perform.Goals as goal
 
 pub returns-in-Ok-clause-finished : goal.returns-in-Ok-clause-finished

@@ -6,7 +6,7 @@ use Rattle.psi_reply.specs.Ended.{ending_of}
 use Rattle.psi_reply.specs.Reply.{Reply, certify_reply}
 use Rattle.psi_reply.proofs.SamplingLemmas.{sampled_by}
 use Rattle.psi_reply.proofs.CertifyingLemmas.{first_within, queues_counted, certified_by}
-use Rattle.psi_run.proofs.FinishingLemmas.{finished_as, finished_with}
+use Rattle.psi_program.proofs.FinishingLemmas.{finished_as, finished_with}
 use Rattle.psi_run.proofs.commands.certify.write_sample.Goals as goal
 
 pub write_run-status-requires-clause-most : goal.write_run-status-requires-clause-most
