@@ -201,6 +201,8 @@ impl Net {
 
     /// The network as a sample runs it: its capacities, its events in order, the wheel of their rates in
     /// that order, its limit and its split number.
+    ///
+    /// Its last clause says what every network keeps.
     #[tactic(auto, using(crate::proofs::PartsLemmas::made_count, crate::proofs::QueueLemmas::capacities_kept))]
     pub fn system(&self) -> System<'_, Event>
         ensures caps { result.caps ≡ caps_of self.now }
@@ -209,6 +211,7 @@ impl Net {
         ensures rates { result.rates ≡ rates_of self.now }
         ensures limit { result.limit ≡ self.now.limit }
         ensures split { result.split ≡ self.now.split }
+        ensures kept { IsNetwork self.now }
     {
         System::new(
             self.caps,
