@@ -5,16 +5,7 @@ use Rattle.std.specs.Prelude.{slice_index}
 use Rattle.rand_chacha.specs.ChaCha.{ChaCha, word_at}
 use Rattle.psi_past.specs.Drawn.{Draws}
 
--- no word
-pub draws-none : (at : ℕ) (g : ChaCha) (list : List ℕ) → Draws 0 at g g list list
-draws-none at g list = record {
-  same_length = refl;
-  kept = λ i small. refl;
-  drawn = λ i small. omega arith;
-  moved = (let e : g.word_pos ≡ g.word_pos + 0 = omega arith in ap (λ n. record g { word_pos = n }) e);
-}
-
--- and more behind them
+-- more behind others
 pub draws-more : (some more both at next : ℕ) (g h k : ChaCha) (xs ys zs : List ℕ) → Draws some at g h xs ys → Draws more next h k ys zs
     → next ≡ at + some → both ≡ some + more → Draws both at g k xs zs
 draws-more some more both at next g h k xs ys zs first second place sum = record {
