@@ -3,8 +3,8 @@ use Rattle.std.specs.Prelude.{◌≡◌, ℕ, suc, ◌+◌, ◌-◌, ◌*◌, �
 use Rattle.std.proofs.Common.{ap, ap₂, sym, subst, ◌∙◌, arith, pow_mono, pow_pos, add-one-le, below_more, ⊎_elim}
 use Rattle.std.proofs.lemmas.Bool.{cases_lt}
 use Rattle.std.proofs.lemmas.List.{get_or_past, length-map}
-use native.Mathlib.Nat.{div-add-mod', mul-le-mul_left}
-use Rattle.std.proofs.lemmas.Nat.{one_shl, and_mask, div_below, mod_below, leading_length, leading_top, le-div}
+use native.Mathlib.Nat.{mul-le-mul_left}
+use Rattle.std.proofs.lemmas.Nat.{one_shl, and_mask, leading_length, leading_top, le-div}
 use Rattle.std.proofs.lemmas.Grind.{same_number_lists}
 use Rattle.std.specs.Int.Count.{count_leading_zeros}
 use Rattle.psi_state.specs.State.{IsBelow}
@@ -60,20 +60,15 @@ word-whole count p x w word small made =
     ∙ sym (packed-at count p x w small)
 
 -- a field is read by a shift and a mask
-pub number-is : (count : ℕ) (p : Packing) (x words : List ℕ) (queue : ℕ) → IsPacking count p → queue < length p.caps → IsBelow x p.caps → words ≡ packed count p x
-    → bit_and (slice_index words (queue / p.fields) / 2 ^ (queue % p.fields * p.bits)) (1 * 2 ^ p.bits % 2 ^ 64 - 1) ≡ slice_index x queue
-number-is count p x words queue is small below same =
-    let some : 0 < p.fields = omega (arith, is.some) in
-    let place : queue / p.fields < count = div_below queue p.fields count some (omega (arith, is.enough)) in
-    let field : queue % p.fields < p.fields = mod_below queue p.fields some in
+pub number-is : (count : ℕ) (p : Packing) (x words : List ℕ) (at field : ℕ) → IsPacking count p → at < count → field < p.fields → IsBelow x p.caps → words ≡ packed count p x
+    → bit_and (slice_index words at / 2 ^ (field * p.bits)) (1 * 2 ^ p.bits % 2 ^ 64 - 1) ≡ slice_index x (at * p.fields + field)
+number-is count p x words at field is place small below same =
     let high : p.bits < 64 = omega (arith, is.most) in
-    let turned : queue % p.fields * p.bits ≡ p.bits * (queue % p.fields) = omega arith in
-    let back : queue / p.fields * p.fields + queue % p.fields ≡ queue = div-add-mod' queue p.fields in
-    ap₂ (λ (ws : List ℕ) m. bit_and (slice_index ws (queue / p.fields) / 2 ^ (queue % p.fields * p.bits)) (m - 1)) same (one_shl p.bits 64 high)
-    ∙ ap₂ (λ d k. bit_and (d / 2 ^ k) (2 ^ p.bits - 1)) (packed-at count p x (queue / p.fields) place) turned
-    ∙ and_mask (digits p.bits p.fields (fields_of p.fields x (queue / p.fields)) / 2 ^ (p.bits * (queue % p.fields))) p.bits
-    ∙ digits-at p.bits p.fields (fields_of p.fields x (queue / p.fields)) (queue % p.fields) (AreDigits-fields p.bits p.fields x (queue / p.fields) (below-fit count p x is below)) field
-    ∙ ap (slice_index x) back
+    let turned : field * p.bits ≡ p.bits * field = omega arith in
+    ap₂ (λ (ws : List ℕ) m. bit_and (slice_index ws at / 2 ^ (field * p.bits)) (m - 1)) same (one_shl p.bits 64 high)
+    ∙ ap₂ (λ d k. bit_and (d / 2 ^ k) (2 ^ p.bits - 1)) (packed-at count p x at place) turned
+    ∙ and_mask (digits p.bits p.fields (fields_of p.fields x at) / 2 ^ (p.bits * field)) p.bits
+    ∙ digits-at p.bits p.fields (fields_of p.fields x at) field (AreDigits-fields p.bits p.fields x at (below-fit count p x is below)) small
 
 -- a list that has at each place what a list made number by number has is that list
 pub same-mapped : (f : ℕ → ℕ) (x y : List ℕ) → length y ≡ length x → ((q : ℕ) → q < length x → slice_index y q ≡ f (slice_index x q)) → y ≡ map f x

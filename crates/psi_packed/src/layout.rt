@@ -104,20 +104,28 @@ impl<const K: usize> Layout<K> {
         ensures { (x : List ℕ) → IsBelow x self.now.caps → words.now.words ≡ packed K self.now x → result ≡ x }
     {
         let mut x = State::zero(self.caps.len());
+        let mut at = 0;
+        let mut field = 0;
         for queue in 0..self.caps.len() {
-            x.set(queue, self.number(words, queue));
+            x.set(queue, self.number(words, at, field));
+            field += 1;
+            if field == self.fields {
+                field = 0;
+                at += 1;
+            }
         }
         x
     }
 
-    // The number in the field of a queue.
-    fn number(&self, words: &Packed<K>, queue: u8) -> u16
-        requires { queue < length self.now.caps }
-        ensures { (x : List ℕ) → IsBelow x self.now.caps → words.now.words ≡ packed K self.now x → result ≡ slice_index x queue }
+    // The number in this field of the word at this place.
+    #[inline]
+    fn number(&self, words: &Packed<K>, at: usize, field: u8) -> u16
+        requires place { at < K }
+        requires field { field < self.now.fields }
+        ensures { (x : List ℕ) → IsBelow x self.now.caps → words.now.words ≡ packed K self.now x → result ≡ slice_index x (at * self.now.fields + field) }
     {
-        let word = words.words[(queue / self.fields) as usize];
-        let shift = (queue % self.fields) * self.bits;
-        ((word >> shift) & ((1 << self.bits) - 1)) as u16
+        let shift = field * self.bits;
+        ((words.words[at] >> shift) & ((1 << self.bits) - 1)) as u16
     }
 
     /// The capacities, in customers.
