@@ -76,6 +76,9 @@ fn marks_past(of: &Arcs, level: u8, span: Span, window: Window, marks: &Sums) ->
     // Called for its clause: sums are small.
     let _total = of.total();
     let mut past = Sums::none();
+    if marks.is_none() {
+        return past;
+    }
     for before in span.first..span.end {
         past = and_past(past, of, level, before, window, marks);
     }
@@ -104,6 +107,9 @@ fn marks_before(of: &Arcs, level: u8, span: Span, window: Window, marks: &Sums) 
     // Called for its clause: sums are small.
     let _total = of.total();
     let mut left = Sums::none();
+    if marks.is_none() {
+        return left;
+    }
     for before in span.first..span.end {
         left.insert_if(exits(of, level, before, window, marks), before);
     }

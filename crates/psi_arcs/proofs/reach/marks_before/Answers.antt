@@ -1,8 +1,17 @@
 -- Answers in the proof of `marks_before`.
-use Rattle.std.proofs.Common.{inl, inr, sym, ◌∙◌, subst, arith}
+use Rattle.std.proofs.Common.{inl, inr, ◌+◌, refl, sym, ◌∙◌, subst, arith}
 use Rattle.std.proofs.lemmas.Bool.{true≢false, cases_eq, cases_Bool}
 use Rattle.psi_arcs.specs.Windows.{Exits}
+use Rattle.psi_arcs.proofs.RowsLemmas.{arc_of}
 use Rattle.psi_arcs.proofs.reach.marks_before.Goals as goal
+
+pub returns-then-is_none : goal.returns-then-is_none
+returns-then-is_none c s small = (
+  λ given. absurd (true≢false (sym given ∙ c.none-left.ensures s small)),
+  λ exits. (let sum = (c.total-total.ensures.ranged (arc_of c.args.level s exits.value) exits.listed).sum in
+      let few = c.total-total.ensures.small in
+      absurd (true≢false (sym exits.marked ∙ c.if-is_none.ensures.none refl (s + exits.value) (omega arith)))),
+)
 
 pub loop-before-init : goal.loop-before-init
 loop-before-init c s small = (
