@@ -161,7 +161,9 @@ pub(crate) fn read_row_at(text: &[u8], at: usize, row: &mut [u16]) -> Option<usi
     let most = row.len() - 1;
     let mut end = at;
     for queue in 0..most {
-        let (number, next) = small_with_comma(text, end, last)?;
+        let Some((number, next)) = small_with_comma(text, end, last) else {
+            return None;
+        };
         row[queue] = number;
         end = next;
     }

@@ -15,13 +15,19 @@ use psi_state::{Bounds, State};
 
 // Whether a region holds what the event makes of a state. The images of states that follow one another mostly do so
 // too, so each is looked for near the place `near` of the last one.
-fn holds_image<E: EventLaw>(event: &E, mut x: State, after: &Region<'_>, near: &mut usize) -> bool
-    requires state { IsBelow x (E.capacities event.now) }
+#[inline]
+fn holds_image<E: EventLaw>(
+    event: &E,
+    x: &mut State,
+    after: &Region<'_>,
+    near: &mut usize,
+) -> bool
+    requires state { IsBelow x.old (E.capacities event.now) }
     requires after { IsRegion (length (E.capacities event.now)) (seen after.now) }
-    ensures { result ≡ has (states_of (seen after.now)) (E.function event.now x) }
+    ensures { result ≡ has (states_of (seen after.now)) (E.function event.now x.old) }
 {
-    event.apply(&mut x);
-    after.holds(&x, near)
+    event.apply(x);
+    after.holds(x, near)
 }
 
 // Whether a region holds what the event makes of each state of a box.
@@ -55,8 +61,8 @@ fn box_covers_each<E: EventLaw>(event: &E, before: &Bounds, after: &Region<'_>) 
     ensures { result ≡ covers (E.function event.now) (in_box before.now) (seen after.now) }
 {
     let mut near = 0;
-    for x in before.states() {
-        if !holds_image(event, x, after, &mut near) {
+    for mut x in before.states() {
+        if !holds_image(event, &mut x, after, &mut near) {
             return false;
         }
     }
@@ -71,7 +77,8 @@ fn covers_set<E: EventLaw>(event: &E, before: &Set<'_>, after: &Region<'_>) -> b
 {
     let mut near = 0;
     for place in 0..before.len() {
-        if !holds_image(event, before.get(place), after, &mut near) {
+        let mut x = before.get(place);
+        if !holds_image(event, &mut x, after, &mut near) {
             return false;
         }
     }

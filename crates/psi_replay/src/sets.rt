@@ -68,6 +68,7 @@ impl<'l> Set<'l> {
 
     /// Whether a state is one of them, which are in ascending order. It is looked for behind the place `near` and
     /// at it, and else by halving. Where it is found, `near` becomes its place.
+    #[inline]
     pub(crate) fn holds(&self, x: &State, near: &mut usize) -> bool
         requires { IsRising self.now }
         ensures { result ≡ has self.now x.now }
@@ -83,7 +84,8 @@ impl<'l> Set<'l> {
         self.holds_anywhere(x, near)
     }
 
-    // The same by halving alone.
+    // The same by halving alone. It stays out of the way of the search beside the last place.
+    #[inline(never)]
     fn holds_anywhere(&self, x: &State, near: &mut usize) -> bool
         requires { IsRising self.now }
         ensures { result ≡ has self.now x.now }

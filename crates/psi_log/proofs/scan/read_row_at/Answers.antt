@@ -20,10 +20,10 @@ loop-queue-preserved c =
     let count = c.loop-queue.invariant.count in
     let test = c.loop-queue-test.true in
     record {
-      count = length-set row queue c.in_ok-number.number ∙ count;
-      within = c.in_ok-number.ensures.within;
-      there = commas_more c.args.text.now c.args.at c.loop-queue.end c.in_ok-number.next queue c.in_ok-number.number row (slice_set row queue c.in_ok-number.number) (omega arith) refl
-          c.loop-queue.invariant.there c.in_ok-number.ensures.there;
+      count = length-set row queue c.in-Some.number ∙ count;
+      within = c.in-Some.ensures.within;
+      there = commas_more c.args.text.now c.args.at c.loop-queue.end c.in-Some.next queue c.in-Some.number row (slice_set row queue c.in-Some.number) (omega arith) refl
+          c.loop-queue.invariant.there c.in-Some.ensures.there;
     }
 
 pub returns-clause-there : goal.returns-clause-there
@@ -33,6 +33,6 @@ returns-clause-there c =
     let some = c.requires.some in
     let test = c.loop-queue-test.false in
     let last : c.loop-queue.queue ≡ length c.args.row.now - 1 = omega arith in
-    commas_last c.args.text.now c.args.at c.loop-queue.end c.in_ok-number-2.end (length c.args.row.now - 1) c.in_ok-number-2.number row
-    (slice_set row (length c.args.row.now - 1) c.in_ok-number-2.number) (omega arith) refl
-    (subst (λ (k : ℕ). Stands c.args.text.now c.args.at c.loop-queue.end (with_commas (take k row))) last c.loop-queue.invariant.there) c.in_ok-number-2.ensures.there
+    commas_last c.args.text.now c.args.at c.loop-queue.end c.in_ok-number.end (length c.args.row.now - 1) c.in_ok-number.number row
+    (slice_set row (length c.args.row.now - 1) c.in_ok-number.number) (omega arith) refl
+    (subst (λ (k : ℕ). Stands c.args.text.now c.args.at c.loop-queue.end (with_commas (take k row))) last c.loop-queue.invariant.there) c.in_ok-number.ensures.there

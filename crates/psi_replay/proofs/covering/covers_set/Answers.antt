@@ -9,15 +9,15 @@ use Rattle.psi_replay.proofs.covering.covers_set.Goals as goal
 
 pub holds_image-requires-clause-state : goal.holds_image-requires-clause-state
 holds_image-requires-clause-state g c =
-    within_each (g.E.EventLaw.capacities c.args.event.now) (in_set c.args.before.now) c.get.result c.requires.before
-    (In-slice_get c.args.before.now c.loop-place.place c.get.result c.get.ensures)
+    within_each (g.E.EventLaw.capacities c.args.event.now) (in_set c.args.before.now) c.get-x.result c.requires.before
+    (In-slice_get c.args.before.now c.loop-place.place c.get-x.result c.get-x.ensures)
 
 pub returns-then-not-holds_image : goal.returns-then-not-holds_image
 returns-then-not-holds_image g c =
     let test : List ℕ → Bool = λ x. has (states_of (seen c.args.after.now)) (g.E.EventLaw.function c.args.event.now x) in
-    all_fails test c.args.before.now c.loop-place.place c.get.result c.holds_image.result _ c.get.ensures c.holds_image.ensures c.if-not-holds_image.true c.loop-place.invariant
+    all_fails test c.args.before.now c.loop-place.place c.get-x.result c.holds_image.result _ c.get-x.ensures c.holds_image.ensures c.if-not-holds_image.true c.loop-place.invariant
 
 pub loop-place-preserved : goal.loop-place-preserved
 loop-place-preserved g c =
     let test : List ℕ → Bool = λ x. has (states_of (seen c.args.after.now)) (g.E.EventLaw.function c.args.event.now x) in
-    all_more test c.args.before.now c.loop-place.place c.get.result c.holds_image.result _ c.get.ensures c.holds_image.ensures c.if-not-holds_image.false c.loop-place.invariant
+    all_more test c.args.before.now c.loop-place.place c.get-x.result c.holds_image.result _ c.get-x.ensures c.holds_image.ensures c.if-not-holds_image.false c.loop-place.invariant
