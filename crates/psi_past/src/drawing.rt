@@ -9,7 +9,8 @@ use rand_core::utils::NextWord;
 // How many words the generator makes at once.
 const BLOCK: usize = 64;
 
-// Draws the next words into the slice, as many as it has places. The generator stands at this place.
+// Draws the next words into the slice, as many as it has places. The generator stands at this
+// place.
 pub(crate) fn draw(generator: &mut ChaCha20Rng, place: u32, out: &mut [u32])
     requires place { generator.old.word_pos ≡ place }
     requires places { place + length out.old ≤ 2 ^ 32 }
@@ -34,8 +35,8 @@ fn draw_blocks(generator: &mut ChaCha20Rng, first: usize, out: &mut [u32], block
     ensures { Draws (64 * blocks) 0 generator.old generator.new out.old out.new }
 {
     for block in 0..blocks {
-        // It stands there already: with the place told as a block's first, the compiler knows that there is nothing left of
-        // the block before, and draws the words of this one without asking at each.
+        // It stands there already. But as the place is told to be a block's first, the compiler
+        // knows that nothing is left of the block before, and doesn't ask so at each word.
         generator.set_word_pos((BLOCK * (first + block)) as u128);
         draw_block(generator, out, BLOCK * block);
     }

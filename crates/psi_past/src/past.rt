@@ -15,7 +15,8 @@ pub trait Past {
         ensures value { result ≡ words self.old place }
         ensures same { self.new ≡ self.old };
 
-    /// The words of a slice's length of places, from this one on, into the slice. The last place is at most 2^32 - 1.
+    /// Fills a slice with the words of as many places as it has, from this one on. The last of them
+    /// is at most 2^32 - 1. Reading changes nothing of what the past is seen as.
     fn fill(&mut self, place: u32, out: &mut [u32])
         requires places { place + length out.old ≤ 2 ^ 32 }
         ensures count { length out.new ≡ length out.old }

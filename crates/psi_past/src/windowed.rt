@@ -11,8 +11,9 @@ mod tests;
 // How many words a window has.
 const WINDOW: u32 = 256;
 
-/// Another past, whose words are drawn 256 at a time and looked up while the places that are asked for stand among
-/// these: for one that is read backwards, word by word, where [`SeedPast`](crate::SeedPast) is cheap only forwards.
+/// Another past, whose words are drawn 256 at a time, and looked up while the places that are asked
+/// for stand among these: for one that is read backwards, word by word, where
+/// [`SeedPast`](crate::SeedPast) is cheap only forwards.
 ///
 /// It is seen as the other past, and its words are the same.
 #[derive(Drop)]
