@@ -70,8 +70,8 @@ fn learn_each<E: EventLaw>(system: &System<'_, E>, moves: &mut Moves, most: u16)
     }
 }
 
-// Learns the first events of the system, at most so many, as far as there is room, in rows of `limit` states at
-// most, where that isn't too narrow.
+// Learns the first events of the system, at most so many, as far as there is room, in rows of `limit`
+// states at most, where they have the least width without more.
 fn learn_rows<E: EventLaw>(system: &System<'_, E>, moves: &mut Moves, most: u16, limit: u32)
     requires few { length (all_states system.now.caps) ≤ 65536 }
     requires limit { limit ≤ 65536 }

@@ -62,7 +62,8 @@ impl Moves {
         })
     }
 
-    /// Forgets all events. Rows have `limit` states at most from now on, where that is no less than the least width.
+    /// Forgets all events. Rows have `limit` states at most from now on, where they have the least width
+    /// without more.
     pub(crate) fn clear(&mut self, caps: &State, limit: u32)
         requires some { 1 ≤ self.old.size }
         requires limit { limit ≤ 65536 }
@@ -179,8 +180,8 @@ pub(crate) fn wide_for(events: u16) -> u32
     (MOST_RANKS / (2 * (events as u32).max(1))).min(65_536)
 }
 
-// The number of states that differ in the last queues only, for as many queues as `limit` allows, but for as few
-// at least as have the least width.
+// The number of states that differ in the last queues only, for as many queues as `limit` allows, and for
+// so many at least as have the least width.
 fn width_of(caps: &State, limit: u32) -> u32
     requires { limit ≤ 65536 }
     ensures { 1 ≤ result }

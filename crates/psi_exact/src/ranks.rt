@@ -11,6 +11,9 @@ use psi_event::EventLaw;
 use psi_state::{Bounds, State};
 use std::alloc::{AllocError, Global};
 
+// For so many queues a rank is found as soon as two states are compared.
+const FEW_QUEUES: u8 = 8;
+
 // How many ranks are compared before it is asked whether all were the same.
 const STRETCH: usize = 512;
 
@@ -52,7 +55,8 @@ pub(crate) fn write_images<E: EventLaw>(e: &E, ranks: &mut [u16])
     }
 }
 
-// The rank of the image of a state whose rank is told: many states stay as they are.
+// The rank of the image of a state whose rank is told. Many states stay as they are, and where there are
+// many queues, that is found out sooner than a rank.
 #[inline]
 fn rank_after(bounds: &Bounds, state: &State, rank: u16, image: &State) -> u16
     requires few { length (box bounds.now.lo bounds.now.hi) ≤ 65536 }
@@ -60,7 +64,7 @@ fn rank_after(bounds: &Bounds, state: &State, rank: u16, image: &State) -> u16
     requires member { In image.now (box bounds.now.lo bounds.now.hi) }
     ensures { slice_get (box bounds.now.lo bounds.now.hi) result ≡ Some image.now }
 {
-    if image == state {
+    if bounds.len() > FEW_QUEUES && image == state {
         return rank;
     }
     bounds.rank(image) as u16
@@ -130,8 +134,8 @@ pub(crate) fn common(ranks: &[u16]) -> Option<u16>
     Some(first)
 }
 
-// Whether this rank stands at each place from `from` on and below `end`. None of them is left out, so that many
-// are compared at once.
+// Whether this rank stands at each place from `from` on and below `end`. None of them is left out, so that
+// many are compared at once.
 fn are_same(ranks: &[u16], from: usize, end: usize, rank: u16) -> bool
     requires { end ≤ length ranks.now }
     ensures same { result ≡ true → (k : ℕ) → from ≤ k → k < end → slice_index ranks.now k ≡ rank }

@@ -1,7 +1,7 @@
 //! Shifts of rows: where few different differences of ranks stand in a row, it is looked up by copying
 //! stretches of a table, one for each difference, and no rank is looked up by itself.
 
-ghost use Rattle.std.specs.Prelude.{◌≡◌, ℕ, ◌+◌, ◌%◌, ◌<◌, ◌≤◌, length, slice_index, IsTrue};
+ghost use Rattle.std.specs.Prelude.{◌≡◌, ℕ, ◌+◌, ◌<◌, ◌≤◌, length, slice_index, IsTrue};
 ghost use Rattle.psi_exact.specs.Shifts.{IsShift, Covers, AreCovering, looked};
 
 // The most shifts of a row.
@@ -108,8 +108,8 @@ pub(crate) fn shift_row(
 }
 
 // Writes at the ranks from `first` on what a table has for those of a row whose difference is that of one
-// shift, if their stretch is in the table, and tells whether it is. What is written already stays, but for the
-// first shift.
+// shift, if their stretch is in the table, and tells whether it is. What is written already stays, but
+// for the first shift.
 #[inline]
 fn shift_one(
     rows: &[u16],

@@ -1,5 +1,5 @@
 -- Answers in the proof of `shift_one`.
-use Rattle.std.proofs.Common.{◌≡◌, slice_index, sym, arith}
+use Rattle.std.proofs.Common.{slice_index, sym, arith}
 use Rattle.psi_exact.proofs.ShiftsLemmas.{stretch-copied, stretch-kept}
 use Rattle.psi_exact.proofs.shifts.shift_one.Goals as goal
 

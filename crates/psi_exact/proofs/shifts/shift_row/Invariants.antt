@@ -1,5 +1,5 @@
 -- Invariants of the loops of `shift_row`.
-use Rattle.std.proofs.Common.{◌≡◌, ℕ, ◌+◌, ◌<◌, ◌≤◌, slice_index}
+use Rattle.std.proofs.Common.{◌≡◌, ℕ, ◌+◌, ◌<◌, slice_index}
 use Rattle.psi_exact.specs.Shifts.{IsShift, looked}
 use Rattle.psi_exact.proofs.shifts.shift_row.Given as goal
 
