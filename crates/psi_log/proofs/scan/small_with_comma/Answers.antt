@@ -1,5 +1,5 @@
 -- Answers in the proof of `scan::small_with_comma`.
-use Rattle.std.proofs.Common.{◌+◌, arith}
+use Rattle.std.proofs.Common.{arith}
 use Rattle.psi_log.proofs.ScanLemmas.{one_with_comma, two_with_comma}
 use Rattle.psi_log.proofs.scan.small_with_comma.Goals as goal
 
