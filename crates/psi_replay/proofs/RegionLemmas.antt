@@ -9,7 +9,7 @@ use Rattle.psi_state.specs.State.{Corners, IsBelow, box}
 use Rattle.psi_state.specs.Members.{In}
 use Rattle.psi_state.proofs.BoxesLemmas.{In-low, In-high, In-of_box, below-through}
 use Rattle.psi_region.specs.Covering.{Covers}
-use Rattle.psi_log_text.specs.Log.{Region, in_box, in_set, Entry, Certificate, IsRegion, IsEntry, IsLog}
+use Rattle.psi_log_text.specs.Log.{Region, in_box, Entry, Certificate, IsRegion, IsEntry, IsLog}
 use Rattle.psi_log.proofs.StateLemmas.{below_found, below_again}
 use Rattle.psi_replay.specs.Verdict.{states_of, has, covers, is_within}
 use Rattle.psi_replay.specs.Numbered.{nth_region}

@@ -2,7 +2,6 @@
 use Rattle.std.proofs.Common.{ap, sym, ◌∙◌, subst}
 use Rattle.std.specs.Prelude.{ℕ, List, Option, unwrap_or}
 use Rattle.psi_log_text.specs.Log.{Region, in_set, IsRegion}
-use Rattle.psi_log.specs.Told.{region_at}
 use Rattle.psi_replay.proofs.RegionLemmas.{nth_regional}
 use Rattle.psi_replay.proofs.regions.region_of.Goals as goal
 

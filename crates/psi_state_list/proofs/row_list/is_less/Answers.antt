@@ -1,5 +1,5 @@
 -- Answers in the proof of `row_list::is_less`.
-use Rattle.std.proofs.Common.{sym, ◌∙◌, take, length, ap, arith}
+use Rattle.std.proofs.Common.{sym, ◌∙◌, arith}
 use Rattle.std.proofs.lemmas.List.{take_all}
 use Rattle.psi_state_list.proofs.RowsLemmas.{less_differs, less_never}
 use Rattle.psi_state_list.proofs.row_list.is_less.Goals as goal
