@@ -7,20 +7,11 @@ ghost use Rattle.psi_arcs.specs.Sums.{has, Leads};
 ghost use Rattle.psi_arcs.specs.Held.{Listed, AreRanged, IsThis, IsFirst};
 ghost use Rattle.psi_arcs.specs.Rows.{keeps, arc_number, arcs_below, AreEmpty};
 
+use crate::OutOfMemory;
 use crate::ends::{Arc, end_of};
 use crate::sums::Sums;
 use std::alloc::{AllocError, Global};
 use std::marker::Model;
-
-/// Memory ran out.
-#[derive(Clone, Copy, Debug, PartialEq, Eq)]
-pub struct OutOfMemory;
-
-impl From<AllocError> for OutOfMemory {
-    fn from(_error: AllocError) -> OutOfMemory {
-        OutOfMemory
-    }
-}
 
 /// A set of arcs over 1 to 32 queues, of states with 0 to 256 customers in all: seen as the number of queues, the
 /// number of customers, and the list of the arcs, none of them twice.

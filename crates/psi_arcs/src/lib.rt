@@ -15,6 +15,9 @@ mod spans;
 mod sums;
 mod windows;
 
-pub use arcs::{Arcs, OutOfMemory};
+pub use arcs::Arcs;
 pub use ends::Arc;
 pub use marks::Reach;
+
+/// There was no memory: the only way in which a call with this error fails.
+pub use std::alloc::AllocError as OutOfMemory;

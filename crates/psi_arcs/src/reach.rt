@@ -10,7 +10,8 @@ ghost use Rattle.psi_arcs.specs.Spans.{IsSpan, AreSpans};
 ghost use Rattle.psi_arcs.specs.Rows.{sums_at};
 ghost use Rattle.psi_arcs.specs.Marking.{AreMarked, IsReached, Keeps, TellsUseful};
 
-use crate::arcs::{Arcs, OutOfMemory};
+use crate::OutOfMemory;
+use crate::arcs::Arcs;
 use crate::marks::{Marks, Reach};
 use crate::spans::{Span, no_spans, tell_spans};
 use crate::sums::Sums;

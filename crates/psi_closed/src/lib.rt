@@ -8,10 +8,11 @@
 
 mod arcs;
 mod diagram;
-mod memory;
 mod plan;
 mod runs;
 
 pub use diagram::Diagram;
-pub use memory::OutOfMemory;
 pub use plan::ClosedPlan;
+
+/// There was no memory: the only way in which a call with this error fails.
+pub use std::alloc::AllocError as OutOfMemory;

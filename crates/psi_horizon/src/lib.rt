@@ -6,4 +6,7 @@
 mod plan;
 mod runs;
 
-pub use plan::{OutOfMemory, Plan};
+pub use plan::Plan;
+
+/// There was no memory: the only way in which a call with this error fails.
+pub use std::alloc::AllocError as OutOfMemory;

@@ -18,30 +18,15 @@ ghost use Rattle.psi_horizon.specs.Planned.{IsOver, onward, network_of};
 ghost use Rattle.psi_horizon.specs.contracts.plan.Plan.{the_row};
 ghost use mir.Syntax.{named};
 
+use crate::OutOfMemory;
 use crate::runs::{ending, follow_word};
 use psi_event::EventLaw;
 use psi_past::{Past, Windowed};
 use psi_rate::{Answers, Numbers, System, first_answer, outcome_of};
 use psi_region::{Follower, Region};
 use psi_state::{Bounds, Outcome, State, Step};
-use std::alloc::{AllocError, Global};
+use std::alloc::Global;
 use std::marker::Model;
-
-/// Memory ran out.
-#[derive(Clone, Copy, Debug, PartialEq, Eq)]
-pub struct OutOfMemory;
-
-impl From<AllocError> for OutOfMemory {
-    fn from(_error: AllocError) -> OutOfMemory {
-        OutOfMemory
-    }
-}
-
-impl From<psi_region::OutOfMemory> for OutOfMemory {
-    fn from(_error: psi_region::OutOfMemory) -> OutOfMemory {
-        OutOfMemory
-    }
-}
 
 // A run that was begun: its horizon, and how many of its steps are done.
 #[derive(Clone, Copy, Debug)]

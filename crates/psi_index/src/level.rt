@@ -6,16 +6,6 @@ ghost use Rattle.psi_index.specs.Levels.{AreLevels, IsJoined};
 
 use std::alloc::{AllocError, Global};
 
-/// Memory ran out.
-#[derive(Clone, Copy, Debug, PartialEq, Eq)]
-pub struct OutOfMemory;
-
-impl From<AllocError> for OutOfMemory {
-    fn from(_error: AllocError) -> OutOfMemory {
-        OutOfMemory
-    }
-}
-
 // The least value of each stretch of one length, by the stretch's first place.
 #[derive(Drop, Debug)]
 pub(crate) struct Level {

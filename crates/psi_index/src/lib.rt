@@ -13,5 +13,7 @@ mod minima;
 mod search;
 mod table;
 
-pub use level::OutOfMemory;
 pub use table::IndexTable;
+
+/// There was no memory: the only way in which a call with this error fails.
+pub use std::alloc::AllocError as OutOfMemory;

@@ -11,7 +11,6 @@ mod disk_shelf;
 mod memory_file;
 mod memory_shelf;
 mod memory_sink;
-mod out_of_memory;
 mod shelf;
 mod sink;
 mod std_sink;
@@ -21,7 +20,9 @@ mod tests;
 pub use disk_shelf::DiskShelf;
 pub use memory_shelf::MemoryShelf;
 pub use memory_sink::MemorySink;
-pub use out_of_memory::OutOfMemory;
 pub use shelf::{Shelf, ShelfFault};
 pub use sink::{Sink, SinkFault, write_all};
 pub use std_sink::StdSink;
+
+/// There was no memory: the only way in which a call with this error fails.
+pub use std::alloc::AllocError as OutOfMemory;

@@ -4,9 +4,9 @@ ghost use Rattle.std.specs.Prelude.{◌≡◌, ◌≢◌, ℕ, ◌+◌, ◌≤�
 ghost use Rattle.psi_io.specs.Counts.{counted, Rose};
 ghost use Rattle.psi_io.specs.MemoryShelf.{has_name, told_of, faults_of, FailsToRead, after_read, after_failed_read, after_put};
 
+use crate::OutOfMemory;
 use crate::asked::Asked;
 use crate::memory_file::MemoryFile;
-use crate::out_of_memory::OutOfMemory;
 use crate::shelf::{Shelf, ShelfFault};
 use std::alloc::Global;
 use std::marker::Model;

@@ -4,7 +4,7 @@ ghost use Rattle.std.specs.Prelude.{◌≡◌, ◌≤◌, ◌↔◌, ◌++◌, [
 ghost use Rattle.psi_io.specs.Counts.{Rose};
 ghost use Rattle.psi_io.specs.MemorySink.{FailsToWrite, taken_count, after_write, after_failed_write};
 
-use crate::out_of_memory::OutOfMemory;
+use crate::OutOfMemory;
 use crate::sink::{Sink, SinkFault};
 use std::alloc::Global;
 use std::marker::Model;

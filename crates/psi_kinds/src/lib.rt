@@ -20,5 +20,8 @@ pub use judging::refusal_of;
 pub use kinds::Kind;
 pub use lowering::{lower, lower_accepted};
 pub use moves::Move;
-pub use refusals::{KindRefusal, OutOfMemory};
+pub use refusals::KindRefusal;
 pub use tables::Tables;
+
+/// There was no memory: the only way in which a call with this error fails.
+pub use std::alloc::AllocError as OutOfMemory;

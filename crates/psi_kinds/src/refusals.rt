@@ -2,8 +2,8 @@
 
 ghost use Rattle.std.specs.Prelude.{◌≡◌};
 
+use crate::OutOfMemory;
 use psi_guard::GuardRefusal;
-use std::alloc::{AllocError, AllocFailed};
 
 /// Why a kind of event can't be lowered.
 #[derive(Clone, Copy, PartialEq, Eq, Debug)]
@@ -30,10 +30,6 @@ pub enum KindRefusal {
     OutOfMemory,
 }
 
-/// There is no memory.
-#[derive(Clone, Copy, PartialEq, Eq, Debug)]
-pub struct OutOfMemory;
-
 impl KindRefusal {
     ghost use Rattle.psi_kinds.specs.Refusals.{of_parts};
 
@@ -59,20 +55,3 @@ impl From<OutOfMemory> for KindRefusal {
     }
 }
 
-impl From<AllocError> for OutOfMemory {
-    fn from(_error: AllocError) -> OutOfMemory {
-        OutOfMemory
-    }
-}
-
-impl<T: Drop> From<AllocFailed<T>> for OutOfMemory {
-    fn from(_error: AllocFailed<T>) -> OutOfMemory {
-        OutOfMemory
-    }
-}
-
-impl From<psi_index::OutOfMemory> for OutOfMemory {
-    fn from(_error: psi_index::OutOfMemory) -> OutOfMemory {
-        OutOfMemory
-    }
-}

@@ -14,4 +14,7 @@ mod put;
 mod regions;
 
 pub use header::Header;
-pub use line_buf::{LineBuf, OutOfMemory};
+pub use line_buf::LineBuf;
+
+/// There was no memory: the only way in which a call with this error fails.
+pub use std::alloc::AllocError as OutOfMemory;

@@ -4,25 +4,16 @@ ghost use Rattle.std.specs.Prelude.{◌≡◌, ℕ, [], ◌++◌, ◌+◌, ◌*�
 ghost use Rattle.psi_log_text.specs.Log.{in_box, in_set};
 ghost use Rattle.psi_log_text.specs.Text.{region_words, move_words, header_text, begin_text, step_text, end_text};
 
+use crate::OutOfMemory;
 use crate::digits::{Digits, small_numbers};
 use crate::header::Header;
 use crate::lines::{put_begin, put_end, put_header, put_step_box, put_step_move, put_step_set};
 use psi_state::{Bounds, State, Step};
-use std::alloc::{AllocError, Global};
+use std::alloc::Global;
 use std::marker::Model;
 
 // More bytes than the longest line has: that of a step with a set of 4,096 states of 32 queues.
 const ROOM: usize = 800_000;
-
-/// Memory ran out.
-#[derive(Clone, Copy, Debug, PartialEq, Eq)]
-pub struct OutOfMemory;
-
-impl From<AllocError> for OutOfMemory {
-    fn from(_error: AllocError) -> OutOfMemory {
-        OutOfMemory
-    }
-}
 
 /// A buffer that holds whole lines of a log, seen as their bytes.
 ///

@@ -3,22 +3,13 @@
 ghost use Rattle.std.specs.Prelude.{◌≡◌, [], ◌++◌, IfOk, OnOk};
 ghost use Rattle.psi_log_writer.specs.Sending.{Sends};
 
+use crate::OutOfMemory;
 use psi_io::{Sink, SinkFault, write_all};
-use std::alloc::{AllocError, Global};
+use std::alloc::Global;
 use std::marker::Model;
 
 // The number of bytes of a block.
 const SIZE: usize = 65_536;
-
-/// Memory ran out.
-#[derive(Clone, Copy, Debug, PartialEq, Eq)]
-pub struct OutOfMemory;
-
-impl From<AllocError> for OutOfMemory {
-    fn from(_error: AllocError) -> OutOfMemory {
-        OutOfMemory
-    }
-}
 
 /// A block of 65,536 bytes in which the lines of a text are gathered, so that a sink is written to once a
 /// block and not once a line. It is seen as the bytes that wait in it.

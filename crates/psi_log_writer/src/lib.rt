@@ -7,6 +7,9 @@ mod laws;
 mod steps;
 mod writing;
 
-pub use block::{Block, OutOfMemory};
+pub use block::Block;
 pub use laws::logs_are_accepted;
 pub use writing::{log_fits, write_log};
+
+/// There was no memory: the only way in which a call with this error fails.
+pub use std::alloc::AllocError as OutOfMemory;

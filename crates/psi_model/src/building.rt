@@ -7,8 +7,8 @@ ghost use Rattle.psi_reward.specs.Rewards.{reward_caps, reward_kind};
 ghost use Rattle.psi_model.specs.Valid.{AreListed, IsAccepted, IsReward};
 ghost use Rattle.psi_model.specs.Made.{AreMade};
 
+use crate::OutOfMemory;
 use crate::entries::{NamedEvent, Queue};
-use crate::out_of_memory::OutOfMemory;
 use psi_event::EventLaw;
 use psi_kinds::{Event, lower_accepted};
 use psi_rate::{RateRefusal, Wheel};

@@ -4,8 +4,8 @@ ghost use Rattle.std.specs.Prelude.{◌≡◌, ◌≤◌, ◌<◌, ◌++◌, len
 ghost use Rattle.psi_rate.specs.Rates.{total};
 ghost use Rattle.psi_model.specs.Expansion.{source_of, with_server, at_server, servers_at, served_by, values_in, most_index_values};
 
+use crate::OutOfMemory;
 use crate::entries::{NamedEvent, Queue};
-use crate::out_of_memory::OutOfMemory;
 use psi_kinds::{Kind, Tables};
 use psi_route::Source;
 use std::alloc::Global;

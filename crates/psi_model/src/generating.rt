@@ -9,11 +9,11 @@ ghost use Rattle.psi_model.specs.Expansion.{source_of, expanded};
 ghost use Rattle.psi_model.specs.Draft.{named};
 ghost use Rattle.psi_model.specs.Generated.{queue_count, nth_queue, generated_queues, server_of, arrival_event, full_behind, passing_event, leaving_event, bulk_event, negative_event, odd_events, generated_events, total_reward, generated_network};
 
+use crate::OutOfMemory;
 use crate::building::{accepted_reward, capacities};
 use crate::entries::{Draft, NamedEvent, Queue, RewardEntry};
 use crate::expansion::{push_expanded, servers_at, source_of};
 use crate::net::Net;
-use crate::out_of_memory::OutOfMemory;
 use psi_kinds::Kind;
 use psi_name::{Name, name_from};
 use psi_reward::{Numbers, RewardKind};

@@ -11,12 +11,13 @@ mod entries;
 mod expansion;
 mod generating;
 mod net;
-mod out_of_memory;
 
 pub use building::{accepted_reward, capacities};
 pub use entries::{Draft, NamedEvent, Queue, RewardEntry};
 pub use expansion::{MOST_INDEX_VALUES, index_values, push_expanded, servers_at, source_of};
 pub use generating::generated;
 pub use net::Net;
-pub use out_of_memory::OutOfMemory;
 pub use psi_name::{Name, name_of};
+
+/// There was no memory: the only way in which a call with this error fails.
+pub use std::alloc::AllocError as OutOfMemory;

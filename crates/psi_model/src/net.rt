@@ -2,9 +2,9 @@
 
 ghost use Rattle.std.specs.Prelude.{◌≡◌, ℕ, ◌<◌, List, length, map, Some, slice_get, option_map, option_and_then, All, IfOk, IfSome};
 
+use crate::OutOfMemory;
 use crate::building::{all_lowered, rates, wheel};
 use crate::entries::{Draft, NamedEvent, Queue, RewardEntry};
-use crate::out_of_memory::OutOfMemory;
 use psi_event::EventLaw;
 use psi_kinds::{Event, Move};
 use psi_name::Name;

@@ -3,7 +3,6 @@
 ghost use Rattle.std.specs.Prelude.{◌≡◌};
 ghost use Rattle.psi_net.specs.declared.net_error.NetError.TheVariants.{OutOfMemory};
 
-use psi_model::OutOfMemory;
 use psi_net_document::NetRefusal;
 use std::alloc::{AllocError, AllocFailed};
 
@@ -20,14 +19,6 @@ impl From<AllocError> for NetError {
     ghost from_gives = { λ _ error. error ≡ OutOfMemory };
 
     fn from(_error: AllocError) -> NetError {
-        NetError::OutOfMemory
-    }
-}
-
-impl From<OutOfMemory> for NetError {
-    ghost from_gives = { λ _ error. error ≡ OutOfMemory };
-
-    fn from(_error: OutOfMemory) -> NetError {
         NetError::OutOfMemory
     }
 }

@@ -11,4 +11,7 @@ mod pace;
 mod pool;
 mod table;
 
-pub use pool::{OutOfMemory, Pool};
+pub use pool::Pool;
+
+/// There was no memory: the only way in which a call with this error fails.
+pub use std::alloc::AllocError as OutOfMemory;

@@ -11,26 +11,17 @@ ghost use Rattle.psi_state.specs.Ascending.{IsRising, HaveSame};
 ghost use Rattle.psi_pool.specs.Tables.{held, IsTable};
 ghost use Rattle.psi_pool.specs.contracts.pool.Pool.{the_row};
 
+use crate::OutOfMemory;
 use crate::nodes::one_state;
 use crate::pace::Pace;
 use crate::table::Table;
 use psi_event::EventLaw;
 use psi_state::State;
-use std::alloc::{AllocError, Global};
+use std::alloc::Global;
 use std::marker::Model;
 
 // After how many merges of its nodes a set that isn't in order yet is sorted.
 const MERGES: u8 = 3;
-
-/// Memory ran out.
-#[derive(Clone, Copy, Debug, PartialEq, Eq)]
-pub struct OutOfMemory;
-
-impl From<AllocError> for OutOfMemory {
-    fn from(_error: AllocError) -> OutOfMemory {
-        OutOfMemory
-    }
-}
 
 /// A set of at most `most` states, seen as the lexicographically ascending list of them.
 ///

@@ -19,5 +19,8 @@ pub use corners::Corners;
 pub use course::Course;
 pub use covering::covers_image;
 pub use follower::{Follower, one_of};
-pub use region::{OutOfMemory, Region};
+pub use region::Region;
 pub use regions::Regions;
+
+/// There was no memory: the only way in which a call with this error fails.
+pub use std::alloc::AllocError as OutOfMemory;

@@ -10,21 +10,12 @@ ghost use Rattle.psi_state.specs.Ascending.{IsRising};
 ghost use Rattle.psi_region.specs.Region.{start, settled, step, ShowsBox};
 ghost use Rattle.psi_region.specs.contracts.region.Region.{the_row};
 
+use crate::OutOfMemory;
 use psi_event::EventLaw;
 use psi_pool::Pool;
 use psi_state::{Bounds, State};
 use std::alloc::Global;
 use std::marker::Model;
-
-/// Memory ran out.
-#[derive(Clone, Copy, Debug, PartialEq, Eq)]
-pub struct OutOfMemory;
-
-impl From<psi_pool::OutOfMemory> for OutOfMemory {
-    fn from(_error: psi_pool::OutOfMemory) -> OutOfMemory {
-        OutOfMemory
-    }
-}
 
 /// A set of states that is followed through the events of a run: a box at first, and a list of states once
 /// it is split.

@@ -4,9 +4,10 @@ ghost use Rattle.std.specs.Prelude.{◌≡◌, length, IfOk};
 ghost use Rattle.psi_event.specs.Numbers.{AreEvents};
 ghost use Rattle.psi_region.specs.Followed.{followed, ending_of};
 
+use crate::OutOfMemory;
 use crate::course::Course;
 use crate::follower::Follower;
-use crate::region::{OutOfMemory, Region};
+use crate::region::Region;
 use psi_event::EventLaw;
 use psi_state::State;
 use std::alloc::Global;

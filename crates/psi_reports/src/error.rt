@@ -3,7 +3,6 @@
 ghost use Rattle.std.specs.Prelude.{◌≡◌};
 ghost use Rattle.psi_reports.specs.declared.error.ReadError.TheVariants.{OutOfMemory};
 
-use psi_model::OutOfMemory as NoMemory;
 use std::alloc::{AllocError, AllocFailed};
 
 /// Why no report is given.
@@ -31,14 +30,6 @@ impl<T: Drop> From<AllocFailed<T>> for ReadError {
     ghost from_gives = { λ _ error. error ≡ OutOfMemory };
 
     fn from(_error: AllocFailed<T>) -> ReadError {
-        ReadError::OutOfMemory
-    }
-}
-
-impl From<NoMemory> for ReadError {
-    ghost from_gives = { λ _ error. error ≡ OutOfMemory };
-
-    fn from(_error: NoMemory) -> ReadError {
         ReadError::OutOfMemory
     }
 }

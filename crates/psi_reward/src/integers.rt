@@ -2,7 +2,7 @@
 
 ghost use Rattle.std.specs.Prelude.{◌≡◌, ◌<◌, [], ◌∷◌, ◌++◌, length, slice_index_or, pos, OnOk, OnErr};
 
-use crate::out_of_memory::OutOfMemory;
+use crate::OutOfMemory;
 use std::alloc::Global;
 use std::marker::Model;
 

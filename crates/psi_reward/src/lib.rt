@@ -9,7 +9,6 @@ mod extremes;
 mod integers;
 mod kinds;
 mod law;
-mod out_of_memory;
 mod reward;
 mod rows;
 mod sums;
@@ -17,6 +16,8 @@ mod sums;
 pub use integers::Numbers;
 pub use kinds::{RewardKind, RewardRefusal};
 pub use law::RewardLaw;
-pub use out_of_memory::OutOfMemory;
 pub use reward::Reward;
 pub use rows::Grid;
+
+/// There was no memory: the only way in which a call with this error fails.
+pub use std::alloc::AllocError as OutOfMemory;
