@@ -12,8 +12,8 @@ use Rattle.psi_arcs.specs.Sums.{has, Leads}
 use Rattle.psi_arcs.specs.Walks.{Walk, Held, Useful}
 use Rattle.psi_arcs.specs.Held.{Listed, IsThis, IsFirst}
 use Rattle.psi_arcs.specs.Joining.{past, here, Only, IsChanging, IsShort, IsFull, IsShiftable, IsOutside, Joined}
-use Rattle.psi_arcs.specs.Spans.{IsSpan}
-use Rattle.psi_arcs.specs.Marking.{IsReached, Keeps, TellsUseful, Shifts, Gives}
+use Rattle.psi_arcs.specs.SpansKept.{IsSpan}
+use Rattle.psi_arcs.specs.MarksKept.{IsReached, Keeps, TellsUseful, Shifts, Gives}
 use Rattle.psi_arcs.proofs.WalksLemmas.{held-useful, useful-held}
 use Rattle.psi_arcs.proofs.MarkedLemmas.{past-small, past-yes, past-no, here-no}
 

@@ -3,7 +3,7 @@ pub mod Walks
 pub mod Joining
 pub mod Sums
 pub mod Held
-pub mod Rows
+pub mod RowsKept
 pub mod Windows
-pub mod Spans
-pub mod Marking
+pub mod SpansKept
+pub mod MarksKept

@@ -4,9 +4,9 @@ ghost use Rattle.std.specs.Prelude.{◌≡◌, ◌≢◌, ℕ, suc, ◌+◌, ◌
 ghost use Rattle.psi_arcs.specs.Sums.{has, Leads};
 ghost use Rattle.psi_arcs.specs.Walks.{Useful};
 ghost use Rattle.psi_arcs.specs.Held.{Listed};
-ghost use Rattle.psi_arcs.specs.Rows.{sums_at};
+ghost use Rattle.psi_arcs.specs.RowsKept.{sums_at};
 ghost use Rattle.psi_arcs.specs.Joining.{past, IsShiftable, Joined};
-ghost use Rattle.psi_arcs.specs.Marking.{IsReached, Keeps, Shifts, Gives};
+ghost use Rattle.psi_arcs.specs.MarksKept.{IsReached, Keeps, Shifts, Gives};
 
 use crate::arcs::Arcs;
 use crate::marks::{Marks, Reach};

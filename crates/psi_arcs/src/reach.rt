@@ -6,9 +6,9 @@ ghost use Rattle.psi_arcs.specs.Walks.{Before, After, Useful};
 ghost use Rattle.psi_arcs.specs.Held.{Listed};
 ghost use Rattle.psi_arcs.specs.Windows.{IsWithin, Allows, Enters, EntersBelow, Exits, MarkBefore, MarkAfter};
 ghost use Rattle.psi_arcs.specs.Joining.{Only, IsChanging, IsShort, IsFull};
-ghost use Rattle.psi_arcs.specs.Spans.{IsSpan, AreSpans};
-ghost use Rattle.psi_arcs.specs.Rows.{sums_at};
-ghost use Rattle.psi_arcs.specs.Marking.{AreMarked, IsReached, Keeps, TellsUseful};
+ghost use Rattle.psi_arcs.specs.SpansKept.{IsSpan, AreSpans};
+ghost use Rattle.psi_arcs.specs.RowsKept.{sums_at};
+ghost use Rattle.psi_arcs.specs.MarksKept.{AreMarked, IsReached, Keeps, TellsUseful};
 
 use crate::OutOfMemory;
 use crate::arcs::Arcs;

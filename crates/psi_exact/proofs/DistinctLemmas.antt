@@ -9,7 +9,7 @@ use Rattle.psi_state.specs.Sets.{ascending, insert_state}
 use Rattle.psi_state.proofs.SetsLemmas.{In-insert_state, In-of_insert_state, In-ascending, In-of_ascending}
 use Rattle.psi_state.specs.Ascending.{IsRising}
 use Rattle.psi_state.proofs.AscendingLemmas.{ascending-rising, insert_state-rising, rising-same, length-insert_state}
-use Rattle.psi_exact.specs.Table.{state_at, AreRanks}
+use Rattle.psi_exact.specs.TableKept.{state_at, AreRanks}
 use Rattle.psi_exact.specs.Distinct.{stands, distinct_count}
 use Rattle.psi_exact.proofs.PlacesLemmas.{In-place, state_at-apart}
 

@@ -10,9 +10,9 @@ use Rattle.psi_state.specs.State.{IsBelow, all_states}
 use Rattle.psi_event.specs.Law.{IsClosed}
 use Rattle.psi_exact.specs.declared.moves.Moves.{Moves}
 use Rattle.psi_exact.specs.Mapping.{map_of, rank_of, sends}
-use Rattle.psi_exact.specs.Table.{state_at, table_of, AreRanks, AreRanksOf}
+use Rattle.psi_exact.specs.TableKept.{state_at, table_of, AreRanks, AreRanksOf}
 use Rattle.psi_exact.specs.Shifts.{looked}
-use Rattle.psi_exact.specs.Moves.{start_at, IsRow, ArePlaced, IsPrefix, IsLonger, IsMoves, HasMove, AreMovesOf, AreLearned, moved}
+use Rattle.psi_exact.specs.ImagesKept.{start_at, IsRow, ArePlaced, IsPrefix, IsLonger, IsMoves, HasMove, AreMovesOf, AreLearned, moved}
 use Rattle.psi_exact.proofs.PlacesLemmas.{rank_of-small, state_at-below}
 use Rattle.psi_exact.proofs.TablesLemmas.{table_of-map_of, sends-table_of}
 

@@ -13,7 +13,7 @@ use Rattle.psi_state.proofs.StatesLemmas.{zeros-caps}
 use Rattle.psi_state.specs.Ascending.{IsDistinct}
 use Rattle.psi_state.proofs.AscendingLemmas.{rising-distinct, box-rising}
 use Rattle.psi_exact.specs.Mapping.{rank_of}
-use Rattle.psi_exact.specs.Table.{state_at}
+use Rattle.psi_exact.specs.TableKept.{state_at}
 
 -- what stands at a place is a member
 pub In-at : {A : Type 0} (xs : List A) (k : ℕ) (d : A) → k < length xs → In (slice_index_or xs k d) xs

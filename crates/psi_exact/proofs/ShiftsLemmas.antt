@@ -4,7 +4,7 @@ use Rattle.std.proofs.Common.{inl, inr, ap, sym, ◌∙◌, subst, arith}
 use Rattle.std.proofs.lemmas.Bool.{cases_eq, cases_lt}
 use Rattle.std.proofs.lemmas.List.{get_or_append_left, get_or_push, length_push}
 use Rattle.psi_exact.specs.declared.shifts.Shifts.{Shifts}
-use Rattle.psi_exact.specs.Moves.{IsPrefix}
+use Rattle.psi_exact.specs.ImagesKept.{IsPrefix}
 use Rattle.psi_exact.specs.Shifts.{Covers, AreCovering, AreCovered, looked, shifts_at}
 use Rattle.psi_exact.proofs.MovesLemmas.{block-within}
 

@@ -11,7 +11,7 @@ use Rattle.psi_state.proofs.SetsLemmas.{In-image, single-image, single-apart}
 use Rattle.psi_state.proofs.AscendingLemmas.{image-agree}
 use Rattle.psi_event.specs.Law.{IsClosed}
 use Rattle.psi_exact.specs.Mapping.{Mapped, map_of, rank_of, sends, IsMapOf}
-use Rattle.psi_exact.specs.Table.{state_at, table_of, AreRanks, AreRanksOf}
+use Rattle.psi_exact.specs.TableKept.{state_at, table_of, AreRanks, AreRanksOf}
 use Rattle.psi_exact.specs.Distinct.{AreAll, AreMixed}
 use Rattle.psi_exact.proofs.PlacesLemmas.{state_at-rank_of, rank_of-small, state_at-below, state_at-member, state_at-apart, rank_of-state_at}
 

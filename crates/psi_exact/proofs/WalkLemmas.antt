@@ -10,7 +10,7 @@ use Rattle.psi_state.specs.State.{Corners, IsBelow, zeros, box, all_states}
 use Rattle.psi_state.specs.Members.{In}
 use Rattle.psi_state.proofs.BoxesLemmas.{In-all_states}
 use Rattle.psi_exact.specs.Mapping.{rank_of, sends}
-use Rattle.psi_exact.specs.Table.{state_at, table_of, AreRanks}
+use Rattle.psi_exact.specs.TableKept.{state_at, table_of, AreRanks}
 use Rattle.psi_exact.proofs.PlacesLemmas.{state_at-below, IsRank, is_rank-from_get}
 use Rattle.psi_exact.proofs.TablesLemmas.{sends-table_of}
 

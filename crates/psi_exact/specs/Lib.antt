@@ -1,10 +1,10 @@
 -- The definitions of this crate, and the laws that clauses rest on.
 pub mod Mapping
-pub mod Table
+pub mod TableKept
 pub mod Distinct
 pub mod Shifts
-pub mod Moves
+pub mod ImagesKept
 pub mod Refusal
-pub mod Inverse
+pub mod ArraysKept
 pub mod Sizes
 pub mod Surveys

@@ -3,7 +3,7 @@
 ghost use Rattle.std.specs.Prelude.{◌≡◌, ℕ, ◌+◌, ◌*◌, ◌/◌, ◌<◌, ◌≤◌, length, slice_index, vec_capacity, IfOk, IfSome, IsTrue};
 ghost use Rattle.psi_state.specs.State.{all_states};
 ghost use Rattle.psi_exact.specs.Shifts.{AreCovered};
-ghost use Rattle.psi_exact.specs.Moves.{IsMoves, HasRows, AreMovesOf, ArePlaced, IsLonger, IsPrefix, moved};
+ghost use Rattle.psi_exact.specs.ImagesKept.{IsMoves, HasRows, AreMovesOf, ArePlaced, IsLonger, IsPrefix, moved};
 
 use crate::ranks::{write_images, zeroed};
 use crate::rows::{follow_row, place_row};

@@ -4,7 +4,7 @@ ghost use Rattle.std.specs.Prelude.{◌≡◌, ℕ, ◌<◌, ◌≤◌, Some, tr
 ghost use Rattle.psi_state.specs.State.{box, all_states};
 ghost use Rattle.psi_state.specs.Members.{In};
 ghost use Rattle.psi_exact.specs.Mapping.{map_of, sends};
-ghost use Rattle.psi_exact.specs.Table.{table_of, AreRanks, AreRanksOf};
+ghost use Rattle.psi_exact.specs.TableKept.{table_of, AreRanks, AreRanksOf};
 ghost use Rattle.psi_exact.specs.Distinct.{distinct_count, AreAll, AreMixed};
 
 use psi_event::EventLaw;

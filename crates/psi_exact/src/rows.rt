@@ -2,7 +2,7 @@
 //! state's own rank, modulo 2 to the power 16.
 
 ghost use Rattle.std.specs.Prelude.{◌≡◌, ℕ, ◌+◌, ◌*◌, ◌%◌, ◌<◌, ◌≤◌, length, slice_index, vec_capacity, IfSome, IsTrue};
-ghost use Rattle.psi_exact.specs.Moves.{IsPrefix, IsRow};
+ghost use Rattle.psi_exact.specs.ImagesKept.{IsPrefix, IsRow};
 ghost use Rattle.psi_exact.specs.Shifts.{AreCovering, AreCovered, looked};
 
 use crate::shifts::{Shifts, shift_row, shifts_of};

@@ -23,7 +23,7 @@ pub(crate) struct Table {
 
 impl Model for Table {
     ghost use Rattle.psi_exact.specs.Mapping.{Mapped};
-    ghost use Rattle.psi_exact.specs.Table.{table_of, IsTable};
+    ghost use Rattle.psi_exact.specs.TableKept.{table_of, IsTable};
 
     ghost Value = { Mapped };
 
@@ -34,7 +34,7 @@ impl Model for Table {
 
 impl Table {
     ghost use Rattle.psi_exact.specs.Mapping.{map_of, sends};
-    ghost use Rattle.psi_exact.specs.Moves.{IsMoves, HasMove, AreMovesOf};
+    ghost use Rattle.psi_exact.specs.ImagesKept.{IsMoves, HasMove, AreMovesOf};
 
     /// The table of the map that sends each of all states, so many, to itself.
     pub(crate) fn reserve(alloc: Global, caps: State, states: u32) -> Result<Table, AllocError>

@@ -1,7 +1,7 @@
 -- The definitions of this crate, and the laws that clauses rest on.
 pub mod Guarding
-pub mod Inverse
-pub mod InverseLaws
+pub mod PartsKept
+pub mod PartsKeptLaws
 pub mod Refusals
 pub mod Places
 pub mod PlacesLaws

@@ -11,7 +11,7 @@ use Rattle.psi_region.specs.Followed.{Followed}
 use Rattle.psi_rate.specs.declared.numbers.Numbers.{Numbers}
 use Rattle.psi_horizon.specs.declared.plan.Progress.{Progress}
 use Rattle.psi_horizon.specs.Planned.{Planned}
-use Rattle.psi_horizon.specs.Invariant.{running_of, IsUnderway, IsPlan}
+use Rattle.psi_horizon.specs.PlanKept.{running_of, IsUnderway, IsPlan}
 use Rattle.psi_horizon.specs.Runs.{follow, region_at, ending_at, region_after}
 use Rattle.psi_horizon.proofs.RunsLemmas.{region_after-area}
 use Rattle.psi_horizon.proofs.SampleLemmas.{single-within}

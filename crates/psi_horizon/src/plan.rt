@@ -54,7 +54,7 @@ impl<'n, E: EventLaw, P: Past + Drop, F: Follower + Drop> Model for Plan<'n, E, 
     ghost use Rattle.std.specs.Prelude.{map};
     ghost use Rattle.psi_rate.specs.Composition.{system_functions};
     ghost use Rattle.psi_horizon.specs.Planned.{Planned};
-    ghost use Rattle.psi_horizon.specs.Invariant.{running_of, IsPlan};
+    ghost use Rattle.psi_horizon.specs.PlanKept.{running_of, IsPlan};
 
     ghost Value = { Planned E P };
 

@@ -1,3 +1,3 @@
 -- The definitions of this crate, and the laws that clauses rest on.
 pub mod Extremes
-pub mod Levels
+pub mod LevelsKept

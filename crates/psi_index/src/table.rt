@@ -28,7 +28,7 @@ impl Model for IndexTable {
 
     ghost Value = { List ℕ };
 
-    ghost use Rattle.psi_index.specs.Levels.{IsTable};
+    ghost use Rattle.psi_index.specs.LevelsKept.{IsTable};
 
     ghost view = { λ table. table.values.items };
 

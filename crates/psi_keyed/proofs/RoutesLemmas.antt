@@ -10,7 +10,7 @@ use Rattle.psi_route.specs.ActingLaws.{act-idle, act-serves}
 use Rattle.psi_route.specs.Accepted.{IsRouteShape}
 use Rattle.psi_route.proofs.ActingLemmas.{act-some, act-lost, best-none, taken-past}
 use Rattle.psi_keyed.specs.Keys.{Keys, no_key, cap_at, AreRanked, IsBoard, key_in, left, Joins, IsBoardFor}
-use Rattle.psi_keyed.specs.Rows.{AreRowsOf}
+use Rattle.psi_keyed.specs.RowsKept.{AreRowsOf}
 use Rattle.psi_keyed.proofs.MarkingLemmas.{key-room}
 
 -- the keys of a shape, as they are kept

@@ -1,5 +1,5 @@
 -- The definitions of this crate, and the laws that clauses rest on.
 pub mod Keys
-pub mod Rows
+pub mod RowsKept
 pub mod Steps
 pub mod Keyed

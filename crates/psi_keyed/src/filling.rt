@@ -2,7 +2,7 @@
 
 ghost use Rattle.std.specs.Prelude.{◌≡◌, ℕ, ◌+◌, ◌<◌, ◌≤◌, length, slice_index, true, IfOk, IfSome, OnOk};
 ghost use Rattle.psi_route.specs.Route.{shape_of};
-ghost use Rattle.psi_keyed.specs.Rows.{AreRowsOf, IsRowFrom};
+ghost use Rattle.psi_keyed.specs.RowsKept.{AreRowsOf, IsRowFrom};
 ghost use Rattle.psi_keyed.specs.Keys.{key_by};
 
 use psi_event::EventLaw;

@@ -10,8 +10,8 @@ use Rattle.psi_log_text.specs.Log.{Region, in_set, Entry}
 use Rattle.psi_log.specs.Refusal.{Refusal, ◌>>=◌, IsLogError}
 use Rattle.psi_log.specs.Words.{line_of, words_of}
 use Rattle.psi_log.specs.Reading.{box_before, read_step, read_steps}
-use Rattle.psi_log.specs.Kept.{region_of, IsThere}
-use Rattle.psi_log.specs.Lines.{entry_of, HasRegion}
+use Rattle.psi_log.specs.RegionsViews.{region_of, IsThere}
+use Rattle.psi_log.specs.LinesViews.{entry_of, HasRegion}
 use Rattle.psi_log.specs.Scanned.{next_step}
 use Rattle.psi_state_list.specs.declared.line_list.Kept.{Kept}
 use Rattle.psi_state_list.specs.declared.line_list.Kept.TheVariants.{Box, Set}

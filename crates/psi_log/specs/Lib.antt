@@ -3,10 +3,10 @@ pub mod Refusal
 pub mod Words
 pub mod Regions
 pub mod Reading
-pub mod Seen
-pub mod Changed
-pub mod Kept
-pub mod Lines
-pub mod Parts
+pub mod FormsViews
+pub mod ChangesViews
+pub mod RegionsViews
+pub mod LinesViews
+pub mod PartsViews
 pub mod Told
 pub mod Scanned

@@ -5,7 +5,7 @@ ghost use Rattle.std.specs.List.{list_all};
 ghost use Rattle.psi_log.specs.Refusal.{Gives};
 ghost use Rattle.psi_log.specs.Words.{has_pieces};
 ghost use Rattle.psi_log.specs.Regions.{box_form, set_form, move_form, form_of};
-ghost use Rattle.psi_log.specs.Seen.{given, HasForm};
+ghost use Rattle.psi_log.specs.FormsViews.{given, HasForm};
 
 use crate::refusals::{Cause, LogError};
 use crate::words::has_pieces;

@@ -2,8 +2,8 @@
 
 ghost use Rattle.std.specs.Prelude.{◌≡◌, ℕ, List, ◌<◌, ◌≤◌, ◌^◌, length, Some, Ok, IfSome};
 ghost use Rattle.psi_log_text.specs.Text.{change_text};
-ghost use Rattle.psi_log.specs.Changed.{change};
-ghost use Rattle.psi_log.specs.Lines.{entry_of, HasRegion};
+ghost use Rattle.psi_log.specs.ChangesViews.{change};
+ghost use Rattle.psi_log.specs.LinesViews.{entry_of, HasRegion};
 ghost use Rattle.psi_log.specs.Scanned.{Stands, AreChanged, next_step};
 
 use crate::moves::{Change, is_change};

@@ -6,7 +6,7 @@ ghost use Rattle.psi_log_text.specs.Log.{in_box};
 ghost use Rattle.psi_log.specs.Refusal.{Gives};
 ghost use Rattle.psi_log.specs.Words.{pieces_of, has_pieces};
 ghost use Rattle.psi_log.specs.Regions.{read_change, is_change, read_given, given_move};
-ghost use Rattle.psi_log.specs.Changed.{change};
+ghost use Rattle.psi_log.specs.ChangesViews.{change};
 
 use crate::numbers::piece_in;
 use crate::refusals::{Cause, LogError};

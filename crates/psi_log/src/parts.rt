@@ -3,8 +3,8 @@
 ghost use Rattle.std.specs.Prelude.{◌≡◌, ◌+◌, ◌≤◌, length, map, take, Ok, None, IfOk, IfErr, OnOk};
 ghost use Rattle.psi_log.specs.Refusal.{Gives, IsLogError};
 ghost use Rattle.psi_log.specs.Reading.{read_begin, read_end, after_header, read};
-ghost use Rattle.psi_log.specs.Kept.{region_of, IsThere};
-ghost use Rattle.psi_log.specs.Parts.{certificate_of, IsWhole};
+ghost use Rattle.psi_log.specs.RegionsViews.{region_of, IsThere};
+ghost use Rattle.psi_log.specs.PartsViews.{certificate_of, IsWhole};
 
 use crate::forms::form_of;
 use crate::header::read_header;

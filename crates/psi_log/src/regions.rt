@@ -5,8 +5,8 @@ ghost use Rattle.std.specs.List.{list_all};
 ghost use Rattle.psi_log.specs.Refusal.{Gives, IsLogError, each};
 ghost use Rattle.psi_log.specs.Words.{has_pieces, number_in};
 ghost use Rattle.psi_log.specs.Regions.{given_box, given_set, read_state, ascends, read_given};
-ghost use Rattle.psi_log.specs.Seen.{given as given_of, HasForm};
-ghost use Rattle.psi_log.specs.Kept.{region_of, IsThere};
+ghost use Rattle.psi_log.specs.FormsViews.{given as given_of, HasForm};
+ghost use Rattle.psi_log.specs.RegionsViews.{region_of, IsThere};
 ghost use Rattle.psi_log.specs.Reading.{box_before};
 ghost use Rattle.psi_log_text.specs.Log.{in_box};
 

@@ -4,7 +4,7 @@ ghost use Rattle.std.specs.Prelude.{◌≡◌, ◌∷◌, [], ◌++◌, ℕ, Opt
 ghost use Rattle.psi_state.specs.State.{Corners};
 ghost use Rattle.psi_log_text.specs.Log.{greatest_horizon};
 ghost use Rattle.psi_log_text.specs.Room.{spaced_words};
-ghost use Rattle.psi_log.specs.Lines.{entry_of, HasRegion};
+ghost use Rattle.psi_log.specs.LinesViews.{entry_of, HasRegion};
 ghost use Rattle.psi_log.specs.Scanned.{Stands, AreScanned, next_step};
 
 use crate::header::greatest_horizon;

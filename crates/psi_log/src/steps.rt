@@ -4,7 +4,7 @@ ghost use Rattle.std.specs.Prelude.{◌≡◌, ◌+◌, ◌-◌, ◌≤◌, leng
 ghost use Rattle.std.specs.List.{All};
 ghost use Rattle.psi_log.specs.Refusal.{IsLogError};
 ghost use Rattle.psi_log.specs.Reading.{read_step, read_steps};
-ghost use Rattle.psi_log.specs.Lines.{entry_of, HasRegion};
+ghost use Rattle.psi_log.specs.LinesViews.{entry_of, HasRegion};
 ghost use Rattle.psi_log.specs.Scanned.{next_step};
 
 use crate::forms::form_of;

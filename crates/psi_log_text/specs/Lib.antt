@@ -2,4 +2,4 @@
 pub mod Log
 pub mod Text
 pub mod Room
-pub mod Table
+pub mod TableKept

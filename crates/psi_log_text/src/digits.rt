@@ -2,7 +2,7 @@
 
 ghost use Rattle.std.specs.Prelude.{◌≡◌, ◌∷◌, ◌+◌, ◌<◌, ◌≤◌, length, decimal, IfOk};
 ghost use Rattle.psi_log_text.specs.Room.{Puts};
-ghost use Rattle.psi_log_text.specs.Table.{IsDigits, AreDigits};
+ghost use Rattle.psi_log_text.specs.TableKept.{IsDigits, AreDigits};
 
 use crate::put::put;
 use itoa::{Buffer, write_digits};

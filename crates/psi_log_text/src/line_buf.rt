@@ -31,7 +31,7 @@ pub struct LineBuf {
 
 impl Model for LineBuf {
     ghost use Rattle.std.specs.Prelude.{ℕ, ◌≤◌, List, take, vec_len, vec_capacity};
-    ghost use Rattle.psi_log_text.specs.Table.{AreDigits};
+    ghost use Rattle.psi_log_text.specs.TableKept.{AreDigits};
 
     ghost Value = { List ℕ };
 

@@ -4,7 +4,7 @@ ghost use Rattle.std.specs.Prelude.{◌≡◌, ◌+◌, ◌*◌, ◌≤◌, leng
 ghost use Rattle.psi_log_text.specs.Log.{in_box, in_set};
 ghost use Rattle.psi_log_text.specs.Text.{region_words, move_words, header_text, begin_text, step_text, end_text};
 ghost use Rattle.psi_log_text.specs.Room.{Puts};
-ghost use Rattle.psi_log_text.specs.Table.{AreDigits};
+ghost use Rattle.psi_log_text.specs.TableKept.{AreDigits};
 
 use crate::digits::Digits;
 use crate::header::Header;

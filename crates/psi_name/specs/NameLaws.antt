@@ -1,6 +1,6 @@
 -- A name is told by its bytes: behind them its array of 32 has zeros.
 use Rattle.std.specs.Prelude.{◌≡◌, ℕ, ◌-◌, ◌≤◌, List, length, take, drop, replicate, ◌++◌}
-use Rattle.psi_state.specs.Inverse.{filled}
+use Rattle.psi_state.specs.ArraysKept.{filled}
 use Rattle.psi_name.specs.declared.name.Name.TheInside.{Inside}
 
 -- the inside of a name

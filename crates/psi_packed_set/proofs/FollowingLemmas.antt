@@ -15,8 +15,8 @@ use Rattle.psi_packed.specs.Programs.{Prepared, Follows, AllFollow}
 use Rattle.psi_packed.proofs.FollowingLemmas.{follow_numbers-within}
 use Rattle.psi_packed.specs.Views.{lows, highs, pair_at}
 use Rattle.psi_packed.specs.declared.pairs.Pairs.{Pairs}
-use Rattle.psi_packed_set.specs.Halves.{halves, AreAll, AreTwo}
-use Rattle.psi_packed_set.specs.Holding.{Holds, SetFollows}
+use Rattle.psi_packed_set.specs.HalvesKept.{halves, AreAll, AreTwo}
+use Rattle.psi_packed_set.specs.HoldingKept.{Holds, SetFollows}
 use Rattle.psi_packed_set.proofs.HalvingLemmas.{same-through, In-low, In-high, place-of}
 
 -- the packed states of each pair follow the numbers

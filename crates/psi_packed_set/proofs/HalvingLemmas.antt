@@ -10,7 +10,7 @@ use Rattle.psi_state.specs.Ascending.{HaveSame}
 use Rattle.psi_packed.specs.Views.{lows, highs, pair_at}
 use Rattle.psi_packed.specs.declared.layout.Packed.{Packed}
 use Rattle.psi_packed.specs.declared.pairs.Pairs.{Pairs}
-use Rattle.psi_packed_set.specs.Halves.{halves, words_of_first, AreAll, AreTwo}
+use Rattle.psi_packed_set.specs.HalvesKept.{halves, words_of_first, AreAll, AreTwo}
 
 -- ---- the same members
 

@@ -4,7 +4,7 @@ use Rattle.std.proofs.Common.{inl, inr, ap, sym, subst, ◌∙◌, refl, append_
 use Rattle.psi_state.specs.State.{IsBelow}
 use Rattle.psi_state.specs.Members.{In}
 use Rattle.psi_packed.specs.declared.layout.Packed.{Packed}
-use Rattle.psi_packed_set.specs.Halves.{words_of_first}
+use Rattle.psi_packed_set.specs.HalvesKept.{words_of_first}
 use Rattle.psi_packed_set.proofs.HalvingLemmas.{words-set}
 
 -- one state more is packed

@@ -1,6 +1,6 @@
 -- The definitions of this crate, and the laws that clauses rest on.
-pub mod Halves
+pub mod HalvesKept
 pub mod Room
-pub mod Holding
+pub mod HoldingKept
 pub mod Sets
-pub mod Machines
+pub mod MachinesKept

@@ -2,7 +2,7 @@
 
 ghost use Rattle.std.specs.Prelude.{◌≡◌, ◌+◌, ◌*◌, ◌/◌, ◌<◌, ◌≤◌, ◌∷◌, MatchOption, length, take, slice_index, EachIndex};
 ghost use Rattle.psi_state.specs.Ascending.{HaveSame};
-ghost use Rattle.psi_packed_set.specs.Halves.{halves, words_of_first, AreAll, AreTwo};
+ghost use Rattle.psi_packed_set.specs.HalvesKept.{halves, words_of_first, AreAll, AreTwo};
 
 use psi_packed::{Packed, Pairs};
 

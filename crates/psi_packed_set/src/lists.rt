@@ -7,9 +7,9 @@ ghost use Rattle.psi_state.specs.State.{IsBelow, box};
 ghost use Rattle.psi_state.specs.Ascending.{HaveSame};
 ghost use Rattle.psi_packed.specs.Packed.{packed};
 ghost use Rattle.psi_packed.specs.Programs.{AllFollow};
-ghost use Rattle.psi_packed_set.specs.Halves.{words_of_first, AreAll, AreTwo};
+ghost use Rattle.psi_packed_set.specs.HalvesKept.{words_of_first, AreAll, AreTwo};
 ghost use Rattle.psi_packed_set.specs.Room.{held, AreLists};
-ghost use Rattle.psi_packed_set.specs.Holding.{Holds, SetFollows};
+ghost use Rattle.psi_packed_set.specs.HoldingKept.{Holds, SetFollows};
 
 use crate::gathering::{gather, only, pair_up};
 use crate::moving::{follow_one, pack_all, step_first};

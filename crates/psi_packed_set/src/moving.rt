@@ -4,8 +4,8 @@ ghost use Rattle.std.specs.Prelude.{◌≡◌, ◌<◌, ◌≤◌, length, map, 
 ghost use Rattle.psi_state.specs.State.{IsBelow, box};
 ghost use Rattle.psi_packed.specs.Packed.{packed};
 ghost use Rattle.psi_packed.specs.Programs.{AllFollow};
-ghost use Rattle.psi_packed_set.specs.Halves.{halves, words_of_first};
-ghost use Rattle.psi_packed_set.specs.Holding.{SetFollows};
+ghost use Rattle.psi_packed_set.specs.HalvesKept.{halves, words_of_first};
+ghost use Rattle.psi_packed_set.specs.HoldingKept.{SetFollows};
 
 use psi_packed::{Packed, Pairs, Program};
 use psi_state::Bounds;

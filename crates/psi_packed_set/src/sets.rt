@@ -5,7 +5,7 @@ ghost use Rattle.psi_state.specs.State.{IsBelow, box};
 ghost use Rattle.psi_event.specs.Numbers.{AreEvents};
 ghost use Rattle.psi_packed.specs.Programs.{Prepares};
 ghost use Rattle.psi_region.specs.Followed.{followed, follow_areas, unsplit, ending_of};
-ghost use Rattle.psi_packed_set.specs.Machines.{IsMachine};
+ghost use Rattle.psi_packed_set.specs.MachinesKept.{IsMachine};
 
 use crate::boxes::{follow_corners, halts_of};
 use crate::packed_set::PackedSet;
@@ -49,7 +49,7 @@ pub struct PackedSets<'n, const K: usize, E: EventLaw> {
 impl<'n, const K: usize, E: EventLaw> Model for PackedSets<'n, K, E> {
     ghost use Rattle.std.specs.Prelude.{map};
     ghost use Rattle.psi_region.specs.Followed.{Network};
-    ghost use Rattle.psi_packed_set.specs.Machines.{IsMachine};
+    ghost use Rattle.psi_packed_set.specs.MachinesKept.{IsMachine};
 
     ghost Value = { Network E };
 

@@ -1,6 +1,6 @@
 -- What sides are kept in: an array is told by its front, where any side stands behind it.
 use Rattle.std.specs.Prelude.{◌≡◌, ℕ, ◌-◌, ◌≤◌, List, length, take, drop, replicate, ◌++◌}
-use Rattle.psi_state.specs.Inverse.{filled}
+use Rattle.psi_state.specs.ArraysKept.{filled}
 use Rattle.psi_piecewise.specs.declared.sides.Side.{Side}
 use Rattle.psi_piecewise.specs.declared.sides.Side.TheVariants.{Any}
 use Rattle.psi_piecewise.specs.declared.sides.Sides.TheInside.{Inside as Array}

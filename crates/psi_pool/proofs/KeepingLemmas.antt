@@ -9,10 +9,10 @@ use Rattle.psi_state.specs.Ascending.{IsDistinct, HaveSame}
 use Rattle.psi_state.proofs.AscendingLemmas.{ascending-members, ascending-rising, length-ascending, image-ascending}
 use Rattle.psi_pool.specs.declared.nodes.Node.{Node}
 use Rattle.psi_pool.specs.declared.table.Table.{Table}
-use Rattle.psi_pool.specs.Buckets.{bucket}
+use Rattle.psi_pool.specs.BucketsKept.{bucket}
 use Rattle.psi_pool.specs.Pooled.{Pooled}
-use Rattle.psi_pool.specs.Nodes.{node_at, states, IsLinked, AreLinked, HoldSet}
-use Rattle.psi_pool.specs.Tables.{held, IsTable}
+use Rattle.psi_pool.specs.NodesKept.{node_at, states, IsLinked, AreLinked, HoldSet}
+use Rattle.psi_pool.specs.TablesKept.{held, IsTable}
 use Rattle.psi_pool.proofs.SortingLemmas.{insert_state-there, ascending-short}
 use Rattle.psi_pool.proofs.PlacesLemmas.{states-take, states-same, distinct-more, length-states}
 use Rattle.psi_pool.proofs.LinkingLemmas.{linked-none, linked-more}

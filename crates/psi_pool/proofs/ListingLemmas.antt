@@ -10,7 +10,7 @@ use Rattle.psi_state.proofs.SetsLemmas.{same-from_cmp, In-ascending, In-of_ascen
 use Rattle.psi_state.specs.Ascending.{IsRising, HaveSame}
 use Rattle.psi_state.proofs.AscendingLemmas.{cmp-through, cmp-back, ascending-own, ascending-members}
 use Rattle.psi_pool.specs.declared.nodes.Node.{Node}
-use Rattle.psi_pool.specs.Nodes.{node_at, states}
+use Rattle.psi_pool.specs.NodesKept.{node_at, states}
 use Rattle.psi_pool.proofs.PlacesLemmas.{StandsIn, node-read, place-of, In-at, states-next}
 use Rattle.psi_pool.proofs.KeepingLemmas.{members-inserted}
 use Rattle.psi_pool.proofs.CountingLemmas.{positive}

@@ -1,5 +1,5 @@
 -- The definitions of this crate, and the laws that clauses rest on.
 pub mod Pooled
-pub mod Buckets
-pub mod Nodes
-pub mod Tables
+pub mod BucketsKept
+pub mod NodesKept
+pub mod TablesKept

@@ -1,13 +1,13 @@
 //! Which bucket a state belongs to.
 
 ghost use Rattle.std.specs.Prelude.{◌≡◌, ◌<◌, ◌≤◌};
-ghost use Rattle.psi_pool.specs.Buckets.{bucket};
+ghost use Rattle.psi_pool.specs.BucketsKept.{bucket};
 
 use psi_state::State;
 
 /// The bucket of a state among so many.
 #[inline]
-#[tactic(auto, unfolding(crate::specs::Buckets::bucket))]
+#[tactic(auto, unfolding(crate::specs::BucketsKept::bucket))]
 pub(crate) fn bucket_of(x: &State, used: usize) -> usize
     requires enough { 1 ≤ used }
     requires few { used ≤ 16385 }

@@ -1,7 +1,7 @@
 -- The definitions of this crate, and the laws that clauses rest on.
 pub mod Rates
-pub mod Totals
-pub mod Table
+pub mod TotalsKept
+pub mod TableKept
 pub mod Composition
 pub mod Doubling
 pub mod Least

@@ -50,8 +50,8 @@ pub struct Wheel {
 
 impl Model for Wheel {
     ghost use Rattle.std.specs.Prelude.{ℕ, List, ◌≡◌};
-    ghost use Rattle.psi_rate.specs.Totals.{IsDial};
-    ghost use Rattle.psi_rate.specs.Table.{IsTable};
+    ghost use Rattle.psi_rate.specs.TotalsKept.{IsDial};
+    ghost use Rattle.psi_rate.specs.TableKept.{IsTable};
 
     ghost Value = { List ℕ };
 

@@ -17,7 +17,7 @@ use Rattle.psi_state.proofs.AscendingLemmas.{box-rising, image-identity}
 use Rattle.psi_state.specs.Hull.{corners, hull}
 use Rattle.psi_pool.specs.Pooled.{Pooled}
 use Rattle.psi_region.specs.Region.{Area, Regional, splits, settled, step}
-use Rattle.psi_region.specs.Held.{area_of, IsHeld}
+use Rattle.psi_region.specs.RegionKept.{area_of, IsHeld}
 use Rattle.psi_region.proofs.RegionLemmas.{step-split, step-box}
 
 -- the states of an unsplit region are those of its box

@@ -34,7 +34,7 @@ pub struct Region {
 
 impl Model for Region {
     ghost use Rattle.psi_region.specs.Region.{Regional};
-    ghost use Rattle.psi_region.specs.Held.{area_of, IsHeld};
+    ghost use Rattle.psi_region.specs.RegionKept.{area_of, IsHeld};
 
     ghost Value = { Regional };
 

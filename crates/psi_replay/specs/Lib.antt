@@ -1,5 +1,5 @@
 -- The definitions of this crate.
 pub mod Verdict
 pub mod Numbered
-pub mod Seen
+pub mod RegionsViews
 pub mod Judging

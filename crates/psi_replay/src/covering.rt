@@ -5,7 +5,7 @@ ghost use Rattle.psi_state.specs.State.{AreCapacities, IsBelow};
 ghost use Rattle.psi_event.specs.Idle.{unchanged};
 ghost use Rattle.psi_log_text.specs.Log.{in_box, in_set, IsRegion};
 ghost use Rattle.psi_replay.specs.Verdict.{states_of, has, covers, is_within, holds_all};
-ghost use Rattle.psi_replay.specs.Seen.{seen};
+ghost use Rattle.psi_replay.specs.RegionsViews.{seen};
 
 use crate::regions::Region;
 use crate::sets::Set;

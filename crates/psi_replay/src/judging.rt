@@ -4,7 +4,7 @@ ghost use Rattle.std.specs.Prelude.{◌≡◌, ◌≤◌, ◌<◌, length, true,
 ghost use Rattle.psi_rate.specs.Composition.{system_functions};
 ghost use Rattle.psi_log_text.specs.Log.{IsLog, IsRegion};
 ghost use Rattle.psi_replay.specs.Verdict.{is_within, judge_step, judge_steps, judge_end, judged, event_numbers};
-ghost use Rattle.psi_replay.specs.Seen.{seen};
+ghost use Rattle.psi_replay.specs.RegionsViews.{seen};
 ghost use Rattle.psi_replay.specs.Judging.{Gives};
 
 use crate::causes::{Cause, Rejection};

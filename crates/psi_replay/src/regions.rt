@@ -5,7 +5,7 @@ ghost use Rattle.psi_state.specs.State.{IsBelow, box};
 ghost use Rattle.psi_log_text.specs.Log.{in_box, in_set, IsLog, IsRegion};
 ghost use Rattle.psi_replay.specs.Verdict.{states_of, has, is_within, is_small};
 ghost use Rattle.psi_replay.specs.Numbered.{nth_region};
-ghost use Rattle.psi_replay.specs.Seen.{seen};
+ghost use Rattle.psi_replay.specs.RegionsViews.{seen};
 
 use crate::sets::Set;
 use psi_log::{Log, Region as Told};

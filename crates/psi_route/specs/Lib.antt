@@ -6,7 +6,7 @@ pub mod ActingLaws
 pub mod Accepted
 pub mod Closed
 pub mod Route
-pub mod Flat
+pub mod ServerKept
 pub mod Leader
 pub mod Ends
 pub mod Coming

@@ -1,7 +1,7 @@
 //! What a route keeps beside its parts, so that a step reads it without a choice or a sum.
 
 ghost use Rattle.std.specs.Prelude.{◌<◌, length, slice_index, EachIndex};
-ghost use Rattle.psi_route.specs.Flat.{AreRooms, IsServer};
+ghost use Rattle.psi_route.specs.ServerKept.{AreRooms, IsServer};
 
 use crate::parts::Source;
 use psi_state::{Queues, State};

@@ -5,7 +5,7 @@ ghost use Rattle.psi_state.specs.State.{AreCapacities};
 ghost use Rattle.psi_route.specs.Routing.{routed, upset_of, weight};
 ghost use Rattle.psi_route.specs.Refusals.{refusal_of};
 ghost use Rattle.psi_route.specs.Accepted.{shape, IsSource, IsRouteShape};
-ghost use Rattle.psi_route.specs.Flat.{AreRooms, IsServer};
+ghost use Rattle.psi_route.specs.ServerKept.{AreRooms, IsServer};
 
 use crate::flat::{Server, rooms_of};
 use crate::judging::{fit_tables, is_self_target, is_size_off};

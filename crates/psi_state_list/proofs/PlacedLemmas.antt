@@ -12,7 +12,7 @@ use Rattle.psi_state_list.specs.declared.line_list.Line.{Line}
 use Rattle.psi_state_list.specs.declared.line_list.Place.{Place}
 use Rattle.psi_state_list.specs.declared.line_list.Place.TheVariants as place
 use Rattle.psi_state_list.specs.declared.line_list.Slot.{Slot}
-use Rattle.psi_state_list.specs.Placed.{nothing, kept_of, line_of, IsInside, IsPlaced}
+use Rattle.psi_state_list.specs.LinesKept.{nothing, kept_of, line_of, IsInside, IsPlaced}
 
 -- the box at a place, where it is the last one, and where it is put behind the others
 pub last_place : (boxes : List Corners) (i : ℕ) (x y : Corners) → i < length boxes → x ≡ get_or boxes i x → x ≡ y → slice_get boxes i ≡ Some y

@@ -1,3 +1,3 @@
 -- The definitions of this crate.
 pub mod Rows
-pub mod Placed
+pub mod LinesKept

@@ -2,7 +2,7 @@
 
 ghost use Rattle.std.specs.Prelude.{◌≡◌, ◌∷◌, [], ◌++◌, ◌<◌, length, take, option_map, Some, IfOk, OnOk, OnErr};
 ghost use Rattle.std.specs.List.{slice_get};
-ghost use Rattle.psi_state_list.specs.Placed.{line_of, owned, IsPlaced};
+ghost use Rattle.psi_state_list.specs.LinesKept.{line_of, owned, IsPlaced};
 
 use crate::room::make_room;
 use psi_state::{Bounds, Step};
@@ -77,7 +77,7 @@ impl Model for LineList {
     ghost use Rattle.std.specs.Prelude.{List, map};
     ghost use Rattle.std.specs.List.{All};
     ghost use Rattle.psi_state_list.specs.declared.line_list.Line.{Line as Told};
-    ghost use Rattle.psi_state_list.specs.Placed.{line_of, IsPlaced};
+    ghost use Rattle.psi_state_list.specs.LinesKept.{line_of, IsPlaced};
 
     ghost Value = { List Told };
 

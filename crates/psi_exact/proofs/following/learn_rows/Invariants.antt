@@ -1,7 +1,7 @@
 -- Invariants of the loops of `learn_rows`.
 use Rattle.std.proofs.Common.{◌≡◌, ◌*◌, ◌/◌, length, map}
 use Rattle.psi_state.specs.State.{all_states}
-use Rattle.psi_exact.specs.Moves.{IsMoves, AreLearned}
+use Rattle.psi_exact.specs.ImagesKept.{IsMoves, AreLearned}
 use Rattle.psi_exact.proofs.following.learn_rows.Given as goal
 
 -- the events so far are known

@@ -6,7 +6,7 @@ use Rattle.psi_event.specs.Law.{IsClosed}
 use Rattle.psi_rate.specs.Rates.{event_of}
 use Rattle.psi_rate.specs.Composition.{picked}
 use Rattle.psi_rate.proofs.FunctionsLemmas.{functions-closed}
-use Rattle.psi_exact.specs.Moves.{IsMoves, HasMove, AreMovesOf}
+use Rattle.psi_exact.specs.ImagesKept.{IsMoves, HasMove, AreMovesOf}
 use Rattle.psi_exact.proofs.SurveysLemmas.{picked-event, event-caps, before-event, before-none}
 use Rattle.psi_exact.proofs.following.put_before.Goals as goal
 

@@ -1,7 +1,7 @@
 -- Answers in the proof of `place_rows`.
 use Rattle.std.proofs.Common.{◌≡◌, ℕ, ◌+◌, ◌*◌, List, length, refl, ap, sym, ◌∙◌, subst, arith}
 use Rattle.std.proofs.lemmas.List.{length_push}
-use Rattle.psi_exact.specs.Moves.{IsRow, ArePlaced, IsPrefix}
+use Rattle.psi_exact.specs.ImagesKept.{IsRow, ArePlaced, IsPrefix}
 use Rattle.psi_exact.proofs.MovesLemmas.{block-within, prefix-itself, prefix-through, prefix-push, placed-next}
 use Rattle.psi_exact.proofs.moves.place_rows.Goals as goal
 

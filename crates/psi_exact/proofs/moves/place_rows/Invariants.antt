@@ -1,7 +1,7 @@
 -- Invariants of the loops of `place_rows`.
 use Rattle.std.proofs.Common.{◌≡◌, ◌+◌, ◌*◌, ◌≤◌, length, vec_capacity}
 use Rattle.psi_exact.specs.Shifts.{AreCovered}
-use Rattle.psi_exact.specs.Moves.{ArePlaced, IsPrefix}
+use Rattle.psi_exact.specs.ImagesKept.{ArePlaced, IsPrefix}
 use Rattle.psi_exact.proofs.moves.place_rows.Given as goal
 
 -- the rows of the blocks so far are placed

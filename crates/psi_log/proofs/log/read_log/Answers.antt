@@ -1,6 +1,6 @@
 -- Answers in the proof of `read_log`.
 use Rattle.std.proofs.Common.{Ok, Err}
-use Rattle.psi_log.specs.Parts.{certificate_of}
+use Rattle.psi_log.specs.PartsViews.{certificate_of}
 use Rattle.psi_log.proofs.ReadLemmas.{read_found, read_only}
 use Rattle.psi_log.proofs.log.read_log.Goals as goal
 

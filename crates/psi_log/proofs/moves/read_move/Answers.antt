@@ -5,7 +5,7 @@ use Rattle.std.proofs.lemmas.List.{length-set}
 use Rattle.psi_state.specs.State.{Corners}
 use Rattle.psi_log.specs.Words.{pieces_of}
 use Rattle.psi_log.specs.Regions.{read_change}
-use Rattle.psi_log.specs.Changed.{change}
+use Rattle.psi_log.specs.ChangesViews.{change}
 use Rattle.psi_log.proofs.TurnLemmas.{shaped_rest, turn_refused}
 use Rattle.psi_log.proofs.MovedLemmas.{moved_more, moved_stop, read_none, read_turn, read_ends, move_read, move_fails, move_refused}
 use Rattle.psi_log.proofs.moves.read_move.Goals as goal

@@ -5,7 +5,7 @@ use Rattle.std.specs.List.{All}
 use Rattle.std.proofs.lemmas.List.Elements.{All-push}
 use Rattle.psi_state.specs.State.{Corners}
 use Rattle.psi_log.specs.Refusal.{IsLogError}
-use Rattle.psi_log.specs.Lines.{entry_of, HasRegion}
+use Rattle.psi_log.specs.LinesViews.{entry_of, HasRegion}
 use Rattle.psi_log.specs.Scanned.{next_step}
 use Rattle.psi_state_list.specs.declared.line_list.Line.{Line}
 use Rattle.psi_log.proofs.StepLemmas.{regions_kept, next_pushed, next_refused, steps_end, states_kept}

@@ -1,7 +1,7 @@
 use Rattle.std.proofs.Common.{ap, ◌∙◌, arith}
 use Rattle.psi_packed.specs.Views.{lows, highs}
 use Rattle.psi_packed.specs.declared.pairs.Pairs.{Pairs}
-use Rattle.psi_packed_set.specs.Halves.{words_of_first}
+use Rattle.psi_packed_set.specs.HalvesKept.{words_of_first}
 use Rattle.psi_packed_set.proofs.HalvingLemmas.{gather-more}
 use Rattle.psi_packed_set.proofs.gathering.gather.Goals as goal
 

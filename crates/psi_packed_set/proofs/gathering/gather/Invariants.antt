@@ -1,6 +1,6 @@
 use Rattle.std.proofs.Common.{◌≡◌, ◌*◌, ◌<◌, ◌≤◌, length, take, slice_index, EachIndex}
 use Rattle.psi_state.specs.Ascending.{HaveSame}
-use Rattle.psi_packed_set.specs.Halves.{halves, words_of_first}
+use Rattle.psi_packed_set.specs.HalvesKept.{halves, words_of_first}
 use Rattle.psi_packed_set.proofs.gathering.gather.Given as goal
 
 abbrev pub invariant-loop-pair : goal.invariant-loop-pair

@@ -1,5 +1,5 @@
 use Rattle.std.proofs.Common.{◌≡◌, ◌*◌, length, take}
-use Rattle.psi_packed_set.specs.Halves.{halves, words_of_first}
+use Rattle.psi_packed_set.specs.HalvesKept.{halves, words_of_first}
 use Rattle.psi_packed_set.proofs.gathering.pair_whole.Given as goal
 
 abbrev pub invariant-loop-at : goal.invariant-loop-at

@@ -2,7 +2,7 @@ use Rattle.std.proofs.Common.{◌≡◌, ◌+◌, ◌++◌, ℕ, List, length, m
 use Rattle.psi_state.specs.State.{IsBelow, box}
 use Rattle.psi_state.specs.Members.{In}
 use Rattle.psi_packed.specs.Packed.{packed}
-use Rattle.psi_packed_set.specs.Halves.{words_of_first}
+use Rattle.psi_packed_set.specs.HalvesKept.{words_of_first}
 use Rattle.psi_packed_set.proofs.moving.pack_all.Given as goal
 
 -- the states so far, packed, and those still to come

@@ -5,7 +5,7 @@ use Rattle.psi_state.specs.Members.{In}
 use Rattle.psi_state.proofs.BoxesLemmas.{In-of_box, below-through}
 use Rattle.psi_log_text.specs.Log.{in_set}
 use Rattle.psi_replay.specs.Verdict.{covers}
-use Rattle.psi_replay.specs.Seen.{seen}
+use Rattle.psi_replay.specs.RegionsViews.{seen}
 use Rattle.psi_replay.proofs.covering.box_covers_each.Goals as goal
 
 pub loop-x-init : goal.loop-x-init

@@ -4,7 +4,7 @@ use Rattle.psi_state.specs.State.{IsBelow}
 use Rattle.psi_state.specs.Members.{In}
 use Rattle.psi_log_text.specs.Log.{in_box, in_set}
 use Rattle.psi_replay.specs.Verdict.{covers}
-use Rattle.psi_replay.specs.Seen.{seen}
+use Rattle.psi_replay.specs.RegionsViews.{seen}
 use Rattle.psi_replay.proofs.covering.box_covers_each.Given as goal
 
 -- the images of the states so far are there, and all states that are still to come are within the capacities

@@ -4,7 +4,7 @@ use Rattle.std.proofs.Common.{ap, ◌∙◌, refl}
 use Rattle.psi_rate.specs.Rates.{event_of}
 use Rattle.psi_rate.specs.Composition.{picked, system_functions}
 use Rattle.psi_replay.specs.Verdict.{is_within, covers, event_numbers}
-use Rattle.psi_replay.specs.Seen.{seen}
+use Rattle.psi_replay.specs.RegionsViews.{seen}
 use Rattle.psi_replay.proofs.JudgingLemmas.{step_judged, picked_covers}
 use Rattle.psi_replay.proofs.judging.judge_step.Goals as goal
 

@@ -6,7 +6,7 @@ use Rattle.psi_rate.specs.Composition.{system_functions}
 use Rattle.psi_log_text.specs.Log.{IsRegion}
 use Rattle.psi_log_text.specs.declared.header.Header.{Header}
 use Rattle.psi_replay.specs.Verdict.{judge_step, event_numbers}
-use Rattle.psi_replay.specs.Seen.{seen}
+use Rattle.psi_replay.specs.RegionsViews.{seen}
 use Rattle.psi_replay.proofs.JudgingLemmas.{entry_is, judge_more, judge_fails, judge_over}
 use Rattle.psi_replay.proofs.judging.judge_steps.Goals as goal
 

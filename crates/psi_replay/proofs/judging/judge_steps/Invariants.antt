@@ -3,7 +3,7 @@ use Rattle.std.specs.Prelude.{◌≡◌, ◌+◌, ◌-◌, length, drop, true}
 use Rattle.psi_rate.specs.Composition.{system_functions}
 use Rattle.psi_log_text.specs.Log.{IsRegion}
 use Rattle.psi_replay.specs.Verdict.{is_within, judge_steps, event_numbers}
-use Rattle.psi_replay.specs.Seen.{seen}
+use Rattle.psi_replay.specs.RegionsViews.{seen}
 use Rattle.psi_replay.proofs.judging.judge_steps.Given as goal
 
 -- what is left of the lines is judged as all of them are

@@ -1,6 +1,6 @@
 -- Answers in the proof of `Arcs::has`.
 use Rattle.std.proofs.Common.{ap, sym, ◌∙◌, arith}
-use Rattle.psi_arcs.specs.Rows.{sums_at}
+use Rattle.psi_arcs.specs.RowsKept.{sums_at}
 use Rattle.psi_arcs.proofs.RowsLemmas.{seen-levels, seen-total, seen-row, read-row}
 use Rattle.psi_arcs.proofs.arcs.Arcs.has.Goals as goal
 

@@ -1,6 +1,6 @@
 -- Answers in the proof of `Arcs::row`.
 use Rattle.std.proofs.Common.{ap, ◌∙◌, arith}
-use Rattle.psi_arcs.specs.Rows.{sums_at}
+use Rattle.psi_arcs.specs.RowsKept.{sums_at}
 use Rattle.psi_arcs.proofs.RowsLemmas.{seen-levels, seen-total, seen-row, seen-range, read-row}
 use Rattle.psi_arcs.proofs.arcs.Arcs.row.Goals as goal
 

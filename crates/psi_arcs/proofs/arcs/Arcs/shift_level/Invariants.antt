@@ -1,7 +1,7 @@
 -- Invariants of the loops of `Arcs::shift_level`.
 use Rattle.std.proofs.Common.{◌≡◌}
 use Rattle.psi_arcs.specs.Held.{Listed}
-use Rattle.psi_arcs.specs.Marking.{Gives}
+use Rattle.psi_arcs.specs.MarksKept.{Gives}
 use Rattle.psi_arcs.proofs.PuttingLemmas.{IsPut}
 use Rattle.psi_arcs.proofs.arcs.Arcs.shift_level.Given as goal
 

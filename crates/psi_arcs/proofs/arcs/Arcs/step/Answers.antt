@@ -3,7 +3,7 @@ use Rattle.std.proofs.Common.{min, max, inl, inr, ◌∙◌, sym, subst, arith}
 use Rattle.std.proofs.lemmas.Bool.{cases_lt}
 use Rattle.psi_arcs.specs.Held.{Listed}
 use Rattle.psi_arcs.specs.Joining.{IsShiftable, IsChanging, IsShort, IsFull, Joined}
-use Rattle.psi_arcs.specs.Marking.{TellsUseful}
+use Rattle.psi_arcs.specs.MarksKept.{TellsUseful}
 use Rattle.psi_arcs.specs.declared.marks.Marks.{Marks}
 use Rattle.psi_arcs.proofs.MarkedLemmas.{useful-shiftable}
 use Rattle.psi_arcs.proofs.PuttingLemmas.{done-more, done-next, iff-trans, gives-same, gives-joined, outside-is, outside-joined}

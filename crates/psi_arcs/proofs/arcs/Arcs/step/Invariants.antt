@@ -2,7 +2,7 @@
 use Rattle.std.proofs.Common.{◌≡◌, min, max}
 use Rattle.psi_arcs.specs.Held.{Listed}
 use Rattle.psi_arcs.specs.Joining.{IsChanging, IsShort, IsFull, Joined}
-use Rattle.psi_arcs.specs.Marking.{TellsUseful}
+use Rattle.psi_arcs.specs.MarksKept.{TellsUseful}
 use Rattle.psi_arcs.proofs.PuttingLemmas.{AreDone}
 use Rattle.psi_arcs.proofs.arcs.Arcs.step.Given as goal
 

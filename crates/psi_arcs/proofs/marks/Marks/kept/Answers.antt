@@ -3,7 +3,7 @@ use Rattle.std.proofs.Common.{◌≡◌, ◌+◌, suc, true, ap, sym, ◌∙◌,
 use Rattle.psi_arcs.specs.declared.sums.Sums.{Sums}
 use Rattle.psi_arcs.specs.declared.windows.Window.{Window}
 use Rattle.psi_arcs.specs.Sums.{has}
-use Rattle.psi_arcs.specs.Rows.{sums_at}
+use Rattle.psi_arcs.specs.RowsKept.{sums_at}
 use Rattle.psi_arcs.specs.Windows.{IsWithin}
 use Rattle.psi_arcs.proofs.RowsLemmas.{read-row}
 use Rattle.psi_arcs.proofs.marks.Marks.kept.Goals as goal

@@ -2,7 +2,7 @@
 use Rattle.std.proofs.Common.{max, subst, arith}
 use Rattle.psi_arcs.specs.Held.{Listed}
 use Rattle.psi_arcs.specs.Joining.{IsChanging, IsShort, IsFull}
-use Rattle.psi_arcs.specs.Marking.{TellsUseful}
+use Rattle.psi_arcs.specs.MarksKept.{TellsUseful}
 use Rattle.psi_arcs.proofs.MarkedLemmas.{whole-before, whole-after, tells-useful}
 use Rattle.psi_arcs.proofs.marks.Reach.mark.Goals as goal
 

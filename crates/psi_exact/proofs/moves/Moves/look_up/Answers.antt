@@ -3,7 +3,7 @@ use Rattle.std.proofs.Common.{◌≡◌, ℕ, ◌+◌, ◌*◌, ◌/◌, ◌<◌
 use Rattle.std.proofs.lemmas.List.{get_or_default}
 use Rattle.psi_exact.specs.declared.shifts.Shifts.{Shifts}
 use Rattle.psi_exact.specs.Shifts.{AreCovering, shifts_at}
-use Rattle.psi_exact.specs.Moves.{start_at}
+use Rattle.psi_exact.specs.ImagesKept.{start_at}
 use Rattle.psi_exact.proofs.MovesLemmas.{block-within, moved-at, looked-next}
 use Rattle.psi_exact.proofs.moves.Moves.look_up.Goals as goal
 

@@ -1,6 +1,6 @@
 -- Invariants of the loops of `Moves::look_up`.
 use Rattle.std.proofs.Common.{◌≡◌, ℕ, ◌*◌, ◌+◌, ◌<◌, ◌≤◌, slice_index}
-use Rattle.psi_exact.specs.Moves.{moved}
+use Rattle.psi_exact.specs.ImagesKept.{moved}
 use Rattle.psi_exact.proofs.moves.Moves.look_up.Given as goal
 
 -- the blocks so far are looked up

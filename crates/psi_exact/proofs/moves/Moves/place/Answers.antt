@@ -1,7 +1,7 @@
 -- Answers in the proof of `Moves::place`.
 use Rattle.std.proofs.Common.{◌≡◌, ◌≤◌, ◌/◌, ℕ, List, length, refl, ap, sym, ◌∙◌, subst, arith}
 use Rattle.std.proofs.lemmas.List.{with_items_is}
-use Rattle.psi_exact.specs.Moves.{ArePlaced}
+use Rattle.psi_exact.specs.ImagesKept.{ArePlaced}
 use Rattle.psi_exact.proofs.MovesLemmas.{moves-each}
 use Rattle.psi_exact.proofs.moves.Moves.place.Goals as goal
 

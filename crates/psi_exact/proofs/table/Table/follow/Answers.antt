@@ -4,8 +4,8 @@ use Rattle.std.proofs.lemmas.List.{with_items_is}
 use Rattle.psi_state.specs.State.{all_states}
 use Rattle.psi_event.specs.Law.{IsClosed}
 use Rattle.psi_exact.specs.Mapping.{Mapped, map_of, sends}
-use Rattle.psi_exact.specs.Table.{table_of, AreRanks}
-use Rattle.psi_exact.specs.Moves.{IsMoves, HasMove, AreMovesOf, moved}
+use Rattle.psi_exact.specs.TableKept.{table_of, AreRanks}
+use Rattle.psi_exact.specs.ImagesKept.{IsMoves, HasMove, AreMovesOf, moved}
 use Rattle.psi_exact.proofs.MovesLemmas.{moved-small, moves-older}
 use Rattle.psi_exact.proofs.table.Table.follow.Goals as goal
 

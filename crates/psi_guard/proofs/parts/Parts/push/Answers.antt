@@ -3,7 +3,7 @@ use Rattle.std.specs.Prelude.{◌≡◌, ◌<◌, length}
 use Rattle.std.proofs.Common.{ap, sym, ◌∙◌, arith}
 use Rattle.std.proofs.lemmas.List.{length-set, length-take-le}
 use Rattle.psi_guard.specs.declared.parts.Part.{Part}
-use Rattle.psi_guard.specs.Inverse.{no_part}
+use Rattle.psi_guard.specs.PartsKept.{no_part}
 use Rattle.psi_guard.proofs.ArraysLemmas.{drop-push}
 use Rattle.psi_guard.proofs.parts.Parts.push.Goals as goal
 

@@ -1,7 +1,7 @@
 -- Answers in the proof of `Board::of_route`.
 use Rattle.std.proofs.Common.{◌≡◌, length, Option, None, IfSome, sym, subst, ◌∙◌, arith}
 use Rattle.psi_route.specs.Route.{shape_of}
-use Rattle.psi_keyed.specs.Rows.{AreRowsOf}
+use Rattle.psi_keyed.specs.RowsKept.{AreRowsOf}
 use Rattle.psi_keyed.specs.declared.filling.Rows.{Rows}
 use Rattle.psi_keyed.proofs.RoutesLemmas.{board-for, none-from}
 use Rattle.psi_keyed.proofs.board.Board.of_route.Goals as goal

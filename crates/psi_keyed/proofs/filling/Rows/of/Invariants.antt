@@ -1,7 +1,7 @@
 -- Invariants of the loops of `Rows::of`.
 use Rattle.std.proofs.Common.{◌≡◌, length}
 use Rattle.psi_route.specs.Route.{shape_of}
-use Rattle.psi_keyed.specs.Rows.{AreRowsOf}
+use Rattle.psi_keyed.specs.RowsKept.{AreRowsOf}
 use Rattle.psi_keyed.proofs.filling.Rows.of.Given as goal
 
 abbrev pub invariant-loop-place : goal.invariant-loop-place

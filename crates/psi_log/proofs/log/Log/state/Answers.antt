@@ -3,9 +3,9 @@ use Rattle.std.specs.Prelude.{◌≡◌, ◌+◌, ◌≤◌, Some, length, take,
 use Rattle.std.proofs.Common.{◌∙◌, ap, sym, subst}
 use Rattle.psi_log_text.specs.Log.{in_set, Certificate}
 use Rattle.psi_log.specs.Told.{region_at}
-use Rattle.psi_log.specs.Kept.{region_of, IsThere}
+use Rattle.psi_log.specs.RegionsViews.{region_of, IsThere}
 use Rattle.psi_state_list.specs.declared.line_list.Borrowed.{Borrowed}
-use Rattle.psi_state_list.specs.Placed.{owned}
+use Rattle.psi_state_list.specs.LinesKept.{owned}
 use Rattle.psi_log.proofs.ToldLemmas.{set_state}
 use Rattle.psi_log.proofs.log.Log.state.Goals as goal
 

@@ -4,9 +4,9 @@ use Rattle.std.proofs.Common.{◌∙◌, ap, sym, subst}
 use Rattle.psi_state.specs.State.{IsBelow}
 use Rattle.psi_log_text.specs.Log.{in_set, Certificate}
 use Rattle.psi_log.specs.Told.{region_at}
-use Rattle.psi_log.specs.Kept.{region_of, IsThere}
+use Rattle.psi_log.specs.RegionsViews.{region_of, IsThere}
 use Rattle.psi_state_list.specs.declared.line_list.Borrowed.{Borrowed}
-use Rattle.psi_state_list.specs.Placed.{owned}
+use Rattle.psi_state_list.specs.LinesKept.{owned}
 use Rattle.psi_log.proofs.ToldLemmas.{set_leq}
 use Rattle.psi_log.proofs.log.Log.state_leq.Goals as goal
 

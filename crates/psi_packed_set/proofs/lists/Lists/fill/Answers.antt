@@ -7,7 +7,7 @@ use Rattle.psi_state.proofs.BoxesLemmas.{In-low, In-of_box, below-through}
 use Rattle.psi_packed.specs.Packed.{packed}
 use Rattle.psi_packed.specs.declared.layout.Packed.{Packed}
 use Rattle.psi_packed.specs.declared.pairs.Pairs.{Pairs}
-use Rattle.psi_packed_set.specs.Halves.{halves, words_of_first}
+use Rattle.psi_packed_set.specs.HalvesKept.{halves, words_of_first}
 use Rattle.psi_packed_set.proofs.HalvingLemmas.{same-again, some-members}
 use Rattle.psi_packed_set.proofs.lists.Lists.fill.Goals as goal
 

@@ -3,7 +3,7 @@ use Rattle.std.proofs.lemmas.List.{with_items_is}
 use Rattle.std.specs.Vec.{with_items}
 use Rattle.psi_packed.specs.declared.pairs.Pairs.{Pairs}
 use Rattle.psi_packed_set.specs.Room.{held}
-use Rattle.psi_packed_set.specs.Holding.{SetFollows}
+use Rattle.psi_packed_set.specs.HoldingKept.{SetFollows}
 use Rattle.psi_packed_set.proofs.FollowingLemmas.{set-rest, follow-end}
 use Rattle.psi_packed_set.proofs.lists.Lists.follow.Goals as goal
 

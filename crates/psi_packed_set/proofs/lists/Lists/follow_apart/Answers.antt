@@ -1,7 +1,7 @@
 use Rattle.std.proofs.Common.{◌-◌, [], ◌∷◌, length, take, drop, slice_index, refl, ◌∙◌, arith}
 use Rattle.std.proofs.Math.Seq.{drop-length}
 use Rattle.psi_packed_set.specs.Room.{held}
-use Rattle.psi_packed_set.specs.Holding.{SetFollows}
+use Rattle.psi_packed_set.specs.HoldingKept.{SetFollows}
 use Rattle.psi_packed_set.proofs.HalvingLemmas.{same-itself}
 use Rattle.psi_packed_set.proofs.FollowingLemmas.{each-from_all, set-each, set-none, set-same, set-more}
 use Rattle.psi_packed_set.proofs.lists.Lists.follow_apart.Goals as goal

@@ -1,6 +1,6 @@
 use Rattle.std.proofs.Common.{◌≡◌, ◌≤◌, length, drop}
 use Rattle.psi_packed_set.specs.Room.{held, AreLists}
-use Rattle.psi_packed_set.specs.Holding.{SetFollows}
+use Rattle.psi_packed_set.specs.HoldingKept.{SetFollows}
 use Rattle.psi_packed_set.proofs.lists.Lists.follow_apart.Given as goal
 
 -- the words are those that the numbers behind this place make of the words of before

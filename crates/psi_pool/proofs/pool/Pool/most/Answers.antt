@@ -3,7 +3,7 @@ use Rattle.std.proofs.Common.{◌≡◌, ap, subst, length, arith}
 use Rattle.psi_state.specs.Ascending.{IsRising}
 use Rattle.psi_state.proofs.AscendingLemmas.{ascending-rising}
 use Rattle.psi_pool.specs.Pooled.{Pooled}
-use Rattle.psi_pool.specs.Tables.{held}
+use Rattle.psi_pool.specs.TablesKept.{held}
 use Rattle.psi_pool.proofs.KeepingLemmas.{table-short}
 use Rattle.psi_pool.proofs.pool.Pool.most.Goals as goal
 

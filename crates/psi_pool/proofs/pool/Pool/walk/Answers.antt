@@ -3,7 +3,7 @@ use Rattle.std.proofs.Common.{◌≡◌, List, ℕ, ap, ◌∙◌, refl}
 use Rattle.psi_state.specs.Sets.{ascending}
 use Rattle.psi_state.proofs.AscendingLemmas.{ascending-members}
 use Rattle.psi_pool.specs.Pooled.{Pooled}
-use Rattle.psi_pool.specs.Tables.{held}
+use Rattle.psi_pool.specs.TablesKept.{held}
 use Rattle.psi_pool.proofs.pool.Pool.walk.Goals as goal
 
 seen_as : ℕ → List (List ℕ) → Pooled

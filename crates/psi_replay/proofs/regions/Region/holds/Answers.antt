@@ -1,7 +1,7 @@
 -- Answers in the proof of `Region::holds`.
 use Rattle.std.proofs.Common.{ap, sym, ◌∙◌}
 use Rattle.psi_replay.specs.Verdict.{states_of, has}
-use Rattle.psi_replay.specs.Seen.{seen}
+use Rattle.psi_replay.specs.RegionsViews.{seen}
 use Rattle.psi_replay.specs.declared.regions.Region.{Region as Shown}
 use Rattle.psi_replay.proofs.RegionLemmas.{box_holds}
 use Rattle.psi_replay.proofs.regions.Region.holds.Goals as goal

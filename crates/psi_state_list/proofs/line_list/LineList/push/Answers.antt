@@ -3,7 +3,7 @@ use Rattle.std.proofs.Common.{◌∙◌, ap, ◌++◌, [], ◌∷◌, List, map,
 use Rattle.std.proofs.lemmas.Grind.{common_steps}
 use Rattle.psi_state_list.specs.declared.line_list.Line.{Line}
 use Rattle.psi_state_list.specs.declared.line_list.Slot.{Slot}
-use Rattle.psi_state_list.specs.Placed.{line_of}
+use Rattle.psi_state_list.specs.LinesKept.{line_of}
 use Rattle.psi_state_list.proofs.PlacedLemmas.{lines_kept, placed_more, lines_more}
 use Rattle.psi_state_list.proofs.line_list.LineList.push.Goals as goal
 

@@ -3,7 +3,7 @@ use Rattle.std.specs.Prelude.{◌≡◌, ◌≢◌, ℕ, ◌<◌, ◌≤◌, Lis
 use Rattle.psi_state.specs.Members.{In}
 use Rattle.psi_state.specs.Ascending.{IsDistinct, HaveSame}
 use Rattle.psi_pool.specs.declared.nodes.Node.{Node}
-use Rattle.psi_pool.specs.Buckets.{bucket}
+use Rattle.psi_pool.specs.BucketsKept.{bucket}
 
 -- the node at a place, and an empty one past the last
 abbrev pub node_at : List Node → ℕ → Node

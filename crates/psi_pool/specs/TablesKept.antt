@@ -1,7 +1,7 @@
 -- What the nodes of a set and their buckets keep, and what a pool keeps.
 use Rattle.std.specs.Prelude.{◌≡◌, ℕ, ◌+◌, ◌*◌, ◌≤◌, List, IsTrue, length}
 use Rattle.psi_pool.specs.declared.table.Table.{Table}
-use Rattle.psi_pool.specs.Nodes.{states, AreLinked}
+use Rattle.psi_pool.specs.NodesKept.{states, AreLinked}
 
 -- the states of the nodes in use, in the order of these
 abbrev pub held : Table → List (List ℕ)

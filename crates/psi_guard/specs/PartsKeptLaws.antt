@@ -1,9 +1,9 @@
 -- Laws. A list of parts in an array is told by its front, where all behind the front is one part that says nothing.
 use Rattle.std.specs.Prelude.{◌≡◌, ℕ, ◌-◌, ◌≤◌, List, length, take, drop, replicate, ◌++◌}
-use Rattle.psi_state.specs.Inverse.{filled}
+use Rattle.psi_state.specs.ArraysKept.{filled}
 use Rattle.psi_guard.specs.declared.parts.Part.{Part}
 use Rattle.psi_guard.specs.declared.parts.Parts.TheInside.{Inside as Array}
-use Rattle.psi_guard.specs.Inverse.{no_part}
+use Rattle.psi_guard.specs.PartsKept.{no_part}
 
 abbrev array : List Part → ℕ → Array
 array items len = record { items = items; len = len }

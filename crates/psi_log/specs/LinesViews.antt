@@ -2,7 +2,7 @@
 use Rattle.std.specs.Prelude.{ℕ, List}
 use Rattle.psi_log_text.specs.Log.{Entry}
 use Rattle.psi_state_list.specs.declared.line_list.Line.{Line}
-use Rattle.psi_log.specs.Kept.{region_of, IsThere}
+use Rattle.psi_log.specs.RegionsViews.{region_of, IsThere}
 
 -- a step and the region after it
 abbrev pub entry_of : List (List ℕ) → Line → Entry

@@ -5,7 +5,7 @@ use Rattle.psi_event.specs.Law.{IsClosed}
 use Rattle.psi_exact.specs.declared.moves.Moves.{Moves}
 use Rattle.psi_exact.specs.Mapping.{rank_of}
 use Rattle.psi_exact.specs.Shifts.{AreCovered}
-use Rattle.psi_exact.specs.Table.{state_at}
+use Rattle.psi_exact.specs.TableKept.{state_at}
 
 -- the row from a start on is that of the ranks from the first on, modulo 2^16
 pub record IsRow (rows images : List ℕ) (start first width : ℕ) : Type 0 where
