@@ -9,23 +9,23 @@ use Rattle.psi_rate.specs.Outcomes.{IsOutcome}
 use Rattle.psi_rate.proofs.FunctionsLemmas.{function_at-keeping}
 use Rattle.psi_closed.specs.Closed.{IsOfTotal, closed_ending}
 use Rattle.psi_closed.specs.Diagram.{IsTotal}
-use Rattle.psi_closed.specs.Planned.{functions_of, AreMoves, IsClosedSample}
+use Rattle.psi_closed.specs.Planned.{closed_functions, AreMoves, IsClosedSample}
 use Rattle.psi_closed.proofs.MovesLemmas.{moved-keeps}
 use Rattle.psi_closed.proofs.DiagramLemmas.{total-some}
 use Rattle.psi_closed.proofs.RunsLemmas.{outcome-reached, outcome-decides, outcome-of}
 
 -- the functions of moves keep the states of a total
 pub moves-keep : (caps : List ℕ) (k : ℕ) (moves : List Move) (rates : List ℕ) (words : ℕ → ℕ) → AreMoves caps moves
-    → AreKeeping (IsOfTotal caps k) (functions_of caps moves rates words)
+    → AreKeeping (IsOfTotal caps k) (closed_functions caps moves rates words)
 moves-keep caps k moves rates words are =
     function_at-keeping (IsOfTotal caps k) (map (λ m. moved caps m) moves) rates words
     (All-map (λ f. Keeps (IsOfTotal caps k) f) (λ m. moved caps m) moves (λ i d small. record { each = λ x is. moved-keeps caps (slice_index_or moves i d) k x (are i d small) is }))
 
 -- the outcome of the closed runs is a sample
 pub sample-is : (caps : List ℕ) (k : ℕ) (moves : List Move) (rates : List ℕ) (words : ℕ → ℕ) (limit : ℕ) (o : Outcome) → IsTotal caps k → AreMoves caps moves
-    → IsOutcome (closed_ending caps k (functions_of caps moves rates words)) limit o → IsClosedSample caps k (functions_of caps moves rates words) limit o
+    → IsOutcome (closed_ending caps k (closed_functions caps moves rates words)) limit o → IsClosedSample caps k (closed_functions caps moves rates words) limit o
 sample-is caps k moves rates words limit o fits are least =
-    let f = functions_of caps moves rates words in
+    let f = closed_functions caps moves rates words in
     let keeps = moves-keep caps k moves rates words are in
     let some = total-some caps k fits.fits in
     record {

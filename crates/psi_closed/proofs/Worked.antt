@@ -9,7 +9,7 @@ use Rattle.psi_rate.specs.Rates.{event_of, least_power}
 use Rattle.psi_rate.specs.Doubling.{first_answer}
 use Rattle.psi_rate.specs.Outcomes.{outcome_within}
 use Rattle.psi_closed.specs.Closed.{total_states, all_arcs, held_states, arc_hull, arc_count, closed_run, closed_ending}
-use Rattle.psi_closed.specs.Planned.{functions_of}
+use Rattle.psi_closed.specs.Planned.{closed_functions}
 
 abbrev move_of : ℕ → ℕ → Move
 move_of from to = record { from = from; k = 1; to = to }
@@ -47,7 +47,7 @@ words = slice_index (2917185654 ∷ 2419978656 ∷ 3848953152 ∷ 683509331 ∷ 
 
 abbrev ending_of : ℕ → ℕ → Outcome
 ending_of total limit =
-    outcome_within (closed_ending (2 ∷ 2 ∷ []) total (functions_of (2 ∷ 2 ∷ []) (move_of 0 1 ∷ move_of 1 0 ∷ []) (1 ∷ 1 ∷ []) words)) limit
+    outcome_within (closed_ending (2 ∷ 2 ∷ []) total (closed_functions (2 ∷ 2 ∷ []) (move_of 0 1 ∷ move_of 1 0 ∷ []) (1 ∷ 1 ∷ []) words)) limit
 
 two_of_four : ending_of 2 3 ≡ Met 2 (0 ∷ 2 ∷ [])
 unfolding moved total_states all_arcs held_states closed_run outcome_within first_answer event_of least_power
@@ -65,7 +65,7 @@ empty_queues = refl
 abbrev ring : ℕ → Outcome
 ring limit =
     outcome_within (closed_ending (1 ∷ 1 ∷ 1 ∷ []) 1
-    (functions_of (1 ∷ 1 ∷ 1 ∷ []) (move_of 0 1 ∷ move_of 1 2 ∷ move_of 2 0 ∷ []) (1 ∷ 1 ∷ 1 ∷ []) words)) limit
+    (closed_functions (1 ∷ 1 ∷ 1 ∷ []) (move_of 0 1 ∷ move_of 1 2 ∷ move_of 2 0 ∷ []) (1 ∷ 1 ∷ 1 ∷ []) words)) limit
 
 ring_meets : ring 3 ≡ Met 8 (1 ∷ 0 ∷ 0 ∷ [])
 unfolding moved total_states all_arcs held_states closed_run outcome_within first_answer event_of least_power

@@ -30,12 +30,12 @@ pub record Drawn : Type 0 where
   pub words : ℕ → ℕ
 
 -- the functions of moves by the time before zero, under these words; idle changes nothing
-abbrev pub functions_of : List ℕ → List Move → List ℕ → (ℕ → ℕ) → Functions
-functions_of caps moves rates words = function_at (map (λ m. moved caps m) moves) rates words
+abbrev pub closed_functions : List ℕ → List Move → List ℕ → (ℕ → ℕ) → Functions
+closed_functions caps moves rates words = function_at (map (λ m. moved caps m) moves) rates words
 
 -- those of a network's moves
 abbrev pub network_functions : Network → (ℕ → ℕ) → Functions
-network_functions network words = functions_of network.caps network.moves network.rates words
+network_functions network words = closed_functions network.caps network.moves network.rates words
 
 -- each is a move within the capacities
 abbrev pub AreMoves : List ℕ → List Move → Type 0

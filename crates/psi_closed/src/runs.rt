@@ -5,7 +5,7 @@ ghost use Rattle.psi_state.specs.Sets.{single};
 ghost use Rattle.psi_kinds.specs.Moves.{moved};
 ghost use Rattle.psi_rate.specs.Keeping.{KeepsNumbers};
 ghost use Rattle.psi_closed.specs.Closed.{total_states, follow_closed, closed_ending};
-ghost use Rattle.psi_closed.specs.Planned.{functions_of, AreMoves};
+ghost use Rattle.psi_closed.specs.Planned.{closed_functions, AreMoves};
 
 use crate::Diagram;
 use psi_kinds::Move;
@@ -26,7 +26,7 @@ pub(crate) fn ending<P: Past>(
     requires moves { AreMoves diagram.old.caps moves.now }
     requires same_count { length wheel.now ≡ length moves.now }
     requires kept { KeepsNumbers wheel.now (P.words past.old) horizon numbers.old }
-    ensures ending { result ≡ closed_ending diagram.old.caps diagram.old.total (functions_of diagram.old.caps moves.now wheel.now (P.words past.old)) horizon }
+    ensures ending { result ≡ closed_ending diagram.old.caps diagram.old.total (closed_functions diagram.old.caps moves.now wheel.now (P.words past.old)) horizon }
     ensures kept { (most : ℕ) → KeepsNumbers wheel.now (P.words past.old) most numbers.old → KeepsNumbers wheel.now (P.words past.old) most numbers.new }
     ensures words { P.words past.new ≡ P.words past.old }
     ensures caps { diagram.new.caps ≡ diagram.old.caps }

@@ -8,11 +8,11 @@ use Rattle.std.proofs.lemmas.Option.{get_or_from_slice_get, slice_get-map}
 use Rattle.std.proofs.lemmas.List.{get_or_append_left, get_or_push, length_push}
 use Rattle.psi_state.specs.State.{IsBelow, all_states}
 use Rattle.psi_event.specs.Law.{IsClosed}
-use Rattle.psi_exact.specs.declared.moves.Moves.{Moves}
+use Rattle.psi_exact.specs.declared.moves.ImageRows.{ImageRows}
 use Rattle.psi_exact.specs.Mapping.{map_of, rank_of, sends}
 use Rattle.psi_exact.specs.TableKept.{state_at, table_of, AreRanks, AreRanksOf}
 use Rattle.psi_exact.specs.Shifts.{looked}
-use Rattle.psi_exact.specs.ImagesKept.{start_at, IsRow, ArePlaced, IsPrefix, IsLonger, IsMoves, HasMove, AreMovesOf, AreLearned, moved}
+use Rattle.psi_exact.specs.ImagesKept.{start_at, IsRow, ArePlaced, IsPrefix, IsLonger, AreImageRows, HasImages, AreImageRowsOf, AreLearned, moved}
 use Rattle.psi_exact.proofs.PlacesLemmas.{rank_of-small, state_at-below}
 use Rattle.psi_exact.proofs.TablesLemmas.{table_of-map_of, sends-table_of}
 
@@ -99,12 +99,12 @@ moves-each caps f images rows numbers width offset blocks count are whole placed
     sym (are.each (b * width + j) (omega arith)) ∙ (placed.each b small).each j less
 
 -- a row begins where it did
-start-longer : (m n : Moves) (offset b : ℕ) → IsLonger m n → offset + b < length m.numbers.items → start_at n offset b ≡ start_at m offset b
+start-longer : (m n : ImageRows) (offset b : ℕ) → IsLonger m n → offset + b < length m.numbers.items → start_at n offset b ≡ start_at m offset b
 start-longer m n offset b longer there =
     ap (λ k. k * n.width) (longer.numbers.same (offset + b) there) ∙ ap (λ w. slice_index m.numbers.items (offset + b) * w) longer.same_width
 
 -- what is learned stays where more is learned
-pub moves-longer : (caps : List ℕ) (f : List ℕ → List ℕ) (m n : Moves) (offset : ℕ) → IsLonger m n → AreMovesOf caps f m offset → AreMovesOf caps f n offset
+pub moves-longer : (caps : List ℕ) (f : List ℕ → List ℕ) (m n : ImageRows) (offset : ℕ) → IsLonger m n → AreImageRowsOf caps f m offset → AreImageRowsOf caps f n offset
 moves-longer caps f m n offset longer are =
     let blocks : n.size / n.width ≡ m.size / m.width = ap (λ k. k / n.width) longer.same_size ∙ ap (λ k. m.size / k) longer.same_width in
     let width = longer.same_width in
@@ -137,7 +137,7 @@ moves-longer caps f m n offset longer are =
     }
 
 -- the rank that a row tells is one
-pub moved-small : (caps : List ℕ) (m : Moves) (offset b j : ℕ) → IsMoves (length (all_states caps)) m → HasMove caps m offset → b < m.size / m.width → j < m.width
+pub moved-small : (caps : List ℕ) (m : ImageRows) (offset b j : ℕ) → AreImageRows (length (all_states caps)) m → HasImages caps m offset → b < m.size / m.width → j < m.width
     → moved m offset b j < length (all_states caps)
 moved-small caps m offset b j valid has small less =
     let same = valid.same in
@@ -151,8 +151,8 @@ pub record IsOlder (caps : List ℕ) (f : List ℕ → List ℕ) (ranks next : L
   pub own : AreRanks caps next
   pub map : table_of caps next ≡ map_of caps (λ x. sends (table_of caps ranks) (f x))
 
-pub moves-older : (caps : List ℕ) (f : List ℕ → List ℕ) (m : Moves) (offset : ℕ) (ranks next : List ℕ) → IsMoves (length (all_states caps)) m → IsClosed caps f
-    → AreMovesOf caps f m offset → AreRanks caps ranks → length next ≡ length (all_states caps)
+pub moves-older : (caps : List ℕ) (f : List ℕ → List ℕ) (m : ImageRows) (offset : ℕ) (ranks next : List ℕ) → AreImageRows (length (all_states caps)) m → IsClosed caps f
+    → AreImageRowsOf caps f m offset → AreRanks caps ranks → length next ≡ length (all_states caps)
     → ((b j : ℕ) → b < m.size / m.width → j < m.width → slice_index next (b * m.width + j) ≡ slice_index ranks (moved m offset b j)) → IsOlder caps f ranks next
 moves-older caps f m offset ranks next valid closed are own count looked = record {
   own = record {
@@ -176,7 +176,7 @@ moves-older caps f m offset ranks next valid closed are own count looked = recor
         ∙ ap (λ k. slice_index ranks k) (sym (are.each place.block place.own place.small place.less) ∙ ap (λ k. rank_of caps (f (state_at caps k))) (sym place.is))))
 
 -- the rank that a row tells, with its parts by other names
-pub moved-at : (m : Moves) (offset b first start j : ℕ) (rows : List ℕ) → rows ≡ m.rows.items → first ≡ b * m.width → start ≡ start_at m offset b
+pub moved-at : (m : ImageRows) (offset b first start j : ℕ) (rows : List ℕ) → rows ≡ m.rows.items → first ≡ b * m.width → start ≡ start_at m offset b
     → (first + j + slice_index rows (start + j)) % 65536 ≡ moved m offset b j
 moved-at m offset b first start j rows same is at =
     ap (λ (xs : List ℕ). (first + j + slice_index xs (start + j)) % 65536) same
@@ -184,7 +184,7 @@ moved-at m offset b first start j rows same is at =
     ∙ ap (λ k. (b * m.width + j + slice_index m.rows.items (k + j)) % 65536) at)
 
 -- one row more is looked up
-pub looked-next : (m : Moves) (offset block first start : ℕ) (rows table old new : List ℕ) → rows ≡ m.rows.items → first ≡ block * m.width
+pub looked-next : (m : ImageRows) (offset block first start : ℕ) (rows table old new : List ℕ) → rows ≡ m.rows.items → first ≡ block * m.width
     → start ≡ start_at m offset block
     → ((b j : ℕ) → b < block → j < m.width → slice_index old (b * m.width + j) ≡ slice_index table (moved m offset b j))
     → ((j : ℕ) → j < m.width → slice_index new (first + j) ≡ looked rows start table first j)
@@ -204,34 +204,34 @@ looked-next m offset block first start rows table old new same is at done each b
     ]
 
 -- the same rows, with so many known events
-abbrev pub known_as : Moves → ℕ → Moves
+abbrev pub known_as : ImageRows → ℕ → ImageRows
 known_as m n = record { size = m.size; width = m.width; known = n; rows = m.rows; shifts = m.shifts; numbers = m.numbers; images = m.images }
 
 -- what is known stays so where rows are added
-pub learned-longer : (caps : List ℕ) (functions : List (List ℕ → List ℕ)) (m n : Moves) → IsLonger m n → n.known ≡ m.known → AreLearned caps functions m → AreLearned caps functions n
+pub learned-longer : (caps : List ℕ) (functions : List (List ℕ → List ℕ)) (m n : ImageRows) → IsLonger m n → n.known ≡ m.known → AreLearned caps functions m → AreLearned caps functions n
 learned-longer caps functions m n longer same learned =
     let blocks : n.size / n.width ≡ m.size / m.width = ap (λ k. k / n.width) longer.same_size ∙ ap (λ k. m.size / k) longer.same_width in
     record {
       most = (let most = learned.most in omega arith);
-      each = λ k small. subst (λ b. AreMovesOf caps (slice_index_or functions k (λ x. x)) n (k * b)) (sym blocks)
+      each = λ k small. subst (λ b. AreImageRowsOf caps (slice_index_or functions k (λ x. x)) n (k * b)) (sym blocks)
           (moves-longer caps (slice_index_or functions k (λ x. x)) m n (k * (m.size / m.width)) longer (learned.each k (omega arith)));
     }
 
 -- and one event more is known, whose rows stand behind the others
-pub learned-next : {E : Type 0} (caps : List ℕ) (function : E → List ℕ → List ℕ) (events : List E) (e : E) (number : ℕ) (m n : Moves) → slice_get events number ≡ Some e
+pub learned-next : {E : Type 0} (caps : List ℕ) (function : E → List ℕ → List ℕ) (events : List E) (e : E) (number : ℕ) (m n : ImageRows) → slice_get events number ≡ Some e
     → IsLonger m n → m.known ≡ number → length m.numbers.items ≡ number * (m.size / m.width) → AreLearned caps (map function events) m
-    → AreMovesOf caps (function e) n (length m.numbers.items) → number < 1024 → AreLearned caps (map function events) (known_as n (number + 1))
+    → AreImageRowsOf caps (function e) n (length m.numbers.items) → number < 1024 → AreLearned caps (map function events) (known_as n (number + 1))
 learned-next {E = E} caps function events e number m n is longer known count learned are most =
     record {
       most = omega arith;
       each = λ k small. elim (cases_lt k number) [
-        | inl less ↦ subst (λ b. AreMovesOf caps (slice_index_or (map function events) k (λ x. x)) (known_as n (number + 1)) (k * b)) (sym blocks)
+        | inl less ↦ subst (λ b. AreImageRowsOf caps (slice_index_or (map function events) k (λ x. x)) (known_as n (number + 1)) (k * b)) (sym blocks)
             (moves-longer caps (slice_index_or (map function events) k (λ x. x)) m (known_as n (number + 1)) (k * (m.size / m.width)) longer_known (learned.each k (omega arith)))
         | inr past ↦ (let same : k ≡ number = omega arith in
-            subst (λ j. AreMovesOf caps (slice_index_or (map function events) j (λ x. x)) (known_as n (number + 1)) (j * (n.size / n.width))) (sym same)
-            (subst (λ b. AreMovesOf caps (slice_index_or (map function events) number (λ x. x)) (known_as n (number + 1)) (number * b)) (sym blocks)
-            (subst (λ j. AreMovesOf caps (slice_index_or (map function events) number (λ x. x)) (known_as n (number + 1)) j) count
-            (subst (λ (f : List ℕ → List ℕ). AreMovesOf caps f (known_as n (number + 1)) (length m.numbers.items)) (sym own) made))))
+            subst (λ j. AreImageRowsOf caps (slice_index_or (map function events) j (λ x. x)) (known_as n (number + 1)) (j * (n.size / n.width))) (sym same)
+            (subst (λ b. AreImageRowsOf caps (slice_index_or (map function events) number (λ x. x)) (known_as n (number + 1)) (number * b)) (sym blocks)
+            (subst (λ j. AreImageRowsOf caps (slice_index_or (map function events) number (λ x. x)) (known_as n (number + 1)) j) count
+            (subst (λ (f : List ℕ → List ℕ). AreImageRowsOf caps f (known_as n (number + 1)) (length m.numbers.items)) (sym own) made))))
       ];
     }
   where
@@ -245,5 +245,5 @@ learned-next {E = E} caps function events e number m n is longer known count lea
     own = get_or_from_slice_get (map function events) number (function e) (λ x. x)
         (slice_get-map function events number ∙ ap (λ (o : Option E). option_map function o) is)
 
-    made : AreMovesOf caps (function e) (known_as n (number + 1)) (length m.numbers.items)
+    made : AreImageRowsOf caps (function e) (known_as n (number + 1)) (length m.numbers.items)
     made = record { has = record { there = are.has.there; small = are.has.small; within = are.has.within }; each = are.each }

@@ -6,13 +6,13 @@ ghost use Rattle.psi_rate.specs.Composition.{compose, picked, system_functions};
 ghost use Rattle.psi_rate.specs.Least.{TellsLeast};
 ghost use Rattle.psi_rate.specs.Outcomes.{meeting_at};
 ghost use Rattle.psi_exact.specs.Mapping.{map_of};
-ghost use Rattle.psi_exact.specs.ImagesKept.{IsMoves, AreLearned};
+ghost use Rattle.psi_exact.specs.ImagesKept.{AreImageRows, AreLearned};
 ghost use Rattle.psi_exact.specs.Sizes.{image_sizes};
 ghost use Rattle.psi_exact.specs.Surveys.{meeting_of, meeting_within, IsMeeting, ReachesMeeting, MeetsBelow};
 
 use crate::answers::{Meeting, Survey};
 use crate::map_table::MapTable;
-use crate::moves::{Moves, wide_for};
+use crate::moves::{ImageRows, wide_for};
 use crate::sizes::Sizes;
 use crate::table::Table;
 use psi_event::EventLaw;
@@ -57,10 +57,10 @@ pub fn survey<E: EventLaw, P: Past>(
 
 // Learns the first events of the system, at most so many, as far as there is room: in wide rows, which are
 // quicker, where these have room for all of them.
-fn learn_each<E: EventLaw>(system: &System<'_, E>, moves: &mut Moves, most: u16)
+fn learn_each<E: EventLaw>(system: &System<'_, E>, moves: &mut ImageRows, most: u16)
     requires few { length (all_states system.now.caps) ≤ 65536 }
-    requires valid { IsMoves (length (all_states system.now.caps)) moves.old }
-    ensures valid { IsMoves (length (all_states system.now.caps)) moves.new }
+    requires valid { AreImageRows (length (all_states system.now.caps)) moves.old }
+    ensures valid { AreImageRows (length (all_states system.now.caps)) moves.new }
     ensures learned { AreLearned system.now.caps (map E.function system.now.events) moves.new }
 {
     let events = system.wheel().events().min(most);
@@ -72,11 +72,11 @@ fn learn_each<E: EventLaw>(system: &System<'_, E>, moves: &mut Moves, most: u16)
 
 // Learns the first events of the system, at most so many, as far as there is room, in rows of `limit`
 // states at most, where they have the least width without more.
-fn learn_rows<E: EventLaw>(system: &System<'_, E>, moves: &mut Moves, most: u16, limit: u32)
+fn learn_rows<E: EventLaw>(system: &System<'_, E>, moves: &mut ImageRows, most: u16, limit: u32)
     requires few { length (all_states system.now.caps) ≤ 65536 }
     requires limit { limit ≤ 65536 }
-    requires valid { IsMoves (length (all_states system.now.caps)) moves.old }
-    ensures valid { IsMoves (length (all_states system.now.caps)) moves.new }
+    requires valid { AreImageRows (length (all_states system.now.caps)) moves.old }
+    ensures valid { AreImageRows (length (all_states system.now.caps)) moves.new }
     ensures learned { AreLearned system.now.caps (map E.function system.now.events) moves.new }
 {
     moves.clear(&system.caps(), limit);
@@ -93,12 +93,12 @@ fn follow_all<E: EventLaw, P: Past>(
     system: &System<'_, E>,
     past: &mut P,
     table: &mut Table,
-    moves: &Moves,
+    moves: &ImageRows,
     h: u8,
 ) -> Survey
     requires same_caps { table.old.caps ≡ system.now.caps }
     requires most { h ≤ 12 }
-    requires valid { IsMoves (length (all_states system.now.caps)) moves.now }
+    requires valid { AreImageRows (length (all_states system.now.caps)) moves.now }
     requires learned { AreLearned system.now.caps (map E.function system.now.events) moves.now }
     ensures sizes { result.sizes ≡ image_sizes (system_functions E.function system.now (P.words past.old)) system.now.caps h }
     ensures least { let f = system_functions E.function system.now (P.words past.old) in
@@ -138,13 +138,13 @@ fn follow<E: EventLaw, P: Past>(
     system: &System<'_, E>,
     past: &mut P,
     table: &mut Table,
-    moves: &Moves,
+    moves: &ImageRows,
     from: u32,
     to: u32,
     found: Option<(u32, State)>,
 ) -> Option<(u32, State)>
     requires order { from ≤ to }
-    requires valid { IsMoves (length (all_states system.now.caps)) moves.now }
+    requires valid { AreImageRows (length (all_states system.now.caps)) moves.now }
     requires learned { AreLearned system.now.caps (map E.function system.now.events) moves.now }
     requires map { table.old ≡ map_of system.now.caps (compose (system_functions E.function system.now (P.words past.old)) from) }
     requires found { TellsLeast (meeting_at (system_functions E.function system.now (P.words past.old)) system.now.caps) from found }
@@ -164,12 +164,12 @@ fn step<E: EventLaw, P: Past>(
     system: &System<'_, E>,
     past: &mut P,
     table: &mut Table,
-    moves: &Moves,
+    moves: &ImageRows,
     place: u32,
     found: Option<(u32, State)>,
 ) -> Option<(u32, State)>
     requires few { place < 4294967295 }
-    requires valid { IsMoves (length (all_states system.now.caps)) moves.now }
+    requires valid { AreImageRows (length (all_states system.now.caps)) moves.now }
     requires learned { AreLearned system.now.caps (map E.function system.now.events) moves.now }
     requires map { table.old ≡ map_of system.now.caps (compose (system_functions E.function system.now (P.words past.old)) place) }
     requires found { TellsLeast (meeting_at (system_functions E.function system.now (P.words past.old)) system.now.caps) place found }
@@ -191,9 +191,9 @@ fn step<E: EventLaw, P: Past>(
 }
 
 // Puts the event of a word before the map of the table; an idle word changes nothing.
-fn put_before<E: EventLaw>(system: &System<'_, E>, word: u32, table: &mut Table, moves: &Moves)
+fn put_before<E: EventLaw>(system: &System<'_, E>, word: u32, table: &mut Table, moves: &ImageRows)
     requires same_caps { table.old.caps ≡ system.now.caps }
-    requires valid { IsMoves (length (all_states system.now.caps)) moves.now }
+    requires valid { AreImageRows (length (all_states system.now.caps)) moves.now }
     requires learned { AreLearned system.now.caps (map E.function system.now.events) moves.now }
     ensures { (f : List ℕ → List ℕ) → table.old ≡ map_of system.now.caps f
         → table.new ≡ map_of system.now.caps (λ x. f (picked (map E.function system.now.events) system.now.rates word x)) }

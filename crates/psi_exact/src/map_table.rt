@@ -4,7 +4,7 @@ ghost use Rattle.std.specs.Prelude.{◌≡◌, ◌≤◌, ℕ, List, length, IfO
 ghost use Rattle.psi_state.specs.State.{IsBelow, all_states};
 ghost use Rattle.psi_state.specs.Sets.{image, single};
 
-use crate::moves::Moves;
+use crate::moves::ImageRows;
 use crate::table::Table;
 use psi_event::EventLaw;
 use psi_state::{Bounds, State};
@@ -41,20 +41,20 @@ impl From<AllocError> for MapRefusal {
 #[derive(Drop)]
 pub struct MapTable {
     pub(crate) table: Table,
-    pub(crate) moves: Moves,
+    pub(crate) moves: ImageRows,
 }
 
 impl Model for MapTable {
     ghost use Rattle.std.specs.Prelude.{length};
     ghost use Rattle.psi_state.specs.State.{all_states};
     ghost use Rattle.psi_exact.specs.Mapping.{Mapped};
-    ghost use Rattle.psi_exact.specs.ImagesKept.{IsMoves};
+    ghost use Rattle.psi_exact.specs.ImagesKept.{AreImageRows};
 
     ghost Value = { Mapped };
 
     ghost view = { λ t. t.table };
 
-    ghost invariant = { λ t. IsMoves (length (all_states t.table.caps)) t.moves };
+    ghost invariant = { λ t. AreImageRows (length (all_states t.table.caps)) t.moves };
 }
 
 impl MapTable {
@@ -75,7 +75,7 @@ impl MapTable {
             return Err(MapRefusal::TooManyStates);
         };
         let table = Table::reserve(alloc, caps, states)?;
-        let moves = Moves::reserve(alloc, &caps, states)?;
+        let moves = ImageRows::reserve(alloc, &caps, states)?;
         Ok(MapTable { table, moves })
     }
 

@@ -3,7 +3,7 @@
 ghost use Rattle.std.specs.Prelude.{◌≡◌, ℕ, ◌+◌, ◌*◌, ◌/◌, ◌<◌, ◌≤◌, length, slice_index, vec_capacity, IfOk, IfSome, IsTrue};
 ghost use Rattle.psi_state.specs.State.{all_states};
 ghost use Rattle.psi_exact.specs.Shifts.{AreCovered};
-ghost use Rattle.psi_exact.specs.ImagesKept.{IsMoves, HasRows, AreMovesOf, ArePlaced, IsLonger, IsPrefix, moved};
+ghost use Rattle.psi_exact.specs.ImagesKept.{AreImageRows, HasRows, AreImageRowsOf, ArePlaced, IsLonger, IsPrefix, moved};
 
 use crate::ranks::{write_images, zeroed};
 use crate::rows::{follow_row, place_row};
@@ -31,7 +31,7 @@ const LEAST_WIDTH: u32 = 256;
 /// differ in the last queues only have a row. An event that changes few queues has few different rows,
 /// and each of these is kept once, with its shifts. Rows are told by their numbers.
 #[derive(Drop)]
-pub(crate) struct Moves {
+pub(crate) struct ImageRows {
     pub(crate) size: u32,
     pub(crate) width: u32,
     pub(crate) known: u16,
@@ -41,17 +41,17 @@ pub(crate) struct Moves {
     pub(crate) images: Vec<u16>,
 }
 
-impl Moves {
+impl ImageRows {
     /// The room for what events make of so many states, all of these capacities; no event is learned.
-    pub(crate) fn reserve(alloc: Global, caps: &State, size: u32) -> Result<Moves, AllocError>
+    pub(crate) fn reserve(alloc: Global, caps: &State, size: u32) -> Result<ImageRows, AllocError>
         requires some { 1 ≤ size }
         requires few { size ≤ 65536 }
-        ensures { IfOk result (λ moves. IsMoves size moves) }
+        ensures { IfOk result (λ moves. AreImageRows size moves) }
     {
         let width = fitting(width_of(caps, 0), size);
         let ranks = MOST_RANKS.min(MOST_EVENTS * size);
         let numbers = MOST_NUMBERS.min(MOST_EVENTS * (size / width));
-        Ok(Moves {
+        Ok(ImageRows {
             size,
             width,
             known: 0,
@@ -67,7 +67,7 @@ impl Moves {
     pub(crate) fn clear(&mut self, caps: &State, limit: u32)
         requires some { 1 ≤ self.old.size }
         requires limit { limit ≤ 65536 }
-        ensures kept { (count : ℕ) → IsMoves count self.old → IsMoves count self.new }
+        ensures kept { (count : ℕ) → AreImageRows count self.old → AreImageRows count self.new }
         ensures none { length self.new.numbers.items ≡ 0 }
         ensures known { self.new.known ≡ 0 }
         ensures size { self.new.size ≡ self.old.size }
@@ -82,11 +82,11 @@ impl Moves {
     /// Places the rows of one event more, if there is room for them, and tells whether there was.
     pub(crate) fn place<E: EventLaw>(&mut self, e: &E) -> bool
         requires few { length (all_states (E.capacities e.now)) ≤ 65536 }
-        requires valid { IsMoves (length (all_states (E.capacities e.now))) self.old }
-        ensures valid { IsMoves (length (all_states (E.capacities e.now))) self.new }
+        requires valid { AreImageRows (length (all_states (E.capacities e.now))) self.old }
+        ensures valid { AreImageRows (length (all_states (E.capacities e.now))) self.new }
         ensures longer { IsLonger self.old self.new }
         ensures known { self.new.known ≡ self.old.known }
-        ensures learned { IsTrue result → AreMovesOf (E.capacities e.now) (E.function e.now) self.new (length self.old.numbers.items) }
+        ensures learned { IsTrue result → AreImageRowsOf (E.capacities e.now) (E.function e.now) self.new (length self.old.numbers.items) }
         ensures count { IsTrue result → length self.new.numbers.items ≡ length self.old.numbers.items + self.old.size / self.old.width }
     {
         write_images(e, self.images.as_mut_slice());
@@ -110,7 +110,7 @@ impl Moves {
         requires few { length next.old ≤ 65536 }
         requires table { length table.now ≤ 65536 }
         requires number { number ≤ 1024 }
-        requires valid { IsMoves (length next.old) self.now }
+        requires valid { AreImageRows (length next.old) self.now }
         requires has { HasRows self.now (number * (self.now.size / self.now.width)) }
         requires small { (b j : ℕ) → b < self.now.size / self.now.width → j < self.now.width
             → moved self.now (number * (self.now.size / self.now.width)) b j < length table.now }

@@ -5,7 +5,7 @@ ghost use Rattle.psi_event.specs.Law.{IsClosed};
 ghost use Rattle.psi_state.specs.State.{IsBelow, all_states};
 ghost use Rattle.psi_state.specs.Sets.{image, single};
 
-use crate::moves::Moves;
+use crate::moves::ImageRows;
 use crate::ranks::{common, count_distinct, number, write_older, zeroed};
 use psi_event::EventLaw;
 use psi_state::{Bounds, State};
@@ -34,7 +34,7 @@ impl Model for Table {
 
 impl Table {
     ghost use Rattle.psi_exact.specs.Mapping.{map_of, sends};
-    ghost use Rattle.psi_exact.specs.ImagesKept.{IsMoves, HasMove, AreMovesOf};
+    ghost use Rattle.psi_exact.specs.ImagesKept.{AreImageRows, HasImages, AreImageRowsOf};
 
     /// The table of the map that sends each of all states, so many, to itself.
     pub(crate) fn reserve(alloc: Global, caps: State, states: u32) -> Result<Table, AllocError>
@@ -66,11 +66,11 @@ impl Table {
     }
 
     /// Puts a learned event before the map; events are counted from 0 in the order in which they were learned.
-    pub(crate) fn follow(&mut self, moves: &Moves, number: u32)
+    pub(crate) fn follow(&mut self, moves: &ImageRows, number: u32)
         requires number { number ≤ 1024 }
-        requires valid { IsMoves (length (all_states self.old.caps)) moves.now }
-        requires has { HasMove self.old.caps moves.now (number * (moves.now.size / moves.now.width)) }
-        ensures { (f : List ℕ → List ℕ) → IsClosed self.old.caps f → AreMovesOf self.old.caps f moves.now (number * (moves.now.size / moves.now.width))
+        requires valid { AreImageRows (length (all_states self.old.caps)) moves.now }
+        requires has { HasImages self.old.caps moves.now (number * (moves.now.size / moves.now.width)) }
+        ensures { (f : List ℕ → List ℕ) → IsClosed self.old.caps f → AreImageRowsOf self.old.caps f moves.now (number * (moves.now.size / moves.now.width))
             → self.new ≡ map_of self.old.caps (λ x. sends self.old (f x)) }
     {
         moves.look_up(number, self.ranks.as_slice(), self.spare.as_mut_slice());

@@ -6,7 +6,7 @@ use Rattle.std.proofs.Common.{ap, sym, ◌∙◌, subst, arith}
 use Rattle.std.proofs.lemmas.Bool.{and_parts, and_from, le-leb}
 use Rattle.std.proofs.lemmas.List.{length-map}
 use Rattle.psi_state.specs.State.{Corners}
-use Rattle.psi_log_text.specs.Log.{Region, in_box, in_set, IsBox, IsSet, IsRegion}
+use Rattle.psi_log_text.specs.Log.{LogRegion, in_box, in_set, IsBox, IsSet, IsRegion}
 use Rattle.psi_log_text.specs.Text.{numbers_text, region_words, Change, changes, change_text, move_words}
 use Rattle.psi_log.specs.Refusal.{refused, ◌>>=◌, holds_or, each}
 use Rattle.psi_log.specs.Words.{pieces_of, has_pieces}
@@ -20,7 +20,7 @@ use Rattle.psi_log.proofs.ChangedLemmas.{changed_box, changes_ordered}
 use Rattle.psi_log.proofs.RegionLemmas.{IsChange, change_found, change_again, changes_shaped, changes_lack, moved_are, words_after, IsBefore, form_found}
 
 -- a box that is read is its words
-box_given : (n queues : ℕ) (lo hi : List ℕ) (r : Region) → has_pieces queues lo ≡ true → has_pieces queues hi ≡ true → read_given n queues (given_box lo hi) ≡ Ok r
+box_given : (n queues : ℕ) (lo hi : List ℕ) (r : LogRegion) → has_pieces queues lo ≡ true → has_pieces queues hi ≡ true → read_given n queues (given_box lo hi) ≡ Ok r
     → (codes "box" ∷ lo ∷ hi ∷ [] ≡ region_words r) × IsRegion queues r
 unfolding read_given
 box_given n queues lo hi r low high h =
@@ -30,17 +30,17 @@ box_given n queues lo hi r low high h =
     let a = state_found n queues lo first.0 low first.1 in
     let b = state_found n queues hi second.0 high second.1 in
     let below = below_found first.0 second.0 (held (refused n Shape) (pointwise nat_le first.0 second.0) rule.0 rule.1) in
-    subst (λ (s : Region). (codes "box" ∷ lo ∷ hi ∷ [] ≡ region_words s) × IsRegion queues s) (ok_same (boxed first.0 second.0) r rule.2)
+    subst (λ (s : LogRegion). (codes "box" ∷ lo ∷ hi ∷ [] ≡ region_words s) × IsRegion queues s) (ok_same (boxed first.0 second.0) r rule.2)
     (three a.0 b.0, record { lo = a.1; hi = b.1; below = below })
   where
-    boxed : List ℕ → List ℕ → Region
+    boxed : List ℕ → List ℕ → LogRegion
     boxed l k = in_box (record { lo = l; hi = k })
 
     three : {a b c d : List ℕ} → a ≡ c → b ≡ d → codes "box" ∷ a ∷ b ∷ [] ≡ codes "box" ∷ c ∷ d ∷ []
     three p q = cc
 
 -- and so is a set
-set_given : (n queues : ℕ) (words : List (List ℕ)) (r : Region) → 1 ≤ length words → length words ≤ 4096 → list_all (has_pieces queues) words ≡ true
+set_given : (n queues : ℕ) (words : List (List ℕ)) (r : LogRegion) → 1 ≤ length words → length words ≤ 4096 → list_all (has_pieces queues) words ≡ true
     → read_given n queues (given_set words) ≡ Ok r → (xs : List (List ℕ)) × (r ≡ in_set xs) × (codes "set" ∷ words ≡ region_words (in_set xs)) × IsSet queues xs
 unfolding read_given
 set_given n queues words r some few shaped h =
@@ -55,7 +55,7 @@ set_given n queues words r some few shaped h =
     )
 
 -- and a box by what changed
-move_given : (n queues : ℕ) (from : Corners) (words : List (List ℕ)) (r : Region) → 1 ≤ queues → queues ≤ 32 → IsBox queues from
+move_given : (n queues : ℕ) (from : Corners) (words : List (List ℕ)) (r : LogRegion) → 1 ≤ queues → queues ≤ 32 → IsBox queues from
     → read_given n queues (given_move from words) ≡ Ok r → (to : Corners) × (r ≡ in_box to) × (codes "move" ∷ words ≡ move_words from to) × IsBox queues to
 unfolding read_given
 move_given n queues from words r some few before h =
@@ -76,7 +76,7 @@ move_given n queues from words r some few before h =
     )
 
 -- a region that is read is told by its words
-pub region_found : (n queues : ℕ) (before : Option Corners) (words : List (List ℕ)) (g : Given) (r : Region) → 1 ≤ queues → queues ≤ 32 → IsBefore queues before
+pub region_found : (n queues : ℕ) (before : Option Corners) (words : List (List ℕ)) (g : Given) (r : LogRegion) → 1 ≤ queues → queues ≤ 32 → IsBefore queues before
     → form_of n queues before words ≡ Ok g → read_given n queues g ≡ Ok r → (words ≡ words_after before r) × IsRegion queues r
 region_found n queues before words (given_box lo hi) r some few is form h =
     let found = form_found n queues before words (given_box lo hi) form in
@@ -85,7 +85,7 @@ region_found n queues before words (given_box lo hi) r some few is form h =
 region_found n queues before words (given_set states) r some few is form h =
     let found = form_found n queues before words (given_set states) form in
     let given = set_given n queues states r found.1.0 found.1.1 found.1.2 h in
-    subst (λ (s : Region). (words ≡ words_after before s) × IsRegion queues s) (sym given.1) (found.0 ∙ given.2 ∙ whole before given.0, given.3)
+    subst (λ (s : LogRegion). (words ≡ words_after before s) × IsRegion queues s) (sym given.1) (found.0 ∙ given.2 ∙ whole before given.0, given.3)
   where
     whole : (o : Option Corners) (xs : List (List ℕ)) → region_words (in_set xs) ≡ words_after o (in_set xs)
     whole None xs = refl
@@ -93,11 +93,11 @@ region_found n queues before words (given_set states) r some few is form h =
 region_found n queues before words (given_move from pieces) r some few is form h =
     let found = form_found n queues before words (given_move from pieces) form in
     let given = move_given n queues from pieces r some few (subst (λ (o : Option Corners). IsBefore queues o) found.1.0 is) h in
-    subst (λ (s : Region). (words ≡ words_after before s) × IsRegion queues s) (sym given.1)
+    subst (λ (s : LogRegion). (words ≡ words_after before s) × IsRegion queues s) (sym given.1)
     (found.0 ∙ given.2 ∙ ap (λ (o : Option Corners). words_after o (in_box given.0)) (sym found.1.0), given.3)
 
 -- what is read of a region's words
-pub record IsRead (n queues : ℕ) (before : Option Corners) (r : Region) : Type 0 where
+pub record IsRead (n queues : ℕ) (before : Option Corners) (r : LogRegion) : Type 0 where
   pub given : Given
   pub form : form_of n queues before (words_after before r) ≡ Ok given
   pub region : read_given n queues given ≡ Ok r
@@ -162,14 +162,14 @@ move_again n queues from to few before after =
     }
 
 -- the words of a region are read as it
-pub region_again : (n queues : ℕ) (before : Option Corners) (r : Region) → 1 ≤ queues → queues ≤ 32 → IsBefore queues before → IsRegion queues r → IsRead n queues before r
+pub region_again : (n queues : ℕ) (before : Option Corners) (r : LogRegion) → 1 ≤ queues → queues ≤ 32 → IsBefore queues before → IsRegion queues r → IsRead n queues before r
 region_again n queues None (in_box b) some few is region = box_again n queues b some region
 region_again n queues None (in_set xs) some few is region = set_again n queues None xs some region
 region_again n queues (Some from) (in_box to) some few is region = move_again n queues from to few is region
 region_again n queues (Some from) (in_set xs) some few is region = set_again n queues (Some from) xs some region
 
 -- and have no space or line feed
-pub region_lacks : (c queues : ℕ) (r : Region) → c < 44 → IsRegion queues r → lacks c (codes "box") ≡ true → lacks c (codes "set") ≡ true → list_all (lacks c) (region_words r) ≡ true
+pub region_lacks : (c queues : ℕ) (r : LogRegion) → c < 44 → IsRegion queues r → lacks c (codes "box") ≡ true → lacks c (codes "set") ≡ true → list_all (lacks c) (region_words r) ≡ true
 region_lacks c queues (in_box b) small is box set =
     and_from (lacks c (codes "box")) (list_all (lacks c) (numbers_text b.lo ∷ numbers_text b.hi ∷ [])) box
     (and_from (lacks c (numbers_text b.lo)) (list_all (lacks c) (numbers_text b.hi ∷ [])) (state_lacks c queues b.lo small is.lo)
@@ -177,7 +177,7 @@ region_lacks c queues (in_box b) small is box set =
 region_lacks c queues (in_set xs) small is box set =
     and_from (lacks c (codes "set")) (list_all (lacks c) (map numbers_text xs)) set (states_lack c queues xs small is.each)
 
-pub words_lack : (c queues : ℕ) (before : Option Corners) (r : Region) → c < 44 → queues ≤ 32 → IsBefore queues before → IsRegion queues r
+pub words_lack : (c queues : ℕ) (before : Option Corners) (r : LogRegion) → c < 44 → queues ≤ 32 → IsBefore queues before → IsRegion queues r
     → lacks c (codes "box") ≡ true → lacks c (codes "set") ≡ true → lacks c (codes "move") ≡ true → list_all (lacks c) (words_after before r) ≡ true
 words_lack c queues None r small few is region box set move = region_lacks c queues r small region box set
 words_lack c queues (Some from) (in_box to) small few is region box set move =

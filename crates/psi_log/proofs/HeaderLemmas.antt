@@ -8,7 +8,7 @@ use Rattle.std.proofs.lemmas.Bool.{and_parts, and_from}
 use Rattle.std.proofs.lemmas.Fmt.{decimal_digit}
 use Rattle.std.proofs.lemmas.List.{take-append-drop}
 use Rattle.psi_log_text.specs.declared.header.Header.{Header}
-use Rattle.psi_log_text.specs.Log.{Region, greatest_horizon, IsHeader, IsState, IsRegion}
+use Rattle.psi_log_text.specs.Log.{LogRegion, greatest_horizon, IsHeader, IsState, IsRegion}
 use Rattle.psi_log_text.specs.Text.{line_text, numbers_text, number_words, region_words, header_text}
 use Rattle.psi_log.specs.Refusal.{Refusal, refused, ◌>>=◌, holds_or}
 use Rattle.psi_log.specs.Words.{line_of, has_pieces, read_version}
@@ -125,7 +125,7 @@ header_again h rest is =
     flat_of a b c d e v = simp append_assoc
 
 -- the region at which the run begins
-pub begin_found : (queues : ℕ) (words : List (List ℕ)) (r : Region) → 1 ≤ queues → queues ≤ 32 → read_begin queues words ≡ Ok r
+pub begin_found : (queues : ℕ) (words : List (List ℕ)) (r : LogRegion) → 1 ≤ queues → queues ≤ 32 → read_begin queues words ≡ Ok r
     → (words ≡ codes "begin" ∷ region_words r) × IsRegion queues r
 unfolding read_begin
 begin_found queues [] r some few h = absurd cc
@@ -139,11 +139,11 @@ begin_found queues (first ∷ words) r some few h =
     two : {a b : List ℕ} {xs ys : List (List ℕ)} → a ≡ b → xs ≡ ys → a ∷ xs ≡ b ∷ ys
     two p q = cc
 
-pub begin_again : (queues : ℕ) (r : Region) → 1 ≤ queues → queues ≤ 32 → IsRegion queues r → read_begin queues (codes "begin" ∷ region_words r) ≡ Ok r
+pub begin_again : (queues : ℕ) (r : LogRegion) → 1 ≤ queues → queues ≤ 32 → IsRegion queues r → read_begin queues (codes "begin" ∷ region_words r) ≡ Ok r
 unfolding read_begin
 begin_again queues r some few is = (let read = region_again 6 queues None r some few tt is in rw (read.form, read.region) refl)
 
-pub begin_lacks : (c queues : ℕ) (r : Region) → c < 44 → queues ≤ 32 → IsRegion queues r → lacks c (codes "begin") ≡ true → lacks c (codes "box") ≡ true
+pub begin_lacks : (c queues : ℕ) (r : LogRegion) → c < 44 → queues ≤ 32 → IsRegion queues r → lacks c (codes "begin") ≡ true → lacks c (codes "box") ≡ true
     → lacks c (codes "set") ≡ true → lacks c (codes "move") ≡ true → list_all (lacks c) (codes "begin" ∷ region_words r) ≡ true
 begin_lacks c queues r small few is begin box set move =
     and_from (lacks c (codes "begin")) (list_all (lacks c) (region_words r)) begin (words_lack c queues None r small few tt is box set move)

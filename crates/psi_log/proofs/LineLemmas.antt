@@ -7,7 +7,7 @@ use Rattle.std.proofs.Common.{ap, sym, ◌∙◌, subst, arith, inl, inr, append
 use Rattle.std.proofs.lemmas.Bool.{and_from, cases_Bool}
 use Rattle.psi_state.specs.Members.{In}
 use Rattle.psi_log_text.specs.declared.header.Header.{Header}
-use Rattle.psi_log_text.specs.Log.{Region, in_box, in_set, Entry, greatest_horizon, IsHeader, IsRegion, IsEntry}
+use Rattle.psi_log_text.specs.Log.{LogRegion, in_box, in_set, Entry, greatest_horizon, IsHeader, IsRegion, IsEntry}
 use Rattle.psi_log_text.specs.Text.{line_text, number_words, next_words, step_text, entries_text}
 use Rattle.psi_log.specs.Refusal.{refused, ◌>>=◌, holds_or}
 use Rattle.psi_log.specs.Words.{line_of, words_of, number_in, read_named}
@@ -84,14 +84,14 @@ named_line_again n name least most x rest small low high spaces feeds =
     rw (words_line n (number_words name x) rest no_feeds, words_again name (decimal x ∷ []) no_spaces, named_again n name least most x small low high) refl
 
 -- the box from which a box has to be written is one of the region before
-before_is : (queues version : ℕ) (before : Region) → IsRegion queues before → IsBefore queues (box_before version before)
+before_is : (queues version : ℕ) (before : LogRegion) → IsRegion queues before → IsBefore queues (box_before version before)
 before_is queues version (in_set states) is = tt
 before_is queues version (in_box bounds) is = elim (cases_Bool (version == 2)) [
   | inl holds ↦ rw holds is
   | inr other ↦ rw other tt
 ]
 
-next_after : (version : ℕ) (before region : Region) → next_words version before region ≡ words_after (box_before version before) region
+next_after : (version : ℕ) (before region : LogRegion) → next_words version before region ≡ words_after (box_before version before) region
 next_after version (in_set before) region = refl
 next_after version (in_box from) (in_box to) = elim (cases_Bool (version == 2)) [ inl holds ↦ rw holds refl | inr other ↦ rw other refl ]
 next_after version (in_box from) (in_set states) = elim (cases_Bool (version == 2)) [ inl holds ↦ rw holds refl | inr other ↦ rw other refl ]
@@ -100,7 +100,7 @@ next_after version (in_box from) (in_set states) = elim (cases_Bool (version == 
 pub horizon_small : (version : ℕ) → greatest_horizon version ≤ 4194304
 horizon_small version = elim (cases_Bool (version == 1)) [ inl holds ↦ rw holds (omega arith) | inr other ↦ rw other (omega arith) ]
 
-step_found : (h : Header) (n : ℕ) (before : Region) (words : List (List ℕ)) (e : Entry) → IsHeader h → IsRegion h.queues before → read_step h n (box_before h.version before) words ≡ Ok e
+step_found : (h : Header) (n : ℕ) (before : LogRegion) (words : List (List ℕ)) (e : Entry) → IsHeader h → IsRegion h.queues before → read_step h n (box_before h.version before) words ≡ Ok e
     → (words ≡ codes "step" ∷ decimal e.step.number ∷ decimal e.step.event ∷ next_words h.version before e.region) × IsEntry h e
 unfolding read_step
 step_found h n before [] e is region r = absurd cc
@@ -109,14 +109,14 @@ step_found h n before (first ∷ number ∷ []) e is region r = absurd cc
 step_found h n before (first ∷ number ∷ event ∷ words) e is region r =
     let rule = bind_ok (holds_or (refused n Shape) (bytes_eq first (codes "step")))
     (λ (u : Unit {0}). form_of n h.queues (box_before h.version before) words >>= (λ (g : Given). number_in n 1 (greatest_horizon h.version) number
-    >>= (λ (t : ℕ). number_in n 0 1024 event >>= (λ (k : ℕ). read_given n h.queues g >>= (λ (after : Region). Ok (entry t k after)))))) e r in
+    >>= (λ (t : ℕ). number_in n 0 1024 event >>= (λ (k : ℕ). read_given n h.queues g >>= (λ (after : LogRegion). Ok (entry t k after)))))) e r in
     let form = bind_ok (form_of n h.queues (box_before h.version before) words)
     (λ (g : Given). number_in n 1 (greatest_horizon h.version) number
-    >>= (λ (t : ℕ). number_in n 0 1024 event >>= (λ (k : ℕ). read_given n h.queues g >>= (λ (after : Region). Ok (entry t k after))))) e rule.2 in
+    >>= (λ (t : ℕ). number_in n 0 1024 event >>= (λ (k : ℕ). read_given n h.queues g >>= (λ (after : LogRegion). Ok (entry t k after))))) e rule.2 in
     let time = bind_ok (number_in n 1 (greatest_horizon h.version) number)
-    (λ (t : ℕ). number_in n 0 1024 event >>= (λ (k : ℕ). read_given n h.queues form.0 >>= (λ (after : Region). Ok (entry t k after)))) e form.2 in
-    let kind = bind_ok (number_in n 0 1024 event) (λ (k : ℕ). read_given n h.queues form.0 >>= (λ (after : Region). Ok (entry time.0 k after))) e time.2 in
-    let given = bind_ok (read_given n h.queues form.0) (λ (after : Region). Ok (entry time.0 kind.0 after)) e kind.2 in
+    (λ (t : ℕ). number_in n 0 1024 event >>= (λ (k : ℕ). read_given n h.queues form.0 >>= (λ (after : LogRegion). Ok (entry t k after)))) e form.2 in
+    let kind = bind_ok (number_in n 0 1024 event) (λ (k : ℕ). read_given n h.queues form.0 >>= (λ (after : LogRegion). Ok (entry time.0 k after))) e time.2 in
+    let given = bind_ok (read_given n h.queues form.0) (λ (after : LogRegion). Ok (entry time.0 kind.0 after)) e kind.2 in
     let name = same_word first (codes "step") (held (refused n Shape) (bytes_eq first (codes "step")) rule.0 rule.1) in
     let most = horizon_small h.version in
     let a = number_found n 1 (greatest_horizon h.version) number time.0 (omega arith) time.1 in
@@ -126,13 +126,13 @@ step_found h n before (first ∷ number ∷ event ∷ words) e is region r =
     (ok_same (entry time.0 kind.0 given.0) e given.2)
     (four name a.0 b.0 (found.0 ∙ sym (next_after h.version before given.0)), record { least = a.1; most = a.2; event = b.2; region = found.1 })
   where
-    entry : ℕ → ℕ → Region → Entry
+    entry : ℕ → ℕ → LogRegion → Entry
     entry t k after = record { step = record { number = t; event = k }; region = after }
 
     four : {a b c x y z : List ℕ} {ws vs : List (List ℕ)} → a ≡ x → b ≡ y → c ≡ z → ws ≡ vs → a ∷ b ∷ c ∷ ws ≡ x ∷ y ∷ z ∷ vs
     four p q r s = cc
 
-step_again : (h : Header) (n : ℕ) (before : Region) (e : Entry) → IsHeader h → IsRegion h.queues before → IsEntry h e
+step_again : (h : Header) (n : ℕ) (before : LogRegion) (e : Entry) → IsHeader h → IsRegion h.queues before → IsEntry h e
     → read_step h n (box_before h.version before) (codes "step" ∷ decimal e.step.number ∷ decimal e.step.event ∷ next_words h.version before e.region) ≡ Ok e
 unfolding read_step
 step_again h n before e is region entry =
@@ -143,7 +143,7 @@ step_again h n before e is region entry =
     let kind : number_in n 0 1024 (decimal e.step.event) ≡ Ok e.step.event = number_again n 0 1024 e.step.event (omega arith) (omega arith) entry.event in
     rw (next_after h.version before e.region, read.form, time, kind, read.region) refl
 
-step_lacks : (c : ℕ) (h : Header) (before : Region) (e : Entry) → c < 44 → IsHeader h → IsRegion h.queues before → IsEntry h e
+step_lacks : (c : ℕ) (h : Header) (before : LogRegion) (e : Entry) → c < 44 → IsHeader h → IsRegion h.queues before → IsEntry h e
     → lacks c (codes "step") ≡ true → lacks c (codes "box") ≡ true → lacks c (codes "set") ≡ true → lacks c (codes "move") ≡ true
     → list_all (lacks c) (codes "step" ∷ decimal e.step.number ∷ decimal e.step.event ∷ next_words h.version before e.region) ≡ true
 step_lacks c h before e small is region entry step box set move =
@@ -158,7 +158,7 @@ step_lacks c h before e small is region entry step box set move =
     (and_from (lacks c (decimal e.step.event)) (list_all (lacks c) (next_words h.version before e.region)) (decimal_lacks c e.step.event (omega arith) (omega arith)) words))
 
 -- the lines of steps
-pub steps_found : (h : Header) (count n : ℕ) (before : Region) (text : List ℕ) (x : List Entry × List ℕ) → IsHeader h → IsRegion h.queues before
+pub steps_found : (h : Header) (count n : ℕ) (before : LogRegion) (text : List ℕ) (x : List Entry × List ℕ) → IsHeader h → IsRegion h.queues before
     → read_steps h count n (box_before h.version before) text ≡ Ok x
     → (text ≡ entries_text h.version before x.0 ++ x.1) × (length x.0 ≡ count) × ((e : Entry) → In e x.0 → IsEntry h e)
 unfolding read_steps step_text
@@ -184,7 +184,7 @@ steps_found h (suc count) n before text x is region r =
     joined : (text first rest entries after : List ℕ) → text ≡ first ++ rest → rest ≡ entries ++ after → text ≡ (first ++ entries) ++ after
     joined text first rest entries after a b = a ∙ ap (λ (t : List ℕ). first ++ t) b ∙ sym (append_assoc first entries after)
 
-pub steps_again : (h : Header) (n : ℕ) (before : Region) (es : List Entry) (rest : List ℕ) → IsHeader h → IsRegion h.queues before → ((e : Entry) → In e es → IsEntry h e)
+pub steps_again : (h : Header) (n : ℕ) (before : LogRegion) (es : List Entry) (rest : List ℕ) → IsHeader h → IsRegion h.queues before → ((e : Entry) → In e es → IsEntry h e)
     → read_steps h (length es) n (box_before h.version before) (entries_text h.version before es ++ rest) ≡ Ok (es, rest)
 unfolding read_steps step_text
 steps_again h n before [] rest is region all = refl

@@ -4,7 +4,7 @@ use Rattle.std.proofs.Common.{ap, sym, ◌∙◌, subst, arith, append_assoc, in
 use Rattle.std.proofs.lemmas.Bool.{le-leb, leb-true, eqb-true}
 use Rattle.std.proofs.lemmas.List.{append-nil, nil_from_length}
 use Rattle.psi_log_text.specs.declared.header.Header.{Header}
-use Rattle.psi_log_text.specs.Log.{Region, Entry, Certificate, IsHeader, IsLog}
+use Rattle.psi_log_text.specs.Log.{LogRegion, Entry, Certificate, IsHeader, IsLog}
 use Rattle.psi_log_text.specs.Text.{line_text, numbers_text, region_words, header_text, begin_text, entries_text, end_text, log_text, IsLogOf}
 use Rattle.psi_log.specs.Refusal.{Refusal, refused, ◌>>=◌, holds_or, Gives}
 use Rattle.psi_log.specs.declared.refusals.LogError.{LogError}
@@ -16,7 +16,7 @@ use Rattle.psi_log.proofs.WordLemmas.{bind_ok, ok_same, held}
 use Rattle.psi_log.proofs.LineLemmas.{words_found, line_of_words, words_line, words_again, steps_found, steps_again}
 use Rattle.psi_log.proofs.HeaderLemmas.{header_found, header_again, begin_found, begin_again, begin_lacks, end_found, end_again, end_lacks}
 
-abbrev made : Header → Region → List Entry → List ℕ → Certificate
+abbrev made : Header → LogRegion → List Entry → List ℕ → Certificate
 made h b es x = record { header = h; begin = b; entries = es; final = x }
 
 -- three texts behind the header's
@@ -30,10 +30,10 @@ joined text h b es e rest more last p q r s =
 after_found : (text : List ℕ) (h : Header) (rest : List ℕ) (c : Certificate) → length text ≤ 33554432 → text ≡ header_text h ++ rest → IsHeader h → after_header h rest ≡ Ok c → IsLogOf text c
 unfolding log_text begin_text end_text after_header
 after_found text h rest c few is header r =
-    let line = bind_ok (line_of 6 rest) (λ (l : List ℕ × List ℕ). read_begin h.queues (words_of l.0) >>= (λ (b : Region). read_steps h h.horizon 7 (box_before h.version b) l.1 >>= (λ (s : List Entry × List ℕ).
+    let line = bind_ok (line_of 6 rest) (λ (l : List ℕ × List ℕ). read_begin h.queues (words_of l.0) >>= (λ (b : LogRegion). read_steps h h.horizon 7 (box_before h.version b) l.1 >>= (λ (s : List Entry × List ℕ).
     line_of (7 + h.horizon) s.1 >>= (λ (m : List ℕ × List ℕ). read_end (7 + h.horizon) h.queues (words_of m.0) >>= (λ (x : List ℕ).
     holds_or (refused (8 + h.horizon) TrailingText) (length m.1 == 0) >>= (λ (u : Unit {0}). Ok (record { header = h; begin = b; entries = s.0; final = x }))))))) c r in
-    let b = bind_ok (read_begin h.queues (words_of line.0.0)) (λ (b : Region). read_steps h h.horizon 7 (box_before h.version b) line.0.1 >>= (λ (s : List Entry × List ℕ).
+    let b = bind_ok (read_begin h.queues (words_of line.0.0)) (λ (b : LogRegion). read_steps h h.horizon 7 (box_before h.version b) line.0.1 >>= (λ (s : List Entry × List ℕ).
     line_of (7 + h.horizon) s.1 >>= (λ (m : List ℕ × List ℕ). read_end (7 + h.horizon) h.queues (words_of m.0) >>= (λ (x : List ℕ).
     holds_or (refused (8 + h.horizon) TrailingText) (length m.1 == 0) >>= (λ (u : Unit {0}). Ok (record { header = h; begin = b; entries = s.0; final = x })))))) c line.2 in
     let s = bind_ok (read_steps h h.horizon 7 (box_before h.version b.0) line.0.1) (λ (s : List Entry × List ℕ).

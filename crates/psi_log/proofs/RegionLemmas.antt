@@ -7,7 +7,7 @@ use Rattle.std.proofs.Common.{ap, sym, ◌∙◌, subst, arith, inl, inr}
 use Rattle.std.proofs.lemmas.Bool.{and_parts, and_from, leb-true, eq-eqb}
 use Rattle.psi_state.specs.State.{Corners}
 use Rattle.psi_state.specs.Members.{In}
-use Rattle.psi_log_text.specs.Log.{Region, in_box, in_set, IsBox}
+use Rattle.psi_log_text.specs.Log.{LogRegion, in_box, in_set, IsBox}
 use Rattle.psi_log_text.specs.Text.{region_words, Change, changes, change_text, move_words}
 use Rattle.psi_log.specs.Refusal.{Refusal, refused, ◌>>=◌, holds_or}
 use Rattle.psi_log.specs.Words.{pieces_of, has_pieces, number_in}
@@ -108,7 +108,7 @@ moved_are queues from to before after c there =
     (record { queue = (let less = found.1 in omega arith); least = after.lo.each found.0; greatest = after.hi.each found.0 })
 
 -- the words of a region, where the box from which a box has to be written may be given
-abbrev pub words_after : Option Corners → Region → List (List ℕ)
+abbrev pub words_after : Option Corners → LogRegion → List (List ℕ)
 words_after None region = region_words region
 words_after (Some from) (in_box to) = move_words from to
 words_after (Some from) (in_set states) = region_words (in_set states)

@@ -6,15 +6,15 @@ use Rattle.std.proofs.lemmas.List.{take-take, drop-take, map-append, append-nil}
 use Rattle.std.proofs.lemmas.List.Elements.{All-head, All-tail, All-weaker}
 use Rattle.psi_state.specs.State.{Corners}
 use Rattle.psi_log_text.specs.declared.header.Header.{Header}
-use Rattle.psi_log_text.specs.Log.{Region, in_set, Entry}
+use Rattle.psi_log_text.specs.Log.{LogRegion, in_set, Entry}
 use Rattle.psi_log.specs.Refusal.{Refusal, ◌>>=◌, IsLogError}
 use Rattle.psi_log.specs.Words.{line_of, words_of}
 use Rattle.psi_log.specs.Reading.{box_before, read_step, read_steps}
 use Rattle.psi_log.specs.RegionsViews.{region_of, IsThere}
 use Rattle.psi_log.specs.LinesViews.{entry_of, HasRegion}
 use Rattle.psi_log.specs.Scanned.{next_step}
-use Rattle.psi_state_list.specs.declared.line_list.Kept.{Kept}
-use Rattle.psi_state_list.specs.declared.line_list.Kept.TheVariants.{Box, Set}
+use Rattle.psi_state_list.specs.declared.line_list.ListedRegion.{ListedRegion}
+use Rattle.psi_state_list.specs.declared.line_list.ListedRegion.TheVariants.{Box, Set}
 use Rattle.psi_state_list.specs.declared.line_list.Line.{Line}
 use Rattle.psi_log.specs.declared.refusals.LogError.{LogError}
 use Rattle.psi_log.specs.declared.refusals.LogError.TheVariants.{Refused, OutOfMemory}
@@ -27,18 +27,18 @@ front_of old new first count kept there =
     sym (take-take count (length old - first) (drop first new) (omega arith))
     ∙ ap (take count) (sym (drop-take first (length old - first) new) ∙ ap (λ (k : ℕ). drop first (take k new)) size ∙ ap (drop first) kept)
 
-pub region_kept : (queues : ℕ) (old new : List (List ℕ)) (k : Kept) → take (length old) new ≡ old → IsThere queues old k → region_of new k ≡ region_of old k
+pub region_kept : (queues : ℕ) (old new : List (List ℕ)) (k : ListedRegion) → take (length old) new ≡ old → IsThere queues old k → region_of new k ≡ region_of old k
 region_kept queues old new (Box bounds) kept there = refl
 region_kept queues old new (Set first count) kept there = ap (λ (xs : List (List ℕ)). in_set xs) (front_of old new first count kept there)
 
-pub there_kept : (queues : ℕ) (old new : List (List ℕ)) (k : Kept) → length old ≤ length new → IsThere queues old k → IsThere queues new k
+pub there_kept : (queues : ℕ) (old new : List (List ℕ)) (k : ListedRegion) → length old ≤ length new → IsThere queues old k → IsThere queues new k
 there_kept queues old new (Box bounds) more there = there
 there_kept queues old new (Set first count) more there = omega arith
 
 pub entries_kept : (queues : ℕ) (old new : List (List ℕ)) (ls : List Line) → take (length old) new ≡ old → All (HasRegion queues old) ls → map (entry_of new) ls ≡ map (entry_of old) ls
 entries_kept queues old new [] kept all = refl
 entries_kept queues old new (l ∷ ls) kept all =
-    both (ap (λ (r : Region). record { step = l.step; region = r }) (region_kept queues old new l.region kept (All-head (HasRegion queues old) l ls all)))
+    both (ap (λ (r : LogRegion). record { step = l.step; region = r }) (region_kept queues old new l.region kept (All-head (HasRegion queues old) l ls all)))
     (entries_kept queues old new ls kept (All-tail (HasRegion queues old) l ls all))
   where
     both : {a b : Entry} {xs ys : List Entry} → a ≡ b → xs ≡ ys → a ∷ xs ≡ b ∷ ys

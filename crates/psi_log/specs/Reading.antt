@@ -3,7 +3,7 @@ use Rattle.std.specs.Prelude.{ℕ, zero, suc, ◌&&◌, ◌+◌, ◌-◌, ◌^�
 use Rattle.std.specs.Str.{bytes_eq}
 use Rattle.psi_state.specs.State.{Corners}
 use Rattle.psi_log_text.specs.declared.header.Header.{Header}
-use Rattle.psi_log_text.specs.Log.{Region, in_box, in_set, Entry, Certificate, greatest_horizon}
+use Rattle.psi_log_text.specs.Log.{LogRegion, in_box, in_set, Entry, Certificate, greatest_horizon}
 use Rattle.psi_log.specs.Refusal.{Refusal, refused, ◌>>=◌, holds_or}
 use Rattle.psi_log.specs.Words.{line_of, words_of, has_pieces, number_in, read_version, read_named}
 use Rattle.psi_log.specs.Regions.{form_of, read_state, read_given}
@@ -28,7 +28,7 @@ read_header text = do
   Ok (record { version = version; queues = queues.0; seed = seed.0; stream = stream.0; horizon = horizon.0 }, horizon.1)
 
 -- the words of the region at which the run begins
-unfoldable pub read_begin : ℕ → List (List ℕ) → Result Region Refusal
+unfoldable pub read_begin : ℕ → List (List ℕ) → Result LogRegion Refusal
 read_begin queues [] = Err (refused 6 Shape)
 read_begin queues (first ∷ region) = do
   named ← holds_or (refused 6 Shape) (bytes_eq first (codes "begin"))
@@ -36,7 +36,7 @@ read_begin queues (first ∷ region) = do
   read_given 6 queues form
 
 -- the box from which a box has to be written by what changed: in version 2, the box before
-abbrev pub box_before : ℕ → Region → Option Corners
+abbrev pub box_before : ℕ → LogRegion → Option Corners
 box_before version (in_box bounds) = if version == 2 then Some bounds else None
 box_before version (in_set states) = None
 

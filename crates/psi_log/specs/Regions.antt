@@ -6,7 +6,7 @@ use Rattle.std.specs.Cmp.Lexicographic.{pointwise}
 use Rattle.std.specs.Ordering.{is_lt}
 use Rattle.psi_state.specs.State.{Corners}
 use Rattle.psi_state.specs.Sets.{state_cmp}
-use Rattle.psi_log_text.specs.Log.{Region, in_box, in_set}
+use Rattle.psi_log_text.specs.Log.{LogRegion, in_box, in_set}
 use Rattle.psi_log_text.specs.Text.{Change}
 use Rattle.psi_log.specs.Refusal.{Refusal, refused, ◌>>=◌, holds_or, each}
 use Rattle.psi_log.specs.Words.{pieces_of, has_pieces, number_in}
@@ -89,7 +89,7 @@ module _ (n queues : ℕ) where
   read_change pieces = Err (refused n Shape)
 
   -- the region of words in their form: first the numbers from the left, then their order
-  unfoldable pub read_given : Given → Result Region Refusal
+  unfoldable pub read_given : Given → Result LogRegion Refusal
   read_given (given_box lo hi) = do
     l ← read_state n lo
     h ← read_state n hi

@@ -17,7 +17,7 @@ pub enum Form {
 
 /// A region, borrowed from a log.
 #[derive(Drop)]
-pub enum Region<'l> {
+pub enum BorrowedRegion<'l> {
     /// The states between two corners.
     Box(&'l Bounds),
     /// States one by one, in ascending order.

@@ -12,7 +12,7 @@ ghost use Rattle.psi_log.specs.PartsViews.{certificate_of, IsWhole};
 ghost use Rattle.psi_log.specs.Told.{region_at, form, shown, step_at, HasState, state_in};
 ghost use Rattle.psi_log.specs.declared.refusals.LogError.TheVariants.{OutOfMemory};
 
-use crate::form::{Form, Region};
+use crate::form::{Form, BorrowedRegion};
 use crate::parts::{Parts, read_parts};
 use crate::refusals::LogError;
 use psi_log_text::Header;
@@ -90,14 +90,14 @@ impl Log {
 
     /// A region, borrowed: regions are counted as in [`Log::region`]. Nothing is copied.
     #[tactic(auto, using(crate::proofs::ToldLemmas::lines_count))]
-    pub fn look(&self, i: u32) -> Region<'_>
+    pub fn look(&self, i: u32) -> BorrowedRegion<'_>
         requires { i ≤ self.now.header.horizon }
         ensures { region_at self.entry.now i ≡ Some (shown result) }
     {
         match region_of(&self.parts, i) {
-            Borrowed::Box(bounds) => Region::Box(bounds),
+            Borrowed::Box(bounds) => BorrowedRegion::Box(bounds),
             Borrowed::Set { first, count } => {
-                Region::Set(self.parts.states.all().part(first, count as usize))
+                BorrowedRegion::Set(self.parts.states.all().part(first, count as usize))
             }
         }
     }

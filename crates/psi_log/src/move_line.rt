@@ -11,7 +11,7 @@ use crate::scan::{has_byte, has_word, small_at};
 use crate::set_line::step_at;
 use psi_log_text::Header;
 use psi_state::Bounds;
-use psi_state_list::{Kept, Line};
+use psi_state_list::{ListedRegion, Line};
 
 // The change of a queue that stands at a place, and the place behind it.
 fn change_at(text: &[u8], at: usize, queues: u8) -> Option<(Change, usize)>
@@ -88,6 +88,6 @@ pub(crate) fn read_move_line<'t>(
     if !has_byte(text, end, b'\n') {
         return None;
     }
-    let region = Kept::Box(to);
+    let region = ListedRegion::Box(to);
     Some((Line { step, region }, &text[end + 1..]))
 }

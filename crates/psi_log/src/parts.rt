@@ -14,14 +14,14 @@ use crate::steps::read_steps;
 use crate::words::{has_pieces, read_words};
 use psi_log_text::Header;
 use psi_state::State;
-use psi_state_list::{Kept, LineList, StateList};
+use psi_state_list::{ListedRegion, LineList, StateList};
 use std::alloc::Global;
 
 /// The parts of a log. The states of its sets lie in one list.
 #[derive(Drop)]
 pub(crate) struct Parts {
     pub(crate) header: Header,
-    pub(crate) begin: Kept,
+    pub(crate) begin: ListedRegion,
     pub(crate) lines: LineList,
     pub(crate) end: State,
     pub(crate) states: StateList,
@@ -29,7 +29,7 @@ pub(crate) struct Parts {
 
 // The words of the region at which the run begins; the states of a set are put behind those of the list.
 #[tactic(auto, unfolding(crate::specs::Reading::read_begin))]
-fn read_begin(queues: u8, words: &[&[u8]], states: &mut StateList) -> Result<Kept, LogError>
+fn read_begin(queues: u8, words: &[&[u8]], states: &mut StateList) -> Result<ListedRegion, LogError>
     requires some { 1 ≤ queues }
     requires few { queues ≤ 32 }
     requires queues { states.old.queues ≡ queues }

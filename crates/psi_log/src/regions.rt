@@ -15,7 +15,7 @@ use crate::moves::read_move;
 use crate::numbers::piece_in;
 use crate::refusals::{Cause, LogError};
 use psi_state::{Bounds, State};
-use psi_state_list::{Kept, StateList};
+use psi_state_list::{ListedRegion, StateList};
 
 /// The numbers of a state, of a word that has one piece for each queue.
 ///
@@ -116,7 +116,7 @@ fn read_set(
     queues: u8,
     words: &[&[u8]],
     states: &mut StateList,
-) -> Result<Kept, LogError>
+) -> Result<ListedRegion, LogError>
     requires some { 1 ≤ queues }
     requires few { queues ≤ 32 }
     requires count { length words.now ≤ 4096 }
@@ -134,7 +134,7 @@ fn read_set(
     if !ascends(states, first) {
         return Err(Cause::Shape.at(line));
     }
-    Ok(Kept::Set {
+    Ok(ListedRegion::Set {
         first,
         count: words.len() as u16,
     })
@@ -151,7 +151,7 @@ pub(crate) fn read_given(
     queues: u8,
     given: Given<'_>,
     states: &mut StateList,
-) -> Result<Kept, LogError>
+) -> Result<ListedRegion, LogError>
     requires some { 1 ≤ queues }
     requires few { queues ≤ 32 }
     requires form { HasForm queues given }
@@ -164,19 +164,19 @@ pub(crate) fn read_given(
     ensures more { OnOk result (length states.old.states ≤ length states.new.states) }
 {
     match given {
-        Given::Box(lo, hi) => Ok(Kept::Box(read_box(line, queues, lo, hi)?)),
+        Given::Box(lo, hi) => Ok(ListedRegion::Box(read_box(line, queues, lo, hi)?)),
         Given::Set(words) => read_set(line, queues, words, states),
-        Given::Move(from, words) => { Ok(Kept::Box(read_move(line, queues, from, words)?)) }
+        Given::Move(from, words) => { Ok(ListedRegion::Box(read_move(line, queues, from, words)?)) }
     }
 }
 
 /// The box from which a box has to be written by what changed: in version 2, the box before.
-pub(crate) fn box_before(version: u8, region: &Kept) -> Option<Bounds>
+pub(crate) fn box_before(version: u8, region: &ListedRegion) -> Option<Bounds>
     ensures value { (states : List (List ℕ)) → result ≡ box_before version (region_of states region.now) }
     ensures count { (queues : ℕ) (states : List (List ℕ)) → IsThere queues states region.now → IfSome result (λ bounds. length bounds.lo ≡ queues) }
 {
     match region {
-        Kept::Box(bounds) => { if version == 2 { Some(*bounds) } else { None } }
-        Kept::Set { .. } => None,
+        ListedRegion::Box(bounds) => { if version == 2 { Some(*bounds) } else { None } }
+        ListedRegion::Set { .. } => None,
     }
 }

@@ -12,7 +12,7 @@ use crate::regions::ascends;
 use crate::scan::{has_byte, has_word, number_at, read_row_at};
 use psi_log_text::Header;
 use psi_state::Step;
-use psi_state_list::{Kept, Line, StateList};
+use psi_state_list::{ListedRegion, Line, StateList};
 use std::alloc::AllocError;
 
 /// The step whose line begins a text, and the place behind its event.
@@ -111,7 +111,7 @@ pub(crate) fn read_set_line<'t>(
     if count == 0 || count > 4096 || !has_byte(text, end, b'\n') || !ascends(states, first) {
         return Ok(None);
     }
-    let region = Kept::Set {
+    let region = ListedRegion::Set {
         first,
         count: count as u16,
     };

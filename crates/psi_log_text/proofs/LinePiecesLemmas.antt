@@ -5,7 +5,7 @@ use Rattle.std.specs.Fmt.{decimal}
 use Rattle.std.proofs.Common.{ap, sym, ◌∙◌, append_assoc}
 use Rattle.std.proofs.lemmas.List.{append-nil}
 use Rattle.psi_state.specs.declared.outcome.Step.{Step}
-use Rattle.psi_log_text.specs.Log.{Region}
+use Rattle.psi_log_text.specs.Log.{LogRegion}
 use Rattle.psi_log_text.specs.Text.{line_text, numbers_text, region_words, begin_text, step_text, end_text}
 use Rattle.psi_log_text.specs.Room.{spaced_words}
 use Rattle.psi_log_text.proofs.JoinedLemmas.{spaced-append, one_word}
@@ -19,7 +19,7 @@ pub line_pieces : (word : List ℕ) (words : List (List ℕ)) → line_text (wor
 unfolding line_text
 line_pieces word words = ap (λ (t : List ℕ). t ++ codes "\n") (joined-words word words) ∙ append_assoc word (spaced_words words) (codes "\n")
 
-pub begin_pieces : (region : Region) → begin_text region ≡ codes "begin" ++ (spaced_words (region_words region) ++ codes "\n")
+pub begin_pieces : (region : LogRegion) → begin_text region ≡ codes "begin" ++ (spaced_words (region_words region) ++ codes "\n")
 unfolding begin_text
 begin_pieces region = line_pieces (codes "begin") (region_words region)
 

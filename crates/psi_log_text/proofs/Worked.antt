@@ -1,16 +1,16 @@
 -- A log worked by hand, of two queues, in both versions.
 use Rattle.std.specs.Prelude.{◌≡◌, ℕ, List, [], ◌∷◌, codes, refl}
 use Rattle.std.specs.Fmt.{digits}
-use Rattle.psi_log_text.specs.Log.{Region, in_box, in_set, Entry, Certificate}
+use Rattle.psi_log_text.specs.Log.{LogRegion, in_box, in_set, Entry, Certificate}
 use Rattle.psi_log_text.specs.Text.{line_text, numbers_text, header_text, changes, begin_text, step_text, end_text, log_text}
 
 pair : ℕ → ℕ → List ℕ
 pair a b = a ∷ b ∷ []
 
-box_of : List ℕ → List ℕ → Region
+box_of : List ℕ → List ℕ → LogRegion
 box_of lo hi = in_box (record { lo = lo; hi = hi })
 
-entry : ℕ → ℕ → Region → Entry
+entry : ℕ → ℕ → LogRegion → Entry
 entry number event region = record { step = record { number = number; event = event }; region = region }
 
 worked : ℕ → Certificate

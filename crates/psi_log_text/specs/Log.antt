@@ -7,21 +7,21 @@ use Rattle.psi_state.specs.declared.outcome.Step.{Step}
 use Rattle.psi_log_text.specs.declared.header.Header.{Header}
 
 -- a region of states
-pub data Region : Type 0 where
+pub data LogRegion : Type 0 where
   -- the states between two corners
-  in_box : (bounds : Corners) → Region
+  in_box : (bounds : Corners) → LogRegion
   -- the states of a list
-  in_set : (states : List (List ℕ)) → Region
+  in_set : (states : List (List ℕ)) → LogRegion
 
 -- a step, and the region after it
 pub record Entry : Type 0 where
   pub step : Step
-  pub region : Region
+  pub region : LogRegion
 
 -- a log: its header, the region at which the run begins, the steps from the oldest on, and the state at time zero
 pub record Certificate : Type 0 where
   pub header : Header
-  pub begin : Region
+  pub begin : LogRegion
   pub entries : List Entry
   pub final : List ℕ
 
@@ -60,7 +60,7 @@ module _ (queues : ℕ) where
     pub rising : IsRising xs
 
   -- a region of states of so many queues
-  abbrev pub IsRegion : Region → Type 0
+  abbrev pub IsRegion : LogRegion → Type 0
   IsRegion (in_box bounds) = IsBox bounds
   IsRegion (in_set states) = IsSet states
 

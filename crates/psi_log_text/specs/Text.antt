@@ -5,7 +5,7 @@ use Rattle.std.specs.Fmt.{decimal}
 use Rattle.psi_state.specs.State.{Corners, numbers_from}
 use Rattle.psi_state.specs.declared.outcome.Step.{Step}
 use Rattle.psi_log_text.specs.declared.header.Header.{Header}
-use Rattle.psi_log_text.specs.Log.{Region, in_box, in_set, Entry, Certificate, IsLog}
+use Rattle.psi_log_text.specs.Log.{LogRegion, in_box, in_set, Entry, Certificate, IsLog}
 
 -- the line of these words
 unfoldable pub line_text : List (List ℕ) → List ℕ
@@ -29,7 +29,7 @@ header_text h =
     ++ line_text (number_words (codes "horizon") h.horizon)
 
 -- the words of a region that is written whole
-abbrev pub region_words : Region → List (List ℕ)
+abbrev pub region_words : LogRegion → List (List ℕ)
 region_words (in_box bounds) = codes "box" ∷ numbers_text bounds.lo ∷ numbers_text bounds.hi ∷ []
 region_words (in_set states) = codes "set" ∷ map numbers_text states
 
@@ -60,13 +60,13 @@ abbrev pub move_words : Corners → Corners → List (List ℕ)
 move_words from to = codes "move" ∷ map change_text (changes from to)
 
 -- the words of the region after a step: in version 2 a box after a box is written by what changed, each other region whole
-abbrev pub next_words : ℕ → Region → Region → List (List ℕ)
+abbrev pub next_words : ℕ → LogRegion → LogRegion → List (List ℕ)
 next_words version (in_box from) (in_box to) = if version == 2 then move_words from to else region_words (in_box to)
 next_words version (in_box from) (in_set states) = region_words (in_set states)
 next_words version (in_set before) region = region_words region
 
 -- the line of the region at which the run begins
-unfoldable pub begin_text : Region → List ℕ
+unfoldable pub begin_text : LogRegion → List ℕ
 begin_text region = line_text (codes "begin" ∷ region_words region)
 
 -- the line of a step, with the words of the region after it
@@ -78,7 +78,7 @@ unfoldable pub end_text : List ℕ → List ℕ
 end_text x = line_text (codes "end" ∷ numbers_text x ∷ [])
 
 -- the lines of steps, each by the region before it
-abbrev pub entries_text : ℕ → Region → List Entry → List ℕ
+abbrev pub entries_text : ℕ → LogRegion → List Entry → List ℕ
 entries_text version before [] = []
 entries_text version before (e ∷ es) = step_text e.step (next_words version before e.region) ++ entries_text version e.region es
 

@@ -18,7 +18,7 @@ use Rattle.psi_horizon.specs.Runs.{region_at, ending_at, region_after}
 use Rattle.psi_horizon.proofs.RunsLemmas.{region_after-whole}
 use Rattle.psi_horizon.proofs.SampleLemmas.{ending-within}
 use Rattle.psi_log_text.specs.declared.header.Header.{Header as Head}
-use Rattle.psi_log_text.specs.Log.{Region, in_box, in_set, Entry, greatest_horizon, IsState, IsRegion, IsEntry, IsLog}
+use Rattle.psi_log_text.specs.Log.{LogRegion, in_box, in_set, Entry, greatest_horizon, IsState, IsRegion, IsEntry, IsLog}
 use Rattle.psi_log.specs.Refusal.{Refusal, ◌>>=◌, holds_or}
 use Rattle.psi_log.proofs.StateLemmas.{below_again}
 use Rattle.psi_replay.specs.Verdict.{rejected, states_of, has, covers, is_within, is_small, holds_all, judge_step, judge_steps, judge_end, judged, verdict_of, event_numbers}
@@ -57,21 +57,21 @@ covers-judged split caps f a closed kept =
     (subst (λ (xs : List (List ℕ)). In (f x) xs) (sym (states_of-region split caps after (kept-step split caps f a closed kept)))
     (step-has split caps f a x closed kept.area (subst (λ (xs : List (List ℕ)). In x xs) (states_of-region split caps a kept) member))))
 
-set-small : (xs : List (List ℕ)) (r : Region) → is_small (in_set xs) r ≡ true
+set-small : (xs : List (List ℕ)) (r : LogRegion) → is_small (in_set xs) r ≡ true
 set-small xs r = refl
 
 small-judged : (split : ℕ) (caps : List ℕ) (f : List ℕ → List ℕ) (a : Area) → split ≤ 4096 → IsKept split caps a → is_small (region_of a) (region_of (step split f a)) ≡ true
 small-judged split caps f a most kept = elim (cases_Bool a.is_split) [
-  | inl is ↦ ap (λ (r : Region). is_small r (region_of (step split f a))) (region_of-set a is) ∙ set-small a.states (region_of (step split f a))
+  | inl is ↦ ap (λ (r : LogRegion). is_small r (region_of (step split f a))) (region_of-set a is) ∙ set-small a.states (region_of (step split f a))
   | inr plain ↦ elim (cases_Bool (splits split a)) [
     | inl few ↦ (let own : length a.states ≤ split = splits-few split caps a kept few in
         let count : length (states_of (in_box (corners a.states))) ≡ length a.states =
-        ap (λ (r : Region). length (states_of r)) (sym (region_of-plain a plain)) ∙ ap (λ (xs : List (List ℕ)). length xs) (states_of-region split caps a kept) in
+        ap (λ (r : LogRegion). length (states_of r)) (sym (region_of-plain a plain)) ∙ ap (λ (xs : List (List ℕ)). length xs) (states_of-region split caps a kept) in
         let after = ap (λ (b : Area). region_of b) (step-split split f a few) in
-        ap (λ (r : Region). is_small r (region_of (step split f a))) (region_of-plain a plain)
-        ∙ (ap (λ (r : Region). is_small (in_box (corners a.states)) r) after ∙ le-leb (length (states_of (in_box (corners a.states)))) 4096 (omega arith)))
+        ap (λ (r : LogRegion). is_small r (region_of (step split f a))) (region_of-plain a plain)
+        ∙ (ap (λ (r : LogRegion). is_small (in_box (corners a.states)) r) after ∙ le-leb (length (states_of (in_box (corners a.states)))) 4096 (omega arith)))
     | inr many ↦ (let after = ap (λ (b : Area). region_of b) (step-box split f a many) in
-        ap (λ (r : Region). is_small r (region_of (step split f a))) (region_of-plain a plain) ∙ ap (λ (r : Region). is_small (in_box (corners a.states)) r) after)
+        ap (λ (r : LogRegion). is_small r (region_of (step split f a))) (region_of-plain a plain) ∙ ap (λ (r : LogRegion). is_small (in_box (corners a.states)) r) after)
   ]
 ]
 
@@ -81,7 +81,7 @@ single-list [] s is = absurd cc
 single-list (x ∷ []) s is = (let same : x ≡ s = cc in ap (λ (y : List ℕ). y ∷ []) same)
 single-list (x ∷ y ∷ ys) s is = absurd cc
 
-end-judged : (n : ℕ) (last : Region) (s : List ℕ) → states_of last ≡ s ∷ [] → judge_end n last s ≡ Ok tt
+end-judged : (n : ℕ) (last : LogRegion) (s : List ℕ) → states_of last ≡ s ∷ [] → judge_end n last s ≡ Ok tt
 unfolding judge_end
 end-judged n last s is =
     holds-then (rejected n NotSingle) (length (states_of last) == 1) (λ _. holds_or (rejected n WrongState) (has (states_of last) s))
@@ -93,7 +93,7 @@ length-numbers first zero = refl
 length-numbers first (suc n) = (let rest = length-numbers (suc first) n in omega arith)
 
 module _ (caps : List ℕ) (limit : ℕ) (events : ℕ → ℕ) (f : ℕ → List ℕ → List ℕ) where
-  step-judged : (n t : ℕ) (before : Region) (e : Entry) → e.step.number ≡ t → e.step.event ≡ events t → is_within caps e.region ≡ true → is_small before e.region ≡ true
+  step-judged : (n t : ℕ) (before : LogRegion) (e : Entry) → e.step.number ≡ t → e.step.event ≡ events t → is_within caps e.region ≡ true → is_small before e.region ≡ true
       → covers (f t) before e.region ≡ true → judge_step caps limit events f n t before e ≡ Ok tt
   unfolding judge_step
   step-judged n t before e number event within small covered =
@@ -113,7 +113,7 @@ module _ (caps : List ℕ) (limit : ℕ) (events : ℕ → ℕ) (f : ℕ → Lis
       ≡ Ok (region_of (region_after split f caps horizon horizon))
   unfolding judge_steps
   steps-judged split horizon m k zero most closed sum = (let e : k ≡ horizon = omega arith in
-      let ended : ℕ → Result Region Refusal = λ d. Ok (region_of (region_after split f caps horizon d)) in
+      let ended : ℕ → Result LogRegion Refusal = λ d. Ok (region_of (region_after split f caps horizon d)) in
       ap ended e)
   steps-judged split horizon m k (suc n) most closed sum =
       let a = region_after split f caps horizon k in
@@ -137,7 +137,7 @@ module _ (caps : List ℕ) (limit : ℕ) (events : ℕ → ℕ) (f : ℕ → Lis
       let t = h.horizon in
       let begin = region_of (start caps) in
       let entries = map (entry_after split f caps events t) (numbers_from 0 t) in
-      let end : Region → Result (Unit {0}) Refusal = λ last. judge_end (7 + t) last state in
+      let end : LogRegion → Result (Unit {0}) Refusal = λ last. judge_end (7 + t) last state in
       let steps : Unit {0} → Result (Unit {0}) Refusal = λ _. judge_steps caps limit events f 7 t begin entries >>= end in
       let whole : Unit {0} → Result (Unit {0}) Refusal = λ _. holds_or (rejected 6 NotCovered) (holds_all caps begin) >>= steps in
       let inside : Unit {0} → Result (Unit {0}) Refusal = λ _. holds_or (rejected 6 OutsideBox) (is_within caps begin) >>= whole in
@@ -153,7 +153,7 @@ module _ (caps : List ℕ) (limit : ℕ) (events : ℕ → ℕ) (f : ℕ → Lis
       ∙ (holds-then (rejected 5 Header) (nat_le t (2 ^ limit)) inside (le-leb t (2 ^ limit) few)
       ∙ (holds-then (rejected 6 OutsideBox) (is_within caps begin) whole (within-judged split caps (start caps) (kept-start split caps))
       ∙ (holds-then (rejected 6 NotCovered) (holds_all caps begin) steps (whole-judged split caps)
-      ∙ (ap (λ (r : Result Region Refusal). r >>= end) done ∙ end-judged (7 + t) (region_of last) state one))))
+      ∙ (ap (λ (r : Result LogRegion Refusal). r >>= end) done ∙ end-judged (7 + t) (region_of last) state one))))
 
   -- and it is a log
   pub recorded-log : (split : ℕ) (h : Head) (state : List ℕ) → AreCapacities caps → split ≤ 4096 → AreClosed caps f → ((t : ℕ) → events t ≤ 1024)

@@ -17,7 +17,7 @@ use Rattle.psi_rate.specs.Composition.{AreClosed}
 use Rattle.psi_region.specs.Region.{Area, start, splits, step, next, IsArea}
 use Rattle.psi_region.proofs.RegionLemmas.{start-area, step-area, image-length, tight-high}
 use Rattle.psi_horizon.specs.Runs.{region_after}
-use Rattle.psi_log_text.specs.Log.{Region, in_box, in_set, IsState, IsBox, IsSet, IsRegion}
+use Rattle.psi_log_text.specs.Log.{LogRegion, in_box, in_set, IsState, IsBox, IsSet, IsRegion}
 use Rattle.psi_replay.specs.Verdict.{states_of}
 use Rattle.psi_log_writer.specs.Recorded.{region_of}
 use Rattle.psi_log_writer.proofs.WalkingLemmas.{region_of-set}
@@ -88,8 +88,8 @@ region_of-plain a is = ap (λ (split : Bool). if split then in_set a.states else
 pub states_of-region : (split : ℕ) (caps : List ℕ) (a : Area) → IsKept split caps a → states_of (region_of a) ≡ a.states
 unfolding hull
 states_of-region split caps a kept = elim (cases_Bool a.is_split) [
-  | inl is ↦ ap (λ (r : Region). states_of r) (region_of-set a is)
-  | inr plain ↦ ap (λ (r : Region). states_of r) (region_of-plain a plain) ∙ kept.boxed plain
+  | inl is ↦ ap (λ (r : LogRegion). states_of r) (region_of-set a is)
+  | inr plain ↦ ap (λ (r : LogRegion). states_of r) (region_of-plain a plain) ∙ kept.boxed plain
 ]
 
 -- a state within the capacities is one of their queues
@@ -119,7 +119,7 @@ region_of-region split caps a valid most kept = elim (cases_Bool a.is_split) [
         each = λ x member. state-below caps x valid (kept.area.within x member);
         rising = kept.area.rising;
       } in
-      subst (λ (r : Region). IsRegion (length caps) r) (sym (region_of-set a is)) own)
+      subst (λ (r : LogRegion). IsRegion (length caps) r) (sym (region_of-set a is)) own)
   | inr plain ↦ (let xs = a.states in
       let z = kept.area.some.0 in
       let here = kept.area.some.1 in
@@ -133,5 +133,5 @@ region_of-region split caps a valid most kept = elim (cases_Bool a.is_split) [
         hi = state-below caps (highs xs) valid top;
         below = below-through (lows xs) z (highs xs) inside.low inside.high;
       } in
-      subst (λ (r : Region). IsRegion (length caps) r) (sym (region_of-plain a plain)) own)
+      subst (λ (r : LogRegion). IsRegion (length caps) r) (sym (region_of-plain a plain)) own)
 ]

@@ -9,7 +9,7 @@ use Rattle.psi_region.specs.Region.{Area, ShowsBox}
 use Rattle.psi_horizon.specs.Planned.{Running, Planned, onward}
 use Rattle.psi_horizon.specs.Runs.{region_after}
 use Rattle.psi_log_text.specs.declared.header.Header.{Header}
-use Rattle.psi_log_text.specs.Log.{Region, in_box, in_set}
+use Rattle.psi_log_text.specs.Log.{LogRegion, in_box, in_set}
 use Rattle.psi_log_text.specs.Text.{region_words, next_words, step_text}
 use Rattle.psi_log_writer.specs.Recorded.{region_of}
 use Rattle.psi_replay.specs.Verdict.{event_numbers}
@@ -29,19 +29,19 @@ region_of-set a is = ap (λ (split : Bool). if split then in_set a.states else i
 next-box : (caps : List ℕ) (a b : Area) (before : Option Corners) (to : Corners) → IsTold caps a before → IsTold caps b (Some to)
     → next_words 2 (region_of a) (region_of b) ≡ box_words before to
 next-box caps a b None to first second =
-    ap (λ (r : Region). next_words 2 r (region_of b)) (region_of-set a first.shown)
-    ∙ ap (λ (r : Region). next_words 2 (in_set a.states) r) (region_of-box b to second.shown second.ordered)
+    ap (λ (r : LogRegion). next_words 2 r (region_of b)) (region_of-set a first.shown)
+    ∙ ap (λ (r : LogRegion). next_words 2 (in_set a.states) r) (region_of-box b to second.shown second.ordered)
 next-box caps a b (Some from) to first second =
-    ap (λ (r : Region). next_words 2 r (region_of b)) (region_of-box a from first.shown first.ordered)
-    ∙ ap (λ (r : Region). next_words 2 (in_box from) r) (region_of-box b to second.shown second.ordered)
+    ap (λ (r : LogRegion). next_words 2 r (region_of b)) (region_of-box a from first.shown first.ordered)
+    ∙ ap (λ (r : LogRegion). next_words 2 (in_box from) r) (region_of-box b to second.shown second.ordered)
 
 -- a set is written whole
-set-whole : (r : Region) (xs : List (List ℕ)) → next_words 2 r (in_set xs) ≡ region_words (in_set xs)
+set-whole : (r : LogRegion) (xs : List (List ℕ)) → next_words 2 r (in_set xs) ≡ region_words (in_set xs)
 set-whole (in_box b) xs = refl
 set-whole (in_set ys) xs = refl
 
 pub next-set : (a b : Area) → b.is_split ≡ true → next_words 2 (region_of a) (region_of b) ≡ region_words (in_set b.states)
-next-set a b is = ap (λ (r : Region). next_words 2 (region_of a) r) (region_of-set b is) ∙ set-whole (region_of a) b.states
+next-set a b is = ap (λ (r : LogRegion). next_words 2 (region_of a) r) (region_of-set b is) ∙ set-whole (region_of a) b.states
 
 -- a step by its number
 same-step : (s : Step) (events : ℕ → ℕ) (n : ℕ) → s.number ≡ n → s.event ≡ events s.number → s ≡ record { number = n; event = events n }

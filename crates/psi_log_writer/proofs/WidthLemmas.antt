@@ -23,7 +23,7 @@ use Rattle.psi_region.specs.Region.{Area}
 use Rattle.psi_region.proofs.RegionLemmas.{tight-high}
 use Rattle.psi_horizon.specs.Runs.{region_after}
 use Rattle.psi_log_text.specs.declared.header.Header.{Header}
-use Rattle.psi_log_text.specs.Log.{Region, in_box, in_set}
+use Rattle.psi_log_text.specs.Log.{LogRegion, in_box, in_set}
 use Rattle.psi_log_text.specs.Text.{numbers_text, region_words, differs, change_to, change_text, move_words, next_words, step_text, end_text, log_text}
 use Rattle.psi_log_text.specs.Room.{spaced_words, picked}
 use Rattle.psi_log_text.proofs.JoinedLemmas.{spaced-append, one_word, picked-append, moved}
@@ -188,8 +188,8 @@ module _ (split : ℕ) (f : ℕ → List ℕ → List ℕ) (caps : List ℕ) (ev
             (below-short w caps (lows b.states) some valid each last.0) (below-short w caps (highs b.states) some valid each last.1) in
             let text = step-short s (move_words (corners a.states) (corners b.states)) (omega arith) (named (horizon - done)) in
             let same : length (step_text s (next_words 2 (region_of a) (region_of b))) ≡ length (step_text s (move_words (corners a.states) (corners b.states))) =
-            ap (λ (r : Region). length (step_text s (next_words 2 r (region_of b)))) (region_of-plain a before)
-            ∙ ap (λ (r : Region). length (step_text s (next_words 2 (in_box (corners a.states)) r))) (region_of-plain b plain) in
+            ap (λ (r : LogRegion). length (step_text s (next_words 2 r (region_of b)))) (region_of-plain a before)
+            ∙ ap (λ (r : LogRegion). length (step_text s (next_words 2 (in_box (corners a.states)) r))) (region_of-plain b plain) in
             omega arith)
       ]
 

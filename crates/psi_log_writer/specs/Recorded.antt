@@ -7,11 +7,11 @@ use Rattle.psi_rate.specs.Composition.{Functions, Parts, system_functions}
 use Rattle.psi_region.specs.Region.{Area, start}
 use Rattle.psi_horizon.specs.Runs.{region_after}
 use Rattle.psi_log_text.specs.declared.header.Header.{Header}
-use Rattle.psi_log_text.specs.Log.{Region, in_box, in_set, Entry, Certificate}
+use Rattle.psi_log_text.specs.Log.{LogRegion, in_box, in_set, Entry, Certificate}
 use Rattle.psi_replay.specs.Verdict.{event_numbers}
 
 -- a region of a run as a log has it: a set where it is split, and else its box
-abbrev pub region_of : Area → Region
+abbrev pub region_of : Area → LogRegion
 region_of a = if a.is_split then in_set a.states else in_box (corners a.states)
 
 -- the runs of a network with this split number, these functions and these capacities; `events t` is the number of the event t steps before time zero

@@ -11,7 +11,7 @@ use Rattle.psi_event.proofs.NumbersLemmas.{follow_numbers-drop}
 use Rattle.psi_packed.specs.Packed.{packed}
 use Rattle.psi_packed.specs.Moves.{Moving, IsMoved, no_move}
 use Rattle.psi_packed.specs.Programs.{Prepared, Prepares, Follows}
-use Rattle.psi_packed.specs.declared.moves.Moves.{Moves}
+use Rattle.psi_packed.specs.declared.moves.PackedEvent.{PackedEvent}
 use Rattle.psi_packed.proofs.MovingLemmas.{program-moves}
 
 -- a run stays within the capacities
@@ -42,11 +42,11 @@ follows-more count p numbers i before x y some within small moved rest = λ caps
     ∙ ap (packed count p.packing) (sym (follow_numbers-drop functions numbers i s some within))
 
 -- the move that is read for a number
-pub move-read : {K : ℕ} (p : Prepared) (moving : Moves K → Moving) (items now : List (Moves K)) (number : ℕ) (m : Moves K) → map moving items ≡ p.moves → now ≡ items
+pub move-read : {K : ℕ} (p : Prepared) (moving : PackedEvent K → Moving) (items now : List (PackedEvent K)) (number : ℕ) (m : PackedEvent K) → map moving items ≡ p.moves → now ≡ items
     → m ≡ slice_index_or now number m → number < length p.moves → moving m ≡ slice_index_or p.moves number no_move
 move-read {K} p moving items now number m same own read small =
     let long : length (map moving items) ≡ length p.moves = ap (λ (ms : List Moving). length ms) same in
     let within : number < length items = omega (arith, long, length-map items moving) in
-    ap moving (read ∙ ap (λ (ms : List (Moves K)). slice_index_or ms number m) own)
+    ap moving (read ∙ ap (λ (ms : List (PackedEvent K)). slice_index_or ms number m) own)
     ∙ sym (get_or-map moving items number m no_move within)
     ∙ ap (λ (ms : List Moving). slice_index_or ms number no_move) same

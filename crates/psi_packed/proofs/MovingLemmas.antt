@@ -10,7 +10,7 @@ use Rattle.psi_piecewise.specs.Piecewise.{if_on}
 use Rattle.std.proofs.lemmas.List.{get_or_append_left, get_or_push, map_push, length_push}
 use Rattle.psi_packed.specs.Packed.{Packing, packed}
 use Rattle.psi_packed.specs.Moves.{Moving, IsMoved, ChangesNothing, no_move}
-use Rattle.psi_packed.specs.declared.moves.Moves.{Moves}
+use Rattle.psi_packed.specs.declared.moves.PackedEvent.{PackedEvent}
 use Rattle.psi_packed.specs.Programs.{Prepared, Prepares, IsMoveFor}
 use Rattle.psi_packed.proofs.ChangesLemmas.{moved-is}
 
@@ -86,9 +86,9 @@ pub length-more : {X : Type 0} (xs more : List X) (x : X) (n : ℕ) → length x
 length-more {X} xs more x n long same = ap (λ (ys : List X). length ys) same ∙ length_push xs x ∙ ap (λ k. k + 1) long
 
 -- the moves of a list with one more
-pub moving-push : {K : ℕ} (moving : Moves K → Moving) (moves more : List (Moves K)) (m : Moves K) → more ≡ moves ++ m ∷ []
+pub moving-push : {K : ℕ} (moving : PackedEvent K → Moving) (moves more : List (PackedEvent K)) (m : PackedEvent K) → more ≡ moves ++ m ∷ []
     → map moving more ≡ map moving moves ++ moving m ∷ []
-moving-push {K} moving moves more m same = ap (λ (ms : List (Moves K)). map moving ms) same ∙ map_push moving moves m
+moving-push {K} moving moves more m same = ap (λ (ms : List (PackedEvent K)). map moving ms) same ∙ map_push moving moves m
 
 -- the moves of a program do what its functions do
 pub program-moves : (count : ℕ) (p : Prepared) (caps : List ℕ) (functions : List Function) (s words moved : List ℕ) (number : ℕ)

@@ -5,21 +5,21 @@ use Rattle.std.proofs.lemmas.List.{get_or_default}
 use Rattle.psi_packed.specs.Moves.{IsMoved, no_move}
 use Rattle.psi_packed.specs.Views.{pair_at}
 use Rattle.psi_packed.specs.Programs.{Prepared, Follows}
-use Rattle.psi_packed.specs.declared.pairs.Pairs.{Pairs}
+use Rattle.psi_packed.specs.declared.pairs.PackedPair.{PackedPair}
 use Rattle.psi_packed.proofs.MovingLemmas.{program-moves}
 
 -- one pair more is done
-pub pairs-step : {K : ℕ} (P : Pairs K → Pairs K → Type 0) (old now : List (Pairs K)) (at : ℕ) (read new : Pairs K) → at < length now
+pub pairs-step : {K : ℕ} (P : PackedPair K → PackedPair K → Type 0) (old now : List (PackedPair K)) (at : ℕ) (read new : PackedPair K) → at < length now
     → ((i : ℕ) → i < at → P (pair_at old i) (pair_at now i)) → ((i : ℕ) → at ≤ i → pair_at now i ≡ pair_at old i) → P (get_or now at read) new
     → (i : ℕ) → i < at + 1 → P (pair_at old i) (pair_at (slice_set now at new) i)
 pairs-step {K} P old now at read new within done waiting own =
     below_more (λ i. P (pair_at old i) (pair_at (slice_set now at new) i)) at
-    (λ i under. subst (λ (q : Pairs K). P (pair_at old i) q) (sym (get_or-set_other now at i new (record { pairs = [] }) (omega arith))) (done i under))
-    (subst (λ (q : Pairs K). P (pair_at old at) q) (sym (get_or-set_same now at new (record { pairs = [] }) within))
-    (subst (λ (q : Pairs K). P q new) (get_or_default now at read (record { pairs = [] }) within ∙ waiting at (omega arith)) own))
+    (λ i under. subst (λ (q : PackedPair K). P (pair_at old i) q) (sym (get_or-set_other now at i new (record { pairs = [] }) (omega arith))) (done i under))
+    (subst (λ (q : PackedPair K). P (pair_at old at) q) (sym (get_or-set_same now at new (record { pairs = [] }) within))
+    (subst (λ (q : PackedPair K). P q new) (get_or_default now at read (record { pairs = [] }) within ∙ waiting at (omega arith)) own))
 
 -- and the others are as they were
-pub pairs-wait : {K : ℕ} (old now : List (Pairs K)) (at : ℕ) (new : Pairs K) → ((i : ℕ) → at ≤ i → pair_at now i ≡ pair_at old i)
+pub pairs-wait : {K : ℕ} (old now : List (PackedPair K)) (at : ℕ) (new : PackedPair K) → ((i : ℕ) → at ≤ i → pair_at now i ≡ pair_at old i)
     → (i : ℕ) → at + 1 ≤ i → pair_at (slice_set now at new) i ≡ pair_at old i
 pairs-wait old now at new waiting i past = get_or-set_other now at i new (record { pairs = [] }) (omega arith) ∙ waiting i (omega arith)
 

@@ -7,8 +7,8 @@ use Rattle.psi_piecewise.specs.declared.piecewise.Piecewise.{Piecewise}
 use Rattle.psi_piecewise.specs.Piecewise.{Does}
 use Rattle.psi_packed.specs.Packed.{Packing, IsPacking, packed}
 use Rattle.psi_packed.specs.Moves.{Moving, IsMoveOf, ChangesNothing, no_move}
-use Rattle.psi_packed.specs.Views.{lows, highs, pair_at}
-use Rattle.psi_packed.specs.declared.pairs.Pairs.{Pairs}
+use Rattle.psi_packed.specs.Views.{low_words, high_words, pair_at}
+use Rattle.psi_packed.specs.declared.pairs.PackedPair.{PackedPair}
 
 -- how the states are packed, and a move for each event
 pub record Prepared : Type 0 where
@@ -30,10 +30,10 @@ pub record Prepares (count : ℕ) (caps : List ℕ) (functions : List Function) 
   pub each : (i : ℕ) → i < length functions → IsMoveFor count p.packing (slice_index_or functions i (λ x. x)) (slice_index_or p.moves i no_move)
 
 -- the moves of a program, once for the low state and once for the high one: they are the same, and no second piece changes a state where that is said
-pub record IsTwice (count : ℕ) (p : Packing) (lows highs : List Moving) (first_alone : Bool) : Type 0 where
+pub record IsTwice (count : ℕ) (p : Packing) (low_words high_words : List Moving) (first_alone : Bool) : Type 0 where
   pub packing : IsPacking count p
-  pub same : highs ≡ lows
-  pub alone : IsTrue first_alone → (i : ℕ) → i < length lows → ChangesNothing count (slice_index_or lows i no_move).second
+  pub same : high_words ≡ low_words
+  pub alone : IsTrue first_alone → (i : ℕ) → i < length low_words → ChangesNothing count (slice_index_or low_words i no_move).second
 
 -- words become those of the state that the functions of these numbers make of the state whose words they were
 abbrev pub Follows : ℕ → Prepared → List ℕ → List ℕ → List ℕ → Type 0
@@ -42,7 +42,7 @@ Follows count p numbers before after =
     → before ≡ packed count p.packing s → after ≡ packed count p.packing (follow_numbers functions numbers s)
 
 -- the packed states of each pair of a list become those that the function of this number makes of them
-pub record AllFollow {K : ℕ} (p : Prepared) (number : ℕ) (before after : List (Pairs K)) : Type 0 where
+pub record AllFollow {K : ℕ} (p : Prepared) (number : ℕ) (before after : List (PackedPair K)) : Type 0 where
   pub count : length after ≡ length before
-  pub low : (i : ℕ) → i < length before → Follows K p (number ∷ []) (lows (pair_at before i)) (lows (pair_at after i))
-  pub high : (i : ℕ) → i < length before → Follows K p (number ∷ []) (highs (pair_at before i)) (highs (pair_at after i))
+  pub low : (i : ℕ) → i < length before → Follows K p (number ∷ []) (low_words (pair_at before i)) (low_words (pair_at after i))
+  pub high : (i : ℕ) → i < length before → Follows K p (number ∷ []) (high_words (pair_at before i)) (high_words (pair_at after i))

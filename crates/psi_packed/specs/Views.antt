@@ -2,18 +2,18 @@
 use Rattle.std.specs.Prelude.{ℕ, List, [], map, get_or, slice_index}
 use Rattle.psi_packed.specs.Moves.{Masks as MaskLists, Moving}
 use Rattle.psi_packed.specs.declared.pairs.Pair.{Pair}
-use Rattle.psi_packed.specs.declared.pairs.Pairs.{Pairs}
+use Rattle.psi_packed.specs.declared.pairs.PackedPair.{PackedPair}
 use Rattle.psi_packed.specs.declared.moves.Masks.{Masks}
-use Rattle.psi_packed.specs.declared.moves.Moves.{Moves}
+use Rattle.psi_packed.specs.declared.moves.PackedEvent.{PackedEvent}
 
 -- one word of each pair, and masks and moves with one word of each of their pairs
-abbrev pub words_by : {K : ℕ} → (Pair → ℕ) → Pairs K → List ℕ
+abbrev pub words_by : {K : ℕ} → (Pair → ℕ) → PackedPair K → List ℕ
 words_by word p = map word p.pairs
 
 abbrev pub masks_by : {K : ℕ} → (Pair → ℕ) → Masks K → MaskLists
 masks_by word m = record { guards = words_by word m.guards; wanted = words_by word m.wanted; change = words_by word m.change }
 
-abbrev pub moving_by : {K : ℕ} → (Pair → ℕ) → Moves K → Moving
+abbrev pub moving_by : {K : ℕ} → (Pair → ℕ) → PackedEvent K → Moving
 moving_by word m = record { offsets = words_by word m.offsets; first = masks_by word m.first; second = masks_by word m.second }
 
 -- the two words of a pair
@@ -24,12 +24,12 @@ abbrev pub high_word : Pair → ℕ
 high_word p = slice_index p.lanes 1
 
 -- the words of the low state, and those of the high one
-abbrev pub lows : {K : ℕ} → Pairs K → List ℕ
-lows p = words_by low_word p
+abbrev pub low_words : {K : ℕ} → PackedPair K → List ℕ
+low_words p = words_by low_word p
 
-abbrev pub highs : {K : ℕ} → Pairs K → List ℕ
-highs p = words_by high_word p
+abbrev pub high_words : {K : ℕ} → PackedPair K → List ℕ
+high_words p = words_by high_word p
 
 -- the pair at a place of a list, and no words past the last
-abbrev pub pair_at : {K : ℕ} → List (Pairs K) → ℕ → Pairs K
+abbrev pub pair_at : {K : ℕ} → List (PackedPair K) → ℕ → PackedPair K
 pair_at list i = get_or list i (record { pairs = [] })

@@ -4,17 +4,17 @@
 ghost use Rattle.std.specs.Prelude.{◌≡◌, ◌*◌, ◌^◌, ◌<◌, ◌≤◌, ℕ, List, length, slice_index, EachIndex, false};
 ghost use Rattle.psi_packed.specs.Packed.{word_of};
 ghost use Rattle.psi_packed.specs.Boxes.{widths, IsCount, GapsTell, TellsFew, FollowsBox};
-ghost use Rattle.psi_packed.specs.Views.{lows, highs};
+ghost use Rattle.psi_packed.specs.Views.{low_words, high_words};
 
 use crate::layout::Packed;
-use crate::pairs::Pairs;
+use crate::pairs::PackedPair;
 use crate::program::Program;
 
 impl<const K: usize> Program<K> {
     /// Whether the box between the two packed states, of which the low one is nowhere above the high one, has at most
     /// so many states.
-    pub fn box_has_at_most(&self, x: &Pairs<K>, most: u32) -> bool
-        ensures { TellsFew K self.now.packing (lows x.now) (highs x.now) most result }
+    pub fn box_has_at_most(&self, x: &PackedPair<K>, most: u32) -> bool
+        ensures { TellsFew K self.now.packing (low_words x.now) (high_words x.now) most result }
     {
         has_at_most(&x.gaps(), self.layout.bits(), most)
     }
@@ -29,12 +29,12 @@ impl<const K: usize> Program<K> {
         numbers: &[u16],
         halts: &[bool],
         most: u32,
-        x: &mut Pairs<K>,
+        x: &mut PackedPair<K>,
     ) -> usize
         requires numbers { EachIndex numbers.now (λ i. slice_index numbers.now i < length self.now.moves) }
         requires halts { length halts.now ≡ length self.now.moves }
         ensures left { result ≤ length numbers.now }
-        ensures run { FollowsBox K self.now numbers.now halts.now most (lows x.old) (highs x.old) (lows x.new) (highs x.new) result }
+        ensures run { FollowsBox K self.now numbers.now halts.now most (low_words x.old) (high_words x.old) (low_words x.new) (high_words x.new) result }
     {
         let moves = self.moves.as_slice();
         let bits = self.layout.bits();

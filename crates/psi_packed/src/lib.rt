@@ -12,6 +12,6 @@ mod program;
 
 pub use corners::PackedCorners;
 pub use layout::{Layout, Packed};
-pub use moves::{Masks, Moves};
-pub use pairs::{Pair, Pairs};
+pub use moves::{Masks, PackedEvent};
+pub use pairs::{Pair, PackedPair};
 pub use program::Program;

@@ -2,7 +2,7 @@
 
 ghost use Rattle.std.specs.Prelude.{◌≡◌, ◌↔◌, ◌+◌, ◌%◌, ◌^◌, ◌-◌, IsTrue, nat_eq, bit_and, replicate, if◌then◌else◌};
 ghost use Rattle.psi_packed.specs.Boxes.{AreGaps};
-ghost use Rattle.psi_packed.specs.Views.{low_word, high_word, lows, highs};
+ghost use Rattle.psi_packed.specs.Views.{low_word, high_word, low_words, high_words};
 
 use crate::layout::Packed;
 use std::simd::prelude::*;
@@ -18,7 +18,7 @@ pub struct Pair {
 
 /// Two states, packed, as `K` pairs of words: the low one, and the high one.
 #[derive(Clone, Copy)]
-pub struct Pairs<const K: usize> {
+pub struct PackedPair<const K: usize> {
     pub(crate) pairs: [Pair; K],
 }
 
@@ -96,24 +96,24 @@ impl Pair {
     }
 }
 
-impl<const K: usize> Pairs<K> {
+impl<const K: usize> PackedPair<K> {
     /// Two packed states, side by side.
     #[inline]
-    pub fn of(low: &Packed<K>, high: &Packed<K>) -> Pairs<K>
-        ensures low { lows result ≡ low.now.words }
-        ensures high { highs result ≡ high.now.words }
+    pub fn of(low: &Packed<K>, high: &Packed<K>) -> PackedPair<K>
+        ensures low { low_words result ≡ low.now.words }
+        ensures high { high_words result ≡ high.now.words }
     {
         let mut pairs = [Pair::twice(0); K];
         for at in 0..K {
             pairs[at] = Pair::of(low.words[at], high.words[at]);
         }
-        Pairs { pairs }
+        PackedPair { pairs }
     }
 
     /// The low one.
     #[inline]
     pub fn low(&self) -> Packed<K>
-        ensures { result.words ≡ lows self.now }
+        ensures { result.words ≡ low_words self.now }
     {
         let mut words = [0; K];
         for at in 0..K {
@@ -125,7 +125,7 @@ impl<const K: usize> Pairs<K> {
     /// The high one.
     #[inline]
     pub fn high(&self) -> Packed<K>
-        ensures { result.words ≡ highs self.now }
+        ensures { result.words ≡ high_words self.now }
     {
         let mut words = [0; K];
         for at in 0..K {
@@ -137,7 +137,7 @@ impl<const K: usize> Pairs<K> {
     // What the high one's words are above the low one's, modulo 2^64.
     #[inline]
     pub(crate) fn gaps(&self) -> Packed<K>
-        ensures { AreGaps K (lows self.now) (highs self.now) result.words }
+        ensures { AreGaps K (low_words self.now) (high_words self.now) result.words }
     {
         let mut words = [0; K];
         for at in 0..K {
@@ -182,10 +182,10 @@ impl<const K: usize> Packed<K> {
     }
 
     // The same words twice.
-    pub(crate) fn twice(&self) -> Pairs<K>
-        ensures low { lows result ≡ self.now.words }
-        ensures high { highs result ≡ self.now.words }
+    pub(crate) fn twice(&self) -> PackedPair<K>
+        ensures low { low_words result ≡ self.now.words }
+        ensures high { high_words result ≡ self.now.words }
     {
-        Pairs::of(self, self)
+        PackedPair::of(self, self)
     }
 }

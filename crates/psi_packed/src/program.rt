@@ -5,11 +5,11 @@ ghost use Rattle.psi_state.specs.State.{IsBelow};
 ghost use Rattle.psi_packed.specs.Packed.{packed};
 ghost use Rattle.psi_packed.specs.Moves.{ChangesNothing, no_move};
 ghost use Rattle.psi_packed.specs.Programs.{Prepares, Follows, AllFollow};
-ghost use Rattle.psi_packed.specs.Views.{lows, highs};
+ghost use Rattle.psi_packed.specs.Views.{low_words, high_words};
 
 use crate::layout::{Layout, Packed};
-use crate::moves::Moves;
-use crate::pairs::Pairs;
+use crate::moves::PackedEvent;
+use crate::pairs::PackedPair;
 use psi_piecewise::PiecewiseLaw;
 use psi_state::State;
 use std::alloc::{AllocError, Global};
@@ -18,7 +18,7 @@ use std::marker::Model;
 /// The events of a network whose states fit `K` words and whose events are all of pieces.
 pub struct Program<const K: usize> {
     pub(crate) layout: Layout<K>,
-    pub(crate) moves: Vec<Moves<K>>,
+    pub(crate) moves: Vec<PackedEvent<K>>,
     // Where it is true, no second piece changes a state.
     first_alone: bool,
 }
@@ -66,7 +66,7 @@ impl<const K: usize> Program<K> {
             let Some(pieces) = event.piecewise() else {
                 return Ok(None);
             };
-            let own = Moves::of(&layout, &pieces);
+            let own = PackedEvent::of(&layout, &pieces);
             first_alone &= own.is_of_one_piece();
             moves.push_reserved(own);
         }
@@ -78,19 +78,19 @@ impl<const K: usize> Program<K> {
     }
 
     /// Two states, packed. They are within the capacities.
-    pub fn pack(&self, low: &State, high: &State) -> Pairs<K>
+    pub fn pack(&self, low: &State, high: &State) -> PackedPair<K>
         requires low { IsBelow low.now self.now.packing.caps }
         requires high { IsBelow high.now self.now.packing.caps }
-        ensures low { lows result ≡ packed K self.now.packing low.now }
-        ensures high { highs result ≡ packed K self.now.packing high.now }
+        ensures low { low_words result ≡ packed K self.now.packing low.now }
+        ensures high { high_words result ≡ packed K self.now.packing high.now }
     {
-        Pairs::of(&self.layout.pack(low), &self.layout.pack(high))
+        PackedPair::of(&self.layout.pack(low), &self.layout.pack(high))
     }
 
     /// The two states that are packed.
-    pub fn unpack(&self, x: &Pairs<K>) -> (State, State)
-        ensures low { (s : List ℕ) → IsBelow s self.now.packing.caps → lows x.now ≡ packed K self.now.packing s → result.0 ≡ s }
-        ensures high { (s : List ℕ) → IsBelow s self.now.packing.caps → highs x.now ≡ packed K self.now.packing s → result.1 ≡ s }
+    pub fn unpack(&self, x: &PackedPair<K>) -> (State, State)
+        ensures low { (s : List ℕ) → IsBelow s self.now.packing.caps → low_words x.now ≡ packed K self.now.packing s → result.0 ≡ s }
+        ensures high { (s : List ℕ) → IsBelow s self.now.packing.caps → high_words x.now ≡ packed K self.now.packing s → result.1 ≡ s }
     {
         (self.layout.unpack(&x.low()), self.layout.unpack(&x.high()))
     }
@@ -111,7 +111,7 @@ impl<const K: usize> Program<K> {
     }
 
     /// Puts what the event of this number makes of each packed state of the list in its place.
-    pub fn step(&self, number: u16, list: &mut [Pairs<K>])
+    pub fn step(&self, number: u16, list: &mut [PackedPair<K>])
         requires number { number < length self.now.moves }
         ensures { AllFollow self.now number list.old list.new }
     {
@@ -126,10 +126,10 @@ impl<const K: usize> Program<K> {
 
     /// Puts what the events of these numbers make of each of the two packed states in its place: the last number's event
     /// comes first.
-    pub fn follow(&self, numbers: &[u16], x: &mut Pairs<K>)
+    pub fn follow(&self, numbers: &[u16], x: &mut PackedPair<K>)
         requires numbers { EachIndex numbers.now (λ i. slice_index numbers.now i < length self.now.moves) }
-        ensures low { Follows K self.now numbers.now (lows x.old) (lows x.new) }
-        ensures high { Follows K self.now numbers.now (highs x.old) (highs x.new) }
+        ensures low { Follows K self.now numbers.now (low_words x.old) (low_words x.new) }
+        ensures high { Follows K self.now numbers.now (high_words x.old) (high_words x.new) }
     {
         if self.first_alone {
             self.follow_first(numbers, x);
@@ -140,10 +140,10 @@ impl<const K: usize> Program<K> {
 
     // The same by both pieces. Where the words come from and go to is kept out of the loop: each pair is then one register.
     #[inline(never)]
-    fn follow_both(&self, numbers: &[u16], x: &mut Pairs<K>)
+    fn follow_both(&self, numbers: &[u16], x: &mut PackedPair<K>)
         requires numbers { EachIndex numbers.now (λ i. slice_index numbers.now i < length self.now.moves) }
-        ensures low { Follows K self.now numbers.now (lows x.old) (lows x.new) }
-        ensures high { Follows K self.now numbers.now (highs x.old) (highs x.new) }
+        ensures low { Follows K self.now numbers.now (low_words x.old) (low_words x.new) }
+        ensures high { Follows K self.now numbers.now (high_words x.old) (high_words x.new) }
     {
         let moves = self.moves.as_slice();
         // In a variable of its own it stays in registers.
@@ -156,11 +156,11 @@ impl<const K: usize> Program<K> {
 
     // The same by the first pieces alone, where no second piece changes a state.
     #[inline(never)]
-    fn follow_first(&self, numbers: &[u16], x: &mut Pairs<K>)
+    fn follow_first(&self, numbers: &[u16], x: &mut PackedPair<K>)
         requires numbers { EachIndex numbers.now (λ i. slice_index numbers.now i < length self.now.moves) }
         requires alone { (i : ℕ) → i < length self.now.moves → ChangesNothing K (slice_index_or self.now.moves i no_move).second }
-        ensures low { Follows K self.now numbers.now (lows x.old) (lows x.new) }
-        ensures high { Follows K self.now numbers.now (highs x.old) (highs x.new) }
+        ensures low { Follows K self.now numbers.now (low_words x.old) (low_words x.new) }
+        ensures high { Follows K self.now numbers.now (high_words x.old) (high_words x.new) }
     {
         let moves = self.moves.as_slice();
         let mut own = *x;

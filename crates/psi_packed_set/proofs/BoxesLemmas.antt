@@ -16,7 +16,7 @@ use Rattle.psi_packed.specs.Programs.{Prepared, Prepares}
 use Rattle.psi_packed.specs.Boxes.{AreCorners, AreMonotoneUnhalted, AreFollowed, FollowsBox}
 use Rattle.psi_region.specs.Followed.{follow_areas, unsplit}
 use Rattle.psi_region.proofs.FollowedLemmas.{follow_areas-take}
-use Rattle.psi_packed_set.specs.Sets.{IsRun}
+use Rattle.psi_packed_set.specs.Sets.{IsCornersRun}
 use Rattle.psi_packed_set.proofs.SetsLemmas.{step-unsplit}
 
 module _ (count : ℕ) (p : Prepared) (caps : List ℕ) (functions : List Function) (numbers : List ℕ) (halts : List Bool) (split : ℕ) (lo hi low high : List ℕ) (place : ℕ)
@@ -92,7 +92,7 @@ pub boxes-run : (count : ℕ) (p : Prepared) (caps : List ℕ) (functions : List
     → FollowsBox count p numbers halts split low high low_after high_after place
     → ((s : List ℕ) → IsBelow s p.packing.caps → low_after ≡ packed count p.packing s → x ≡ s)
     → ((s : List ℕ) → IsBelow s p.packing.caps → high_after ≡ packed count p.packing s → y ≡ s)
-    → IsRun caps functions numbers split (record { lo = lo; hi = hi }) (record { lo = x; hi = y }) place
+    → IsCornersRun caps functions numbers split (record { lo = lo; hi = hi }) (record { lo = x; hi = y }) place
 boxes-run count p caps functions numbers halts split lo hi low high low_after high_after x y place prepared monotone known ordered within packs_low packs_high few follows is_low is_high =
     let begins : AreCorners count p.packing low high lo hi = record {
       ordered = ordered;

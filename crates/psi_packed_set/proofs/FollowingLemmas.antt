@@ -13,35 +13,35 @@ use Rattle.psi_event.proofs.NumbersLemmas.{follow_numbers-append, follow_numbers
 use Rattle.psi_packed.specs.Packed.{Packing, packed}
 use Rattle.psi_packed.specs.Programs.{Prepared, Follows, AllFollow}
 use Rattle.psi_packed.proofs.FollowingLemmas.{follow_numbers-within}
-use Rattle.psi_packed.specs.Views.{lows, highs, pair_at}
-use Rattle.psi_packed.specs.declared.pairs.Pairs.{Pairs}
+use Rattle.psi_packed.specs.Views.{low_words, high_words, pair_at}
+use Rattle.psi_packed.specs.declared.pairs.PackedPair.{PackedPair}
 use Rattle.psi_packed_set.specs.HalvesKept.{halves, AreAll, AreTwo}
 use Rattle.psi_packed_set.specs.HoldingKept.{Holds, SetFollows}
 use Rattle.psi_packed_set.proofs.HalvingLemmas.{same-through, In-low, In-high, place-of}
 
 -- the packed states of each pair follow the numbers
-pub record EachFollow {K : ℕ} (p : Prepared) (numbers : List ℕ) (before after : List (Pairs K)) : Type 0 where
+pub record EachFollow {K : ℕ} (p : Prepared) (numbers : List ℕ) (before after : List (PackedPair K)) : Type 0 where
   pub count : length after ≡ length before
-  pub low : (i : ℕ) → i < length before → Follows K p numbers (lows (pair_at before i)) (lows (pair_at after i))
-  pub high : (i : ℕ) → i < length before → Follows K p numbers (highs (pair_at before i)) (highs (pair_at after i))
+  pub low : (i : ℕ) → i < length before → Follows K p numbers (low_words (pair_at before i)) (low_words (pair_at after i))
+  pub high : (i : ℕ) → i < length before → Follows K p numbers (high_words (pair_at before i)) (high_words (pair_at after i))
 
-pub each-from_all : {K : ℕ} {p : Prepared} {number : ℕ} {before after : List (Pairs K)} → AllFollow p number before after → EachFollow p (number ∷ []) before after
+pub each-from_all : {K : ℕ} {p : Prepared} {number : ℕ} {before after : List (PackedPair K)} → AllFollow p number before after → EachFollow p (number ∷ []) before after
 each-from_all all = record { count = all.count; low = all.low; high = all.high }
 
-pub each-one : {K : ℕ} (p : Prepared) (numbers : List ℕ) (x y : Pairs K) → Follows K p numbers (lows x) (lows y) → Follows K p numbers (highs x) (highs y)
+pub each-one : {K : ℕ} (p : Prepared) (numbers : List ℕ) (x y : PackedPair K) → Follows K p numbers (low_words x) (low_words y) → Follows K p numbers (high_words x) (high_words y)
     → EachFollow p numbers (x ∷ []) (y ∷ [])
 each-one {K} p numbers x y low high = record { count = refl; low = lower; high = higher }
   where
-    lower : (i : ℕ) → i < 1 → Follows K p numbers (lows (pair_at (x ∷ []) i)) (lows (pair_at (y ∷ []) i))
+    lower : (i : ℕ) → i < 1 → Follows K p numbers (low_words (pair_at (x ∷ []) i)) (low_words (pair_at (y ∷ []) i))
     lower zero small = low
     lower (suc i) small = absurd (omega arith)
 
-    higher : (i : ℕ) → i < 1 → Follows K p numbers (highs (pair_at (x ∷ []) i)) (highs (pair_at (y ∷ []) i))
+    higher : (i : ℕ) → i < 1 → Follows K p numbers (high_words (pair_at (x ∷ []) i)) (high_words (pair_at (y ∷ []) i))
     higher zero small = high
     higher (suc i) small = absurd (omega arith)
 
 -- a list whose pairs follow the numbers
-pub set-each : {K : ℕ} (p : Prepared) (numbers : List ℕ) (before after : List (Pairs K)) → EachFollow p numbers before after
+pub set-each : {K : ℕ} (p : Prepared) (numbers : List ℕ) (before after : List (PackedPair K)) → EachFollow p numbers before after
     → SetFollows K p numbers (halves before) (halves after)
 set-each {K} p numbers before after follows = λ caps functions states prepared holds.
     let f = follow_numbers functions numbers in
@@ -57,9 +57,9 @@ set-each {K} p numbers before after follows = λ caps functions states prepared 
             let small : found.0 < length before = (let less = found.1 in omega arith) in
             elim found.2 [
               | inl e ↦ subst (λ (u : List ℕ). In u (map (packed K p.packing) (map f states))) (sym e)
-                  (made (lows (pair_at after found.0)) (lows (pair_at before found.0)) (In-low before found.0 small) (follows.low found.0 small))
+                  (made (low_words (pair_at after found.0)) (low_words (pair_at before found.0)) (In-low before found.0 small) (follows.low found.0 small))
               | inr e ↦ subst (λ (u : List ℕ). In u (map (packed K p.packing) (map f states))) (sym e)
-                  (made (highs (pair_at after found.0)) (highs (pair_at before found.0)) (In-high before found.0 small) (follows.high found.0 small))
+                  (made (high_words (pair_at after found.0)) (high_words (pair_at before found.0)) (In-high before found.0 small) (follows.high found.0 small))
             ]);
         back = λ w member. (let image = In-of_map (packed K p.packing) w (map f states) member in
             let from = In-of_map f image.0 states image.1 in
@@ -80,8 +80,8 @@ set-each {K} p numbers before after follows = λ caps functions states prepared 
     }
 
 -- the first pair follows the numbers
-pub follows-first : {K : ℕ} (p : Prepared) (numbers : List ℕ) (list : List (Pairs K)) (read new : Pairs K) → 1 ≤ length list
-    → Follows K p numbers (lows (get_or list 0 read)) (lows new) → Follows K p numbers (highs (get_or list 0 read)) (highs new)
+pub follows-first : {K : ℕ} (p : Prepared) (numbers : List ℕ) (list : List (PackedPair K)) (read new : PackedPair K) → 1 ≤ length list
+    → Follows K p numbers (low_words (get_or list 0 read)) (low_words new) → Follows K p numbers (high_words (get_or list 0 read)) (high_words new)
     → SetFollows K p numbers (halves (take 1 list)) (halves (take 1 (slice_set list 0 new)))
 follows-first p numbers [] read new some low high = absurd (omega arith)
 follows-first p numbers (x ∷ list) read new some low high = set-each p numbers (x ∷ []) (new ∷ []) (each-one p numbers x new low high)
@@ -156,9 +156,9 @@ meets-none count p f words states holds two =
     (λ e. two.apart (one.2 ∙ ap (packed count p) (first.2 ∙ e ∙ sym second.2) ∙ sym other.2))
 
 -- one pair is left, and follows the numbers
-pub follow-end : {K : ℕ} (p : Prepared) (numbers : List ℕ) (used : ℕ) (old given new items : List (Pairs K)) → used ≡ 1 → given ≡ old → items ≡ new
+pub follow-end : {K : ℕ} (p : Prepared) (numbers : List ℕ) (used : ℕ) (old given new items : List (PackedPair K)) → used ≡ 1 → given ≡ old → items ≡ new
     → SetFollows K p numbers (halves (take 1 given)) (halves (take 1 new)) → SetFollows K p numbers (halves (take used old)) (halves (take used items))
 follow-end {K} p numbers used old given new items one same is follows =
     subst (λ n. SetFollows K p numbers (halves (take n old)) (halves (take n items))) (sym one)
-    (subst (λ (xs : List (Pairs K)). SetFollows K p numbers (halves (take 1 xs)) (halves (take 1 items))) same
-    (subst (λ (xs : List (Pairs K)). SetFollows K p numbers (halves (take 1 given)) (halves (take 1 xs))) (sym is) follows))
+    (subst (λ (xs : List (PackedPair K)). SetFollows K p numbers (halves (take 1 xs)) (halves (take 1 items))) same
+    (subst (λ (xs : List (PackedPair K)). SetFollows K p numbers (halves (take 1 given)) (halves (take 1 xs))) (sym is) follows))

@@ -7,9 +7,9 @@ use Rattle.std.proofs.lemmas.List.{get_or_default, map-append, take-set-le}
 use Rattle.psi_state.specs.Members.{In}
 use Rattle.psi_state.proofs.MembersLemmas.{In-append, In-append_left, In-append_right}
 use Rattle.psi_state.specs.Ascending.{HaveSame}
-use Rattle.psi_packed.specs.Views.{lows, highs, pair_at}
+use Rattle.psi_packed.specs.Views.{low_words, high_words, pair_at}
 use Rattle.psi_packed.specs.declared.layout.Packed.{Packed}
-use Rattle.psi_packed.specs.declared.pairs.Pairs.{Pairs}
+use Rattle.psi_packed.specs.declared.pairs.PackedPair.{PackedPair}
 use Rattle.psi_packed_set.specs.HalvesKept.{halves, words_of_first, AreAll, AreTwo}
 
 -- ---- the same members
@@ -86,41 +86,41 @@ same-twice front x = record {
 
 -- ---- side by side
 
-pub halves-append : {K : ℕ} (list : List (Pairs K)) (p : Pairs K) → halves (list ++ p ∷ []) ≡ halves list ++ lows p ∷ highs p ∷ []
+pub halves-append : {K : ℕ} (list : List (PackedPair K)) (p : PackedPair K) → halves (list ++ p ∷ []) ≡ halves list ++ low_words p ∷ high_words p ∷ []
 halves-append [] p = refl
-halves-append (q ∷ list) p = ap (λ (ws : List (List ℕ)). lows q ∷ highs q ∷ ws) (halves-append list p)
+halves-append (q ∷ list) p = ap (λ (ws : List (List ℕ)). low_words q ∷ high_words q ∷ ws) (halves-append list p)
 
 -- one pair more
-pub halves-next : {K : ℕ} (list : List (Pairs K)) (n : ℕ) → n < length list
-    → halves (take (n + 1) list) ≡ halves (take n list) ++ lows (pair_at list n) ∷ highs (pair_at list n) ∷ []
+pub halves-next : {K : ℕ} (list : List (PackedPair K)) (n : ℕ) → n < length list
+    → halves (take (n + 1) list) ≡ halves (take n list) ++ low_words (pair_at list n) ∷ high_words (pair_at list n) ∷ []
 halves-next {K} list n within =
     let e : n + 1 ≡ suc n = omega arith in
     ap (λ k. halves (take k list)) e
-    ∙ ap (λ (ps : List (Pairs K)). halves ps) (take-suc list n (record { pairs = [] }) within)
+    ∙ ap (λ (ps : List (PackedPair K)). halves ps) (take-suc list n (record { pairs = [] }) within)
     ∙ halves-append (take n list) (pair_at list n)
 
 -- one pair more that is written there
-pub halves-set : {K : ℕ} (list : List (Pairs K)) (n : ℕ) (p : Pairs K) → n < length list
-    → halves (take (n + 1) (slice_set list n p)) ≡ halves (take n list) ++ lows p ∷ highs p ∷ []
+pub halves-set : {K : ℕ} (list : List (PackedPair K)) (n : ℕ) (p : PackedPair K) → n < length list
+    → halves (take (n + 1) (slice_set list n p)) ≡ halves (take n list) ++ low_words p ∷ high_words p ∷ []
 halves-set {K} list n p within =
     let e : n + 1 ≡ suc n = omega arith in
     ap (λ k. halves (take k (slice_set list n p))) e
-    ∙ ap (λ (ps : List (Pairs K)). halves ps) (take-suc-set list n p within)
+    ∙ ap (λ (ps : List (PackedPair K)). halves ps) (take-suc-set list n p within)
     ∙ halves-append (take n list) p
 
-pub In-low : {K : ℕ} (list : List (Pairs K)) (i : ℕ) → i < length list → In (lows (pair_at list i)) (halves list)
+pub In-low : {K : ℕ} (list : List (PackedPair K)) (i : ℕ) → i < length list → In (low_words (pair_at list i)) (halves list)
 In-low [] i within = absurd (omega arith)
 In-low (p ∷ list) zero within = inl refl
 In-low (p ∷ list) (suc i) within = inr (inr (In-low list i (omega arith)))
 
-pub In-high : {K : ℕ} (list : List (Pairs K)) (i : ℕ) → i < length list → In (highs (pair_at list i)) (halves list)
+pub In-high : {K : ℕ} (list : List (PackedPair K)) (i : ℕ) → i < length list → In (high_words (pair_at list i)) (halves list)
 In-high [] i within = absurd (omega arith)
 In-high (p ∷ list) zero within = inr (inl refl)
 In-high (p ∷ list) (suc i) within = inr (inr (In-high list i (omega arith)))
 
 -- which pair a state is of
-pub place-of : {K : ℕ} (list : List (Pairs K)) (w : List ℕ) → In w (halves list)
-    → (i : ℕ) × (i < length list) × ((w ≡ lows (pair_at list i)) ⊎ (w ≡ highs (pair_at list i)))
+pub place-of : {K : ℕ} (list : List (PackedPair K)) (w : List ℕ) → In w (halves list)
+    → (i : ℕ) × (i < length list) × ((w ≡ low_words (pair_at list i)) ⊎ (w ≡ high_words (pair_at list i)))
 place-of [] w member = absurd member
 place-of (p ∷ list) w member = elim member [
   | inl e ↦ (0, omega arith, inl e)
@@ -191,16 +191,16 @@ kept states n i x z same within own = kept-by states n i x z (nat_lt i n) same w
 
 -- ---- a pair that is read
 
-pair-read : {K : ℕ} (list : List (Pairs K)) (at : ℕ) (read : Pairs K) → at < length list → get_or list at read ≡ pair_at list at
+pair-read : {K : ℕ} (list : List (PackedPair K)) (at : ℕ) (read : PackedPair K) → at < length list → get_or list at read ≡ pair_at list at
 pair-read list at read within = get_or_default list at read (record { pairs = [] }) within
 
 -- one pair more is gathered
-pub gather-more : {K : ℕ} (list : List (Pairs K)) (n : ℕ) (p : Pairs K) (xs ys zs : List (List ℕ)) (u v : List ℕ) → n < length list
-    → u ≡ lows (get_or list n p) → v ≡ highs (get_or list n p) → HaveSame xs (halves (take n list)) → HaveSame ys (u ∷ xs) → HaveSame zs (v ∷ ys) → HaveSame zs (halves (take (n + 1) list))
+pub gather-more : {K : ℕ} (list : List (PackedPair K)) (n : ℕ) (p : PackedPair K) (xs ys zs : List (List ℕ)) (u v : List ℕ) → n < length list
+    → u ≡ low_words (get_or list n p) → v ≡ high_words (get_or list n p) → HaveSame xs (halves (take n list)) → HaveSame ys (u ∷ xs) → HaveSame zs (v ∷ ys) → HaveSame zs (halves (take (n + 1) list))
 gather-more {K} list n p xs ys zs u v within low high first second third =
     let own = pair-read list n p within in
     let made : halves (take n list) ++ u ∷ v ∷ [] ≡ halves (take (n + 1) list) =
-    ap₂ (λ (a b : List ℕ). halves (take n list) ++ a ∷ b ∷ []) (low ∙ ap (λ (q : Pairs K). lows q) own) (high ∙ ap (λ (q : Pairs K). highs q) own)
+    ap₂ (λ (a b : List ℕ). halves (take n list) ++ a ∷ b ∷ []) (low ∙ ap (λ (q : PackedPair K). low_words q) own) (high ∙ ap (λ (q : PackedPair K). high_words q) own)
     ∙ sym (halves-next list n within) in
     subst (λ (ws : List (List ℕ)). HaveSame zs ws) made (same-two xs ys zs (halves (take n list)) u v first second third)
 
@@ -212,60 +212,60 @@ both-true true false e = absurd cc
 both-true false b e = absurd cc
 
 -- one pair more is the first state
-pub all-more : {K : ℕ} (list : List (Pairs K)) (n : ℕ) (p : Pairs K) (first u v : List ℕ) (a b : Bool) → n < length list
-    → u ≡ lows (get_or list n p) → v ≡ highs (get_or list n p) → (a ≡ true → u ≡ first) → (b ≡ true → v ≡ first) → (a && b) ≡ true
+pub all-more : {K : ℕ} (list : List (PackedPair K)) (n : ℕ) (p : PackedPair K) (first u v : List ℕ) (a b : Bool) → n < length list
+    → u ≡ low_words (get_or list n p) → v ≡ high_words (get_or list n p) → (a ≡ true → u ≡ first) → (b ≡ true → v ≡ first) → (a && b) ≡ true
     → ((w : List ℕ) → In w (halves (take n list)) → w ≡ first) → (w : List ℕ) → In w (halves (take (n + 1) list)) → w ≡ first
 all-more {K} list n p first u v a b within low high one other test each w member =
     let own = pair-read list n p within in
     let are = both-true a b test in
-    elim (In-append w (halves (take n list)) (lows (pair_at list n) ∷ highs (pair_at list n) ∷ []) (subst (λ (ws : List (List ℕ)). In w ws) (halves-next list n within) member)) [
+    elim (In-append w (halves (take n list)) (low_words (pair_at list n) ∷ high_words (pair_at list n) ∷ []) (subst (λ (ws : List (List ℕ)). In w ws) (halves-next list n within) member)) [
       | inl old ↦ each w old
       | inr new ↦ elim new [
-        | inl e ↦ e ∙ ap (λ (q : Pairs K). lows q) (sym own) ∙ sym low ∙ one are.0
+        | inl e ↦ e ∙ ap (λ (q : PackedPair K). low_words q) (sym own) ∙ sym low ∙ one are.0
         | inr last ↦ elim last [
-          | inl e ↦ e ∙ ap (λ (q : Pairs K). highs q) (sym own) ∙ sym high ∙ other are.1
+          | inl e ↦ e ∙ ap (λ (q : PackedPair K). high_words q) (sym own) ∙ sym high ∙ other are.1
           | inr none ↦ absurd none
         ]
       ]
     ]
 
 -- a pair of which one isn't the first state
-pub two-differ : {K : ℕ} (list : List (Pairs K)) (n : ℕ) (p q : Pairs K) (first u v : List ℕ) (a b : Bool) → n < length list
-    → first ≡ lows (get_or list 0 q) → u ≡ lows (get_or list n p) → v ≡ highs (get_or list n p) → (u ≡ first → a ≡ true) → (v ≡ first → b ≡ true) → (a && b) ≡ false → AreTwo (halves list)
+pub two-differ : {K : ℕ} (list : List (PackedPair K)) (n : ℕ) (p q : PackedPair K) (first u v : List ℕ) (a b : Bool) → n < length list
+    → first ≡ low_words (get_or list 0 q) → u ≡ low_words (get_or list n p) → v ≡ high_words (get_or list n p) → (u ≡ first → a ≡ true) → (v ≡ first → b ≡ true) → (a && b) ≡ false → AreTwo (halves list)
 two-differ {K} list n p q first u v true true within own low high one other test = absurd cc
 two-differ {K} list n p q first u v true false within own low high one other test = record {
-  one = lows (pair_at list 0);
-  other = highs (pair_at list n);
+  one = low_words (pair_at list 0);
+  other = high_words (pair_at list n);
   one_there = In-low list 0 (omega arith);
   other_there = In-high list n within;
-  apart = λ e. (let no : false ≡ true = other (high ∙ ap (λ (r : Pairs K). highs r) (pair-read list n p within) ∙ sym e ∙ ap (λ (r : Pairs K). lows r) (sym (pair-read list 0 q (omega arith))) ∙ sym own) in absurd cc);
+  apart = λ e. (let no : false ≡ true = other (high ∙ ap (λ (r : PackedPair K). high_words r) (pair-read list n p within) ∙ sym e ∙ ap (λ (r : PackedPair K). low_words r) (sym (pair-read list 0 q (omega arith))) ∙ sym own) in absurd cc);
 }
 two-differ {K} list n p q first u v false b within own low high one other test = record {
-  one = lows (pair_at list 0);
-  other = lows (pair_at list n);
+  one = low_words (pair_at list 0);
+  other = low_words (pair_at list n);
   one_there = In-low list 0 (omega arith);
   other_there = In-low list n within;
-  apart = λ e. (let no : false ≡ true = one (low ∙ ap (λ (r : Pairs K). lows r) (pair-read list n p within) ∙ sym e ∙ ap (λ (r : Pairs K). lows r) (sym (pair-read list 0 q (omega arith))) ∙ sym own) in absurd cc);
+  apart = λ e. (let no : false ≡ true = one (low ∙ ap (λ (r : PackedPair K). low_words r) (pair-read list n p within) ∙ sym e ∙ ap (λ (r : PackedPair K). low_words r) (sym (pair-read list 0 q (omega arith))) ∙ sym own) in absurd cc);
 }
 
 -- all pairs are the first state
-pub all-same : {K : ℕ} (list : List (Pairs K)) (n : ℕ) (q : Pairs K) (first : List ℕ) → 1 ≤ length list → length list ≤ n → first ≡ lows (get_or list 0 q)
+pub all-same : {K : ℕ} (list : List (PackedPair K)) (n : ℕ) (q : PackedPair K) (first : List ℕ) → 1 ≤ length list → length list ≤ n → first ≡ low_words (get_or list 0 q)
     → ((w : List ℕ) → In w (halves (take n list)) → w ≡ first) → AreAll first (halves list)
 all-same {K} list n q first some whole own each = record {
-  some = subst (λ (w : List ℕ). In w (halves list)) (ap (λ (r : Pairs K). lows r) (sym (pair-read list 0 q (omega arith))) ∙ sym own) (In-low list 0 (omega arith));
-  each = λ w member. each w (subst (λ (ps : List (Pairs K)). In w (halves ps)) (sym (take_all n list whole)) member);
+  some = subst (λ (w : List ℕ). In w (halves list)) (ap (λ (r : PackedPair K). low_words r) (sym (pair-read list 0 q (omega arith))) ∙ sym own) (In-low list 0 (omega arith));
+  each = λ w member. each w (subst (λ (ps : List (PackedPair K)). In w (halves ps)) (sym (take_all n list whole)) member);
 }
 
 -- ---- pairs that are written
 
 -- two states more side by side
-pub pairs-next : {K : ℕ} (states : List (Packed K)) (list : List (Pairs K)) (n : ℕ) (p : Pairs K) (x y : Packed K) → n < length list → 2 * n + 1 < length states
-    → lows p ≡ (get_or states (2 * n) x).words → highs p ≡ (get_or states (2 * n + 1) y).words → halves (take n list) ≡ words_of_first (2 * n) states
+pub pairs-next : {K : ℕ} (states : List (Packed K)) (list : List (PackedPair K)) (n : ℕ) (p : PackedPair K) (x y : Packed K) → n < length list → 2 * n + 1 < length states
+    → low_words p ≡ (get_or states (2 * n) x).words → high_words p ≡ (get_or states (2 * n + 1) y).words → halves (take n list) ≡ words_of_first (2 * n) states
     → halves (take (n + 1) (slice_set list n p)) ≡ words_of_first (2 * (n + 1)) states
 pairs-next {K} states list n p x y within enough low high before =
     let e : 2 * n + 1 + 1 ≡ 2 * (n + 1) = omega arith in
     halves-set list n p within
-    ∙ ap₂ (λ (ws : List (List ℕ)) (w : List ℕ). ws ++ w ∷ highs p ∷ []) before low
+    ∙ ap₂ (λ (ws : List (List ℕ)) (w : List ℕ). ws ++ w ∷ high_words p ∷ []) before low
     ∙ ap (λ (w : List ℕ). words_of_first (2 * n) states ++ (get_or states (2 * n) x).words ∷ w ∷ []) high
     ∙ sym (append_assoc (words_of_first (2 * n) states) ((get_or states (2 * n) x).words ∷ []) ((get_or states (2 * n + 1) y).words ∷ []))
     ∙ ap (λ (ws : List (List ℕ)). ws ++ (get_or states (2 * n + 1) y).words ∷ []) (sym (words-next states (2 * n) x (omega arith)))
@@ -273,15 +273,15 @@ pairs-next {K} states list n p x y within enough low high before =
     ∙ ap (λ k. words_of_first k states) e
 
 -- the last state alone
-pub pairs-last : {K : ℕ} (states : List (Packed K)) (list : List (Pairs K)) (n : ℕ) (p : Pairs K) (x : Packed K) → n < length list → length states ≡ 2 * n + 1
-    → lows p ≡ (get_or states (2 * n) x).words → highs p ≡ (get_or states (2 * n) x).words → halves (take n list) ≡ words_of_first (2 * n) states
+pub pairs-last : {K : ℕ} (states : List (Packed K)) (list : List (PackedPair K)) (n : ℕ) (p : PackedPair K) (x : Packed K) → n < length list → length states ≡ 2 * n + 1
+    → low_words p ≡ (get_or states (2 * n) x).words → high_words p ≡ (get_or states (2 * n) x).words → halves (take n list) ≡ words_of_first (2 * n) states
     → HaveSame (halves (take (n + 1) (slice_set list n p))) (words_of_first (length states) states)
 pairs-last {K} states list n p x within odd low high before =
     let own = (get_or states (2 * n) x).words in
     let front = words_of_first (2 * n) states in
     let pairs : halves (take (n + 1) (slice_set list n p)) ≡ front ++ own ∷ own ∷ [] =
     halves-set list n p within
-    ∙ ap₂ (λ (ws : List (List ℕ)) (w : List ℕ). ws ++ w ∷ highs p ∷ []) before low
+    ∙ ap₂ (λ (ws : List (List ℕ)) (w : List ℕ). ws ++ w ∷ high_words p ∷ []) before low
     ∙ ap (λ (w : List ℕ). front ++ own ∷ w ∷ []) high in
     let all : front ++ own ∷ [] ≡ words_of_first (length states) states =
     sym (words-next states (2 * n) x (omega arith)) ∙ ap (λ k. words_of_first k states) (sym odd) in
@@ -298,9 +298,9 @@ same-again {K} states given n made is same =
     (subst (λ (xs : List (Packed K)). HaveSame made (map (λ (y : Packed K). y.words) xs)) (take_all (length (take n given)) (take n given) (omega arith)) same)
 
 -- some states stand for some pairs
-pub some-left : {K : ℕ} (states : List (Packed K)) (n : ℕ) (list : List (Pairs K)) → HaveSame (words_of_first n states) (halves list) → 1 ≤ length list → 1 ≤ n
+pub some-left : {K : ℕ} (states : List (Packed K)) (n : ℕ) (list : List (PackedPair K)) → HaveSame (words_of_first n states) (halves list) → 1 ≤ length list → 1 ≤ n
 some-left states zero [] same some = absurd (omega arith)
-some-left states zero (p ∷ list) same some = absurd (same.back (lows p) (inl refl))
+some-left states zero (p ∷ list) same some = absurd (same.back (low_words p) (inl refl))
 some-left states (suc n) list same some = omega arith
 
 pub some-members : {A : Type 0} (xs : List A) (x : A) → In x xs → 1 ≤ length xs

@@ -1,14 +1,14 @@
 -- The packed states of a list, side by side or one after another, and whether they are one.
 use Rattle.std.specs.Prelude.{◌≡◌, ℕ, List, [], ◌∷◌, map, take}
 use Rattle.psi_state.specs.Members.{In}
-use Rattle.psi_packed.specs.Views.{lows, highs}
+use Rattle.psi_packed.specs.Views.{low_words, high_words}
 use Rattle.psi_packed.specs.declared.layout.Packed.{Packed}
-use Rattle.psi_packed.specs.declared.pairs.Pairs.{Pairs}
+use Rattle.psi_packed.specs.declared.pairs.PackedPair.{PackedPair}
 
 -- the words of the states of each pair, one state after another
-abbrev pub halves : {K : ℕ} → List (Pairs K) → List (List ℕ)
+abbrev pub halves : {K : ℕ} → List (PackedPair K) → List (List ℕ)
 halves [] = []
-halves (p ∷ list) = lows p ∷ highs p ∷ halves list
+halves (p ∷ list) = low_words p ∷ high_words p ∷ halves list
 
 -- the words of the first states
 abbrev pub words_of_first : {K : ℕ} → ℕ → List (Packed K) → List (List ℕ)

@@ -5,7 +5,7 @@ use Rattle.psi_event.specs.Law.{Function}
 use Rattle.psi_region.specs.Followed.{follow_areas, unsplit}
 
 -- the corners of a box within the capacities, whose region the numbers below a place make what all numbers make of another's
-pub record IsRun (caps : List ℕ) (functions : List Function) (numbers : List ℕ) (split : ℕ) (from to : Corners) (place : ℕ) : Type 0 where
+pub record IsCornersRun (caps : List ℕ) (functions : List Function) (numbers : List ℕ) (split : ℕ) (from to : Corners) (place : ℕ) : Type 0 where
   pub left : place ≤ length numbers
   pub ordered : IsBelow to.lo to.hi
   pub within : IsBelow to.hi caps

@@ -5,7 +5,7 @@ ghost use Rattle.psi_state.specs.State.{IsBelow};
 ghost use Rattle.psi_event.specs.Numbers.{AreEvents};
 ghost use Rattle.psi_packed.specs.Boxes.{AreMonotoneUnhalted};
 ghost use Rattle.psi_packed.specs.Programs.{Prepares};
-ghost use Rattle.psi_packed_set.specs.Sets.{IsRun};
+ghost use Rattle.psi_packed_set.specs.Sets.{IsCornersRun};
 
 use psi_event::EventLaw;
 use psi_packed::Program;
@@ -43,7 +43,7 @@ pub(crate) fn follow_corners<const K: usize, E: EventLaw>(
     requires monotone { AreMonotoneUnhalted course.now.caps (map E.function course.now.events) halts.now }
     requires numbers { AreEvents (length (map E.function course.now.events)) numbers.now }
     requires within { IsBelow bounds.old.hi course.now.caps }
-    ensures { IsRun course.now.caps (map E.function course.now.events) numbers.now course.now.split bounds.old bounds.new result }
+    ensures { IsCornersRun course.now.caps (map E.function course.now.events) numbers.now course.now.split bounds.old bounds.new result }
 {
     let (lo, hi, left) = corners_after(program, halts, course, numbers, bounds);
     *bounds = Bounds::new(lo, hi);
@@ -63,7 +63,7 @@ fn corners_after<const K: usize, E: EventLaw>(
     requires monotone { AreMonotoneUnhalted course.now.caps (map E.function course.now.events) halts.now }
     requires numbers { AreEvents (length (map E.function course.now.events)) numbers.now }
     requires within { IsBelow bounds.now.hi course.now.caps }
-    ensures { IsRun course.now.caps (map E.function course.now.events) numbers.now course.now.split bounds.now (record { lo = result.0; hi = result.1 }) result.2 }
+    ensures { IsCornersRun course.now.caps (map E.function course.now.events) numbers.now course.now.split bounds.now (record { lo = result.0; hi = result.1 }) result.2 }
 {
     let mut corners = program.pack(&bounds.lo(), &bounds.hi());
     let split = u32::from(course.split());

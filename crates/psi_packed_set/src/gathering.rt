@@ -4,7 +4,7 @@ ghost use Rattle.std.specs.Prelude.{◌≡◌, ◌+◌, ◌*◌, ◌/◌, ◌<�
 ghost use Rattle.psi_state.specs.Ascending.{HaveSame};
 ghost use Rattle.psi_packed_set.specs.HalvesKept.{halves, words_of_first, AreAll, AreTwo};
 
-use psi_packed::{Packed, Pairs};
+use psi_packed::{Packed, PackedPair};
 
 /// Puts the packed states of the pairs one after another, those that are seen to be there already left out. Answers how many there are.
 ///
@@ -12,7 +12,7 @@ use psi_packed::{Packed, Pairs};
 /// What stands there may be of a former list, or of another state: then a repeat stays, and the set is the same.
 #[inline(never)]
 pub(crate) fn gather<const K: usize>(
-    list: &[Pairs<K>],
+    list: &[PackedPair<K>],
     seen: &mut [u16],
     shift: u8,
     out: &mut [Packed<K>],
@@ -65,7 +65,7 @@ fn keep<const K: usize>(
 }
 
 /// Puts packed states side by side, the last one twice where their number is odd. Answers how many pairs there are.
-pub(crate) fn pair_up<const K: usize>(states: &[Packed<K>], list: &mut [Pairs<K>]) -> usize
+pub(crate) fn pair_up<const K: usize>(states: &[Packed<K>], list: &mut [PackedPair<K>]) -> usize
     requires room { length states.now ≤ 2 * length list.old }
     ensures members { HaveSame (halves (take result list.new)) (words_of_first (length states.now) states.now) }
     ensures count { result ≡ (length states.now + 1) / 2 }
@@ -77,24 +77,24 @@ pub(crate) fn pair_up<const K: usize>(states: &[Packed<K>], list: &mut [Pairs<K>
         return whole;
     }
     let last = &states[2 * whole];
-    list[whole] = Pairs::of(last, last);
+    list[whole] = PackedPair::of(last, last);
     whole + 1
 }
 
 // Puts packed states side by side, but for the last one where their number is odd.
 #[inline(never)]
-fn pair_whole<const K: usize>(states: &[Packed<K>], list: &mut [Pairs<K>])
+fn pair_whole<const K: usize>(states: &[Packed<K>], list: &mut [PackedPair<K>])
     requires room { length states.now ≤ 2 * length list.old }
     ensures members { halves (take (length states.now / 2) list.new) ≡ words_of_first (2 * (length states.now / 2)) states.now }
     ensures room { length list.new ≡ length list.old }
 {
     for at in 0..states.len() / 2 {
-        list[at] = Pairs::of(&states[2 * at], &states[2 * at + 1]);
+        list[at] = PackedPair::of(&states[2 * at], &states[2 * at + 1]);
     }
 }
 
 /// The packed state that all are, where all are one.
-pub(crate) fn only<const K: usize>(list: &[Pairs<K>]) -> Option<Packed<K>>
+pub(crate) fn only<const K: usize>(list: &[PackedPair<K>]) -> Option<Packed<K>>
     requires { 1 ≤ length list.now }
     ensures { MatchOption result (AreTwo (halves list.now)) (λ x. AreAll x.words (halves list.now)) }
 {

@@ -14,7 +14,7 @@ ghost use Rattle.psi_packed_set.specs.HoldingKept.{Holds, SetFollows};
 use crate::gathering::{gather, only, pair_up};
 use crate::moving::{follow_one, pack_all, step_first};
 use crate::pace::Pace;
-use psi_packed::{Packed, Pairs, Program};
+use psi_packed::{Packed, PackedPair, Program};
 use psi_state::Bounds;
 use std::alloc::{AllocError, Global};
 
@@ -22,7 +22,7 @@ use std::alloc::{AllocError, Global};
 #[derive(Drop)]
 pub(crate) struct Lists<const K: usize> {
     // The pairs in use are the first `used`.
-    pub(crate) pairs: Vec<Pairs<K>>,
+    pub(crate) pairs: Vec<PackedPair<K>>,
     pub(crate) used: usize,
     pub(crate) states: Vec<Packed<K>>,
     // For the high bits of a hash, from the bit `shift` on, where a state that has it may stand.
@@ -174,13 +174,13 @@ fn bits_for(most: u16) -> u8
 }
 
 // So many pairs of no customer.
-fn free_pairs<const K: usize>(alloc: Global, count: u16) -> Result<Vec<Pairs<K>>, AllocError>
+fn free_pairs<const K: usize>(alloc: Global, count: u16) -> Result<Vec<PackedPair<K>>, AllocError>
     ensures { IfOk result (λ pairs. length pairs.items ≡ count) }
 {
     let zero = Packed::zero();
     let mut pairs = Vec::with_capacity(alloc, count as usize)?;
     for _place in 0..count {
-        pairs.push_reserved(Pairs::of(&zero, &zero));
+        pairs.push_reserved(PackedPair::of(&zero, &zero));
     }
     Ok(pairs)
 }

@@ -7,7 +7,7 @@ ghost use Rattle.psi_packed.specs.Programs.{AllFollow};
 ghost use Rattle.psi_packed_set.specs.HalvesKept.{halves, words_of_first};
 ghost use Rattle.psi_packed_set.specs.HoldingKept.{SetFollows};
 
-use psi_packed::{Packed, Pairs, Program};
+use psi_packed::{Packed, PackedPair, Program};
 use psi_state::Bounds;
 
 /// Packs the states of the box, one after another. Answers how many there are.
@@ -35,7 +35,7 @@ pub(crate) fn pack_all<const K: usize>(
 pub(crate) fn step_first<const K: usize>(
     program: &Program<K>,
     number: u16,
-    list: &mut [Pairs<K>],
+    list: &mut [PackedPair<K>],
     used: usize,
 )
     requires number { number < length program.now.moves }
@@ -50,7 +50,7 @@ pub(crate) fn step_first<const K: usize>(
 pub(crate) fn follow_one<const K: usize>(
     program: &Program<K>,
     numbers: &[u16],
-    list: &mut [Pairs<K>],
+    list: &mut [PackedPair<K>],
 )
     requires numbers { EachIndex numbers.now (λ i. slice_index numbers.now i < length program.now.moves) }
     requires some { 1 ≤ length list.old }

@@ -8,7 +8,7 @@ use Rattle.psi_state.specs.Members.{In}
 use Rattle.psi_state.proofs.BoxesLemmas.{In-all_states, zeros-below}
 use Rattle.psi_rate.specs.Composition.{Functions, compose, AreClosed, Below, IsReached}
 use Rattle.psi_rate.proofs.CompositionLemmas.{reached-later, closed-keeping, compose-keeps}
-use Rattle.psi_log_text.specs.Log.{Region, Entry, Certificate, IsLog}
+use Rattle.psi_log_text.specs.Log.{LogRegion, Entry, Certificate, IsLog}
 use Rattle.psi_log.specs.Refusal.{Refusal, ◌>>=◌, holds_or}
 use Rattle.psi_log.proofs.WordLemmas.{bind_ok, ok_same, held}
 use Rattle.psi_replay.specs.Verdict.{rejected, states_of, has, covers, is_within, is_small, holds_all, judge_step, judge_steps, judge_end, judged, verdict_of, ReachesAccepted, AcceptsWithin}
@@ -32,7 +32,7 @@ next_rule refusal b rest y is =
 
 module _ (caps : List ℕ) (limit : ℕ) (events : ℕ → ℕ) (f : Functions) where
   -- a step that breaks no rule covers
-  pub step_covered : (n t : ℕ) (before : Region) (e : Entry) (u : Unit {0}) → judge_step caps limit events f n t before e ≡ Ok u → covers (f t) before e.region ≡ true
+  pub step_covered : (n t : ℕ) (before : LogRegion) (e : Entry) (u : Unit {0}) → judge_step caps limit events f n t before e ≡ Ok u → covers (f t) before e.region ≡ true
   unfolding judge_step
   step_covered n t before e u is =
       let covered : Result (Unit {0}) Refusal = holds_or (rejected n NotCovered) (covers (f t) before e.region) in
@@ -46,13 +46,13 @@ module _ (caps : List ℕ) (limit : ℕ) (events : ℕ → ℕ) (f : Functions) 
       held (rejected n NotCovered) (covers (f t) before e.region) u fourth.1
 
   -- what all steps make of a state of the first region is in the last one
-  pub steps_covered : (n t : ℕ) (before last : Region) (es : List Entry) → judge_steps caps limit events f n t before es ≡ Ok last → length es ≡ t
+  pub steps_covered : (n t : ℕ) (before last : LogRegion) (es : List Entry) → judge_steps caps limit events f n t before es ≡ Ok last → length es ≡ t
       → (x : List ℕ) → In x (states_of before) → In (compose f t x) (states_of last)
   unfolding judge_steps
   steps_covered n t before last [] is count x member =
       let none : t ≡ 0 = sym count in
       let same : before ≡ last = ok_same before last is in
-      rw none (subst (λ (r : Region). In x (states_of r)) same member)
+      rw none (subst (λ (r : LogRegion). In x (states_of r)) same member)
   steps_covered n zero before last (e ∷ es) is count x member = absurd (omega arith)
   steps_covered n (suc t) before last (e ∷ es) is count x member =
       let parts = bind_ok (judge_step caps limit events f n (suc t) before e) (λ (u : Unit {0}). judge_steps caps limit events f (n + 1) (suc t - 1) e.region es) last is in
@@ -68,7 +68,7 @@ module _ (caps : List ℕ) (limit : ℕ) (events : ℕ → ℕ) (f : Functions) 
   unfolding judged judge_end
   judged_meets c u is log x within =
       let t = c.header.horizon in
-      let steps : Unit {0} → Result (Unit {0}) Refusal = λ _. judge_steps caps limit events f 7 t c.begin c.entries >>= (λ (last : Region). judge_end (7 + t) last c.final) in
+      let steps : Unit {0} → Result (Unit {0}) Refusal = λ _. judge_steps caps limit events f 7 t c.begin c.entries >>= (λ (last : LogRegion). judge_end (7 + t) last c.final) in
       let whole : Unit {0} → Result (Unit {0}) Refusal = λ _. holds_or (rejected 6 NotCovered) (holds_all caps c.begin) >>= steps in
       let inside : Unit {0} → Result (Unit {0}) Refusal = λ _. holds_or (rejected 6 OutsideBox) (is_within caps c.begin) >>= whole in
       let horizon : Unit {0} → Result (Unit {0}) Refusal = λ _. holds_or (rejected 5 Header) (nat_le t (2 ^ limit)) >>= inside in
@@ -76,7 +76,7 @@ module _ (caps : List ℕ) (limit : ℕ) (events : ℕ → ℕ) (f : Functions) 
       let second = next_rule (rejected 5 Header) (nat_le t (2 ^ limit)) inside u first.1 in
       let third = next_rule (rejected 6 OutsideBox) (is_within caps c.begin) whole u second.1 in
       let fourth = next_rule (rejected 6 NotCovered) (holds_all caps c.begin) steps u third.1 in
-      let run = bind_ok (judge_steps caps limit events f 7 t c.begin c.entries) (λ (last : Region). judge_end (7 + t) last c.final) u fourth.1 in
+      let run = bind_ok (judge_steps caps limit events f 7 t c.begin c.entries) (λ (last : LogRegion). judge_end (7 + t) last c.final) u fourth.1 in
       let last = run.0 in
       let one = next_rule (rejected (7 + t) NotSingle) (length (states_of last) == 1) (λ _. holds_or (rejected (7 + t) WrongState) (has (states_of last) c.final)) u run.2 in
       let told = held (rejected (7 + t) WrongState) (has (states_of last) c.final) u one.1 in

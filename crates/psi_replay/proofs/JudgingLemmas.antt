@@ -7,7 +7,7 @@ use Rattle.psi_state.specs.declared.outcome.Step.{Step}
 use Rattle.psi_event.specs.Idle.{unchanged}
 use Rattle.psi_rate.specs.Rates.{event_of}
 use Rattle.psi_rate.specs.Composition.{Functions, picked}
-use Rattle.psi_log_text.specs.Log.{Region, Entry, Certificate, IsLog}
+use Rattle.psi_log_text.specs.Log.{LogRegion, Entry, Certificate, IsLog}
 use Rattle.psi_log.specs.Refusal.{Refusal, holds_or}
 use Rattle.psi_log.proofs.WordLemmas.{held}
 use Rattle.psi_log.specs.Told.{step_at}
@@ -20,7 +20,7 @@ use Rattle.psi_replay.proofs.ListLemmas.{drop_get}
 use Rattle.psi_replay.proofs.RegionLemmas.{entry_there, nth_entry}
 
 -- the entry of a step is what is told of the step and of the region after it
-pub entry_is : (c : Certificate) (i k : ℕ) (step : Step) (after : Region) → IsLog c → i < c.header.horizon → k ≡ suc i → step_at c k ≡ Some step → after ≡ nth_region c k
+pub entry_is : (c : Certificate) (i k : ℕ) (step : Step) (after : LogRegion) → IsLog c → i < c.header.horizon → k ≡ suc i → step_at c k ≡ Some step → after ≡ nth_region c k
     → slice_get c.entries i ≡ Some (record { step = step; region = after })
 entry_is c i k step after is small next told region =
     let found = entry_there c i is small in
@@ -34,22 +34,22 @@ entry_is c i k step after is small next told region =
     some_same : (s t : Step) → ◌≡◌ {A = Option Step} (Some s) (Some t) → s ≡ t
     some_same s t same = cc
 
-    entries : (e : Entry) (step : Step) (after : Region) → e.step ≡ step → e.region ≡ after → ◌≡◌ {A = Option Entry} (Some e) (Some (record { step = step; region = after }))
-    entries e step after first second = ap (λ (s : Step). Some (record { step = s; region = e.region })) first ∙ ap (λ (r : Region). Some (record { step = step; region = r })) second
+    entries : (e : Entry) (step : Step) (after : LogRegion) → e.step ≡ step → e.region ≡ after → ◌≡◌ {A = Option Entry} (Some e) (Some (record { step = step; region = after }))
+    entries e step after first second = ap (λ (s : Step). Some (record { step = s; region = e.region })) first ∙ ap (λ (r : LogRegion). Some (record { step = step; region = r })) second
 
 module _ (caps : List ℕ) (limit : ℕ) (events : ℕ → ℕ) (f : Functions) where
   -- a line that keeps its rules takes the loop one step on, one that breaks one ends it, and behind the last line the region before is the last
-  pub judge_more : (n m t u i : ℕ) (before : Region) (es : List Entry) (e : Entry) → slice_get es i ≡ Some e → m ≡ n + 1 → u ≡ t - 1
+  pub judge_more : (n m t u i : ℕ) (before : LogRegion) (es : List Entry) (e : Entry) → slice_get es i ≡ Some e → m ≡ n + 1 → u ≡ t - 1
       → judge_step caps limit events f n t before e ≡ Ok tt → judge_steps caps limit events f n t before (drop i es) ≡ judge_steps caps limit events f m u e.region (drop (i + 1) es)
   unfolding judge_steps
   judge_more n m t u i before es e is line time kept = rw (drop_get es i e is, kept, line, time) refl
 
-  pub judge_fails : (n t i : ℕ) (before : Region) (es : List Entry) (e : Entry) (refusal : Refusal) → slice_get es i ≡ Some e
+  pub judge_fails : (n t i : ℕ) (before : LogRegion) (es : List Entry) (e : Entry) (refusal : Refusal) → slice_get es i ≡ Some e
       → judge_step caps limit events f n t before e ≡ Err refusal → judge_steps caps limit events f n t before (drop i es) ≡ Err refusal
   unfolding judge_steps
   judge_fails n t i before es e refusal is broken = rw (drop_get es i e is, broken) refl
 
-  pub judge_over : (n t i : ℕ) (before : Region) (es : List Entry) → length es ≤ i → judge_steps caps limit events f n t before (drop i es) ≡ Ok before
+  pub judge_over : (n t i : ℕ) (before : LogRegion) (es : List Entry) → length es ≤ i → judge_steps caps limit events f n t before (drop i es) ≡ Ok before
   unfolding judge_steps
   judge_over n t i before es past = rw (drop_all i es past) refl
 
@@ -59,7 +59,7 @@ slice_get_none (x ∷ xs) zero none = absurd cc
 slice_get_none (x ∷ xs) (suc i) none = (let rest = slice_get_none xs i none in omega arith)
 
 -- where the rules before it hold, the last rule of a step's line is left
-pub step_judged : (caps : List ℕ) (limit : ℕ) (events : ℕ → ℕ) (f : Functions) (n t : ℕ) (before : Region) (e : Entry) (numbered drawn within small covered : Bool) (result : Result (Unit {0}) Rejection)
+pub step_judged : (caps : List ℕ) (limit : ℕ) (events : ℕ → ℕ) (f : Functions) (n t : ℕ) (before : LogRegion) (e : Entry) (numbered drawn within small covered : Bool) (result : Result (Unit {0}) Rejection)
     → numbered ≡ (e.step.number == t) → drawn ≡ (e.step.event == events t) → within ≡ is_within caps e.region → small ≡ is_small before e.region → covered ≡ covers (f t) before e.region
     → holds_or (rejected n StepNumber) numbered ≡ Ok tt → holds_or (rejected n WrongEvent) drawn ≡ Ok tt → holds_or (rejected n OutsideBox) within ≡ Ok tt → holds_or (rejected n SplitTooLarge) small ≡ Ok tt
     → Gives (λ _. tt) result (holds_or (rejected n NotCovered) covered) → Gives (λ _. tt) result (judge_step caps limit events f n t before e)
@@ -75,7 +75,7 @@ step_judged caps limit events f n t before e numbered drawn within small covered
     subst (λ (rules : Result (Unit {0}) Refusal). Gives (λ _. tt) result rules) (ap (λ (b : Bool). holds_or (rejected n NotCovered) b) fifth ∙ sym rule) last
 
 -- the test of the event of a word is that of the word's function
-pub picked_covers : {E : Type 0} (function : E → List ℕ → List ℕ) (events : List E) (rates : List ℕ) (word : ℕ) (event : Option (Bor E)) (r : Bool) (before after : Region)
+pub picked_covers : {E : Type 0} (function : E → List ℕ → List ℕ) (events : List E) (rates : List ℕ) (word : ℕ) (event : Option (Bor E)) (r : Bool) (before after : LogRegion)
     → option_map (λ (e : Bor E). e.now) event ≡ slice_get events (event_of rates word)
     → MatchOption event (r ≡ covers unchanged before after) (λ e. r ≡ covers (function e.now) before after) → r ≡ covers (picked (map function events) rates word) before after
 picked_covers function events rates word None r before after is tells =

@@ -9,7 +9,7 @@ use Rattle.psi_state.specs.State.{Corners, IsBelow, box}
 use Rattle.psi_state.specs.Members.{In}
 use Rattle.psi_state.proofs.BoxesLemmas.{In-low, In-high, In-of_box, below-through}
 use Rattle.psi_region.specs.Covering.{Covers}
-use Rattle.psi_log_text.specs.Log.{Region, in_box, Entry, Certificate, IsRegion, IsEntry, IsLog}
+use Rattle.psi_log_text.specs.Log.{LogRegion, in_box, Entry, Certificate, IsRegion, IsEntry, IsLog}
 use Rattle.psi_log.proofs.StateLemmas.{below_found, below_again}
 use Rattle.psi_replay.specs.Verdict.{states_of, has, covers, is_within}
 use Rattle.psi_replay.specs.Numbered.{nth_region}
@@ -32,7 +32,7 @@ nth_regional c zero is small = is.begin
 nth_regional c (suc i) is small =
     let found = entry_there c i is (omega arith) in
     let entry : IsEntry c.header found.0 = is.entries found.0 (In-slice_get c.entries i found.0 found.1) in
-    subst (λ (r : Region). IsRegion c.header.queues r) (sym (nth_entry c i found.0 found.1)) entry.region
+    subst (λ (r : LogRegion). IsRegion c.header.queues r) (sym (nth_entry c i found.0 found.1)) entry.region
 
 -- the test of two states by code is that of the definition
 pub below_test : (x y : List ℕ) (r : Bool) → (IsTrue r ↔ IsBelow x y) → r ≡ pointwise nat_le x y
@@ -69,7 +69,7 @@ box_within caps b hi r ordered corner tells =
     (below_found b.hi caps (all_each test (box b.lo b.hi) b.hi all (In-high b.lo b.hi ordered)))))
 
 -- each state of a region that is within the capacities is
-pub within_each : (caps : List ℕ) (region : Region) (x : List ℕ) → is_within caps region ≡ true → In x (states_of region) → IsBelow x caps
+pub within_each : (caps : List ℕ) (region : LogRegion) (x : List ℕ) → is_within caps region ≡ true → In x (states_of region) → IsBelow x caps
 within_each caps region x all member = below_found x caps (all_each (λ (y : List ℕ). pointwise nat_le y caps) (states_of region) x all member)
 
 pub within_high : (caps : List ℕ) (b : Corners) → is_within caps (in_box b) ≡ true → IsBelow b.lo b.hi → IsBelow b.hi caps

@@ -1,19 +1,19 @@
 -- Logs worked out by hand, judged by the definition as the checker computes it.
 use Rattle.std.specs.Prelude.{◌≡◌, ℕ, ◌+◌, ◌-◌, min, List, [], ◌∷◌, ◌&&◌, nat_lt, true, false, Ok, Err, slice_index, slice_index_or, if◌then◌else◌, refl}
 use Rattle.psi_rate.specs.Composition.{Functions}
-use Rattle.psi_log_text.specs.Log.{Region, in_box, in_set, Entry, Certificate}
+use Rattle.psi_log_text.specs.Log.{LogRegion, in_box, in_set, Entry, Certificate}
 use Rattle.psi_replay.specs.Verdict.{is_small, judge_step, judge_steps, judge_end, judged}
 
-abbrev entry : ℕ → ℕ → Region → Entry
+abbrev entry : ℕ → ℕ → LogRegion → Entry
 entry t e region = record { step = record { number = t; event = e }; region = region }
 
-abbrev between : List ℕ → List ℕ → Region
+abbrev between : List ℕ → List ℕ → LogRegion
 between l h = in_box (record { lo = l; hi = h })
 
 abbrev one : ℕ → List ℕ
 one v = v ∷ []
 
-abbrev log : ℕ → ℕ → Region → List Entry → List ℕ → Certificate
+abbrev log : ℕ → ℕ → LogRegion → List Entry → List ℕ → Certificate
 log queues horizon begin entries final = record {
   header = record { version = 1; queues = queues; seed = 0; stream = 0; horizon = horizon };
   begin = begin;
@@ -37,14 +37,14 @@ abbrev f : Functions
 f t = slice_index_or (joined ∷ left ∷ []) (events t) (λ x. x)
 
 -- its log, with the line of the first step, the last region and the state as they are given
-abbrev server : Entry → Region → ℕ → Certificate
+abbrev server : Entry → LogRegion → ℕ → Certificate
 server first last final = log 1 4 (between (one 0) (one 3))
     (first ∷ entry 3 0 (in_set (one 1 ∷ one 2 ∷ one 3 ∷ [])) ∷ entry 2 0 (in_set (one 2 ∷ one 3 ∷ [])) ∷ entry 1 0 last ∷ []) (one final)
 
 abbrev first_step : Entry
 first_step = entry 4 1 (in_set (one 0 ∷ one 1 ∷ one 2 ∷ []))
 
-abbrev last_set : Region
+abbrev last_set : LogRegion
 last_set = in_set (one 3 ∷ [])
 
 accepted : judged (one 3) 18 events f (server first_step last_set 3) ≡ Ok tt
@@ -126,7 +126,7 @@ abbrev two : ℕ → ℕ → List ℕ
 two v w = v ∷ w ∷ []
 
 -- its log of boxes and sets, with the regions after two of the steps as they are given
-abbrev tandem : Region → Region → Certificate
+abbrev tandem : LogRegion → LogRegion → Certificate
 tandem fourth third = log 2 8 (between (two 0 0) (two 1 1))
     (entry 8 0 (between (two 0 0) (two 1 1)) ∷ entry 7 2 (between (two 0 0) (two 0 1)) ∷ entry 6 1 (between (two 0 0) (two 0 1)) ∷ entry 5 3 (between (two 0 0) (two 0 0))
     ∷ entry 4 0 fourth ∷ entry 3 0 third ∷ entry 2 1 (in_set (two 1 1 ∷ [])) ∷ entry 1 2 (in_set (two 0 1 ∷ [])) ∷ []) (two 0 1)

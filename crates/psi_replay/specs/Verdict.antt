@@ -7,7 +7,7 @@ use Rattle.std.specs.Cmp.Lexicographic.{pointwise}
 use Rattle.psi_state.specs.State.{IsBelow, box, all_states}
 use Rattle.psi_rate.specs.Rates.{event_of}
 use Rattle.psi_rate.specs.Composition.{Parts, Functions, IsReached}
-use Rattle.psi_log_text.specs.Log.{Region, in_box, in_set, Entry, Certificate}
+use Rattle.psi_log_text.specs.Log.{LogRegion, in_box, in_set, Entry, Certificate}
 use Rattle.psi_log.specs.Refusal.{Refusal, ◌>>=◌, holds_or}
 use Rattle.psi_replay.specs.declared.answers.Verdict.{Verdict}
 use Rattle.psi_replay.specs.declared.answers.Verdict.TheVariants.{Accepted, Rejected}
@@ -30,7 +30,7 @@ abbrev pub rejected : ℕ → Cause → Refusal
 rejected n cause = record { line = n; cause = code_of cause }
 
 -- the states of a region
-abbrev pub states_of : Region → List (List ℕ)
+abbrev pub states_of : LogRegion → List (List ℕ)
 states_of (in_box bounds) = box bounds.lo bounds.hi
 states_of (in_set states) = states
 
@@ -39,11 +39,11 @@ abbrev pub has : List (List ℕ) → List ℕ → Bool
 has xs x = list_any (λ (y : List ℕ). bytes_eq x y) xs
 
 -- what the function makes of each state of the first region is one of the second
-abbrev pub covers : (List ℕ → List ℕ) → Region → Region → Bool
+abbrev pub covers : (List ℕ → List ℕ) → LogRegion → LogRegion → Bool
 covers f before after = list_all (λ (x : List ℕ). has (states_of after) (f x)) (states_of before)
 
 -- where a box becomes a set, it has at most 4,096 states
-abbrev pub is_small : Region → Region → Bool
+abbrev pub is_small : LogRegion → LogRegion → Bool
 is_small (in_box bounds) (in_set states) = nat_le (length (box bounds.lo bounds.hi)) 4096
 is_small (in_box bounds) (in_box after) = true
 is_small (in_set states) after = true
@@ -51,15 +51,15 @@ is_small (in_set states) after = true
 -- regions of a network with these capacities
 module _ (caps : List ℕ) where
   -- no state of the region has more customers than a queue has room for
-  abbrev pub is_within : Region → Bool
+  abbrev pub is_within : LogRegion → Bool
   is_within region = list_all (λ (x : List ℕ). pointwise nat_le x caps) (states_of region)
 
   -- the region has all states
-  abbrev pub holds_all : Region → Bool
+  abbrev pub holds_all : LogRegion → Bool
   holds_all region = list_all (λ (x : List ℕ). has (states_of region) x) (all_states caps)
 
 -- the rules of a log's last line, line n: the last region has one state, and it is the one that is told
-unfoldable pub judge_end : ℕ → Region → List ℕ → Result (Unit {0}) Refusal
+unfoldable pub judge_end : ℕ → LogRegion → List ℕ → Result (Unit {0}) Refusal
 judge_end n last final = do
   one ← holds_or (rejected n NotSingle) (length (states_of last) == 1)
   holds_or (rejected n WrongState) (has (states_of last) final)
@@ -67,7 +67,7 @@ judge_end n last final = do
 -- the rules of a network with these capacities and this limit; the event t steps before time zero has the number `events t` and the function `f t`
 module _ (caps : List ℕ) (limit : ℕ) (events : ℕ → ℕ) (f : Functions) where
   -- the rules of line n, whose step has to be that of time t, and which follows a region
-  unfoldable pub judge_step : ℕ → ℕ → Region → Entry → Result (Unit {0}) Refusal
+  unfoldable pub judge_step : ℕ → ℕ → LogRegion → Entry → Result (Unit {0}) Refusal
   judge_step n t before e = do
     numbered ← holds_or (rejected n StepNumber) (e.step.number == t)
     drawn ← holds_or (rejected n WrongEvent) (e.step.event == events t)
@@ -76,7 +76,7 @@ module _ (caps : List ℕ) (limit : ℕ) (events : ℕ → ℕ) (f : Functions) 
     holds_or (rejected n NotCovered) (covers (f t) before e.region)
 
   -- the rules of the lines of steps, from line n and time t on: they give the last region
-  unfoldable pub judge_steps : ℕ → ℕ → Region → List Entry → Result Region Refusal
+  unfoldable pub judge_steps : ℕ → ℕ → LogRegion → List Entry → Result LogRegion Refusal
   judge_steps n t before [] = Ok before
   judge_steps n t before (e ∷ es) = do
     here ← judge_step n t before e

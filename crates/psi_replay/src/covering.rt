@@ -7,7 +7,7 @@ ghost use Rattle.psi_log_text.specs.Log.{in_box, in_set, IsRegion};
 ghost use Rattle.psi_replay.specs.Verdict.{states_of, has, covers, is_within, holds_all};
 ghost use Rattle.psi_replay.specs.RegionsViews.{seen};
 
-use crate::regions::Region;
+use crate::regions::ReadRegion;
 use crate::sets::Set;
 use psi_event::{EventLaw, Idle};
 use psi_region::covers_image;
@@ -16,7 +16,7 @@ use psi_state::{Bounds, State};
 // Whether a region holds what the event makes of a state. The images of states that follow one another mostly do so
 // too, so each is looked for near the place `near` of the last one.
 #[inline]
-fn holds_image<E: EventLaw>(event: &E, x: &mut State, after: &Region<'_>, near: &mut usize) -> bool
+fn holds_image<E: EventLaw>(event: &E, x: &mut State, after: &ReadRegion<'_>, near: &mut usize) -> bool
     requires state { IsBelow x.old (E.capacities event.now) }
     requires after { IsRegion (length (E.capacities event.now)) (seen after.now) }
     ensures { result ≡ has (states_of (seen after.now)) (E.function event.now x.old) }
@@ -26,15 +26,15 @@ fn holds_image<E: EventLaw>(event: &E, x: &mut State, after: &Region<'_>, near: 
 }
 
 // Whether a region holds what the event makes of each state of a box.
-fn covers_box<E: EventLaw>(event: &E, before: &Bounds, after: &Region<'_>) -> bool
+fn covers_box<E: EventLaw>(event: &E, before: &Bounds, after: &ReadRegion<'_>) -> bool
     requires before { IsBelow before.now.hi (E.capacities event.now) }
     requires after { IsRegion (length (E.capacities event.now)) (seen after.now) }
     requires within { is_within (E.capacities event.now) (seen after.now) ≡ true }
     ensures { result ≡ covers (E.function event.now) (in_box before.now) (seen after.now) }
 {
     match after {
-        Region::Box(to) => box_covers_box(event, before, to),
-        Region::Set(_) => box_covers_each(event, before, after),
+        ReadRegion::Box(to) => box_covers_box(event, before, to),
+        ReadRegion::Set(_) => box_covers_each(event, before, after),
     }
 }
 
@@ -50,7 +50,7 @@ fn box_covers_box<E: EventLaw>(event: &E, before: &Bounds, after: &Bounds) -> bo
 }
 
 // Else each state of the box is looked at.
-fn box_covers_each<E: EventLaw>(event: &E, before: &Bounds, after: &Region<'_>) -> bool
+fn box_covers_each<E: EventLaw>(event: &E, before: &Bounds, after: &ReadRegion<'_>) -> bool
     requires before { IsBelow before.now.hi (E.capacities event.now) }
     requires after { IsRegion (length (E.capacities event.now)) (seen after.now) }
     ensures { result ≡ covers (E.function event.now) (in_box before.now) (seen after.now) }
@@ -65,7 +65,7 @@ fn box_covers_each<E: EventLaw>(event: &E, before: &Bounds, after: &Region<'_>) 
 }
 
 // Whether a region holds what the event makes of each state of a set.
-fn covers_set<E: EventLaw>(event: &E, before: &Set<'_>, after: &Region<'_>) -> bool
+fn covers_set<E: EventLaw>(event: &E, before: &Set<'_>, after: &ReadRegion<'_>) -> bool
     requires before { is_within (E.capacities event.now) (in_set before.now) ≡ true }
     requires after { IsRegion (length (E.capacities event.now)) (seen after.now) }
     ensures { result ≡ covers (E.function event.now) (in_set before.now) (seen after.now) }
@@ -81,19 +81,19 @@ fn covers_set<E: EventLaw>(event: &E, before: &Set<'_>, after: &Region<'_>) -> b
 }
 
 // Whether a region holds what the event makes of each state of another.
-fn covers<E: EventLaw>(event: &E, before: &Region<'_>, after: &Region<'_>) -> bool
+fn covers<E: EventLaw>(event: &E, before: &ReadRegion<'_>, after: &ReadRegion<'_>) -> bool
     requires before { is_within (E.capacities event.now) (seen before.now) ≡ true }
     requires after { IsRegion (length (E.capacities event.now)) (seen after.now) }
     requires within { is_within (E.capacities event.now) (seen after.now) ≡ true }
     ensures { result ≡ covers (E.function event.now) (seen before.now) (seen after.now) }
 {
     match before {
-        Region::Box(bounds) => {
+        ReadRegion::Box(bounds) => {
             // Called for its clause: the corners are in order.
             let _queues = bounds.len();
             covers_box(event, bounds, after)
         }
-        Region::Set(set) => covers_set(event, set, after),
+        ReadRegion::Set(set) => covers_set(event, set, after),
     }
 }
 
@@ -102,8 +102,8 @@ fn covers<E: EventLaw>(event: &E, before: &Region<'_>, after: &Region<'_>) -> bo
 pub(crate) fn step_covers<E: EventLaw>(
     event: Option<&E>,
     caps: &State,
-    before: &Region<'_>,
-    after: &Region<'_>,
+    before: &ReadRegion<'_>,
+    after: &ReadRegion<'_>,
 ) -> bool
     requires valid { AreCapacities caps.now }
     requires event { MatchOption event (Unit {0}) (λ e. E.capacities e.now ≡ caps.now) }
@@ -119,7 +119,7 @@ pub(crate) fn step_covers<E: EventLaw>(
 }
 
 /// Whether a region has all states of the capacities.
-pub(crate) fn holds_all(caps: &State, region: &Region<'_>) -> bool
+pub(crate) fn holds_all(caps: &State, region: &ReadRegion<'_>) -> bool
     requires valid { AreCapacities caps.now }
     requires region { IsRegion (length caps.now) (seen region.now) }
     requires within { is_within caps.now (seen region.now) ≡ true }

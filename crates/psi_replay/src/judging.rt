@@ -9,7 +9,7 @@ ghost use Rattle.psi_replay.specs.Judging.{Gives};
 
 use crate::causes::{Cause, Rejection};
 use crate::covering::{holds_all, step_covers};
-use crate::regions::{Region, region_of};
+use crate::regions::{ReadRegion, region_of};
 use psi_event::EventLaw;
 use psi_log::Log;
 use psi_past::Past;
@@ -23,9 +23,9 @@ fn judge_step<E: EventLaw, P: Past>(
     past: &mut P,
     line: u32,
     time: u32,
-    before: &Region<'_>,
+    before: &ReadRegion<'_>,
     step: Step,
-    after: &Region<'_>,
+    after: &ReadRegion<'_>,
 ) -> Result<(), Rejection>
     requires time { 1 ≤ time }
     requires before { is_within system.now.caps (seen before.now) ≡ true }
@@ -50,7 +50,7 @@ fn judge_steps<'l, E: EventLaw, P: Past>(
     system: &System<'_, E>,
     past: &mut P,
     log: &'l Log,
-) -> Result<Region<'l>, Rejection>
+) -> Result<ReadRegion<'l>, Rejection>
     requires log { IsLog log.now }
     requires queues { log.now.header.queues ≡ length system.now.caps }
     requires begin { is_within system.now.caps log.now.begin ≡ true }
@@ -81,7 +81,7 @@ fn judge_steps<'l, E: EventLaw, P: Past>(
 
 // Judges the last line.
 #[tactic(auto, unfolding(crate::specs::Verdict::judge_end))]
-fn judge_end(line: u32, last: &Region<'_>, end: &State) -> Result<(), Rejection>
+fn judge_end(line: u32, last: &ReadRegion<'_>, end: &State) -> Result<(), Rejection>
     requires { IsRegion (length end.now) (seen last.now) }
     ensures { Gives (λ _. tt) result (judge_end line (seen last.now) end.now) }
 {

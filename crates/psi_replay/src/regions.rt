@@ -8,12 +8,12 @@ ghost use Rattle.psi_replay.specs.Numbered.{nth_region};
 ghost use Rattle.psi_replay.specs.RegionsViews.{seen};
 
 use crate::sets::Set;
-use psi_log::{Log, Region as Told};
+use psi_log::{Log, BorrowedRegion as Told};
 use psi_state::{Bounds, State};
 
 /// A region of a log, borrowed from it.
 #[derive(Drop)]
-pub(crate) enum Region<'l> {
+pub(crate) enum ReadRegion<'l> {
     /// The states between two corners.
     Box(&'l Bounds),
     /// The states of a set.
@@ -22,19 +22,19 @@ pub(crate) enum Region<'l> {
 
 /// The region of a log with a number: 0 is the one at which the run begins, and `i` the one after the `i`-th
 /// step line.
-pub(crate) fn region_of(log: &Log, number: u32) -> Region<'_>
+pub(crate) fn region_of(log: &Log, number: u32) -> ReadRegion<'_>
     requires log { IsLog log.now }
     requires number { number ≤ log.now.header.horizon }
     ensures value { seen result ≡ nth_region log.entry.now number }
     ensures regional { IsRegion log.entry.now.header.queues (seen result) }
 {
     match log.look(number) {
-        Told::Box(bounds) => Region::Box(bounds),
-        Told::Set(rows) => Region::Set(Set::new(rows)),
+        Told::Box(bounds) => ReadRegion::Box(bounds),
+        Told::Set(rows) => ReadRegion::Set(Set::new(rows)),
     }
 }
 
-impl Region<'_> {
+impl ReadRegion<'_> {
     /// Whether a state is one of the region's. In a set it is looked for at the place `near` and behind it first,
     /// and where it is found, `near` becomes its place.
     pub(crate) fn holds(&self, x: &State, near: &mut usize) -> bool
@@ -42,8 +42,8 @@ impl Region<'_> {
         ensures { result ≡ has (states_of (seen self.now)) x.now }
     {
         match self {
-            Region::Box(bounds) => bounds.holds(x),
-            Region::Set(set) => set.holds(x, near),
+            ReadRegion::Box(bounds) => bounds.holds(x),
+            ReadRegion::Set(set) => set.holds(x, near),
         }
     }
 
@@ -53,17 +53,17 @@ impl Region<'_> {
         ensures { result ≡ is_within caps.now (seen self.now) }
     {
         match self {
-            Region::Box(bounds) => box_is_within(bounds, caps),
-            Region::Set(set) => set_is_within(set, caps),
+            ReadRegion::Box(bounds) => box_is_within(bounds, caps),
+            ReadRegion::Set(set) => set_is_within(set, caps),
         }
     }
 
     /// Whether the region may be followed by another: a box that is followed by a set has at most 4,096 states.
-    pub(crate) fn is_small(&self, after: &Region<'_>) -> bool
+    pub(crate) fn is_small(&self, after: &ReadRegion<'_>) -> bool
         ensures { result ≡ is_small (seen self.now) (seen after.now) }
     {
         match (self, after) {
-            (Region::Box(bounds), Region::Set(_)) => bounds.volume_at_most(4096).is_some(),
+            (ReadRegion::Box(bounds), ReadRegion::Set(_)) => bounds.volume_at_most(4096).is_some(),
             _ => true,
         }
     }
@@ -73,8 +73,8 @@ impl Region<'_> {
         ensures { result ≡ (length (states_of (seen self.now)) == 1) }
     {
         match self {
-            Region::Box(bounds) => is_one_state(bounds),
-            Region::Set(set) => set.len() == 1,
+            ReadRegion::Box(bounds) => is_one_state(bounds),
+            ReadRegion::Set(set) => set.len() == 1,
         }
     }
 }

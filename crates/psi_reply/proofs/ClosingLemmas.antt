@@ -20,7 +20,7 @@ use Rattle.psi_rate.specs.Outcomes.{IsOutcome, outcome_within}
 use Rattle.psi_rate.proofs.OutcomesLemmas.{outcome_within-is}
 use Rattle.psi_arcs.specs.Walks.{customers}
 use Rattle.psi_closed.specs.Closed.{IsOfTotal, closed_ending}
-use Rattle.psi_closed.specs.Planned.{AreMoves, IsClosedSample, functions_of}
+use Rattle.psi_closed.specs.Planned.{AreMoves, IsClosedSample, closed_functions}
 use Rattle.psi_closed.proofs.DiagramLemmas.{total-some}
 use Rattle.psi_closed.proofs.RunsLemmas.{outcome-reached, outcome-decides, outcome-of}
 use Rattle.psi_closed.proofs.PlanLemmas.{moves-keep}
@@ -167,7 +167,7 @@ each-move caps (event ∷ events) (m ∷ ms) all are =
 
 -- their functions by time are the network's
 pub functions-of_moves : (net : Network) (seed stream : ℕ) (moves : List Move) → IsNetwork net → AreMovesOf net.events moves
-    → functions_of (caps_of net) moves (rates_of net) (seed_word seed stream) ≡ functions_by_time net seed stream
+    → closed_functions (caps_of net) moves (rates_of net) (seed_word seed stream) ≡ functions_by_time net seed stream
 unfolding functions_by_time
 functions-of_moves net seed stream moves kept are =
     ap (λ (fs : List (List ℕ → List ℕ)). function_at fs (rates_of net) (seed_word seed stream)) (functions-same (caps_of net) net.events moves kept.kinds are)
@@ -206,7 +206,7 @@ closed-drawn net seed stream total kept none fits =
 
 -- the sample of a plan of these moves is the network's
 pub sampled_of : (net : Network) (seed stream total : ℕ) (moves : List Move) (outcome : Outcome) → IsNetwork net → AreMovesOf net.events moves
-    → outcome ≡ outcome_within (closed_ending (caps_of net) total (functions_of (caps_of net) moves (rates_of net) (seed_word seed stream))) net.limit
+    → outcome ≡ outcome_within (closed_ending (caps_of net) total (closed_functions (caps_of net) moves (rates_of net) (seed_word seed stream))) net.limit
     → outcome ≡ closed_sampled net seed stream total
 unfolding closed_sampled closed_endings
 sampled_of net seed stream total moves outcome kept are is =

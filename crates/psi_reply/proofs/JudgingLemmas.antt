@@ -7,7 +7,7 @@ use Rattle.psi_past.specs.SeedWord.{seed_word}
 use Rattle.psi_rate.specs.Rates.{event_of}
 use Rattle.psi_rate.specs.Composition.{Parts, Functions, function_at, system_functions}
 use Rattle.psi_horizon.specs.Agreeing.{Agree}
-use Rattle.psi_log_text.specs.Log.{Region, Entry, Certificate, IsLog}
+use Rattle.psi_log_text.specs.Log.{LogRegion, Entry, Certificate, IsLog}
 use Rattle.psi_log.specs.Refusal.{Refusal, ◌>>=◌, holds_or}
 use Rattle.psi_model.specs.Network.{Network, caps_of, rates_of}
 use Rattle.psi_model.specs.Valid.{IsNetwork}
@@ -52,12 +52,12 @@ then-agree (Ok a) h k same = same a refl
 then-agree (Err refusal) h k same = refl
 
 module _ (caps : List ℕ) (limit : ℕ) (events : ℕ → ℕ) (f g : Functions) where
-  covers-agree : (t : ℕ) (before after : Region) → Agree caps (f t) (g t) → is_within caps before ≡ true → covers (f t) before after ≡ covers (g t) before after
+  covers-agree : (t : ℕ) (before after : LogRegion) → Agree caps (f t) (g t) → is_within caps before ≡ true → covers (f t) before after ≡ covers (g t) before after
   covers-agree t before after agree within =
       all-agree (λ (x : List ℕ). has (states_of after) (f t x)) (λ (x : List ℕ). has (states_of after) (g t x)) (states_of before)
       (λ x member. ap (λ (y : List ℕ). has (states_of after) y) (agree.each x (within_each caps before x within member)))
 
-  step-agree : (n t : ℕ) (before : Region) (e : Entry) → Agree caps (f t) (g t) → is_within caps before ≡ true
+  step-agree : (n t : ℕ) (before : LogRegion) (e : Entry) → Agree caps (f t) (g t) → is_within caps before ≡ true
       → judge_step caps limit events f n t before e ≡ judge_step caps limit events g n t before e
   unfolding judge_step
   step-agree n t before e agree within =
@@ -67,7 +67,7 @@ module _ (caps : List ℕ) (limit : ℕ) (events : ℕ → ℕ) (f g : Functions
       ap last (covers-agree t before e.region agree within)
 
   -- the region after a step that breaks no rule is within the capacities
-  step-within : (n t : ℕ) (before : Region) (e : Entry) (u : Unit {0}) → judge_step caps limit events f n t before e ≡ Ok u → is_within caps e.region ≡ true
+  step-within : (n t : ℕ) (before : LogRegion) (e : Entry) (u : Unit {0}) → judge_step caps limit events f n t before e ≡ Ok u → is_within caps e.region ≡ true
   unfolding judge_step
   step-within n t before e u is =
       let small : Unit {0} → Result (Unit {0}) Refusal = λ _. holds_or (rejected n SplitTooLarge) (is_small before e.region) >>= (λ _. holds_or (rejected n NotCovered) (covers (f t) before e.region)) in
@@ -77,12 +77,12 @@ module _ (caps : List ℕ) (limit : ℕ) (events : ℕ → ℕ) (f g : Functions
       let second = next_rule (rejected n WrongEvent) (e.step.event == events t) within u first.1 in
       (next_rule (rejected n OutsideBox) (is_within caps e.region) small u second.1).0
 
-  steps-agree : (n t : ℕ) (before : Region) (es : List Entry) → ((k : ℕ) → Agree caps (f k) (g k)) → is_within caps before ≡ true
+  steps-agree : (n t : ℕ) (before : LogRegion) (es : List Entry) → ((k : ℕ) → Agree caps (f k) (g k)) → is_within caps before ≡ true
       → judge_steps caps limit events f n t before es ≡ judge_steps caps limit events g n t before es
   unfolding judge_steps
   steps-agree n t before [] agree within = refl
   steps-agree n t before (e ∷ es) agree within =
-      let more : Functions → Unit {0} → Result Region Refusal = λ h _. judge_steps caps limit events h (n + 1) (t - 1) e.region es in
+      let more : Functions → Unit {0} → Result LogRegion Refusal = λ h _. judge_steps caps limit events h (n + 1) (t - 1) e.region es in
       then-agree (judge_step caps limit events f n t before e) (more f) (more g)
       (λ u kept. steps-agree (n + 1) (t - 1) e.region es agree (step-within n t before e u kept))
       ∙ ap (λ (r : Result (Unit {0}) Refusal). r >>= more g) (step-agree n t before e (agree t) within)
@@ -91,7 +91,7 @@ module _ (caps : List ℕ) (limit : ℕ) (events : ℕ → ℕ) (f g : Functions
   unfolding judged
   judged-agree c agree =
       let t = c.header.horizon in
-      let ended : Region → Result (Unit {0}) Refusal = λ last. judge_end (7 + t) last c.final in
+      let ended : LogRegion → Result (Unit {0}) Refusal = λ last. judge_end (7 + t) last c.final in
       let steps : Functions → Unit {0} → Result (Unit {0}) Refusal = λ h _. judge_steps caps limit events h 7 t c.begin c.entries >>= ended in
       let whole : Functions → Unit {0} → Result (Unit {0}) Refusal = λ h _. holds_or (rejected 6 NotCovered) (holds_all caps c.begin) >>= steps h in
       let inside : Functions → Unit {0} → Result (Unit {0}) Refusal = λ h _. holds_or (rejected 6 OutsideBox) (is_within caps c.begin) >>= whole h in
@@ -100,7 +100,7 @@ module _ (caps : List ℕ) (limit : ℕ) (events : ℕ → ℕ) (f g : Functions
       rule-agree (rejected 5 Header) (nat_le t (2 ^ limit)) (inside f) (inside g) (λ _.
       rule-agree (rejected 6 OutsideBox) (is_within caps c.begin) (whole f) (whole g) (λ within.
       rule-agree (rejected 6 NotCovered) (holds_all caps c.begin) (steps f) (steps g) (λ _.
-      ap (λ (r : Result Region Refusal). r >>= ended) (steps-agree 7 t c.begin c.entries agree within)))))
+      ap (λ (r : Result LogRegion Refusal). r >>= ended) (steps-agree 7 t c.begin c.entries agree within)))))
 
 -- the verdict of a system that is the network's is that of the network
 pub judged_by : {E : Type 0} (function : E → List ℕ → List ℕ) (system : Parts E) (net : Network) (c : Certificate) (v : Verdict) → IsNetwork net → IsSystemOf function net system

@@ -6,8 +6,8 @@ use Rattle.std.proofs.lemmas.List.{map-append, get_or-take, get_or_at, length-ta
 use Rattle.std.proofs.lemmas.List.Elements.{All-head, All-tail, All-weaker, All-push}
 use Rattle.std.proofs.lemmas.Option.{slice_get-get_or, get_or_from_slice_get, slice_get_within}
 use Rattle.psi_state.specs.State.{Corners}
-use Rattle.psi_state_list.specs.declared.line_list.Kept.{Kept}
-use Rattle.psi_state_list.specs.declared.line_list.Kept.TheVariants as kept
+use Rattle.psi_state_list.specs.declared.line_list.ListedRegion.{ListedRegion}
+use Rattle.psi_state_list.specs.declared.line_list.ListedRegion.TheVariants as kept
 use Rattle.psi_state_list.specs.declared.line_list.Line.{Line}
 use Rattle.psi_state_list.specs.declared.line_list.Place.{Place}
 use Rattle.psi_state_list.specs.declared.line_list.Place.TheVariants as place
@@ -27,16 +27,16 @@ next_place boxes more x i is at =
 pub box_line : (boxes : List Corners) (line : Line) (i : ℕ) (b : Corners) → line.region ≡ kept.Box b → slice_get boxes i ≡ Some b
     → line_of boxes (record { step = line.step; region = place.Box i }) ≡ line
 box_line boxes line i b is there =
-    ap (λ (r : Kept). made r) (ap (λ (c : Corners). kept.Box c) (get_or_from_slice_get boxes i b nothing there) ∙ sym is)
+    ap (λ (r : ListedRegion). made r) (ap (λ (c : Corners). kept.Box c) (get_or_from_slice_get boxes i b nothing there) ∙ sym is)
   where
-    made : Kept → Line
+    made : ListedRegion → Line
     made r = record { step = line.step; region = r }
 
 pub set_line : (boxes : List Corners) (line : Line) (first count : ℕ) → line.region ≡ kept.Set first count
     → line_of boxes (record { step = line.step; region = place.Set first count }) ≡ line
-set_line boxes line first count is = ap (λ (r : Kept). made r) (sym is)
+set_line boxes line first count is = ap (λ (r : ListedRegion). made r) (sym is)
   where
-    made : Kept → Line
+    made : ListedRegion → Line
     made r = record { step = line.step; region = r }
 
 pub box_inside : (boxes : List Corners) (i : ℕ) (b : Corners) → slice_get boxes i ≡ Some b → i < length boxes
@@ -62,9 +62,9 @@ module _ (old new : List Corners) (front : take (length old) new ≡ old) where
   pub lines_kept : (slots : List Slot) → All (IsPlaced old) slots → map (line_of new) slots ≡ map (line_of old) slots
   lines_kept [] all = refl
   lines_kept (s ∷ slots) all =
-      both (ap (λ (r : Kept). made s r) (place_kept s.region (All-head (IsPlaced old) s slots all))) (lines_kept slots (All-tail (IsPlaced old) s slots all))
+      both (ap (λ (r : ListedRegion). made s r) (place_kept s.region (All-head (IsPlaced old) s slots all))) (lines_kept slots (All-tail (IsPlaced old) s slots all))
     where
-      made : Slot → Kept → Line
+      made : Slot → ListedRegion → Line
       made slot r = record { step = slot.step; region = r }
 
       both : {a b : Line} {xs ys : List Line} → a ≡ b → xs ≡ ys → a ∷ xs ≡ b ∷ ys

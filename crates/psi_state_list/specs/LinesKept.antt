@@ -1,8 +1,8 @@
 -- Lines whose boxes stand in a list of their own.
 use Rattle.std.specs.Prelude.{◌<◌, List, [], length, slice_index_or}
 use Rattle.psi_state.specs.State.{Corners}
-use Rattle.psi_state_list.specs.declared.line_list.Kept.{Kept}
-use Rattle.psi_state_list.specs.declared.line_list.Kept.TheVariants as kept
+use Rattle.psi_state_list.specs.declared.line_list.ListedRegion.{ListedRegion}
+use Rattle.psi_state_list.specs.declared.line_list.ListedRegion.TheVariants as kept
 use Rattle.psi_state_list.specs.declared.line_list.Borrowed.{Borrowed}
 use Rattle.psi_state_list.specs.declared.line_list.Borrowed.TheVariants as borrowed
 use Rattle.psi_state_list.specs.declared.line_list.Line.{Line}
@@ -15,12 +15,12 @@ abbrev pub nothing : Corners
 nothing = record { lo = []; hi = [] }
 
 -- a region whose box is borrowed
-abbrev pub owned : Borrowed → Kept
+abbrev pub owned : Borrowed → ListedRegion
 owned (borrowed.Box bounds) = kept.Box bounds.now
 owned (borrowed.Set first count) = kept.Set first count
 
 -- the region of a place
-abbrev pub kept_of : List Corners → Place → Kept
+abbrev pub kept_of : List Corners → Place → ListedRegion
 kept_of boxes (place.Box i) = kept.Box (slice_index_or boxes i nothing)
 kept_of boxes (place.Set first count) = kept.Set first count
 

@@ -11,7 +11,7 @@ use std::marker::Model;
 
 /// A region of a log: a box, or a set of states by their places in a list of states.
 #[derive(Clone, Copy, Debug)]
-pub enum Kept {
+pub enum ListedRegion {
     /// The box between two corners.
     Box(Bounds),
     /// So many states of the list, from a place on.
@@ -27,14 +27,14 @@ pub enum Borrowed<'l> {
     Set { first: usize, count: u16 },
 }
 
-impl Kept {
+impl ListedRegion {
     /// The region, its box borrowed.
     pub fn borrow(&self) -> Borrowed<'_>
         ensures { owned result ≡ self.entry.now }
     {
         match self {
-            Kept::Box(bounds) => Borrowed::Box(bounds),
-            Kept::Set { first, count } => Borrowed::Set {
+            ListedRegion::Box(bounds) => Borrowed::Box(bounds),
+            ListedRegion::Set { first, count } => Borrowed::Set {
                 first: *first,
                 count: *count,
             },
@@ -48,7 +48,7 @@ pub struct Line {
     /// The step: its number, and that of its event.
     pub step: Step,
     /// The region after it.
-    pub region: Kept,
+    pub region: ListedRegion,
 }
 
 // A region, a box by its place in a list of boxes.
@@ -110,12 +110,12 @@ fn slot_of(boxes: &mut Vec<Bounds>, line: &Line) -> Result<Slot, AllocError>
 {
     let step = line.step;
     match line.region {
-        Kept::Box(bounds) => {
+        ListedRegion::Box(bounds) => {
             let place = place_of(boxes, &bounds)?;
             let region = Place::Box { place };
             Ok(Slot { step, region })
         }
-        Kept::Set { first, count } => {
+        ListedRegion::Set { first, count } => {
             let region = Place::Set { first, count };
             Ok(Slot { step, region })
         }
@@ -157,13 +157,13 @@ impl LineList {
     }
 
     /// The region after the step of the line at a place, counted from 0.
-    pub fn region(&self, i: usize) -> Kept
+    pub fn region(&self, i: usize) -> ListedRegion
         requires { i < length self.now }
         ensures { option_map (λ line. line.region) (slice_get self.now i) ≡ Some result }
     {
         match self.slots[i].region {
-            Place::Box { place } => Kept::Box(self.boxes[place]),
-            Place::Set { first, count } => Kept::Set { first, count },
+            Place::Box { place } => ListedRegion::Box(self.boxes[place]),
+            Place::Set { first, count } => ListedRegion::Set { first, count },
         }
     }
 

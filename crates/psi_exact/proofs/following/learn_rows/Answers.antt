@@ -1,7 +1,7 @@
 -- Answers in the proof of `learn_rows`.
 use Rattle.std.proofs.Common.{◌≡◌, ◌+◌, ◌*◌, ◌/◌, ◌≤◌, ℕ, List, length, map, refl, ap, sym, ◌∙◌, subst, arith}
 use Rattle.psi_state.specs.State.{all_states}
-use Rattle.psi_exact.specs.ImagesKept.{IsMoves, AreMovesOf}
+use Rattle.psi_exact.specs.ImagesKept.{AreImageRows, AreImageRowsOf}
 use Rattle.psi_exact.proofs.PlacesLemmas.{some-state}
 use Rattle.psi_exact.proofs.MovesLemmas.{learned-longer, learned-next}
 use Rattle.psi_exact.proofs.SurveysLemmas.{event-caps}
@@ -27,14 +27,14 @@ place-requires g c =
     let cap = event-caps g.E.EventLaw.capacities system.caps system.events c.loop-number.number c.event.result.now c.caps.ensures.fit.same_caps (sym c.event.ensures) in
     record {
       few = subst (λ (caps : List ℕ). length (all_states caps) ≤ 65536) (sym cap) c.requires.few;
-      valid = subst (λ (caps : List ℕ). IsMoves (length (all_states caps)) c.loop-number.moves) (sym cap) c.loop-number.invariant.valid;
+      valid = subst (λ (caps : List ℕ). AreImageRows (length (all_states caps)) c.loop-number.moves) (sym cap) c.loop-number.invariant.valid;
     }
 
 pub returns-then-not-place-clause-valid : goal.returns-then-not-place-clause-valid
 returns-then-not-place-clause-valid g c =
     let system = c.args.system.now in
     let cap = event-caps g.E.EventLaw.capacities system.caps system.events c.loop-number.number c.event.result.now c.caps.ensures.fit.same_caps (sym c.event.ensures) in
-    subst (λ (caps : List ℕ). IsMoves (length (all_states caps)) c.place.new.self) cap c.place.ensures.valid
+    subst (λ (caps : List ℕ). AreImageRows (length (all_states caps)) c.place.new.self) cap c.place.ensures.valid
 
 pub returns-then-not-place-clause-learned : goal.returns-then-not-place-clause-learned
 returns-then-not-place-clause-learned g c =
@@ -49,9 +49,9 @@ loop-number-preserved g c =
     let n = c.place.new.self in
     let longer = c.place.ensures.longer in
     let cap = event-caps g.E.EventLaw.capacities system.caps system.events c.loop-number.number c.event.result.now c.caps.ensures.fit.same_caps (sym c.event.ensures) in
-    let valid = subst (λ (caps : List ℕ). IsMoves (length (all_states caps)) n) cap c.place.ensures.valid in
+    let valid = subst (λ (caps : List ℕ). AreImageRows (length (all_states caps)) n) cap c.place.ensures.valid in
     let blocks : n.size / n.width ≡ m.size / m.width = ap (λ k. k / n.width) longer.same_size ∙ ap (λ k. m.size / k) longer.same_width in
-    let are = subst (λ (caps : List ℕ). AreMovesOf caps (g.E.EventLaw.function c.event.result.now) n (length m.numbers.items)) cap (c.place.ensures.learned c.if-not-place.false) in
+    let are = subst (λ (caps : List ℕ). AreImageRowsOf caps (g.E.EventLaw.function c.event.result.now) n (length m.numbers.items)) cap (c.place.ensures.learned c.if-not-place.false) in
     record {
       valid = record { same = valid.same; bound = valid.bound; some = valid.some; whole = valid.whole; room = valid.room; few = valid.few; most = valid.most; covered = valid.covered };
       known = refl;

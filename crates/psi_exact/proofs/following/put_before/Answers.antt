@@ -6,7 +6,7 @@ use Rattle.psi_event.specs.Law.{IsClosed}
 use Rattle.psi_rate.specs.Rates.{event_of}
 use Rattle.psi_rate.specs.Composition.{picked}
 use Rattle.psi_rate.proofs.FunctionsLemmas.{functions-closed}
-use Rattle.psi_exact.specs.ImagesKept.{IsMoves, HasMove, AreMovesOf}
+use Rattle.psi_exact.specs.ImagesKept.{AreImageRows, HasImages, AreImageRowsOf}
 use Rattle.psi_exact.proofs.SurveysLemmas.{picked-event, event-caps, before-event, before-none}
 use Rattle.psi_exact.proofs.following.put_before.Goals as goal
 
@@ -19,12 +19,12 @@ follow-requires g c =
     let number = c.pick-number.result.0 in
     record {
       number = (let most = c.requires.learned.most in let test = c.if-number-moves.true in omega arith);
-      valid = subst (λ (caps : List ℕ). IsMoves (length (all_states caps)) m) cap c.requires.valid;
-      has = subst (λ (caps : List ℕ). HasMove caps m (c.pick-number.result.0 * (m.size / m.width))) cap
+      valid = subst (λ (caps : List ℕ). AreImageRows (length (all_states caps)) m) cap c.requires.valid;
+      has = subst (λ (caps : List ℕ). HasImages caps m (c.pick-number.result.0 * (m.size / m.width))) cap
           (record {
             function = picked (map g.E.EventLaw.function system.events) system.rates c.args.word;
             closed = closed.each 1;
-            are = subst (λ k. AreMovesOf system.caps (slice_index_or (map g.E.EventLaw.function system.events) k (λ x. x)) m (c.pick-number.result.0 * (m.size / m.width)))
+            are = subst (λ k. AreImageRowsOf system.caps (slice_index_or (map g.E.EventLaw.function system.events) k (λ x. x)) m (c.pick-number.result.0 * (m.size / m.width)))
                 c.pick-number.ensures.number (c.requires.learned.each c.pick-number.result.0 c.if-number-moves.true);
           });
     }
@@ -35,11 +35,11 @@ returns-then-number-moves g c = λ f is.
     let m = c.args.moves.now in
     let closed = functions-closed g.E.EventLaw.capacities g.E.EventLaw.function system (λ t. c.args.word) g.met.E.EventLaw.closed c.caps-caps.ensures.fit.same_caps in
     let h = picked (map g.E.EventLaw.function system.events) system.rates c.args.word in
-    let are = subst (λ k. AreMovesOf system.caps (slice_index_or (map g.E.EventLaw.function system.events) k (λ x. x)) m (c.pick-number.result.0 * (m.size / m.width)))
+    let are = subst (λ k. AreImageRowsOf system.caps (slice_index_or (map g.E.EventLaw.function system.events) k (λ x. x)) m (c.pick-number.result.0 * (m.size / m.width)))
     c.pick-number.ensures.number (c.requires.learned.each c.pick-number.result.0 c.if-number-moves.true) in
     before-event system.caps f h h c.args.table.now c.follow.new.self (closed.each 1) refl is
     (c.follow.ensures h (subst (λ (caps : List ℕ). IsClosed caps h) (sym c.requires.same_caps) (closed.each 1))
-    (subst (λ (caps : List ℕ). AreMovesOf caps h m (c.pick-number.result.0 * (m.size / m.width))) (sym c.requires.same_caps) are)))
+    (subst (λ (caps : List ℕ). AreImageRowsOf caps h m (c.pick-number.result.0 * (m.size / m.width))) (sym c.requires.same_caps) are)))
 
 pub older-requires : goal.older-requires
 older-requires g c =

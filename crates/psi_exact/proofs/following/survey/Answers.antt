@@ -5,14 +5,14 @@ use Rattle.psi_rate.specs.Composition.{system_functions}
 use Rattle.psi_rate.proofs.FunctionsLemmas.{functions-closed}
 use Rattle.psi_rate.specs.Outcomes.{meeting_at}
 use Rattle.psi_exact.specs.Mapping.{Mapped}
-use Rattle.psi_exact.specs.ImagesKept.{IsMoves}
+use Rattle.psi_exact.specs.ImagesKept.{AreImageRows}
 use Rattle.psi_exact.proofs.SurveysLemmas.{meeting_within-only, meeting-reaches, meeting-below}
 use Rattle.psi_exact.proofs.following.survey.Goals as goal
 
 pub learn_each-requires : goal.learn_each-requires
 learn_each-requires g c =
     let cap = ap (λ (t : Mapped). t.caps) c.table.view_is ∙ c.requires.same_caps in
-    let valid = subst (λ (caps : List ℕ). IsMoves (length (all_states caps)) c.table.inside.moves) cap c.table.invariant in
+    let valid = subst (λ (caps : List ℕ). AreImageRows (length (all_states caps)) c.table.inside.moves) cap c.table.invariant in
     record { few = (let same = valid.same in let bound = valid.bound in omega arith); valid = valid }
 
 pub follow_all-requires : goal.follow_all-requires
@@ -25,7 +25,7 @@ follow_all-requires g c = record {
 
 pub invariant_of-table : goal.invariant_of-table
 invariant_of-table g c =
-    subst (λ (caps : List ℕ). IsMoves (length (all_states caps)) c.learn_each.new.moves) (sym (ap (λ (t : Mapped). t.caps) c.follow_all.ensures.map)) c.learn_each.ensures.valid
+    subst (λ (caps : List ℕ). AreImageRows (length (all_states caps)) c.learn_each.new.moves) (sym (ap (λ (t : Mapped). t.caps) c.follow_all.ensures.map)) c.learn_each.ensures.valid
 
 pub returns-clause-sizes : goal.returns-clause-sizes
 returns-clause-sizes g c = c.follow_all.ensures.sizes

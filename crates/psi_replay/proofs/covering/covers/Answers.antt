@@ -3,7 +3,7 @@ use Rattle.std.specs.Prelude.{◌≡◌, true}
 use Rattle.std.proofs.Common.{subst}
 use Rattle.psi_replay.specs.Verdict.{is_within}
 use Rattle.psi_replay.specs.RegionsViews.{seen}
-use Rattle.psi_replay.specs.declared.regions.Region.{Region as Shown}
+use Rattle.psi_replay.specs.declared.regions.ReadRegion.{ReadRegion as Shown}
 use Rattle.psi_replay.proofs.RegionLemmas.{within_high}
 use Rattle.psi_replay.proofs.covering.covers.Goals as goal
 

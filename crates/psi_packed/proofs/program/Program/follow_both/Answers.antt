@@ -1,14 +1,14 @@
 use Rattle.std.proofs.Common.{◌≡◌, ◌-◌, ◌<◌, ◌≤◌, length, map, slice_index, slice_index_or, drop, ap, subst, ◌∙◌, arith}
 use Rattle.psi_packed.specs.Moves.{Moving, IsMoved, no_move}
 use Rattle.psi_packed.specs.Programs.{Prepared, Follows}
-use Rattle.psi_packed.specs.Views.{lows, highs, low_word, high_word, moving_by}
+use Rattle.psi_packed.specs.Views.{low_words, high_words, low_word, high_word, moving_by}
 use Rattle.psi_packed.proofs.FollowingLemmas.{follows-none, follows-more, move-read}
 use Rattle.psi_packed.proofs.program.Program.follow_both.Goals as goal
 
 pub loop-place-init : goal.loop-place-init
 loop-place-init g c = record {
-  low = follows-none g.row.K c.args.self.now c.args.numbers.now (lows c.args.x.now);
-  high = follows-none g.row.K c.args.self.now c.args.numbers.now (highs c.args.x.now);
+  low = follows-none g.row.K c.args.self.now c.args.numbers.now (low_words c.args.x.now);
+  high = follows-none g.row.K c.args.self.now c.args.numbers.now (high_words c.args.x.now);
 }
 
 pub loop-place-preserved : goal.loop-place-preserved
@@ -30,18 +30,18 @@ loop-place-preserved g c =
     let high_move : moving_by high_word m ≡ slice_index_or p.moves number no_move =
     move-read p (moving_by high_word) items c.as_slice-moves.result.now number m (c.self.invariant.same ∙ low_moves) c.as_slice-moves.ensures.value c.index-moves-numbers.is small in
     record {
-      low = follows-more g.row.K p numbers i (lows c.args.x.now) (lows own) (lows new) some within small
-          (subst (λ (n : Moving). IsMoved g.row.K n (lows own) (lows new)) low_move c.advance.ensures.low) c.loop-place.invariant.low;
-      high = follows-more g.row.K p numbers i (highs c.args.x.now) (highs own) (highs new) some within small
-          (subst (λ (n : Moving). IsMoved g.row.K n (highs own) (highs new)) high_move c.advance.ensures.high) c.loop-place.invariant.high;
+      low = follows-more g.row.K p numbers i (low_words c.args.x.now) (low_words own) (low_words new) some within small
+          (subst (λ (n : Moving). IsMoved g.row.K n (low_words own) (low_words new)) low_move c.advance.ensures.low) c.loop-place.invariant.low;
+      high = follows-more g.row.K p numbers i (high_words c.args.x.now) (high_words own) (high_words new) some within small
+          (subst (λ (n : Moving). IsMoved g.row.K n (high_words own) (high_words new)) high_move c.advance.ensures.high) c.loop-place.invariant.high;
     }
 
 pub returns-clause-low : goal.returns-clause-low
 returns-clause-low g c =
     let none : c.loop-place.place ≡ 0 = omega arith in
-    subst (λ n. Follows g.row.K c.args.self.now (drop n c.args.numbers.now) (lows c.args.x.now) (lows c.loop-place.own)) none c.loop-place.invariant.low
+    subst (λ n. Follows g.row.K c.args.self.now (drop n c.args.numbers.now) (low_words c.args.x.now) (low_words c.loop-place.own)) none c.loop-place.invariant.low
 
 pub returns-clause-high : goal.returns-clause-high
 returns-clause-high g c =
     let none : c.loop-place.place ≡ 0 = omega arith in
-    subst (λ n. Follows g.row.K c.args.self.now (drop n c.args.numbers.now) (highs c.args.x.now) (highs c.loop-place.own)) none c.loop-place.invariant.high
+    subst (λ n. Follows g.row.K c.args.self.now (drop n c.args.numbers.now) (high_words c.args.x.now) (high_words c.loop-place.own)) none c.loop-place.invariant.high

@@ -7,7 +7,7 @@ use Rattle.psi_packed.specs.Views.{low_word, high_word, moving_by}
 use Rattle.psi_packed.specs.Moves.{Moving, ChangesNothing, no_move}
 use Rattle.psi_packed.specs.Programs.{IsMoveFor}
 use Rattle.psi_packed.proofs.MovingLemmas.{moves-more, moving-push, length-more, alone-more, and-first, and-second}
-use Rattle.psi_packed.specs.declared.moves.Moves.{Moves}
+use Rattle.psi_packed.specs.declared.moves.PackedEvent.{PackedEvent}
 use Rattle.psi_packed.proofs.program.Program.new.Goals as goal
 
 pub loop-event-preserved : goal.loop-event-preserved
@@ -52,7 +52,7 @@ pub loop-event-init : goal.loop-event-init
 loop-event-init g c =
     let none = c.in_ok-moves.ensures.items in
     record {
-      long = ap (λ (ms : List (Moves g.row.K)). length ms) none;
+      long = ap (λ (ms : List (PackedEvent g.row.K)). length ms) none;
       room = c.in_ok-moves.ensures.exact;
       each = λ i small. absurd (omega arith);
       same = ap (map (moving_by {K = g.row.K} high_word)) none ∙ sym (ap (map (moving_by {K = g.row.K} low_word)) none);

@@ -1,7 +1,7 @@
 use Rattle.std.proofs.Common.{◌≡◌, map, slice_index_or, ap, sym, subst, ◌∙◌, rules}
 use Rattle.psi_packed.specs.Moves.{Moving, IsMoved, ChangesNothing, no_move}
 use Rattle.psi_packed.specs.Programs.{Prepared}
-use Rattle.psi_packed.specs.Views.{lows, highs, low_word, high_word, moving_by, pair_at}
+use Rattle.psi_packed.specs.Views.{low_words, high_words, low_word, high_word, moving_by, pair_at}
 use Rattle.psi_packed.proofs.FollowingLemmas.{move-read}
 use Rattle.psi_packed.proofs.SteppingLemmas.{follows-one}
 use Rattle.psi_packed.proofs.program.Program.step.Goals as goal
@@ -36,10 +36,10 @@ returns-then-is_of_one_piece g c =
     move-read p (moving_by high_word) items c.as_slice-moves.result.now number m (c.self.invariant.same ∙ low_moves) c.as_slice-moves.ensures.value c.index-moves-number.is c.requires.number in
     record {
       count = c.advance_all_by_first.ensures.count;
-      low = λ i small. follows-one g.row.K p number (lows (pair_at old i)) (lows (pair_at new i)) c.requires.number
-          (subst (λ (n : Moving). IsMoved g.row.K n (lows (pair_at old i)) (lows (pair_at new i))) low_move (c.advance_all_by_first.ensures.low i small));
-      high = λ i small. follows-one g.row.K p number (highs (pair_at old i)) (highs (pair_at new i)) c.requires.number
-          (subst (λ (n : Moving). IsMoved g.row.K n (highs (pair_at old i)) (highs (pair_at new i))) high_move (c.advance_all_by_first.ensures.high i small));
+      low = λ i small. follows-one g.row.K p number (low_words (pair_at old i)) (low_words (pair_at new i)) c.requires.number
+          (subst (λ (n : Moving). IsMoved g.row.K n (low_words (pair_at old i)) (low_words (pair_at new i))) low_move (c.advance_all_by_first.ensures.low i small));
+      high = λ i small. follows-one g.row.K p number (high_words (pair_at old i)) (high_words (pair_at new i)) c.requires.number
+          (subst (λ (n : Moving). IsMoved g.row.K n (high_words (pair_at old i)) (high_words (pair_at new i))) high_move (c.advance_all_by_first.ensures.high i small));
     }
 
 pub returns-else-is_of_one_piece : goal.returns-else-is_of_one_piece
@@ -57,8 +57,8 @@ returns-else-is_of_one_piece g c =
     move-read p (moving_by high_word) items c.as_slice-moves.result.now number m (c.self.invariant.same ∙ low_moves) c.as_slice-moves.ensures.value c.index-moves-number.is c.requires.number in
     record {
       count = c.advance_all.ensures.count;
-      low = λ i small. follows-one g.row.K p number (lows (pair_at old i)) (lows (pair_at new i)) c.requires.number
-          (subst (λ (n : Moving). IsMoved g.row.K n (lows (pair_at old i)) (lows (pair_at new i))) low_move (c.advance_all.ensures.low i small));
-      high = λ i small. follows-one g.row.K p number (highs (pair_at old i)) (highs (pair_at new i)) c.requires.number
-          (subst (λ (n : Moving). IsMoved g.row.K n (highs (pair_at old i)) (highs (pair_at new i))) high_move (c.advance_all.ensures.high i small));
+      low = λ i small. follows-one g.row.K p number (low_words (pair_at old i)) (low_words (pair_at new i)) c.requires.number
+          (subst (λ (n : Moving). IsMoved g.row.K n (low_words (pair_at old i)) (low_words (pair_at new i))) low_move (c.advance_all.ensures.low i small));
+      high = λ i small. follows-one g.row.K p number (high_words (pair_at old i)) (high_words (pair_at new i)) c.requires.number
+          (subst (λ (n : Moving). IsMoved g.row.K n (high_words (pair_at old i)) (high_words (pair_at new i))) high_move (c.advance_all.ensures.high i small));
     }

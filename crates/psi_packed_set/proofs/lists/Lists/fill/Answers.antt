@@ -6,7 +6,7 @@ use Rattle.psi_state.specs.Ascending.{HaveSame}
 use Rattle.psi_state.proofs.BoxesLemmas.{In-low, In-of_box, below-through}
 use Rattle.psi_packed.specs.Packed.{packed}
 use Rattle.psi_packed.specs.declared.layout.Packed.{Packed}
-use Rattle.psi_packed.specs.declared.pairs.Pairs.{Pairs}
+use Rattle.psi_packed.specs.declared.pairs.PackedPair.{PackedPair}
 use Rattle.psi_packed_set.specs.HalvesKept.{halves, words_of_first}
 use Rattle.psi_packed_set.proofs.HalvingLemmas.{same-again, some-members}
 use Rattle.psi_packed_set.proofs.lists.Lists.fill.Goals as goal
@@ -24,7 +24,7 @@ pair_up-self-requires g c =
     let states = c.deref.ensures.value ∙ with_items_is own.states out (c.pack_all-count.auto.out ∙ c.as_mut_slice.ensures.len) in
     let long = ap (λ (xs : List (Packed g.row.K)). length xs) states in
     let outs = ap (λ (xs : List (Packed g.row.K)). length xs) c.as_mut_slice.ensures.value in
-    let pairs = ap (λ (ps : List (Pairs g.row.K)). length ps) c.as_mut_slice-2.ensures.value in
+    let pairs = ap (λ (ps : List (PackedPair g.row.K)). length ps) c.as_mut_slice-2.ensures.value in
     let front = length-take-le n c.deref.result.now (omega (arith, long, outs, c.pack_all-count.ensures.room, c.pack_all-count.ensures.count, c.requires.room)) in (
       let words = c.requires.lists.words in search rules,
       (
@@ -45,7 +45,7 @@ returns-clause-holds g c =
     let paired : HaveSame (halves (take c.pair_up-self.result list)) (words_of_first n out) =
     same-again out c.deref.result.now n (halves (take c.pair_up-self.result list)) states c.pair_up-self.ensures.members in
     record {
-      same = subst (λ (ps : List (Pairs g.row.K)). HaveSame (halves (take c.pair_up-self.result ps)) whole)
+      same = subst (λ (ps : List (PackedPair g.row.K)). HaveSame (halves (take c.pair_up-self.result ps)) whole)
           (sym (with_items_is own.pairs list (c.pair_up-self.auto.list ∙ c.as_mut_slice-2.ensures.len)))
           (subst (λ (ws : List (List ℕ)). HaveSame (halves (take c.pair_up-self.result list)) ws) c.pack_all-count.ensures.words paired);
       below = λ x member. below-through x bounds.hi c.args.program.now.packing.caps (In-of_box bounds.lo bounds.hi x member).high c.requires.within;
@@ -70,7 +70,7 @@ returns-clause-lists g c =
     let before = c.requires.lists in
     let list = c.pair_up-self.new.list in
     let out = c.pack_all-count.new.out in
-    let pairs_of = λ (ps : List (Pairs g.row.K)). length ps in
+    let pairs_of = λ (ps : List (PackedPair g.row.K)). length ps in
     let states_of = λ (xs : List (Packed g.row.K)). length xs in
     let pairs : length (with_items own.pairs list).items ≡ length own.pairs.items =
     ap pairs_of (with_items_is own.pairs list (c.pair_up-self.auto.list ∙ c.as_mut_slice-2.ensures.len)) ∙ c.pair_up-self.auto.list ∙ ap pairs_of c.as_mut_slice-2.ensures.value in

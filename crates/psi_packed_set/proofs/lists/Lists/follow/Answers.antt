@@ -1,7 +1,7 @@
 use Rattle.std.proofs.Common.{◌≡◌, List, length, take, drop, ap, inl, inr, subst, ◌∙◌, arith}
 use Rattle.std.proofs.lemmas.List.{with_items_is}
 use Rattle.std.specs.Vec.{with_items}
-use Rattle.psi_packed.specs.declared.pairs.Pairs.{Pairs}
+use Rattle.psi_packed.specs.declared.pairs.PackedPair.{PackedPair}
 use Rattle.psi_packed_set.specs.Room.{held}
 use Rattle.psi_packed_set.specs.HoldingKept.{SetFollows}
 use Rattle.psi_packed_set.proofs.FollowingLemmas.{set-rest, follow-end}
@@ -32,7 +32,7 @@ returns-then-left-gt0-clause-lists g c =
     let before = c.follow_apart-left.ensures.lists in
     let middle = c.follow_apart-left.new.self in
     let made = c.follow_one.new.list in
-    let count = λ (ps : List (Pairs g.row.K)). length ps in
+    let count = λ (ps : List (PackedPair g.row.K)). length ps in
     let same : length (with_items middle.pairs made).items ≡ length middle.pairs.items =
     ap count (with_items_is middle.pairs made (c.follow_one.auto.list ∙ c.as_mut_slice.ensures.len)) ∙ c.follow_one.ensures.room ∙ ap count c.as_mut_slice.ensures.value in
     record {

@@ -2,7 +2,7 @@ use Rattle.std.proofs.Common.{◌≤◌, List, length, take, ap, sym, subst, ◌
 use Rattle.std.proofs.lemmas.List.{with_items_is, length-take-le}
 use Rattle.psi_state.specs.Ascending.{HaveSame}
 use Rattle.psi_packed.specs.declared.layout.Packed.{Packed}
-use Rattle.psi_packed.specs.declared.pairs.Pairs.{Pairs}
+use Rattle.psi_packed.specs.declared.pairs.PackedPair.{PackedPair}
 use Rattle.psi_packed_set.specs.HalvesKept.{halves, words_of_first}
 use Rattle.psi_packed_set.proofs.HalvingLemmas.{same-again, same-through, some-left}
 use Rattle.psi_packed_set.proofs.lists.Lists.thin.Goals as goal
@@ -15,10 +15,10 @@ returns-clause-members g c =
     let n = c.gather-count.result in
     let states = c.deref-2.ensures.value ∙ with_items_is own.states out (c.gather-count.auto.out ∙ c.as_mut_slice-2.ensures.len) in
     let gathered : HaveSame (words_of_first n out) (halves (take own.used own.pairs.items)) =
-    subst (λ (ps : List (Pairs g.row.K)). HaveSame (words_of_first n out) (halves (take own.used ps))) c.deref.ensures.value c.gather-count.ensures.members in
+    subst (λ (ps : List (PackedPair g.row.K)). HaveSame (words_of_first n out) (halves (take own.used ps))) c.deref.ensures.value c.gather-count.ensures.members in
     let paired : HaveSame (halves (take c.pair_up-self.result list)) (words_of_first n out) =
     same-again out c.deref-2.result.now n (halves (take c.pair_up-self.result list)) states c.pair_up-self.ensures.members in
-    subst (λ (ps : List (Pairs g.row.K)). HaveSame (halves (take c.pair_up-self.result ps)) (halves (take own.used own.pairs.items)))
+    subst (λ (ps : List (PackedPair g.row.K)). HaveSame (halves (take c.pair_up-self.result ps)) (halves (take own.used own.pairs.items)))
     (sym (with_items_is own.pairs list (c.pair_up-self.auto.list ∙ c.as_mut_slice-3.ensures.len)))
     (same-through paired gathered)
 
@@ -28,7 +28,7 @@ returns-clause-some g c =
     let out = c.gather-count.new.out in
     let n = c.gather-count.result in
     let states = c.deref-2.ensures.value ∙ with_items_is own.states out (c.gather-count.auto.out ∙ c.as_mut_slice-2.ensures.len) in
-    let pairs = ap (λ (ps : List (Pairs g.row.K)). length ps) c.deref.ensures.value in
+    let pairs = ap (λ (ps : List (PackedPair g.row.K)). length ps) c.deref.ensures.value in
     let front = length-take-le own.used c.deref.result.now (omega (arith, pairs, c.requires.lists.fits)) in
     let some : 1 ≤ n = some-left out n (take own.used c.deref.result.now) c.gather-count.ensures.members (omega (arith, front, c.requires.some)) in
     let long = ap (λ (xs : List (Packed g.row.K)). length xs) states in
