@@ -14,5 +14,5 @@ mod table;
 
 pub use answers::{Meeting, Survey};
 pub use following::survey;
-pub use map_table::{MapRefusal, MapTable};
+pub use map_table::{MOST_STATES, MapRefusal, MapTable};
 pub use sizes::Sizes;

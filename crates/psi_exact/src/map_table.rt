@@ -11,8 +11,8 @@ use psi_state::{Bounds, State};
 use std::alloc::{AllocError, Global};
 use std::marker::Model;
 
-// The greatest number of states of a table.
-const MOST_STATES: u32 = 65_536;
+/// The greatest number of states of a table.
+pub const MOST_STATES: u32 = 65_536;
 
 /// Why there is no table.
 #[derive(Clone, Copy, PartialEq, Eq, Debug)]

@@ -9,7 +9,7 @@ use crate::ranks::{write_images, zeroed};
 use crate::rows::{follow_row, place_row};
 use crate::shifts::Shifts;
 use psi_event::EventLaw;
-use psi_state::State;
+use psi_state::{MOST_EVENTS, State};
 use std::alloc::{AllocError, Global};
 
 // The most ranks that are kept in rows: 448 kilobytes.
@@ -20,9 +20,6 @@ const MOST_ROWS: u32 = 1_024;
 
 // The most rows of all events together, where equal rows count each time: 128 kilobytes of numbers.
 const MOST_NUMBERS: u32 = 32_768;
-
-// The greatest number of events of a network.
-const MOST_EVENTS: u32 = 1_024;
 
 // A row is at least as long as this, where there are so many states.
 const LEAST_WIDTH: u32 = 256;

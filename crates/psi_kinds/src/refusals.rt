@@ -54,4 +54,3 @@ impl From<OutOfMemory> for KindRefusal {
         KindRefusal::OutOfMemory
     }
 }
-

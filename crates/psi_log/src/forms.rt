@@ -9,7 +9,7 @@ ghost use Rattle.psi_log.specs.FormsViews.{given, HasForm};
 
 use crate::refusals::{Cause, LogError};
 use crate::words::has_pieces;
-use psi_state::Bounds;
+use psi_state::{Bounds, MOST_SPLIT};
 
 /// The words of a region in their form.
 #[derive(Clone, Copy, Debug)]
@@ -59,7 +59,10 @@ fn set_form<'w>(line: u32, queues: u8, words: &'w [&'w [u8]]) -> Result<Given<'w
     ensures value { Gives given result (set_form line queues (map (λ word. word.now) words.now)) }
     ensures form { IfOk result (λ given. HasForm queues given) }
 {
-    if !words.is_empty() && words.len() <= 4096 && are_shaped(queues as usize, words) {
+    if !words.is_empty()
+        && words.len() <= MOST_SPLIT as usize
+        && are_shaped(queues as usize, words)
+    {
         Ok(Given::Set(words))
     } else {
         Err(Cause::Shape.at(line))

@@ -8,6 +8,7 @@ ghost use Rattle.psi_log.specs.Reading.{named_line, read_header};
 use crate::refusals::LogError;
 use crate::words::{line_of, read_named, read_version, read_words};
 use psi_log_text::Header;
+use psi_state::MOST_QUEUES;
 
 /// The greatest horizon of a version, which is also the greatest number of a step.
 pub(crate) fn greatest_horizon(version: u8) -> u32
@@ -53,7 +54,7 @@ pub(crate) fn read_header<'t>(
 {
     let (first, rest) = line_of(1, text)?;
     let version = read_version(first)?;
-    let (queues, rest) = named_line(2, b"queues", 1, 32, rest, words)?;
+    let (queues, rest) = named_line(2, b"queues", 1, MOST_QUEUES as u64, rest, words)?;
     let (seed, rest) = named_line(3, b"seed", 0, u64::MAX, rest, words)?;
     let (stream, rest) = named_line(4, b"stream", 0, u64::MAX, rest, words)?;
     let most = greatest_horizon(version) as u64;

@@ -17,7 +17,7 @@ mod set_line;
 mod steps;
 mod words;
 
-pub use form::{Form, BorrowedRegion};
+pub use form::{BorrowedRegion, Form};
 pub use log::{Log, read_log};
 pub use psi_log_text::{Header, LineBuf};
 pub use psi_state_list::Rows;

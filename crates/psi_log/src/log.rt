@@ -12,7 +12,7 @@ ghost use Rattle.psi_log.specs.PartsViews.{certificate_of, IsWhole};
 ghost use Rattle.psi_log.specs.Told.{region_at, form, shown, step_at, HasState, state_in};
 ghost use Rattle.psi_log.specs.declared.refusals.LogError.TheVariants.{OutOfMemory};
 
-use crate::form::{Form, BorrowedRegion};
+use crate::form::{BorrowedRegion, Form};
 use crate::parts::{Parts, read_parts};
 use crate::refusals::LogError;
 use psi_log_text::Header;

@@ -11,7 +11,7 @@ use crate::scan::{has_byte, has_word, small_at};
 use crate::set_line::step_at;
 use psi_log_text::Header;
 use psi_state::Bounds;
-use psi_state_list::{ListedRegion, Line};
+use psi_state_list::{Line, ListedRegion};
 
 // The change of a queue that stands at a place, and the place behind it.
 fn change_at(text: &[u8], at: usize, queues: u8) -> Option<(Change, usize)>

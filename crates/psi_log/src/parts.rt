@@ -12,9 +12,9 @@ use crate::refusals::{Cause, LogError};
 use crate::regions::{box_before, read_given, read_state};
 use crate::steps::read_steps;
 use crate::words::{has_pieces, read_words};
-use psi_log_text::Header;
+use psi_log_text::{Header, MOST_LOG_BYTES};
 use psi_state::State;
-use psi_state_list::{ListedRegion, LineList, StateList};
+use psi_state_list::{LineList, ListedRegion, StateList};
 use std::alloc::Global;
 
 /// The parts of a log. The states of its sets lie in one list.
@@ -116,7 +116,7 @@ pub(crate) fn read_parts(alloc: Global, text: &[u8]) -> Result<Parts, LogError>
     ensures value { Gives certificate_of result (read text.now) }
     ensures whole { IfOk result (λ parts. IsWhole parts) }
 {
-    if text.len() > 33_554_432 {
+    if text.len() > MOST_LOG_BYTES as usize {
         return Err(Cause::TooLong.at(0));
     }
     let mut words = Vec::new(alloc);

@@ -11,8 +11,8 @@ use crate::header::greatest_horizon;
 use crate::regions::ascends;
 use crate::scan::{has_byte, has_word, number_at, read_row_at};
 use psi_log_text::Header;
-use psi_state::Step;
-use psi_state_list::{ListedRegion, Line, StateList};
+use psi_state::{MOST_EVENTS, MOST_SPLIT, Step};
+use psi_state_list::{Line, ListedRegion, StateList};
 use std::alloc::AllocError;
 
 /// The step whose line begins a text, and the place behind its event.
@@ -31,7 +31,7 @@ pub(crate) fn step_at(version: u8, text: &[u8]) -> Option<(Step, usize)>
         return None;
     }
     let (event, end) = number_at(text, end + 1)?;
-    if event > 1024 {
+    if event > MOST_EVENTS {
         return None;
     }
     let event = event as u16;
@@ -66,7 +66,7 @@ fn read_rows(
     let mut numbers = [0; 32];
     let row = &mut numbers[..queues as usize];
     let mut end = at;
-    for _ in 0..4096 {
+    for _ in 0..MOST_SPLIT {
         if !has_byte(text, end, b' ') {
             return Ok(Some(end));
         }
@@ -108,7 +108,11 @@ pub(crate) fn read_set_line<'t>(
         return Ok(None);
     };
     let count = states.len() - first;
-    if count == 0 || count > 4096 || !has_byte(text, end, b'\n') || !ascends(states, first) {
+    if count == 0
+        || count > MOST_SPLIT as usize
+        || !has_byte(text, end, b'\n')
+        || !ascends(states, first)
+    {
         return Ok(None);
     }
     let region = ListedRegion::Set {

@@ -16,7 +16,7 @@ use crate::regions::{box_before, read_given};
 use crate::set_line::read_set_line;
 use crate::words::read_words;
 use psi_log_text::Header;
-use psi_state::{Bounds, Step};
+use psi_state::{Bounds, MOST_EVENTS, Step};
 use psi_state_list::{Line, LineList, StateList};
 use std::alloc::Global;
 
@@ -52,7 +52,7 @@ fn read_step(
     };
     let most = greatest_horizon(header.version) as u64;
     let number = number_in(line, 1, most, number)? as u32;
-    let event = number_in(line, 0, 1024, event)? as u16;
+    let event = number_in(line, 0, MOST_EVENTS as u64, event)? as u16;
     let region = read_given(line, header.queues, form, states)?;
     Ok(Line {
         step: Step { number, event },

@@ -1,5 +1,8 @@
 //! What a log says of its sample at the head.
 
+/// The most bytes of a log.
+pub const MOST_LOG_BYTES: u32 = 33_554_432;
+
 /// The five numbers at the head of a log.
 #[derive(Clone, Copy, PartialEq, Eq, Debug)]
 pub struct Header {

@@ -13,7 +13,7 @@ mod pieces;
 mod put;
 mod regions;
 
-pub use header::Header;
+pub use header::{Header, MOST_LOG_BYTES};
 pub use line_buf::LineBuf;
 
 /// There was no memory: the only way in which a call with this error fails.

@@ -13,13 +13,10 @@ use crate::steps::{most_held, next_line};
 use psi_event::EventLaw;
 use psi_horizon::Plan;
 use psi_io::{Sink, SinkFault};
-use psi_log_text::{Header, LineBuf};
+use psi_log_text::{Header, LineBuf, MOST_LOG_BYTES};
 use psi_past::Past;
 use psi_region::Follower;
 use psi_state::{Bounds, State};
-
-// The greatest number of bytes of a log.
-const MOST: usize = 33_554_432;
 
 /// Whether the log of the run of the header's horizon, with this state at its end, has at most 33,554,432
 /// bytes, so that it may be written.
@@ -42,7 +39,7 @@ pub fn log_fits<E: EventLaw, P: Past + Drop, F: Follower + Drop>(
     ensures system { plan.new.system ≡ plan.old.system }
     ensures words { P.words plan.new.past ≡ P.words plan.old.past }
 {
-    let mut room = MOST;
+    let mut room = MOST_LOG_BYTES as usize;
     let mut told = None;
     for place in 0..header.horizon as u64 + 3 {
         if surely_fits(plan, header, state, place, &told, room) {

@@ -30,11 +30,9 @@ use psi_net_document::{
     Cause, NetRefusal, Place, Section, elements_in, find, no_unknown, present, read, required_name,
     required_number, table_in, text_in, unless_taken,
 };
+use psi_state::{MOST_EVENTS, MOST_TOTAL};
 use std::alloc::Global;
 use toml::{Table, Value};
-
-// The greatest total of the rates of a network's events.
-const MOST_TOTAL: u32 = 16_777_216;
 
 // The kind that a text names in a file of this version.
 fn kind_named(version: u32, text: &str) -> Option<KindWord>
@@ -187,7 +185,7 @@ fn counted(
     ensures value { Gives (λ _. tt) result (are_within place event.now (list.now.events.items ++ served_by servers event.now)) }
     ensures counted { IfOk result (λ counts. IsCounted (list.now.events.items ++ served_by servers event.now) counts.values counts.rates) }
 {
-    if list.events.len() + servers as usize > 1024 {
+    if list.events.len() + servers as usize > MOST_EVENTS as usize {
         let key = if source_of(&event.kind).is_some() {
             "from"
         } else {
@@ -284,7 +282,13 @@ pub(crate) fn events(
 {
     match value {
         Some(value) => {
-            let values = judged!(elements_in(Place::TOP, "event", Cause::NoEvents, 1024, value));
+            let values = judged!(elements_in(
+                Place::TOP,
+                "event",
+                Cause::NoEvents,
+                MOST_EVENTS as usize,
+                value
+            ));
             let list = read!(all_events(alloc, version, known, values));
             Ok(list.events)
         }

@@ -21,7 +21,7 @@ use psi_net_document::{
     targets_in,
 };
 use psi_route::{Full, Source};
-use psi_state::{Queues, State};
+use psi_state::{MOST_CUSTOMERS, Queues, State};
 use std::alloc::Global;
 use toml::{Table, Value};
 
@@ -266,7 +266,7 @@ pub(crate) fn index(
     let to = judged!(required_targets(place, "to", &known.names, &sources, find(table, "to")));
     let rows = read!(table_of(alloc, place, &known.caps, &to, find(table, "table")));
     let full = judged!(full(place, find(table, "full")));
-    let size = judged!(number_or(place, "size", 1, 1, 65535, find(table, "size")));
+    let size = judged!(number_or(place, "size", 1, 1, MOST_CUSTOMERS, find(table, "size")));
     let size = judged!(size_fits(place, &known.caps, from.is_some(), &to, size));
     Ok(Kind::Index {
         from,
@@ -289,7 +289,7 @@ pub(crate) fn batch(place: Place, known: &KnownQueues, table: &Table) -> Result<
         &Queues::empty(),
         find(table, "to")
     ));
-    let size = read!(required_number(place, "size", 1, 65535, find(table, "size")));
+    let size = read!(required_number(place, "size", 1, MOST_CUSTOMERS, find(table, "size")));
     let size = read!(size_fits(place, &known.caps, false, &to, size));
     Ok(Kind::Batch { to, size })
 }
@@ -302,7 +302,7 @@ pub(crate) fn negative(place: Place, known: &KnownNames, table: &Table) -> Resul
     let from = read!(source(place, known, find(table, "from")));
     let sources = queue_of_source(from);
     let on = read!(required_target(place, "on", known, &sources, find(table, "on")));
-    let amount = read!(number_or(place, "amount", 1, 1, 65535, find(table, "amount")));
+    let amount = read!(number_or(place, "amount", 1, 1, MOST_CUSTOMERS, find(table, "amount")));
     Ok(Kind::Negative {
         from,
         on,

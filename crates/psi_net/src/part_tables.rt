@@ -13,6 +13,7 @@ use psi_net_document::{
     Cause, KnownNames, NetRefusal, Place, elements_in, find, integer_or_zero, no_unknown,
     number_or, present, queue_in, read,
 };
+use psi_state::MOST_CUSTOMERS;
 use toml::{Table, Value};
 
 // An element that is a table; another one is refused at the key `part`.
@@ -53,7 +54,7 @@ fn part_numbers(place: Place, queue: u8, cap: u16, table: &Table) -> Result<Part
     let cap = cap as u32;
     let least = read!(number_or(place, "least", 0, 0, cap, find(table, "least")));
     let most = read!(number_or(place, "most", cap, 0, cap, find(table, "most")));
-    let shift = read!(integer_or_zero(place, "shift", 65535, find(table, "shift")));
+    let shift = read!(integer_or_zero(place, "shift", MOST_CUSTOMERS, find(table, "shift")));
     let floor = read!(number_or(place, "floor", 0, 0, cap, find(table, "floor")));
     let ceiling = read!(number_or(place, "ceiling", cap, 0, cap, find(table, "ceiling")));
     Ok(Part {

@@ -18,6 +18,7 @@ use psi_net_document::{
     Cause, KnownNames, NetRefusal, Place, Section, elements_in, find, no_unknown, number_or,
     present, read, required_name, required_number, table_in, unless_taken,
 };
+use psi_state::{MOST_CUSTOMERS, MOST_QUEUES};
 use std::alloc::Global;
 use toml::{Table, Value};
 
@@ -37,7 +38,13 @@ fn queue(place: Place, earlier: &IndexSet<Name>, table: &Table) -> Result<Queue,
     read!(no_unknown(place, &["name", "capacity", "servers"], &[], table));
     let name = read!(required_name(place, "name", find(table, "name")));
     read!(unless_taken(place, earlier, name));
-    let capacity = read!(required_number(place, "capacity", 1, 65535, find(table, "capacity")));
+    let capacity = read!(required_number(
+        place,
+        "capacity",
+        1,
+        MOST_CUSTOMERS,
+        find(table, "capacity")
+    ));
     let most = 64.min(capacity);
     let servers = read!(number_or(place, "servers", 1, 1, most, find(table, "servers")));
     Ok(Queue {
@@ -92,7 +99,13 @@ fn listed_queues(alloc: Global, value: Option<&Value>) -> Result<QueueList, NetE
     ensures names { IfOk result (λ list. list.names.keys ≡ map (λ q. q.name) list.queues.items) }
 {
     let value = judged!(present(Place::TOP, "queue", value));
-    let values = judged!(elements_in(Place::TOP, "queue", Cause::MissingKey, 32, value));
+    let values = judged!(elements_in(
+        Place::TOP,
+        "queue",
+        Cause::MissingKey,
+        MOST_QUEUES as usize,
+        value
+    ));
     all_queues(alloc, values)
 }
 

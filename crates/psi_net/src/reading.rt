@@ -14,7 +14,10 @@ use crate::net_error::NetError;
 use crate::queue_tables::queues;
 use crate::reward_tables::rewards;
 use psi_model::{Draft, Net};
-use psi_net_document::{Cause, NetRefusal, Place, find, no_unknown, number_or, present, read};
+use psi_net_document::{
+    Cause, MOST_NET_BYTES, NetRefusal, Place, find, no_unknown, number_or, present, read,
+};
+use psi_state::{MOST_LIMIT, MOST_SPLIT};
 use std::alloc::Global;
 use toml::{Table, Value};
 
@@ -51,7 +54,7 @@ fn most_limit(version: u32) -> u32
     ensures least { 18 ≤ result }
     ensures most { result ≤ 22 }
 {
-    if version == 1 { 20 } else { 22 }
+    if version == 1 { 20 } else { MOST_LIMIT }
 }
 
 // What the keys at the top say that are numbers.
@@ -72,7 +75,14 @@ fn top_numbers(table: &Table) -> Result<TopNumbers, NetRefusal>
     read!(no_unknown(Place::TOP, keys, &[], table));
     let most = most_limit(version);
     let limit = read!(number_or(Place::TOP, "limit", 18, 0, most, find(table, "limit")));
-    let split = read!(number_or(Place::TOP, "split", 256, 1, 4096, find(table, "split")));
+    let split = read!(number_or(
+        Place::TOP,
+        "split",
+        256,
+        1,
+        MOST_SPLIT,
+        find(table, "split")
+    ));
     Ok(TopNumbers {
         version,
         limit: limit as u8,
@@ -105,7 +115,7 @@ fn document(alloc: Global, table: &Table) -> Result<Draft, NetError>
 fn file_text(bytes: &[u8]) -> Result<&str, NetRefusal>
     ensures { Gives (λ text. text.now) result (file_text bytes.now) }
 {
-    if bytes.len() > 1048576 {
+    if bytes.len() > MOST_NET_BYTES as usize {
         return Err(Cause::TooLong.at_place(Place::TOP));
     }
     match std::str::from_utf8(bytes) {

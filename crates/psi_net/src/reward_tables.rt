@@ -24,7 +24,7 @@ use psi_net_document::{
     read, required_name, required_number, some_targets_in, table_in, text_in, unless_taken,
 };
 use psi_reward::{Grid, Numbers, RewardKind};
-use psi_state::{Queues, State};
+use psi_state::{MOST_CUSTOMERS, Queues, State};
 use std::alloc::Global;
 use toml::{Table, Value};
 
@@ -229,7 +229,13 @@ fn reward_kind_of(
         RewardWord::Greatest => Ok(RewardKind::Greatest { queues }),
         RewardWord::Least => Ok(RewardKind::Least { queues }),
         RewardWord::Above => {
-            let level = judged!(required_number(place, "level", 0, 65535, find(table, "level")));
+            let level = judged!(required_number(
+                place,
+                "level",
+                0,
+                MOST_CUSTOMERS,
+                find(table, "level")
+            ));
             Ok(RewardKind::Above {
                 queues,
                 level: level as u16,

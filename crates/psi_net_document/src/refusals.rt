@@ -4,6 +4,9 @@ ghost use Rattle.std.specs.Prelude.{◌≡◌, Option};
 
 use psi_name::{Name, name_of};
 
+/// The most bytes of a network file.
+pub const MOST_NET_BYTES: u32 = 1_048_576;
+
 /// The part of a network file that a refusal names.
 #[derive(Clone, Copy, PartialEq, Eq, Debug)]
 pub enum Section {

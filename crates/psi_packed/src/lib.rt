@@ -13,5 +13,5 @@ mod program;
 pub use corners::PackedCorners;
 pub use layout::{Layout, Packed};
 pub use moves::{Masks, PackedEvent};
-pub use pairs::{Pair, PackedPair};
+pub use pairs::{PackedPair, Pair};
 pub use program::Program;

@@ -7,7 +7,7 @@ ghost use Rattle.psi_packed.specs.Moves.{AreMasksOf, IsMoveOf, IsMoved, ChangesN
 ghost use Rattle.psi_packed.specs.Views.{pair_at};
 
 use crate::layout::{Layout, Packed};
-use crate::pairs::{Pair, PackedPair};
+use crate::pairs::{PackedPair, Pair};
 use psi_piecewise::{Piece, Piecewise};
 
 /// The masks of a piece, each twice: which guards are looked at, which of these are to be up, and what is added then.

@@ -5,11 +5,9 @@ ghost use Rattle.psi_rate.specs.Numbers.{numbers_below};
 ghost use Rattle.psi_rate.specs.Rates.{AreRates, HasNumber, IsLeastPower, event_of, least_power, total};
 
 use crate::table::Table;
+use psi_state::MOST_TOTAL;
 use std::alloc::{AllocError, Global};
 use std::marker::Model;
-
-// The greatest total of the rates of a network's events.
-const MOST_TOTAL: u32 = 16_777_216;
 
 /// Why rates make no wheel.
 #[derive(Clone, Copy, PartialEq, Eq, Debug)]

@@ -16,7 +16,12 @@ use psi_state::{Bounds, State};
 // Whether a region holds what the event makes of a state. The images of states that follow one another mostly do so
 // too, so each is looked for near the place `near` of the last one.
 #[inline]
-fn holds_image<E: EventLaw>(event: &E, x: &mut State, after: &ReadRegion<'_>, near: &mut usize) -> bool
+fn holds_image<E: EventLaw>(
+    event: &E,
+    x: &mut State,
+    after: &ReadRegion<'_>,
+    near: &mut usize,
+) -> bool
     requires state { IsBelow x.old (E.capacities event.now) }
     requires after { IsRegion (length (E.capacities event.now)) (seen after.now) }
     ensures { result ≡ has (states_of (seen after.now)) (E.function event.now x.old) }

@@ -8,8 +8,8 @@ ghost use Rattle.psi_replay.specs.Numbered.{nth_region};
 ghost use Rattle.psi_replay.specs.RegionsViews.{seen};
 
 use crate::sets::Set;
-use psi_log::{Log, BorrowedRegion as Told};
-use psi_state::{Bounds, State};
+use psi_log::{BorrowedRegion as Told, Log};
+use psi_state::{Bounds, MOST_SPLIT, State};
 
 /// A region of a log, borrowed from it.
 #[derive(Drop)]
@@ -63,7 +63,9 @@ impl ReadRegion<'_> {
         ensures { result ≡ is_small (seen self.now) (seen after.now) }
     {
         match (self, after) {
-            (ReadRegion::Box(bounds), ReadRegion::Set(_)) => bounds.volume_at_most(4096).is_some(),
+            (ReadRegion::Box(bounds), ReadRegion::Set(_)) => bounds
+                .volume_at_most(MOST_SPLIT)
+                .is_some(),
             _ => true,
         }
     }

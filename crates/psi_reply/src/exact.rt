@@ -13,16 +13,13 @@ use crate::ending::Ending;
 use psi_answers::survey_text;
 use psi_command::Status;
 use psi_couple::{Coupled, least_horizon};
-use psi_exact::{MapRefusal, MapTable, Meeting, Survey, survey};
+use psi_exact::{MOST_STATES, MapRefusal, MapTable, Meeting, Survey, survey};
 use psi_follow::plan_of;
 use psi_horizon::OutOfMemory;
 use psi_model::Net;
 use psi_past::SeedPast;
 use psi_state::Bounds;
 use std::alloc::Global;
-
-// The greatest number of states of a network whose map is followed.
-const MOST_STATES: u32 = 65_536;
 
 // The survey of the network's map, over the last 2 to the power `h` steps. The table of the map is dropped
 // with the call.

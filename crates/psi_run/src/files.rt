@@ -8,15 +8,11 @@ ghost use Rattle.psi_reply.specs.Ended.{ending_of};
 ghost use Rattle.psi_run.specs.Files.{IsNetAt, IsNoNet, IsTextAt, IsNoText};
 
 use psi_io::{Shelf, ShelfFault};
+use psi_log_text::MOST_LOG_BYTES;
 use psi_net::{Net, NetError, net_of};
+use psi_net_document::MOST_NET_BYTES;
 use psi_reply::Ending;
 use std::alloc::Global;
-
-/// The most bytes that a network file may have.
-const MOST_NET_BYTES: u32 = 1_048_576;
-
-/// The most bytes that a log may have.
-const MOST_LOG_BYTES: u32 = 33_554_432;
 
 /// The network in the file of this name. Where there is none, the work ends the same whichever command
 /// names the file: it is refused, a read of it failed in this call, or there was not enough memory.

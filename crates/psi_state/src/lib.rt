@@ -6,12 +6,14 @@
 #![tactic(auto)]
 
 mod bounds;
+mod limits;
 mod outcome;
 mod queues;
 mod state;
 mod states;
 
 pub use bounds::Bounds;
+pub use limits::{MOST_CUSTOMERS, MOST_EVENTS, MOST_LIMIT, MOST_QUEUES, MOST_SPLIT, MOST_TOTAL};
 pub use outcome::{Outcome, Step};
 pub use queues::Queues;
 pub use state::State;

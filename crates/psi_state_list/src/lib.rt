@@ -7,6 +7,6 @@ mod room;
 mod row_list;
 mod state_list;
 
-pub use line_list::{Borrowed, ListedRegion, Line, LineList};
+pub use line_list::{Borrowed, Line, LineList, ListedRegion};
 pub use row_list::Rows;
 pub use state_list::StateList;

@@ -13,7 +13,7 @@ returns-clause-value c = λ n before.
     let last = c.len.ensures in
     let more = c.in_ok-end.ensures.more in
     let some = c.if-count-eq0.false in
-    let few = c.if-count-gt4096.false in
+    let few = c.if-count.false in
     let rows = subst (λ (o : Option ℕ). IfSome o (λ end. AreScanned c.args.header.now.queues c.args.text.now (c.in-Some.at + 4) end c.args.states.now.states c.read_rows.new.states.states))
     c.in-Some-2.is c.in_ok-end.ensures.rows in
     set_line c.args.header.now n before c.args.text.now c.in-Some.at c.in-Some-2.end c.len-first.result (c.len.result - c.len-first.result) c.in-Some.step c.args.states.now.states

@@ -1,6 +1,6 @@
 -- Answers in the proof of `log_bytes`.
 use Rattle.std.proofs.Common.{refl}
-use Rattle.psi_run.specs.declared.files.TheConstants.{MOST_LOG_BYTES}
+use Rattle.psi_log_text.specs.declared.header.TheConstants.{MOST_LOG_BYTES}
 use Rattle.psi_run.proofs.ReplayingLemmas.{read_whole}
 use Rattle.psi_run.proofs.files.log_bytes.Goals as goal
 

@@ -1,6 +1,6 @@
 -- Answers in the proof of `network_at`.
 use Rattle.std.proofs.Common.{refl, Ok, Err}
-use Rattle.psi_run.specs.declared.files.TheConstants.{MOST_NET_BYTES}
+use Rattle.psi_net_document.specs.declared.refusals.TheConstants.{MOST_NET_BYTES}
 use Rattle.psi_run.proofs.EndingsLemmas.{judged_whole}
 use Rattle.psi_run.proofs.files.network_at.Goals as goal
 
