@@ -6,7 +6,7 @@ ghost use Rattle.psi_kinds.specs.Moves.{move_of};
 ghost use Rattle.psi_rate.specs.Composition.{function_at};
 ghost use Rattle.psi_closed.specs.Diagram.{IsTotal};
 ghost use Rattle.psi_closed.specs.Planned.{AreMoves, IsClosedSample};
-ghost use Rattle.psi_closed.specs.Planned.{functions_of as moves_by_time};
+ghost use Rattle.psi_closed.specs.Planned.{closed_functions as moves_by_time};
 ghost use Rattle.psi_model.specs.Network.{caps_of, rates_of, functions_of};
 ghost use Rattle.psi_law.specs.Counting.{Words};
 ghost use Rattle.psi_law.specs.Networks.{closed_chain, closed_sample, network_total_chain, network_total_sample};
