@@ -5,7 +5,6 @@ use Rattle.std.proofs.lemmas.Bool.{cases_lt}
 use Rattle.std.proofs.lemmas.List.{get_or-set_same, get_or-set_other, get_or_default, length-drop}
 use Rattle.std.proofs.Math.Seq.{drop-cons}
 use Rattle.std.proofs.Math.ListN.{drop_of_length-le}
-use Rattle.std.proofs.lemmas.Option.{slice_get-get_or}
 use Rattle.psi_state.specs.State.{Corners, IsBelow, zeros, box, all_states}
 use Rattle.psi_state.specs.Members.{In}
 use Rattle.psi_state.proofs.BoxesLemmas.{In-all_states}
@@ -51,13 +50,6 @@ next-left caps r x whole rest is step =
           })
       | inr past ↦ (let none : drop r (all_states caps) ≡ [] = drop_of_length-le (all_states caps) past in absurd cc)
     ]
-
--- and its place in the box of all states is the rank
-pub place-next : (caps own x : List ℕ) (b : Corners) (r : ℕ) (rest : List (List ℕ)) → b ≡ whole own → own ≡ caps → IsNext caps r x rest → slice_get (box b.lo b.hi) r ≡ Some x
-unfolding state_at
-place-next caps own x b r rest is same next =
-    subst (λ (c : Corners). slice_get (box c.lo c.hi) r ≡ Some x) (sym (is ∙ ap (λ (ys : List ℕ). whole ys) same))
-    (slice_get-get_or (all_states caps) r [] next.small ∙ ap (λ (y : List ℕ). Some y) next.state)
 
 -- no state is left
 pub none-left : (caps : List ℕ) (r : ℕ) (whole : List (List ℕ)) → whole ≡ drop r (all_states caps) → whole ≡ [] → length (all_states caps) ≤ r

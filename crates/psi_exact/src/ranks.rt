@@ -1,18 +1,14 @@
 //! Tables of ranks: the rank of a state is its place in the list of all states.
 
-ghost use Rattle.std.specs.Prelude.{◌≡◌, ℕ, ◌<◌, ◌≤◌, Some, true, false, List, length, slice_get, slice_index, MatchOption, IfOk};
-ghost use Rattle.psi_state.specs.State.{box, all_states};
-ghost use Rattle.psi_state.specs.Members.{In};
+ghost use Rattle.std.specs.Prelude.{◌≡◌, ℕ, ◌<◌, ◌≤◌, true, false, List, length, slice_index, MatchOption, IfOk};
+ghost use Rattle.psi_state.specs.State.{all_states};
 ghost use Rattle.psi_exact.specs.Mapping.{map_of, sends};
 ghost use Rattle.psi_exact.specs.TableKept.{table_of, AreRanks, AreRanksOf};
 ghost use Rattle.psi_exact.specs.Distinct.{distinct_count, AreAll, AreMixed};
 
 use psi_event::EventLaw;
-use psi_state::{Bounds, State};
+use psi_state::Bounds;
 use std::alloc::{AllocError, Global};
-
-// For so many queues a rank is found as soon as two states are compared.
-const FEW_QUEUES: u8 = 8;
 
 // How many ranks are compared before it is asked whether all were the same.
 const STRETCH: usize = 512;
@@ -50,24 +46,9 @@ pub(crate) fn write_images<E: EventLaw>(e: &E, ranks: &mut [u16])
     for state in bounds.states() {
         let mut image = state;
         e.apply(&mut image);
-        ranks[rank] = rank_after(&bounds, &state, rank as u16, &image);
+        ranks[rank] = bounds.rank(&image) as u16;
         rank += 1;
     }
-}
-
-// The rank of the image of a state whose rank is told. Many states stay as they are, and where there are
-// many queues, that is found out sooner than a rank.
-#[inline]
-fn rank_after(bounds: &Bounds, state: &State, rank: u16, image: &State) -> u16
-    requires few { length (box bounds.now.lo bounds.now.hi) ≤ 65536 }
-    requires place { slice_get (box bounds.now.lo bounds.now.hi) rank ≡ Some state.now }
-    requires member { In image.now (box bounds.now.lo bounds.now.hi) }
-    ensures { slice_get (box bounds.now.lo bounds.now.hi) result ≡ Some image.now }
-{
-    if bounds.len() > FEW_QUEUES && image == state {
-        return rank;
-    }
-    bounds.rank(image) as u16
 }
 
 /// Writes the table of the map that sends each state to where a table sends what the event makes of it.
