@@ -8,6 +8,7 @@ pub mod LeastLemmas
 pub mod FunctionsLemmas
 pub mod OutcomesLemmas
 pub mod TableLemmas
+mod MarksLemmas
 pub mod NumbersLemmas
 mod DealtLemmas
 mod Worked

@@ -102,8 +102,9 @@ keeps-fewer rates words most few numbers keeps less =
     let count_room = keeps.count_room in
     record {
       kept = keeps.kept;
-      count = keeps.count;
       counted = keeps.counted;
+      last = keeps.last;
+      next = keeps.next;
       room = omega arith;
       count_room = omega arith;
     }

@@ -1,15 +1,15 @@
 //! The numbers of the events of a run, kept from run to run without those that are idle.
 
-ghost use Rattle.std.specs.Prelude.{◌≡◌, ◌+◌, ◌-◌, ◌≤◌, ◌++◌, ℕ, List, length, take, vec_capacity, IfOk};
+ghost use Rattle.std.specs.Prelude.{◌≡◌, ◌+◌, ◌-◌, ◌/◌, ◌<◌, ◌≤◌, ◌++◌, ℕ, List, length, take, vec_capacity, IfOk};
 ghost use Rattle.psi_rate.specs.Numbers.{numbers_below};
-ghost use Rattle.psi_rate.specs.Keeping.{KeepsNumbers, Reaches};
+ghost use Rattle.psi_rate.specs.Keeping.{KeepsNumbers, Reaches, mark};
 
 use crate::Wheel;
 use linked_list_allocator::LocalHeap;
 use psi_past::Past;
 use std::alloc::{AllocError, Global};
 
-// How far apart the places are up to which the numbers are counted.
+// How far apart the greater places are up to which the numbers are counted.
 const STRETCH: u32 = 1024;
 
 // How many places are drawn at once.
@@ -22,24 +22,24 @@ const WINDOW: u32 = 256;
 #[derive(Drop)]
 pub struct Numbers {
     list: Vec<u16, LocalHeap>,
-    // How many of them there are before place 0, 1,024, 2,048 and so on.
+    // How many of them there are before each mark that they reach.
     counts: Vec<u32, LocalHeap>,
     // How many places they are of.
     reached: u32,
 }
 
 impl Numbers {
-    /// Room for the numbers of so many places, of 2 bytes each, and 4 bytes more for each 1,024th place; none is kept
-    /// yet.
+    /// Room for the numbers of so many places, of 2 bytes each, and 4 bytes more for each 1,024th place and for some
+    /// before these; none is kept yet.
     ///
     /// `AllocError` is the answer where there is no memory for it; no clause says when that is.
     pub fn reserve(alloc: Global, most: u32) -> Result<Numbers, AllocError>
         ensures { IfOk result (λ numbers. (rates : List ℕ) (words : ℕ → ℕ) → KeepsNumbers rates words most numbers) }
     {
         let places = most as usize;
-        let stretches = (most / STRETCH) as usize + 1;
+        let marks = (most / STRETCH + 5) as usize;
         let list = Vec::with_capacity(LocalHeap::new(alloc, 2 * places)?, places)?;
-        let mut counts = Vec::with_capacity(LocalHeap::new(alloc, 4 * stretches)?, stretches)?;
+        let mut counts = Vec::with_capacity(LocalHeap::new(alloc, 4 * marks)?, marks)?;
         counts.push_reserved(0);
         Ok(Numbers {
             list,
@@ -65,8 +65,8 @@ impl Numbers {
         ensures reached { Reaches self.new horizon }
         ensures words { P.words past.new ≡ P.words past.old }
     {
-        for stretch in self.reached / STRETCH..horizon / STRETCH {
-            let end = (stretch + 1) * STRETCH;
+        for number in marks_up_to(self.reached)..marks_up_to(horizon) {
+            let end = mark(number);
             keep_places(wheel, past, &mut self.list, self.reached, end);
             self.counts.push_reserved(self.list.len() as u32);
             self.reached = end;
@@ -77,8 +77,9 @@ impl Numbers {
         }
     }
 
-    /// The numbers of the places below a horizon that they reach, from place 0 on. Where they reach further, the words
-    /// of less than 1,024 places are drawn again to see how many numbers these are.
+    /// The numbers of the places below a horizon that they reach, from place 0 on. Where they reach further, and it is
+    /// neither a power of two from 64 on nor a multiple of 1,024, the words of less than 1,024 places are drawn again
+    /// to see how many numbers these are.
     pub fn below<P: Past>(&self, wheel: &Wheel, past: &mut P, horizon: u32) -> &[u16]
         requires kept { KeepsNumbers wheel.now (P.words past.old) horizon self.now }
         requires reached { Reaches self.now horizon }
@@ -88,10 +89,42 @@ impl Numbers {
         if horizon == self.reached {
             return self.list.as_slice();
         }
-        let stretches = horizon / STRETCH;
-        let before = self.counts[stretches as usize] as usize;
-        let count = count_places(wheel, past, before, stretches * STRETCH, horizon);
+        let last = marks_up_to(horizon) - 1;
+        let before = self.counts[last as usize] as usize;
+        let count = count_places(wheel, past, before, mark(last), horizon);
         &self.list.as_slice()[..count]
+    }
+}
+
+// The mark of this number, from 0 on: the places up to which the numbers are counted are 0, the powers of two from 64 to
+// 512, and the multiples of 1,024.
+fn mark(number: u32) -> u32
+    requires { number ≤ 4194307 }
+    ensures { result ≡ mark number }
+{
+    match number {
+        0 => 0,
+        1 => 64,
+        2 => 128,
+        3 => 256,
+        4 => 512,
+        _ => (number - 4) * STRETCH,
+    }
+}
+
+// How many marks there are up to this place, with it.
+fn marks_up_to(place: u32) -> u32
+    ensures some { 1 ≤ result }
+    ensures last { mark (result - 1) ≤ place }
+    ensures next { place < mark result }
+    ensures few { result ≤ place / 1024 + 5 }
+{
+    match place {
+        0..64 => 1,
+        64..128 => 2,
+        128..256 => 3,
+        256..512 => 4,
+        _ => place / STRETCH + 5,
     }
 }
 

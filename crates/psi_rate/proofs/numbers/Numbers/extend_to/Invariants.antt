@@ -1,14 +1,14 @@
 -- Invariants of the loops of `Numbers::extend_to`.
-use Rattle.std.proofs.Common.{◌≡◌, ◌≤◌, ◌/◌, vec_capacity}
+use Rattle.std.proofs.Common.{◌≡◌, ◌≤◌, length, vec_capacity}
 use Rattle.psi_rate.specs.Keeping.{KeepsNumbers}
 use Rattle.psi_rate.proofs.numbers.Numbers.extend_to.Given as goal
 
--- the numbers reach this stretch
-abbrev pub invariant-loop-stretch : goal.invariant-loop-stretch
-invariant-loop-stretch g l = record {
+-- the numbers reach the marks below this one
+abbrev pub invariant-loop-number : goal.invariant-loop-number
+invariant-loop-number g l = record {
   kept : KeepsNumbers l.wheel (g.P.Past.words l.fn.past) l.horizon l.self;
   list_room : vec_capacity l.fn.self.list ≤ vec_capacity l.self.list;
   count_room : vec_capacity l.self.counts ≡ vec_capacity l.fn.self.counts;
-  stretch : l.self.reached / 1024 ≡ l.stretch;
+  number : length l.self.counts.items ≡ l.number;
   words : g.P.Past.words l.past ≡ g.P.Past.words l.fn.past;
 }
