@@ -1,5 +1,5 @@
 -- Closed runs are ordered by horizon, and one that ends with one state tells where every state of the total is.
-use Rattle.std.specs.Prelude.{◌≡◌, ℕ, zero, suc, ◌+◌, ◌-◌, ◌^◌, ◌≤◌, List, [], ◌∷◌, Option, Some, None, refl}
+use Rattle.std.specs.Prelude.{◌≡◌, ℕ, zero, suc, ◌+◌, ◌-◌, ◌^◌, ◌≤◌, List, [], ◌∷◌, Some, refl}
 use Rattle.std.proofs.Common.{inl, inr, ap, sym, ◌∙◌, subst, arith}
 use Rattle.psi_state.specs.declared.Outcome.{Outcome}
 use Rattle.psi_state.specs.declared.Outcome.TheVariants.{Met, NotMet}
@@ -9,8 +9,10 @@ use Rattle.psi_state.specs.Ascending.{IsRising}
 use Rattle.psi_state.proofs.SetsLemmas.{single-each, In-image}
 use Rattle.psi_state.proofs.AscendingLemmas.{rising-distinct}
 use Rattle.psi_rate.specs.Composition.{compose, AreKeeping, IsReachedFrom}
+use Rattle.psi_rate.specs.Doubling.{IsLasting}
 use Rattle.psi_rate.specs.Outcomes.{IsOutcome, ReachesFrom}
 use Rattle.psi_rate.proofs.CompositionLemmas.{reached_from-later}
+use Rattle.psi_rate.proofs.DoublingLemmas.{lasting-none}
 use Rattle.psi_closed.specs.Closed.{IsOfTotal, total_states, all_arcs, arc_hull, closed_after, closed_run, closed_ending, AreOrdered, DecidesRuns, MeetsOfTotal}
 use Rattle.psi_closed.proofs.ArcsLemmas.{In-total_states, In-of_total_states, total_states-rising, held-rising}
 use Rattle.psi_closed.proofs.HullLemmas.{hull-has, hull-of, hull-among, image-among}
@@ -28,10 +30,6 @@ pub single-member : {A : Type 0} (xs : List A) (s : A) → single xs ≡ Some s 
 single-member [] s one = absurd cc
 single-member (x ∷ []) s one = inl cc
 single-member (x ∷ y ∷ ys) s one = absurd cc
-
-absent : {A : Type 0} (o : Option A) → ((a : A) → o ≡ Some a → ⊥) → o ≡ None
-absent None never = refl
-absent (Some a) never = absurd (never a refl)
 
 module _ (caps : List ℕ) (k : ℕ) (f : ℕ → List ℕ → List ℕ) where
   after-among : (t : ℕ) (xs ys : List (List ℕ)) → AreAmong xs ys → AreAmong (closed_after caps k f t xs) (closed_after caps k f t ys)
@@ -106,15 +104,17 @@ module _ (caps : List ℕ) (k : ℕ) (f : ℕ → List ℕ → List ℕ) (keeps 
       (λ y member. single-each (closed_run caps k f t) s y met
       (run-among caps k f t (later - t) y (subst (λ n. In y (closed_run caps k f n)) (sym e) member)))
 
+  -- so the states with which runs end last
+  pub endings-last : (z : List ℕ) → IsOfTotal caps k z → IsLasting (closed_ending caps k f)
+  endings-last z of = record {
+    each = λ t later s order met. ap (λ (xs : List (List ℕ)). single xs) (met-later t later s z of order met);
+  }
+
   -- what an outcome says of the runs of all horizons
   pub outcome-decides : (limit : ℕ) (o : Outcome) (z : List ℕ) → IsOfTotal caps k z → IsOutcome (closed_ending caps k f) limit o → DecidesRuns caps k f limit o
   outcome-decides limit (Met t s) z of is = λ later order. met-later t later s z of order is.answer
   outcome-decides limit (NotMet l) z of is = λ t order.
-      absent (closed_ending caps k f t) (λ s met.
-      (let one : closed_run caps k f (2 ^ limit) ≡ s ∷ [] = met-later t (2 ^ limit) s z of order met in
-      let found : closed_ending caps k f (2 ^ limit) ≡ Some s = ap (λ (xs : List (List ℕ)). single xs) one in
-      let none : closed_ending caps k f (2 ^ limit) ≡ None = is.1.each limit (omega arith) in
-      absurd cc))
+      lasting-none (closed_ending caps k f) t (2 ^ limit) (endings-last z of) order (is.1.each limit (omega arith))
 
 -- the state in which a run ends is of the total
 pub outcome-of : (caps : List ℕ) (k : ℕ) (f : ℕ → List ℕ → List ℕ) (limit : ℕ) (o : Outcome) → IsOutcome (closed_ending caps k f) limit o → MeetsOfTotal caps k o

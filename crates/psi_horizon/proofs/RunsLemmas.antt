@@ -1,5 +1,5 @@
 -- What a run ends with says where all states have met, and longer runs are within shorter ones.
-use Rattle.std.specs.Prelude.{◌≡◌, ℕ, zero, suc, ◌+◌, ◌-◌, ◌^◌, ◌≤◌, List, [], ◌∷◌, length, true, false, nat_le, Option, Some, None, nat_eq, refl}
+use Rattle.std.specs.Prelude.{◌≡◌, ℕ, zero, suc, ◌+◌, ◌-◌, ◌^◌, ◌≤◌, List, [], ◌∷◌, length, true, false, nat_le, Some, nat_eq, refl}
 use Rattle.std.specs.Cmp.Lexicographic.{pointwise}
 use Rattle.std.proofs.Common.{inl, inr, ap, sym, ◌∙◌, subst, arith}
 use Rattle.std.proofs.lemmas.Bool.{cases_Bool, le-leb, or_right}
@@ -15,8 +15,10 @@ use Rattle.psi_state.proofs.StatesLemmas.{In-zeros, same-from_eq, apart-from_eq}
 use Rattle.psi_state.specs.Ascending.{IsRising}
 use Rattle.psi_state.proofs.AscendingLemmas.{image-rising, image-image, image-agree, image-identity}
 use Rattle.psi_rate.specs.Composition.{compose, image_at, AreClosed, AreMonotone, IsReached}
+use Rattle.psi_rate.specs.Doubling.{IsLasting}
 use Rattle.psi_rate.specs.Outcomes.{meeting_at, IsOutcome, ReachesOutcome}
 use Rattle.psi_rate.proofs.CompositionLemmas.{reached-later, corners-meet, corners-apart}
+use Rattle.psi_rate.proofs.DoublingLemmas.{lasting-none}
 use Rattle.psi_rate.proofs.OutcomesLemmas.{outcome-agree}
 use Rattle.psi_region.specs.Region.{Area, start, step, IsArea, IsWithin}
 use Rattle.psi_region.proofs.RegionLemmas.{start-area, step-area, step-within, within-start, step-has, step-split}
@@ -68,20 +70,18 @@ met-later split caps f t later s closed order met =
     (λ y member. single-each (region_at split f caps t).states s y met
     (run-among split caps f t (later - t) y closed (subst (λ n. In y (region_at split f caps n).states) (sym e) member)))
 
-absent : {A : Type 0} (o : Option A) → ((a : A) → o ≡ Some a → ⊥) → o ≡ None
-absent None never = refl
-absent (Some a) never = absurd (never a refl)
+-- so the states with which runs end last
+pub endings-last : (split : ℕ) (caps : List ℕ) (f : ℕ → List ℕ → List ℕ) → AreClosed caps f → IsLasting (ending_at split f caps)
+endings-last split caps f closed = record {
+  each = λ t later s order met. ap (λ (xs : List (List ℕ)). single xs) (met-later split caps f t later s closed order met);
+}
 
 -- what an outcome says of the runs of all horizons
 pub outcome-decides : (split : ℕ) (caps : List ℕ) (f : ℕ → List ℕ → List ℕ) (limit : ℕ) (o : Outcome) → AreClosed caps f
     → IsOutcome (ending_at split f caps) limit o → DecidesRuns split f caps limit o
 outcome-decides split caps f limit (Met t s) closed is = λ later order. met-later split caps f t later s closed order is.answer
 outcome-decides split caps f limit (NotMet l) closed is = λ t order.
-    absent (ending_at split f caps t) (λ s met.
-    (let one : (region_at split f caps (2 ^ limit)).states ≡ s ∷ [] = met-later split caps f t (2 ^ limit) s closed order met in
-    let found : ending_at split f caps (2 ^ limit) ≡ Some s = ap (λ (xs : List (List ℕ)). single xs) one in
-    let none : ending_at split f caps (2 ^ limit) ≡ None = is.1.each limit (omega arith) in
-    absurd cc))
+    lasting-none (ending_at split f caps) t (2 ^ limit) (endings-last split caps f closed) order (is.1.each limit (omega arith))
 
 -- a region has what the steps make of each of its states
 follow-has : (split : ℕ) (caps : List ℕ) (f : ℕ → List ℕ → List ℕ) (t : ℕ) (a : Area) (x : List ℕ) → AreClosed caps f → IsArea caps a → In x a.states

@@ -22,7 +22,7 @@ use crate::OutOfMemory;
 use crate::runs::{ending, follow_word};
 use psi_event::EventLaw;
 use psi_past::{Past, Windowed};
-use psi_rate::{Answers, Numbers, System, first_answer, outcome_of};
+use psi_rate::{Answers, Numbers, System, first_answer_near, outcome_of};
 use psi_region::{Follower, Region};
 use psi_state::{Bounds, Outcome, State, Step};
 use std::alloc::Global;
@@ -48,6 +48,8 @@ pub struct Plan<'n, E: EventLaw, P: Past + Drop, F: Follower + Drop> {
     numbers: Numbers,
     follower: F,
     run: Option<Progress>,
+    // The exponent of the horizon with which the next sample begins.
+    guess: u8,
 }
 
 impl<'n, E: EventLaw, P: Past + Drop, F: Follower + Drop> Model for Plan<'n, E, P, F> {
@@ -75,6 +77,7 @@ impl<'n, E: EventLaw, P: Past + Drop, F: Follower + Drop> Drop for Plan<'n, E, P
             numbers: _,
             follower: _,
             run: _,
+            guess: _,
         } = self;
     }
 }
@@ -104,6 +107,7 @@ impl<'n, E: EventLaw, P: Past + Drop, F: Follower + Drop> Plan<'n, E, P, F> {
             numbers,
             follower,
             run: None,
+            guess: 0,
         })
     }
 
@@ -135,7 +139,30 @@ impl<'n, E: EventLaw, P: Past + Drop, F: Follower + Drop> Plan<'n, E, P, F> {
         ensures run { self.new.run ≡ None }
     {
         let limit = self.limit();
-        outcome_of(limit, first_answer(self, limit))
+        let guess = self.guess();
+        let outcome = outcome_of(limit, first_answer_near(self, limit, guess));
+        self.guess_by(&outcome);
+        outcome
+    }
+
+    // The exponent of the horizon with which the next sample begins.
+    fn guess(&self) -> u8 {
+        self.guess
+    }
+
+    // The next sample begins with half the horizon of this one, where it is met: most have this horizon, or the one above
+    // or below. Below 64 steps it begins with one step: as many words are drawn at once.
+    fn guess_by(&mut self, outcome: &Outcome)
+        ensures { self.new ≡ self.old }
+    {
+        if let Outcome::Met { horizon, .. } = outcome {
+            let half = *horizon / 2;
+            self.guess = if half < 64 {
+                0
+            } else {
+                half.trailing_zeros() as u8
+            };
+        }
     }
 
     /// The one state with which the region run of this horizon, 1 to 2 to the power `limit` steps, ends;

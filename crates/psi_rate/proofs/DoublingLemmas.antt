@@ -3,7 +3,7 @@ use Rattle.std.specs.Prelude.{◌≡◌, ℕ, zero, suc, ◌+◌, ◌*◌, ◌^�
 use Rattle.std.proofs.Common.{inl, inr, ap, sym, ◌∙◌, subst, arith}
 use Rattle.std.proofs.Math.Pow.{pow-lt}
 use Rattle.std.proofs.lemmas.Bool.{cases_lt, cases_eq}
-use Rattle.psi_rate.specs.Doubling.{answer_or, first_from, first_answer, HasNone, IsFirst, TellsFirst}
+use Rattle.psi_rate.specs.Doubling.{answer_or, first_from, first_answer, HasNone, IsFirst, IsLasting, TellsFirst}
 use Rattle.psi_rate.proofs.PowersLemmas.{pow-double, pow-order, below-pow}
 
 pub has_none-next : {A : Type 0} (run : ℕ → Option A) (k t : ℕ) → t ≡ 2 ^ k → run t ≡ None → HasNone run k → HasNone run (suc k)
@@ -112,9 +112,22 @@ first-found run limit exponent a order small earlier found = record {
   earlier = earlier;
 }
 
--- and where this horizon has none either
-pub none-next : {A : Type 0} (run : ℕ → Option A) (exponent : ℕ) → exponent ≤ 22 → HasNone run exponent
-    → None ≡ run (1 * 2 ^ exponent % 4294967296) → HasNone run (exponent + 1)
-none-next run exponent small earlier none =
+-- where answers last and a horizon has none, no smaller one has
+none-where : {A : Type 0} (run : ℕ → Option A) (t later : ℕ) (o : Option A) → IsLasting run → t ≤ later → run later ≡ None → run t ≡ o → o ≡ None
+none-where run t later None lasting order none is = refl
+none-where run t later (Some a) lasting order none is = (let found = lasting.each t later a order is in absurd cc)
+
+pub lasting-none : {A : Type 0} (run : ℕ → Option A) (t later : ℕ) → IsLasting run → t ≤ later → run later ≡ None → run t ≡ None
+lasting-none run t later lasting order none = none-where run t later (run t) lasting order none refl
+
+pub lasting-has_none : {A : Type 0} (run : ℕ → Option A) (exponent : ℕ) → IsLasting run → run (2 ^ exponent) ≡ None → HasNone run (suc exponent)
+lasting-has_none run exponent lasting none = record {
+  each = λ k small. lasting-none run (2 ^ k) (2 ^ exponent) lasting (pow-order k exponent (omega arith)) none;
+}
+
+-- where answers last, the first answer is above a horizon without one
+pub none-lasting : {A : Type 0} (run : ℕ → Option A) (exponent : ℕ) → exponent ≤ 22 → IsLasting run → None ≡ run (1 * 2 ^ exponent % 4294967296)
+    → HasNone run (exponent + 1)
+none-lasting run exponent small lasting none =
     (let e : suc exponent ≡ exponent + 1 = omega arith in
-    subst (λ n. HasNone run n) e (has_none-next run exponent (1 * 2 ^ exponent % 4294967296) (shift-power exponent small) (sym none) earlier))
+    subst (λ n. HasNone run n) e (lasting-has_none run exponent lasting (ap run (sym (shift-power exponent small)) ∙ sym none)))

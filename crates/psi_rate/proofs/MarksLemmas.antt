@@ -8,14 +8,6 @@ use Rattle.std.proofs.Math.Seq.{get_or-append_seam}
 use Rattle.psi_rate.specs.Numbers.{numbers_below}
 use Rattle.psi_rate.specs.Keeping.{mark}
 
-pub mark-late : (n : ℕ) → 5 ≤ n → mark n ≡ 1024 * (n - 4)
-mark-late zero late = absurd (omega arith)
-mark-late (suc zero) late = absurd (omega arith)
-mark-late (suc (suc zero)) late = absurd (omega arith)
-mark-late (suc (suc (suc zero))) late = absurd (omega arith)
-mark-late (suc (suc (suc (suc zero)))) late = absurd (omega arith)
-mark-late (suc (suc (suc (suc (suc n))))) late = omega arith
-
 pub mark-rises : (n : ℕ) → mark n < mark (suc n)
 mark-rises zero = omega arith
 mark-rises (suc zero) = omega arith

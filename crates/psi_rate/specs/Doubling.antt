@@ -30,6 +30,10 @@ module _ {A : Type 0} (run : ℕ → Option A) where
     pub answer : run t ≡ Some a
     pub earlier : HasNone exponent
 
+  -- answers last: where a horizon has one, each later horizon has the same one
+  pub record IsLasting : Type 0 where
+    pub each : (t later : ℕ) (a : A) → t ≤ later → run t ≡ Some a → run later ≡ Some a
+
   -- what is told of a run's first answer: the answer at the least of 1, 2, 4, .., 2^limit that has one, or that none has
   abbrev pub TellsFirst : ℕ → Option (ℕ × A) → Type 0
   TellsFirst limit None = HasNone (suc limit)

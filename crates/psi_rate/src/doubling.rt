@@ -1,7 +1,7 @@
 //! The doubling of horizons.
 
-ghost use Rattle.std.specs.Prelude.{◌≡◌, ℕ, ◌≤◌, ◌^◌, Option};
-ghost use Rattle.psi_rate.specs.Doubling.{TellsFirst};
+ghost use Rattle.std.specs.Prelude.{◌≡◌, ℕ, ◌+◌, ◌<◌, ◌≤◌, ◌^◌, Option, Some};
+ghost use Rattle.psi_rate.specs.Doubling.{HasNone, IsFirst, IsLasting, TellsFirst};
 ghost use Rattle.psi_rate.specs.Outcomes.{outcome_of};
 
 use psi_state::{Outcome, State};
@@ -48,13 +48,71 @@ pub fn first_answer<R: Answers>(run: &mut R, limit: u8) -> Option<(u32, R::Answe
     ensures same { R.standing run.new ≡ R.standing run.old }
     ensures asked { R.IsAsked run.new }
 {
-    for exponent in 0..limit + 1 {
+    first_upwards(run, 0, limit)
+}
+
+/// The same first answer, of answers that last: where a horizon has one, each later horizon has the same one.
+///
+/// The horizon 2 to the power `guess` is asked for first, or the greatest where that is above it: then the greater ones
+/// where it has no answer, and the smaller ones where it has one, until one has none. So any guess gives the same, and
+/// one that is near takes fewer answers.
+pub fn first_answer_near<R: Answers>(run: &mut R, limit: u8, guess: u8) -> Option<(u32, R::Answer)>
+    requires most { limit ≤ 22 }
+    requires allowed { (exponent : ℕ) → exponent ≤ limit → R.Allows (R.standing run.old) (2 ^ exponent) }
+    requires lasting { IsLasting (R.answer_at (R.standing run.old)) }
+    ensures first { TellsFirst (R.answer_at (R.standing run.old)) limit result }
+    ensures same { R.standing run.new ≡ R.standing run.old }
+    ensures asked { R.IsAsked run.new }
+{
+    let begin = guess.min(limit);
+    match run.answer(1 << begin) {
+        Some(answer) => Some(first_downwards(run, begin, answer)),
+        None => first_upwards(run, begin + 1, limit),
+    }
+}
+
+// The first answer, where none of the horizons below 2 to the power `from` has one: the greater ones are asked for one
+// after the other.
+fn first_upwards<R: Answers>(run: &mut R, from: u8, limit: u8) -> Option<(u32, R::Answer)>
+    requires most { limit ≤ 22 }
+    requires from { from ≤ limit + 1 }
+    requires allowed { (exponent : ℕ) → exponent ≤ limit → R.Allows (R.standing run.old) (2 ^ exponent) }
+    requires earlier { HasNone (R.answer_at (R.standing run.old)) from }
+    requires asked { limit < from → R.IsAsked run.old }
+    ensures first { TellsFirst (R.answer_at (R.standing run.old)) limit result }
+    ensures same { R.standing run.new ≡ R.standing run.old }
+    ensures asked { R.IsAsked run.new }
+{
+    for exponent in from..limit + 1 {
         let horizon = 1 << exponent;
         if let Some(answer) = run.answer(horizon) {
             return Some((horizon, answer));
         }
     }
     None
+}
+
+// The first answer, where that of 2 to the power `from` is this one and answers last: the smaller horizons are asked for
+// until one has none.
+fn first_downwards<R: Answers>(run: &mut R, from: u8, answer: R::Answer) -> (u32, R::Answer)
+    requires most { from ≤ 22 }
+    requires allowed { (exponent : ℕ) → exponent ≤ from → R.Allows (R.standing run.old) (2 ^ exponent) }
+    requires lasting { IsLasting (R.answer_at (R.standing run.old)) }
+    requires answer { R.answer_at (R.standing run.old) (2 ^ from) ≡ Some answer }
+    requires asked { R.IsAsked run.old }
+    ensures first { IsFirst (R.answer_at (R.standing run.old)) from result.0 result.1 }
+    ensures same { R.standing run.new ≡ R.standing run.old }
+    ensures asked { R.IsAsked run.new }
+{
+    let mut least = from;
+    while least > 0 {
+        let smaller = least - 1;
+        match run.answer(1 << smaller) {
+            Some(_) => least = smaller,
+            None => return (1 << least, answer),
+        }
+    }
+    (1 << least, answer)
 }
 
 /// The first answer of runs that answer the state with which they end, told as an outcome.

@@ -12,7 +12,7 @@ mod system;
 mod table;
 mod wheel;
 
-pub use doubling::{Answers, first_answer, outcome_of};
+pub use doubling::{Answers, first_answer, first_answer_near, outcome_of};
 pub use numbers::Numbers;
 pub use system::System;
 pub use wheel::{RateRefusal, Wheel};
