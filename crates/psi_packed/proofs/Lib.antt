@@ -11,3 +11,4 @@ mod WidthsLemmas
 pub mod FollowingLemmas
 mod SteppingLemmas
 mod DescendingLemmas
+mod FillingLemmas

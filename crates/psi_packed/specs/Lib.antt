@@ -4,3 +4,4 @@ pub mod Moves
 pub mod Programs
 pub mod Boxes
 pub mod Views
+pub mod FillingKept

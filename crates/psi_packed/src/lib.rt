@@ -5,6 +5,7 @@
 
 mod boxes;
 mod corners;
+mod filling;
 mod layout;
 mod moves;
 mod pairs;
