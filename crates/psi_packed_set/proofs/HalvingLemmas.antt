@@ -1,7 +1,7 @@
 -- Packed states side by side, and one after another.
 use Rattle.std.specs.Prelude.{◌≡◌, ◌⊎◌, ℕ, zero, suc, ◌+◌, ◌*◌, ◌<◌, ◌≤◌, Bool, true, false, not, ◌&&◌, nat_lt, List, [], ◌∷◌, ◌++◌, length, map, take, get_or, slice_set}
 use Rattle.std.proofs.Common.{inl, inr, ap, ap₂, sym, subst, ◌∙◌, refl, arith, take-suc, take-suc-set, take_all, append_assoc}
-use Rattle.std.proofs.lemmas.Bool.{ltb-true}
+use Rattle.std.proofs.lemmas.Bool.{ltb-true, true≢false}
 use mir.Val.{bool_byte}
 use Rattle.std.proofs.lemmas.List.{get_or_default, map-append, take-set-le}
 use Rattle.psi_state.specs.Members.{In}
@@ -22,9 +22,6 @@ same-through first second = record {
   there = λ x member. second.there x (first.there x member);
   back = λ x member. first.back x (second.back x member);
 }
-
-pub same-from_eq : {A : Type 0} {xs ys : List A} → xs ≡ ys → HaveSame xs ys
-same-from_eq {A} {xs} e = subst (λ (zs : List A). HaveSame xs zs) e (same-itself xs)
 
 -- a member behind the others
 pub same-behind : {A : Type 0} (xs : List A) (x : A) → HaveSame (xs ++ x ∷ []) (x ∷ xs)
@@ -229,24 +226,27 @@ all-more {K} list n p first u v a b within low high one other test each w member
       ]
     ]
 
+-- where one state isn't that of the first pair, two differ
+two-apart : {K : ℕ} (list : List (PackedPair K)) (q : PackedPair K) (first w : List ℕ) (test : Bool) → 1 ≤ length list → first ≡ low_words (get_or list 0 q)
+    → In w (halves list) → test ≡ false → (w ≡ first → test ≡ true) → AreTwo (halves list)
+two-apart {K} list q first w test some own there fails same = record {
+  one = low_words (pair_at list 0);
+  other = w;
+  one_there = In-low list 0 some;
+  other_there = there;
+  apart = λ e. true≢false (sym (same (sym e ∙ ap (λ (r : PackedPair K). low_words r) (sym (pair-read list 0 q some)) ∙ sym own)) ∙ fails);
+}
+
 -- a pair of which one isn't the first state
 pub two-differ : {K : ℕ} (list : List (PackedPair K)) (n : ℕ) (p q : PackedPair K) (first u v : List ℕ) (a b : Bool) → n < length list
     → first ≡ low_words (get_or list 0 q) → u ≡ low_words (get_or list n p) → v ≡ high_words (get_or list n p) → (u ≡ first → a ≡ true) → (v ≡ first → b ≡ true) → (a && b) ≡ false → AreTwo (halves list)
-two-differ {K} list n p q first u v true true within own low high one other test = absurd cc
-two-differ {K} list n p q first u v true false within own low high one other test = record {
-  one = low_words (pair_at list 0);
-  other = high_words (pair_at list n);
-  one_there = In-low list 0 (omega arith);
-  other_there = In-high list n within;
-  apart = λ e. (let no : false ≡ true = other (high ∙ ap (λ (r : PackedPair K). high_words r) (pair-read list n p within) ∙ sym e ∙ ap (λ (r : PackedPair K). low_words r) (sym (pair-read list 0 q (omega arith))) ∙ sym own) in absurd cc);
-}
-two-differ {K} list n p q first u v false b within own low high one other test = record {
-  one = low_words (pair_at list 0);
-  other = low_words (pair_at list n);
-  one_there = In-low list 0 (omega arith);
-  other_there = In-low list n within;
-  apart = λ e. (let no : false ≡ true = one (low ∙ ap (λ (r : PackedPair K). low_words r) (pair-read list n p within) ∙ sym e ∙ ap (λ (r : PackedPair K). low_words r) (sym (pair-read list 0 q (omega arith))) ∙ sym own) in absurd cc);
-}
+two-differ {K} list n p q first u v true true within own low high one other test = absurd (true≢false test)
+two-differ {K} list n p q first u v true false within own low high one other test =
+    two-apart list q first (high_words (pair_at list n)) false (omega arith) own (In-high list n within) refl
+    (λ e. other (high ∙ ap (λ (r : PackedPair K). high_words r) (pair-read list n p within) ∙ e))
+two-differ {K} list n p q first u v false b within own low high one other test =
+    two-apart list q first (low_words (pair_at list n)) false (omega arith) own (In-low list n within) refl
+    (λ e. one (low ∙ ap (λ (r : PackedPair K). low_words r) (pair-read list n p within) ∙ e))
 
 -- all pairs are the first state
 pub all-same : {K : ℕ} (list : List (PackedPair K)) (n : ℕ) (q : PackedPair K) (first : List ℕ) → 1 ≤ length list → length list ≤ n → first ≡ low_words (get_or list 0 q)

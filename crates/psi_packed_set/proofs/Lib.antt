@@ -1,7 +1,7 @@
 -- The lemmas of this crate.
 mod HalvingLemmas
 mod FollowingLemmas
-mod PackingLemmas
 mod HaltsLemmas
+mod RoomLemmas
 mod SetsLemmas
 mod BoxesLemmas

@@ -1,8 +1,8 @@
 -- A region whose states are few ends with the image of its states.
-use Rattle.std.specs.Prelude.{◌≡◌, ℕ, ◌<◌, ◌≤◌, List, [], ◌∷◌, length, slice_index_or, true, false, Option, Some, None, refl}
-use Rattle.std.proofs.Common.{ap, sym, ◌∙◌, subst, take, arith}
-use Rattle.std.specs.Option.{MatchOption, is_some}
-use Rattle.std.proofs.lemmas.Bool.{le-leb, lt-leb, true≢false}
+use Rattle.std.specs.Prelude.{◌≡◌, ℕ, ◌<◌, ◌≤◌, List, [], ◌∷◌, length, slice_index_or, true, Option, Some, refl}
+use Rattle.std.proofs.Common.{ap, sym, ◌∙◌, subst, take}
+use Rattle.std.specs.Option.{MatchOption}
+use Rattle.std.proofs.lemmas.Bool.{le-leb, lt-leb}
 use Rattle.psi_state.specs.State.{Corners, box, zeros}
 use Rattle.psi_state.specs.Sets.{image, single}
 use Rattle.psi_state.specs.Hull.{corners, hull}
@@ -14,12 +14,7 @@ use Rattle.psi_region.specs.Region.{Area, start, splits, step}
 use Rattle.psi_region.proofs.RegionLemmas.{step-split, step-box}
 use Rattle.psi_region.specs.Followed.{follow_areas, unsplit}
 
--- what is said where there is no value
-pub none-left : (o : Option ℕ) (P : Type 0) (Q : ℕ → Type 0) → is_some o ≡ false → MatchOption o P Q → P
-none-left None P Q none is = is
-none-left (Some n) P Q none is = absurd (true≢false none)
-
--- and of the value, where there is one
+-- what is said of a value, where there is one
 pub some-left : (o : Option ℕ) (n : ℕ) (P : Type 0) (Q : ℕ → Type 0) → o ≡ Some n → MatchOption o P Q → Q n
 some-left o n P Q some is = subst (λ (p : Option ℕ). MatchOption p P Q) some is
 
@@ -59,11 +54,6 @@ follow_areas-image split functions (n ∷ numbers) a few rising =
           ∙ image-agree (λ x. f (follow_numbers functions numbers x)) (follow_numbers functions (n ∷ numbers)) a.states (λ x member. refl);
     }
 
-single-many : {A : Type 0} (xs : List A) → 2 ≤ length xs → single xs ≡ None
-single-many [] many = absurd (omega arith)
-single-many (x ∷ []) many = absurd (omega arith)
-single-many (x ∷ y ∷ xs) many = refl
-
 -- where the box that is left has few states, the run ends with what the numbers that are left make of them
 pub few-ending : (split : ℕ) (functions : List Function) (numbers : List ℕ) (left : ℕ) (b whole : Corners) (caps : List ℕ) (o : Option (List ℕ))
     → whole ≡ record { lo = zeros caps; hi = caps } → length (box b.lo b.hi) ≤ split
@@ -73,14 +63,4 @@ pub few-ending : (split : ℕ) (functions : List Function) (numbers : List ℕ) 
 few-ending split functions numbers left b whole caps o begun few same one =
     let image = follow_areas-image split functions (take left numbers) (unsplit b) (le-leb (length (box b.lo b.hi)) split few) (box-rising b.lo b.hi) in
     one ∙ ap (λ (xs : List (List ℕ)). single xs) (sym image.states)
-    ∙ ap (λ (a : Area). single a.states) (same ∙ ap (λ (c : Corners). follow_areas split functions numbers (unsplit c)) begun)
-
--- and otherwise with many
-pub many-ending : (split : ℕ) (functions : List Function) (numbers : List ℕ) (left : ℕ) (b whole : Corners) (caps : List ℕ)
-    → whole ≡ record { lo = zeros caps; hi = caps } → 1 ≤ split → split < length (box b.lo b.hi) → left ≡ 0
-    → follow_areas split functions (take left numbers) (unsplit b) ≡ follow_areas split functions numbers (unsplit whole)
-    → None ≡ single (follow_areas split functions numbers (start caps)).states
-many-ending split functions numbers left b whole caps begun some many none same =
-    sym (single-many (box b.lo b.hi) (omega arith))
-    ∙ ap (λ n. single (follow_areas split functions (take n numbers) (unsplit b)).states) (sym none)
     ∙ ap (λ (a : Area). single a.states) (same ∙ ap (λ (c : Corners). follow_areas split functions numbers (unsplit c)) begun)

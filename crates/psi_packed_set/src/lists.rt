@@ -1,18 +1,18 @@
 //! The lists of a set of packed states.
 //!
-//! A list of states with repeats stands for its set as well, so an event moves each state. Repeats are taken out now and then.
+//! A list of states with repeats stands for its set as well, so an event moves each state. Repeats
+//! are taken out now and then.
 
-ghost use Rattle.std.specs.Prelude.{◌≡◌, ◌*◌, ◌<◌, ◌≤◌, ◌⊎◌, IfOk, MatchOption, length, map, take, drop, slice_index, EachIndex};
+ghost use Rattle.std.specs.Prelude.{◌≡◌, ◌*◌, ◌<◌, ◌≤◌, ◌⊎◌, ◌∷◌, [], IfOk, MatchOption, length, drop, slice_index, EachIndex};
 ghost use Rattle.psi_state.specs.State.{IsBelow, box};
 ghost use Rattle.psi_state.specs.Ascending.{HaveSame};
 ghost use Rattle.psi_packed.specs.Packed.{packed};
-ghost use Rattle.psi_packed.specs.Programs.{AllFollow};
-ghost use Rattle.psi_packed_set.specs.HalvesKept.{words_of_first, AreAll, AreTwo};
+ghost use Rattle.psi_packed_set.specs.HalvesKept.{AreAll, AreTwo};
 ghost use Rattle.psi_packed_set.specs.Room.{held, AreLists};
-ghost use Rattle.psi_packed_set.specs.HoldingKept.{Holds, SetFollows};
+ghost use Rattle.psi_packed_set.specs.HoldingKept.{Holds, AreMoved};
 
 use crate::gathering::{gather, only, pair_up};
-use crate::moving::{follow_one, pack_all, step_first};
+use crate::moving::{follow_one, step_first};
 use crate::pace::Pace;
 use psi_packed::{Packed, PackedPair, Program};
 use psi_state::Bounds;
@@ -31,7 +31,8 @@ pub(crate) struct Lists<const K: usize> {
 }
 
 impl<const K: usize> Lists<K> {
-    /// Room for `most` states, 1 to 4,096; `AllocError` where a state has more than 32 words, as no packed state has.
+    /// Room for `most` states, 1 to 4,096; `AllocError` where a state has more than 32 words, as no
+    /// packed state has.
     pub(crate) fn reserve(alloc: Global, most: u16) -> Result<Lists<K>, AllocError>
         requires least { 1 ≤ most }
         requires most { most ≤ 4096 }
@@ -64,19 +65,17 @@ impl<const K: usize> Lists<K> {
     {
         // Called for its clause: a box has a state.
         let _queues = bounds.len();
-        let count = pack_all(program, bounds, self.states.as_mut_slice());
+        let count = program.pack_box(bounds, self.states.as_mut_slice());
         self.used = pair_up(&self.states[..count], self.pairs.as_mut_slice());
     }
 
-    /// Puts what the events of these numbers make of each state in its place: the last number's event comes first.
+    /// Puts what the events of these numbers make of each state in its place: the last number's
+    /// event comes first.
     pub(crate) fn follow(&mut self, program: &Program<K>, numbers: &[u16])
         requires lists { AreLists self.old }
         requires numbers { EachIndex numbers.now (λ i. slice_index numbers.now i < length program.now.moves) }
         requires some { 1 ≤ self.old.used }
-        ensures lists { AreLists self.new }
-        ensures follows { SetFollows K program.now numbers.now (held self.old) (held self.new) }
-        ensures room { length self.new.states.items ≡ length self.old.states.items }
-        ensures some { 1 ≤ self.new.used }
+        ensures { AreMoved program.now numbers.now self.old self.new }
     {
         let left = self.follow_apart(program, numbers);
         if left > 0 {
@@ -89,10 +88,7 @@ impl<const K: usize> Lists<K> {
         requires lists { AreLists self.old }
         requires numbers { EachIndex numbers.now (λ i. slice_index numbers.now i < length program.now.moves) }
         requires some { 1 ≤ self.old.used }
-        ensures lists { AreLists self.new }
-        ensures follows { SetFollows K program.now (drop result numbers.now) (held self.old) (held self.new) }
-        ensures room { length self.new.states.items ≡ length self.old.states.items }
-        ensures some { 1 ≤ self.new.used }
+        ensures moved { AreMoved program.now (drop result numbers.now) self.old self.new }
         ensures left { result ≤ length numbers.now }
         ensures done { (result ≡ 0) ⊎ (self.new.used ≡ 1) }
     {
@@ -100,28 +96,38 @@ impl<const K: usize> Lists<K> {
         let mut left = numbers.len();
         while left > 0 && self.used > 1 {
             left -= 1;
-            self.step(program, numbers[left]);
-            if pace.is_due() {
-                self.thin_at(&mut pace);
-            }
+            self.advance(program, numbers[left], &mut pace);
         }
         left
+    }
+
+    // Puts what the event of this number makes of each state in its place, and takes repeats out
+    // where it is time to.
+    fn advance(&mut self, program: &Program<K>, number: u16, pace: &mut Pace)
+        requires lists { AreLists self.old }
+        requires number { number < length program.now.moves }
+        requires some { 1 ≤ self.old.used }
+        ensures { AreMoved program.now (number ∷ []) self.old self.new }
+    {
+        self.step(program, number);
+        if pace.is_due() {
+            self.thin(pace);
+        }
     }
 
     // Puts what the event of this number makes of each state in its place.
     fn step(&mut self, program: &Program<K>, number: u16)
         requires lists { AreLists self.old }
         requires number { number < length program.now.moves }
-        ensures lists { AreLists self.new }
-        ensures each { AllFollow program.now number (take self.old.used self.old.pairs.items) (take self.new.used self.new.pairs.items) }
-        ensures room { length self.new.states.items ≡ length self.old.states.items }
-        ensures same { self.new.used ≡ self.old.used }
+        requires some { 1 ≤ self.old.used }
+        ensures { AreMoved program.now (number ∷ []) self.old self.new }
     {
         step_first(program, number, self.pairs.as_mut_slice(), self.used);
     }
 
-    // Takes repeats out, and lets the pace know how many pairs there were and are.
-    fn thin_at(&mut self, pace: &mut Pace)
+    // Takes states out that are seen to stand twice, and lets the pace know how many pairs there
+    // were and are.
+    fn thin(&mut self, pace: &mut Pace)
         requires lists { AreLists self.old }
         requires some { 1 ≤ self.old.used }
         ensures lists { AreLists self.new }
@@ -130,27 +136,14 @@ impl<const K: usize> Lists<K> {
         ensures some { 1 ≤ self.new.used }
     {
         let before = self.used;
-        self.thin();
-        pace.adapt(before, self.used);
-    }
-
-    // Takes states out that are seen to stand twice.
-    fn thin(&mut self)
-        requires lists { AreLists self.old }
-        requires some { 1 ≤ self.old.used }
-        ensures lists { AreLists self.new }
-        ensures members { HaveSame (held self.new) (held self.old) }
-        ensures room { length self.new.states.items ≡ length self.old.states.items }
-        ensures some { 1 ≤ self.new.used }
-        ensures fewer { self.new.used ≤ self.old.used }
-    {
         let count = gather(
-            &self.pairs[..self.used],
+            &self.pairs[..before],
             self.seen.as_mut_slice(),
             self.shift,
             self.states.as_mut_slice(),
         );
         self.used = pair_up(&self.states[..count], self.pairs.as_mut_slice());
+        pace.adapt(before, self.used);
     }
 
     /// The packed state that all are, where all are one.

@@ -1,34 +1,11 @@
-//! Packed states of a box, and events on the first of a list.
+//! Events on the first packed states of a list.
 
-ghost use Rattle.std.specs.Prelude.{◌≡◌, ◌<◌, ◌≤◌, length, map, take, slice_index, EachIndex};
-ghost use Rattle.psi_state.specs.State.{IsBelow, box};
-ghost use Rattle.psi_packed.specs.Packed.{packed};
+ghost use Rattle.std.specs.Prelude.{◌≡◌, ◌<◌, ◌≤◌, length, take, slice_index, EachIndex};
 ghost use Rattle.psi_packed.specs.Programs.{AllFollow};
-ghost use Rattle.psi_packed_set.specs.HalvesKept.{halves, words_of_first};
+ghost use Rattle.psi_packed_set.specs.HalvesKept.{halves};
 ghost use Rattle.psi_packed_set.specs.HoldingKept.{SetFollows};
 
-use psi_packed::{Packed, PackedPair, Program};
-use psi_state::Bounds;
-
-/// Packs the states of the box, one after another. Answers how many there are.
-pub(crate) fn pack_all<const K: usize>(
-    program: &Program<K>,
-    bounds: &Bounds,
-    out: &mut [Packed<K>],
-) -> usize
-    requires room { length (box bounds.now.lo bounds.now.hi) ≤ length out.old }
-    requires within { IsBelow bounds.now.hi program.now.packing.caps }
-    ensures words { words_of_first result out.new ≡ map (packed K program.now.packing) (box bounds.now.lo bounds.now.hi) }
-    ensures count { result ≡ length (box bounds.now.lo bounds.now.hi) }
-    ensures room { length out.new ≡ length out.old }
-{
-    let mut count = 0;
-    for state in bounds.states() {
-        out[count] = program.pack_one(&state);
-        count += 1;
-    }
-    count
-}
+use psi_packed::{PackedPair, Program};
 
 /// Puts what the event of this number makes of each of the first states in its place.
 #[inline]
@@ -46,7 +23,8 @@ pub(crate) fn step_first<const K: usize>(
     program.step(number, &mut list[..used]);
 }
 
-/// Puts what the events of these numbers make of the first pair in its place: the last number's event comes first.
+/// Puts what the events of these numbers make of the first pair in its place: the last number's
+/// event comes first.
 pub(crate) fn follow_one<const K: usize>(
     program: &Program<K>,
     numbers: &[u16],
