@@ -4,6 +4,9 @@ pub mod TablesLemmas
 pub mod DistinctLemmas
 pub mod WalkLemmas
 pub mod MovesLemmas
+pub mod DigitsLemmas
+pub mod VisitsLemmas
+pub mod AlikeLemmas
 pub mod ShiftsLemmas
 pub mod SizesLemmas
 pub mod SurveysLemmas

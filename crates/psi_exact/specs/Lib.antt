@@ -6,5 +6,6 @@ pub mod Shifts
 pub mod ImagesKept
 pub mod Refusal
 pub mod ArraysKept
+pub mod Alike
 pub mod Sizes
 pub mod Surveys

@@ -2,6 +2,7 @@
 //! Wilson 1996) followed exactly, state by state, so that it can be told what boxes of states lose.
 #![tactic(auto)]
 
+mod alike;
 mod answers;
 mod following;
 mod map_table;
@@ -10,6 +11,7 @@ mod ranks;
 mod rows;
 mod shifts;
 mod sizes;
+mod spread;
 mod table;
 
 pub use answers::{Meeting, Survey};

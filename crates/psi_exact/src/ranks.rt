@@ -6,6 +6,7 @@ ghost use Rattle.psi_exact.specs.Mapping.{map_of, sends};
 ghost use Rattle.psi_exact.specs.TableKept.{table_of, AreRanks, AreRanksOf};
 ghost use Rattle.psi_exact.specs.Distinct.{distinct_count, AreAll, AreMixed};
 
+use crate::spread::spread_images;
 use psi_event::EventLaw;
 use psi_state::Bounds;
 use std::alloc::{AllocError, Global};
@@ -34,9 +35,19 @@ pub(crate) fn number(ranks: &mut [u16])
     }
 }
 
-/// Writes at the rank of each state the rank of what the event makes of it, as the states come one after
-/// another.
+/// Writes at the rank of each state the rank of what the event makes of it.
 pub(crate) fn write_images<E: EventLaw>(e: &E, ranks: &mut [u16])
+    requires few { length (all_states (E.capacities e.now)) ≤ 65536 }
+    requires room { length ranks.old ≡ length (all_states (E.capacities e.now)) }
+    ensures { AreRanksOf (E.capacities e.now) (E.function e.now) ranks.new }
+{
+    if !spread_images(e, ranks) {
+        write_each(e, ranks);
+    }
+}
+
+// Applies the event to each state, as they come one after another.
+fn write_each<E: EventLaw>(e: &E, ranks: &mut [u16])
     requires few { length (all_states (E.capacities e.now)) ≤ 65536 }
     requires room { length ranks.old ≡ length (all_states (E.capacities e.now)) }
     ensures { AreRanksOf (E.capacities e.now) (E.function e.now) ranks.new }
@@ -98,12 +109,16 @@ fn clear(marks: &mut [u16])
     }
 }
 
-/// The one rank that stands at all places, if it does.
+/// The one rank that stands at all places, if it does. Most often the last one tells that it doesn't.
 pub(crate) fn common(ranks: &[u16]) -> Option<u16>
     requires { 1 ≤ length ranks.now }
     ensures { MatchOption result (AreMixed ranks.now) (λ rank. AreAll rank ranks.now) }
 {
     let first = ranks[0];
+    let last = ranks.len() - 1;
+    if !are_same(ranks, last, last + 1, first) {
+        return None;
+    }
     let mut from = 0;
     while from < ranks.len() {
         let end = from + (ranks.len() - from).min(STRETCH);

@@ -1,7 +1,7 @@
--- Answers in the proof of `write_images`.
+-- Answers in the proof of `write_each`.
 use Rattle.std.proofs.Common.{◌∙◌, arith}
 use Rattle.psi_exact.proofs.WalkLemmas.{In-whole, rank-whole, next-left, none-left, images-next}
-use Rattle.psi_exact.proofs.ranks.write_images.Goals as goal
+use Rattle.psi_exact.proofs.ranks.write_each.Goals as goal
 
 pub apply-requires : goal.apply-requires
 apply-requires g c =

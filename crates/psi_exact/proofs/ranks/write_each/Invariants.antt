@@ -1,9 +1,9 @@
--- Invariants of the loops of `write_images`.
+-- Invariants of the loops of `write_each`.
 use Rattle.std.proofs.Common.{◌≡◌, ℕ, ◌<◌, drop, slice_index}
 use Rattle.psi_state.specs.State.{all_states}
 use Rattle.psi_exact.specs.Mapping.{rank_of}
 use Rattle.psi_exact.specs.TableKept.{state_at}
-use Rattle.psi_exact.proofs.ranks.write_images.Given as goal
+use Rattle.psi_exact.proofs.ranks.write_each.Given as goal
 
 -- the states that are still to come, and the ranks of the images of those before them
 abbrev pub invariant-loop-state : goal.invariant-loop-state

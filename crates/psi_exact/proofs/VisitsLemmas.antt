@@ -1,0 +1,41 @@
+-- The states within some capacities one after another, each with a fact that it has once it was visited.
+use Rattle.std.specs.Prelude.{◌≡◌, ℕ, List, [], ◌∷◌, ◌⊎◌, refl}
+use Rattle.std.proofs.Common.{inl, inr, sym, subst}
+use Rattle.psi_state.specs.State.{IsBelow, all_states}
+use Rattle.psi_state.specs.Members.{In}
+use Rattle.psi_state.proofs.BoxesLemmas.{In-all_states, In-of_all_states}
+
+-- what is left are states within the capacities, and each of these is left or has the fact
+pub record AreVisited (caps : List ℕ) (P : List ℕ → Type 0) (left : List (List ℕ)) : Type 0 where
+  pub within : (x : List ℕ) → In x left → IsBelow x caps
+  pub each : (x : List ℕ) → IsBelow x caps → In x left ⊎ P x
+
+pub visits-begin : (caps : List ℕ) (P : List ℕ → Type 0) (left : List (List ℕ)) → left ≡ all_states caps → AreVisited caps P left
+visits-begin caps P left is =
+    subst (λ (xs : List (List ℕ)). AreVisited caps P xs) (sym is)
+    (record { within = λ x member. In-of_all_states caps x member; each = λ x within. inl (In-all_states caps x within) })
+
+pub visits-first : (caps : List ℕ) (P : List ℕ → Type 0) (x : List ℕ) (left rest : List (List ℕ)) → AreVisited caps P left → left ≡ x ∷ rest → IsBelow x caps
+visits-first caps P x left rest visited is = visited.within x (subst (λ (xs : List (List ℕ)). In x xs) (sym is) (inl refl))
+
+-- one state more has the fact, and the others have it still
+pub visits-next : (caps : List ℕ) (P Q : List ℕ → Type 0) (x : List ℕ) (left rest : List (List ℕ)) → AreVisited caps P left → left ≡ x ∷ rest → Q x
+    → ((y : List ℕ) → IsBelow y caps → P y → Q y) → AreVisited caps Q rest
+visits-next caps P Q x left rest visited is here kept = record {
+  within = λ y member. visited.within y (subst (λ (xs : List (List ℕ)). In y xs) (sym is) (inr member));
+  each = λ y within. elim (visited.each y within) [
+    | inl member ↦ elim (subst (λ (xs : List (List ℕ)). In y xs) is member) [
+      | inl same ↦ inr (subst (λ (z : List ℕ). Q z) (sym same) here)
+      | inr behind ↦ inl behind
+    ]
+    | inr fact ↦ inr (kept y within fact)
+  ];
+}
+
+-- where no state is left, each has it
+pub visits-end : (caps : List ℕ) (P : List ℕ → Type 0) (left : List (List ℕ)) → AreVisited caps P left → left ≡ [] → (x : List ℕ) → IsBelow x caps → P x
+visits-end caps P left visited is x within =
+    elim (visited.each x within) [
+      | inl member ↦ absurd (subst (λ (xs : List (List ℕ)). In x xs) is member)
+      | inr fact ↦ fact
+    ]
