@@ -33,12 +33,13 @@ follows-none count p numbers before = λ caps functions s prepared below same.
     same ∙ ap (λ (ns : List ℕ). packed count p.packing (follow_numbers functions ns s)) (sym (drop-length numbers))
 
 -- the move of one number more
-pub follows-more : (count : ℕ) (p : Prepared) (numbers : List ℕ) (i : ℕ) (before x y : List ℕ) → 1 ≤ i → i ≤ length numbers
-    → slice_index numbers (i - 1) < length p.moves → IsMoved count (slice_index_or p.moves (slice_index numbers (i - 1)) no_move) x y
+pub follows-more : (count : ℕ) (p : Prepared) (numbers : List ℕ) (i : ℕ) (before x y : List ℕ) (m : Moving) → 1 ≤ i → i ≤ length numbers
+    → slice_index numbers (i - 1) < length p.moves → m ≡ slice_index_or p.moves (slice_index numbers (i - 1)) no_move → IsMoved count m x y
     → Follows count p (drop i numbers) before x → Follows count p (drop (i - 1) numbers) before y
-follows-more count p numbers i before x y some within small moved rest = λ caps functions s prepared below same.
+follows-more count p numbers i before x y m some within small read moved rest = λ caps functions s prepared below same.
     program-moves count p caps functions (follow_numbers functions (drop i numbers) s) x y (slice_index numbers (i - 1)) small prepared
-    (follow_numbers-within count caps functions p prepared (drop i numbers) s below) (rest caps functions s prepared below same) moved
+    (follow_numbers-within count caps functions p prepared (drop i numbers) s below) (rest caps functions s prepared below same)
+    (subst (λ (n : Moving). IsMoved count n x y) read moved)
     ∙ ap (packed count p.packing) (sym (follow_numbers-drop functions numbers i s some within))
 
 -- the move that is read for a number

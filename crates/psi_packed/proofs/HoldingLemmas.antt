@@ -15,7 +15,7 @@ use Rattle.psi_packed.specs.Packed.{Packing, IsPacking, packed}
 use Rattle.psi_packed.specs.Moves.{Masks, holds, guard, guard_of, wanted_of, AreMasksOf}
 use Rattle.psi_packed.proofs.DigitsLemmas.{digits, all_below, AreDigits, digits-add, digits-lt, digits-and, digits-test}
 use Rattle.psi_packed.proofs.WordsLemmas.{fields_of, Fit, AreDigits-fields, packed-at, below-guard, twice-guard}
-use Rattle.psi_packed.proofs.TestingLemmas.{all_below-add, all_on-is, test_at, field-test, guard_of-lt, wanted_of-lt, mapped-at, mapped-past, sided-at, sided-fit}
+use Rattle.psi_packed.proofs.TestingLemmas.{all_below-add, all_on-is, test_at, field-test, mark_of-lt, mapped-at, mapped-past, sided-at, sided-fit}
 
 -- the numbers of four packed lists in one field: the second raises the first so that, of the guards of the third, those of the
 -- fourth are up exactly where a test holds
@@ -107,8 +107,8 @@ module _ (count : ℕ) (p : Packing) (sides : List Side) (bounds x : List ℕ) (
   masks-tested : AreTested p.bits x (map (λ v. guard p.bits - v) bounds) (map (guard_of p.bits) sides) (map (wanted_of p.bits) sides) (test_at sides bounds x)
   masks-tested = record {
     raised = raised-at;
-    guards = sided-fit p.bits (guard_of p.bits) sides (λ side. guard_of-lt p.bits side some);
-    wanted = sided-fit p.bits (wanted_of p.bits) sides (λ side. wanted_of-lt p.bits side some);
+    guards = sided-fit p.bits (guard_of p.bits) sides (λ side. mark_of-lt p.bits (guard p.bits) side some (omega arith));
+    wanted = sided-fit p.bits (wanted_of p.bits) sides (λ side. mark_of-lt p.bits 0 side some (omega arith));
     test = test-at;
   }
 

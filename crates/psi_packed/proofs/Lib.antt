@@ -2,6 +2,7 @@
 mod DigitsLemmas
 mod WordsLemmas
 mod TestingLemmas
+mod LoweringLemmas
 mod HoldingLemmas
 mod ChangesLemmas
 mod BuildingLemmas

@@ -9,7 +9,7 @@ use Rattle.psi_event.specs.Law.{Function}
 use Rattle.psi_piecewise.specs.Piecewise.{if_on}
 use Rattle.std.proofs.lemmas.List.{get_or_append_left, get_or_push, map_push, length_push}
 use Rattle.psi_packed.specs.Packed.{Packing, packed}
-use Rattle.psi_packed.specs.Moves.{Moving, IsMoved, ChangesNothing, no_move}
+use Rattle.psi_packed.specs.Moves.{Moving, IsMoved, no_move}
 use Rattle.psi_packed.specs.declared.moves.PackedEvent.{PackedEvent}
 use Rattle.psi_packed.specs.Programs.{Prepared, Prepares, IsMoveFor}
 use Rattle.psi_packed.proofs.ChangesLemmas.{moved-is}
@@ -74,13 +74,13 @@ pub and-second : (a b : Bool) → (a && b) ≡ true → b ≡ true
 and-second true b both = both
 and-second false b both = absurd (true≢false (sym both))
 
--- one more changes nothing by its second piece either
-pub alone-more : (count : ℕ) (moves : List Moving) (k : ℕ) (m : Moving) → length moves ≡ k → ((i : ℕ) → i < k → ChangesNothing count (slice_index_or moves i no_move).second)
-    → ChangesNothing count m.second → (i : ℕ) → i < k + 1 → ChangesNothing count (slice_index_or (moves ++ m ∷ []) i no_move).second
-alone-more count moves k m long each own =
-    below_more (λ i. ChangesNothing count (slice_index_or (moves ++ m ∷ []) i no_move).second) k
-    (λ i under. subst (λ (n : Moving). ChangesNothing count n.second) (sym (get_or_append_left moves (m ∷ []) no_move i (omega arith))) (each i under))
-    (subst (λ (n : Moving). ChangesNothing count n.second) (sym (get_or_push moves m no_move k long)) own)
+-- what holds for each move holds for one more
+pub each-more : (P : Moving → Type 0) (moves : List Moving) (k : ℕ) (m : Moving) → length moves ≡ k → ((i : ℕ) → i < k → P (slice_index_or moves i no_move)) → P m
+    → (i : ℕ) → i < k + 1 → P (slice_index_or (moves ++ m ∷ []) i no_move)
+each-more P moves k m long each own =
+    below_more (λ i. P (slice_index_or (moves ++ m ∷ []) i no_move)) k
+    (λ i under. subst P (sym (get_or_append_left moves (m ∷ []) no_move i (omega arith))) (each i under))
+    (subst P (sym (get_or_push moves m no_move k long)) own)
 
 pub length-more : {X : Type 0} (xs more : List X) (x : X) (n : ℕ) → length xs ≡ n → more ≡ xs ++ x ∷ [] → length more ≡ n + 1
 length-more {X} xs more x n long same = ap (λ (ys : List X). length ys) same ∙ length_push xs x ∙ ap (λ k. k + 1) long

@@ -6,8 +6,10 @@ use Rattle.std.proofs.lemmas.List.{map-set, length-map}
 use Rattle.std.specs.Int.Bits.{and_zero_l, and_zero_r}
 use Rattle.std.proofs.lemmas.Nat.{and_mask}
 use Rattle.psi_packed.specs.Moves.{Masks, holds}
-use Rattle.psi_packed.specs.Views.{low_word, high_word}
+use Rattle.psi_packed.specs.Views.{words_by, masks_by, low_word, high_word}
 use Rattle.psi_packed.specs.declared.pairs.Pair.{Pair}
+use Rattle.psi_packed.specs.declared.pairs.PackedPair.{PackedPair}
+use Rattle.psi_packed.specs.declared.moves.PackedEvent.{PackedEvent}
 use Rattle.psi_packed.proofs.MovingLemmas.{ones, masked_word, AreChanged, changed-more}
 
 -- what is read past the end
@@ -52,27 +54,38 @@ ones-more at offsets m x held raised test next v o is sum first second tested bo
 
 -- ---- the changes
 
-pub masked-both : (at first second : ℕ) (c d y : List ℕ) (p q a b v e f : ℕ) → p ≡ (q + b) % 2 ^ 64 → q ≡ (v + a) % 2 ^ 64 → a ≡ bit_and first e → b ≡ bit_and second f
-    → v ≡ slice_index y at → e ≡ slice_index c at → f ≡ slice_index d at → p ≡ masked_word first second c d y at
-masked-both at first second c d y p q a b v e f last one own other here change more =
-    last ∙ ap₂ (λ m n. (m + n) % 2 ^ 64)
-    (one ∙ ap₂ (λ m n. (m + n) % 2 ^ 64) here (own ∙ ap (bit_and first) change))
-    (other ∙ ap (bit_and second) more)
+-- a word is changed by both masks, or by the first where the second changes nothing
+pub changed-both : (first second v p q a b c d e f : ℕ) → p ≡ (q + b) % 2 ^ 64 → q ≡ (v + a) % 2 ^ 64 → a ≡ bit_and first e → e ≡ c → b ≡ bit_and second f → f ≡ d
+    → p ≡ ((v + bit_and first c) % 2 ^ 64 + bit_and second d) % 2 ^ 64
+changed-both first second v p q a b c d e f last one own change other more =
+    last ∙ ap₂ (λ m n. (m + n) % 2 ^ 64) (one ∙ ap (λ n. (v + n) % 2 ^ 64) (own ∙ ap (bit_and first) change)) (other ∙ ap (bit_and second) more)
 
--- where nothing is changed by the second mask
-pub masked-once : (at first second : ℕ) (c d y : List ℕ) (p a v e : ℕ) → p ≡ (v + a) % 2 ^ 64 → a ≡ bit_and first e
-    → v ≡ slice_index y at → e ≡ slice_index c at → slice_index d at ≡ 0 → p ≡ masked_word first second c d y at
-masked-once at first second c d y p a v e one own here change none =
-    let same : p ≡ (slice_index y at + bit_and first (slice_index c at)) % 2 ^ 64 =
-    one ∙ ap₂ (λ m n. (m + n) % 2 ^ 64) here (own ∙ ap (bit_and first) change) in
-    let nothing : bit_and second (slice_index d at) ≡ 0 = ap (bit_and second) none ∙ and_zero_r second in
+pub changed-once : (first second v p a c d e : ℕ) → p ≡ (v + a) % 2 ^ 64 → a ≡ bit_and first e → e ≡ c → d ≡ 0
+    → p ≡ ((v + bit_and first c) % 2 ^ 64 + bit_and second d) % 2 ^ 64
+changed-once first second v p a c d e one own change none =
+    let same : p ≡ (v + bit_and first c) % 2 ^ 64 = one ∙ ap (λ n. (v + n) % 2 ^ 64) (own ∙ ap (bit_and first) change) in
+    let nothing : bit_and second d ≡ 0 = ap (bit_and second) none ∙ and_zero_r second in
     omega (arith, same, nothing)
 
+-- the words are changed up to a place by the event
+abbrev pub AreChangedBy : {K : ℕ} → (Pair → ℕ) → PackedEvent K → PackedPair K → ℕ → List Pair → Type 0
+AreChangedBy {K} word event x at pairs = AreChanged K at (holds K (words_by word event.offsets) (masks_by word event.first) (words_by word x))
+    (holds K (words_by word event.offsets) (masks_by word event.second) (words_by word x))
+    (words_by word event.first.change) (words_by word event.second.change) (words_by word x) (map word pairs)
+
 -- one pair more is changed
-pub pairs-more : (word : Pair → ℕ) (count at : ℕ) (a b : Bool) (first second : ℕ) (c d x : List ℕ) (pairs : List Pair) (p : Pair) → at < count
-    → first ≡ ones a → second ≡ ones b → word p ≡ masked_word first second c d (map word pairs) at → AreChanged count at a b c d x (map word pairs)
-    → AreChanged count (at + 1) a b c d x (map word (slice_set pairs at p))
-pairs-more word count at a b first second c d x pairs p small one two own changed =
-    subst (λ (l : List ℕ). AreChanged count (at + 1) a b c d x l)
-    (sym (map-set word pairs at p ∙ ap (λ v. slice_set (map word pairs) at v) own))
-    (changed-more count at a b first second c d x (map word pairs) small one two changed)
+pub pairs-more : {K : ℕ} (word : Pair → ℕ) (event : PackedEvent K) (x : PackedPair K) (at first second v : ℕ) (pairs : List Pair) (p : Pair) → at < K
+    → first ≡ ones (holds K (words_by word event.offsets) (masks_by word event.first) (words_by word x))
+    → second ≡ ones (holds K (words_by word event.offsets) (masks_by word event.second) (words_by word x))
+    → v ≡ slice_index (map word pairs) at
+    → word p ≡ ((v + bit_and first (slice_index (words_by word event.first.change) at)) % 2 ^ 64 + bit_and second (slice_index (words_by word event.second.change) at)) % 2 ^ 64
+    → AreChangedBy word event x at pairs → AreChangedBy word event x (at + 1) (slice_set pairs at p)
+pairs-more {K} word event x at first second v pairs p small one two here own changed =
+    let made : word p ≡ masked_word first second (words_by word event.first.change) (words_by word event.second.change) (map word pairs) at =
+    own ∙ ap (λ w. ((w + bit_and first (slice_index (words_by word event.first.change) at)) % 2 ^ 64 + bit_and second (slice_index (words_by word event.second.change) at)) % 2 ^ 64) here in
+    subst
+    (λ (l : List ℕ). AreChanged K (at + 1) (holds K (words_by word event.offsets) (masks_by word event.first) (words_by word x))
+    (holds K (words_by word event.offsets) (masks_by word event.second) (words_by word x))
+    (words_by word event.first.change) (words_by word event.second.change) (words_by word x) l)
+    (sym (map-set word pairs at p ∙ ap (λ w. slice_set (map word pairs) at w) made))
+    (changed-more K at _ _ first second (words_by word event.first.change) (words_by word event.second.change) (words_by word x) (map word pairs) small one two changed)

@@ -2,7 +2,7 @@
 use Rattle.std.specs.Prelude.{◌≡◌, ℕ, ◌+◌, ◌<◌, ◌≤◌, List, [], ◌∷◌, length, get_or, slice_set, slice_index_or}
 use Rattle.std.proofs.Common.{sym, subst, ◌∙◌, arith, below_more, get_or-set_same, get_or-set_other}
 use Rattle.std.proofs.lemmas.List.{get_or_default}
-use Rattle.psi_packed.specs.Moves.{IsMoved, no_move}
+use Rattle.psi_packed.specs.Moves.{Moving, IsMoved, no_move}
 use Rattle.psi_packed.specs.Views.{pair_at}
 use Rattle.psi_packed.specs.Programs.{Prepared, Follows}
 use Rattle.psi_packed.specs.declared.pairs.PackedPair.{PackedPair}
@@ -23,8 +23,10 @@ pub pairs-wait : {K : ℕ} (old now : List (PackedPair K)) (at : ℕ) (new : Pac
     → (i : ℕ) → at + 1 ≤ i → pair_at (slice_set now at new) i ≡ pair_at old i
 pairs-wait old now at new waiting i past = get_or-set_other now at i new (record { pairs = [] }) (omega arith) ∙ waiting i (omega arith)
 
--- the move of one number
-pub follows-one : (count : ℕ) (p : Prepared) (number : ℕ) (x y : List ℕ) → number < length p.moves → IsMoved count (slice_index_or p.moves number no_move) x y
-    → Follows count p (number ∷ []) x y
-follows-one count p number x y small moved = λ caps functions s prepared below same.
-    program-moves count p caps functions s x y number small prepared below same moved
+-- the pairs of a list are moved by the move of a number
+pub pairs-follow : {K : ℕ} (p : Prepared) (number : ℕ) (words : PackedPair K → List ℕ) (m : Moving) (old new : List (PackedPair K)) → number < length p.moves
+    → m ≡ slice_index_or p.moves number no_move → ((i : ℕ) → i < length old → IsMoved K m (words (pair_at old i)) (words (pair_at new i)))
+    → (i : ℕ) → i < length old → Follows K p (number ∷ []) (words (pair_at old i)) (words (pair_at new i))
+pairs-follow {K} p number words m old new small read moved i within = λ caps functions s prepared below same.
+    program-moves K p caps functions s (words (pair_at old i)) (words (pair_at new i)) number small prepared below same
+    (subst (λ (n : Moving). IsMoved K n (words (pair_at old i)) (words (pair_at new i))) read (moved i within))

@@ -9,7 +9,7 @@ use Rattle.std.specs.Int.Bits.{and_zero_r}
 use Rattle.psi_piecewise.specs.declared.sides.Side.{Side}
 use Rattle.psi_piecewise.specs.declared.sides.Side.TheVariants.{Any, AtLeast, Below}
 use Rattle.psi_piecewise.specs.Piecewise.{is_on, all_on}
-use Rattle.psi_packed.specs.Moves.{guard, guard_of, wanted_of}
+use Rattle.psi_packed.specs.Moves.{guard, mark_of, guard_of, wanted_of}
 use Rattle.psi_packed.proofs.DigitsLemmas.{all_below}
 use Rattle.psi_packed.proofs.WordsLemmas.{Fit, twice-guard}
 
@@ -99,15 +99,10 @@ module _ (bits v b : ℕ) (some : 1 ≤ bits) (small : v < 2 ^ (bits - 1)) (boun
 guard-lt : (bits : ℕ) → 1 ≤ bits → 2 ^ (bits - 1) < 2 ^ bits
 guard-lt bits some = omega (arith, twice-guard bits some, pow_pos (bits - 1))
 
-pub guard_of-lt : (bits : ℕ) (side : Side) → 1 ≤ bits → guard_of bits side < 2 ^ bits
-guard_of-lt bits Any some = pow_pos bits
-guard_of-lt bits AtLeast some = guard-lt bits some
-guard_of-lt bits Below some = guard-lt bits some
-
-pub wanted_of-lt : (bits : ℕ) (side : Side) → 1 ≤ bits → wanted_of bits side < 2 ^ bits
-wanted_of-lt bits Any some = pow_pos bits
-wanted_of-lt bits AtLeast some = guard-lt bits some
-wanted_of-lt bits Below some = pow_pos bits
+pub mark_of-lt : (bits down : ℕ) (side : Side) → 1 ≤ bits → down ≤ guard bits → mark_of (guard bits) down side < 2 ^ bits
+mark_of-lt bits down Any some few = pow_pos bits
+mark_of-lt bits down AtLeast some few = guard-lt bits some
+mark_of-lt bits down Below some few = omega (arith, guard-lt bits some)
 
 -- a number of a list that is made number by number
 pub mapped-at : (f : ℕ → ℕ) (x : List ℕ) (q : ℕ) → q < length x → slice_index (map f x) q ≡ f (slice_index x q)

@@ -14,15 +14,16 @@ pub record Masks : Type 0 where
   pub wanted : List ℕ
   pub change : List ℕ
 
--- a move: what is added to bring up the guards, and two pieces
+-- a move: what is added to bring up the guards, the same less the guards that the first piece wants up, and two pieces
 pub record Moving : Type 0 where
   pub offsets : List ℕ
+  pub lowered : List ℕ
   pub first : Masks
   pub second : Masks
 
 -- the move that tests nothing and changes nothing
 abbrev pub no_move : Moving
-no_move = record { offsets = []; first = record { guards = []; wanted = []; change = [] }; second = record { guards = []; wanted = []; change = [] } }
+no_move = record { offsets = []; lowered = []; first = record { guards = []; wanted = []; change = [] }; second = record { guards = []; wanted = []; change = [] } }
 
 -- of the first words, with the offsets added, each has the guards up that are wanted
 abbrev pub holds : ℕ → List ℕ → Masks → List ℕ → Bool
@@ -41,20 +42,33 @@ pub record IsMoved (count : ℕ) (m : Moving) (x y : List ℕ) : Type 0 where
 abbrev pub ChangesNothing : ℕ → Masks → Type 0
 ChangesNothing count m = (w : ℕ) → w < count → slice_index m.change w ≡ 0
 
+-- of what a move adds, the lowered one is the other less the guards that are wanted up, which are among those that are looked at
+pub record IsLowered (count : ℕ) (m : Moving) : Type 0 where
+  pub less : (w : ℕ) → w < count → slice_index m.lowered w ≡ (slice_index m.offsets w + (2 ^ 64 - slice_index m.first.wanted w)) % 2 ^ 64
+  pub among : (w : ℕ) → w < count → bit_and (slice_index m.first.wanted w) (slice_index m.first.guards w) ≡ slice_index m.first.wanted w
+  pub small : (w : ℕ) → w < count → slice_index m.first.wanted w < 2 ^ 64
+
+-- the first piece alone tells what a move does
+pub record IsOfFirst (count : ℕ) (m : Moving) : Type 0 where
+  pub lowered : IsLowered count m
+  pub alone : ChangesNothing count m.second
+
 -- the guard of a field of so many bits
 abbrev pub guard : ℕ → ℕ
 guard bits = 2 ^ (bits - 1)
 
+-- one number where a side asks for the guard up, and another where it asks for it down
+abbrev pub mark_of : ℕ → ℕ → Side → ℕ
+mark_of up down Any = 0
+mark_of up down AtLeast = up
+mark_of up down Below = down
+
 -- the guard where a side asks for it, up or down, and where it asks for it up
 abbrev pub guard_of : ℕ → Side → ℕ
-guard_of bits Any = 0
-guard_of bits AtLeast = guard bits
-guard_of bits Below = guard bits
+guard_of bits = mark_of (guard bits) (guard bits)
 
 abbrev pub wanted_of : ℕ → Side → ℕ
-wanted_of bits Any = 0
-wanted_of bits AtLeast = guard bits
-wanted_of bits Below = 0
+wanted_of bits = mark_of (guard bits) 0
 
 -- the masks are those of a piece: a change is what comes less what leaves, modulo 2^64
 pub record AreMasksOf (count : ℕ) (p : Packing) (piece : Piece) (m : Masks) : Type 0 where

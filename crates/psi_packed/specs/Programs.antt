@@ -6,7 +6,7 @@ use Rattle.psi_event.specs.Numbers.{follow_numbers}
 use Rattle.psi_piecewise.specs.declared.piecewise.Piecewise.{Piecewise}
 use Rattle.psi_piecewise.specs.Piecewise.{Does}
 use Rattle.psi_packed.specs.Packed.{Packing, IsPacking, packed}
-use Rattle.psi_packed.specs.Moves.{Moving, IsMoveOf, ChangesNothing, no_move}
+use Rattle.psi_packed.specs.Moves.{Moving, IsMoveOf, IsLowered, ChangesNothing, no_move}
 use Rattle.psi_packed.specs.Views.{low_words, high_words, pair_at}
 use Rattle.psi_packed.specs.declared.pairs.PackedPair.{PackedPair}
 
@@ -33,6 +33,7 @@ pub record Prepares (count : ℕ) (caps : List ℕ) (functions : List Function) 
 pub record IsTwice (count : ℕ) (p : Packing) (low_words high_words : List Moving) (first_alone : Bool) : Type 0 where
   pub packing : IsPacking count p
   pub same : high_words ≡ low_words
+  pub lowered : (i : ℕ) → i < length low_words → IsLowered count (slice_index_or low_words i no_move)
   pub alone : IsTrue first_alone → (i : ℕ) → i < length low_words → ChangesNothing count (slice_index_or low_words i no_move).second
 
 -- words become those of the state that the functions of these numbers make of the state whose words they were

@@ -14,7 +14,7 @@ abbrev pub masks_by : {K : ℕ} → (Pair → ℕ) → Masks K → MaskLists
 masks_by word m = record { guards = words_by word m.guards; wanted = words_by word m.wanted; change = words_by word m.change }
 
 abbrev pub moving_by : {K : ℕ} → (Pair → ℕ) → PackedEvent K → Moving
-moving_by word m = record { offsets = words_by word m.offsets; first = masks_by word m.first; second = masks_by word m.second }
+moving_by word m = record { offsets = words_by word m.offsets; lowered = words_by word m.lowered; first = masks_by word m.first; second = masks_by word m.second }
 
 -- the two words of a pair
 abbrev pub low_word : Pair → ℕ

@@ -36,7 +36,6 @@ impl<const K: usize> Program<K> {
         ensures left { result ≤ length numbers.now }
         ensures run { FollowsBox K self.now numbers.now halts.now most (low_words x.old) (high_words x.old) (low_words x.new) (high_words x.new) result }
     {
-        let moves = self.moves.as_slice();
         let bits = self.layout.bits();
         // In a variable of its own it stays in registers.
         let mut own = *x;
@@ -45,14 +44,14 @@ impl<const K: usize> Program<K> {
             return numbers.len();
         }
         for place in (0..numbers.len()).rev() {
-            let event = numbers[place] as usize;
+            let number = numbers[place];
             let gaps = own.gaps();
-            if became_few(&gaps, &tested, bits, most) || halts[event] {
+            if became_few(&gaps, &tested, bits, most) || halts[number as usize] {
                 *x = own;
                 return place + 1;
             }
             tested = gaps;
-            moves[event].advance(&mut own);
+            self.event(number).advance(&mut own);
         }
         *x = own;
         0

@@ -3,7 +3,7 @@
 ghost use Rattle.std.specs.Prelude.{◌≡◌, ◌-◌, ◌+◌, ◌<◌, ◌≤◌, ◌*◌, ◌^◌, ℕ, List, length, map, slice_index, IfSome, IfNone, EachIndex};
 ghost use Rattle.psi_state.specs.State.{AreCapacities, IsBelow};
 ghost use Rattle.psi_packed.specs.Packed.{packed, LeavesFree};
-ghost use Rattle.psi_packed.specs.Moves.{guard, guard_of, wanted_of};
+ghost use Rattle.psi_packed.specs.Moves.{guard, mark_of, guard_of, wanted_of};
 
 use psi_piecewise::{Side, Sides};
 use psi_state::State;
@@ -163,44 +163,41 @@ impl<const K: usize> Layout<K> {
         requires { length sides.now ≡ length self.now.caps }
         ensures { result.words ≡ packed K self.now (map (guard_of self.now.bits) sides.now) }
     {
-        let mut guards = self.caps();
-        for queue in 0..sides.len() {
-            guards.set(queue, self.guard_of(sides.get(queue)));
-        }
-        self.pack_numbers(&guards)
-    }
-
-    // The guard where a side asks for it, up or down.
-    fn guard_of(&self, side: Side) -> u16
-        ensures { result ≡ guard_of self.now.bits side }
-    {
-        match side {
-            Side::Any => 0,
-            Side::AtLeast => self.guard(),
-            Side::Below => self.guard(),
-        }
+        self.marks(sides, self.guard())
     }
 
     // The guards of the queues that are to be at their bounds or above them.
     pub(crate) fn wanted(&self, sides: &Sides) -> Packed<K>
         requires { length sides.now ≡ length self.now.caps }
-        ensures { result.words ≡ packed K self.now (map (wanted_of self.now.bits) sides.now) }
+        ensures words { result.words ≡ packed K self.now (map (wanted_of self.now.bits) sides.now) }
+        ensures valid { IsPacking K self.now }
     {
-        let mut wanted = self.caps();
-        for queue in 0..sides.len() {
-            wanted.set(queue, self.wanted_of(sides.get(queue)));
-        }
-        self.pack_numbers(&wanted)
+        self.marks(sides, 0)
     }
 
-    // The guard where a side asks for it up.
-    fn wanted_of(&self, side: Side) -> u16
-        ensures { result ≡ wanted_of self.now.bits side }
+    // The guards of the queues that are to be at their bounds or above them, and for those that are to be below them a
+    // number up to the guard.
+    fn marks(&self, sides: &Sides, below: u16) -> Packed<K>
+        requires length { length sides.now ≡ length self.now.caps }
+        requires few { below ≤ guard self.now.bits }
+        ensures words { result.words ≡ packed K self.now (map (mark_of (guard self.now.bits) below) sides.now) }
+        ensures valid { IsPacking K self.now }
+    {
+        let mut marks = self.caps();
+        for queue in 0..sides.len() {
+            marks.set(queue, self.mark_of(sides.get(queue), below));
+        }
+        self.pack_numbers(&marks)
+    }
+
+    // The guard where a side asks for it up, and a number where it asks for it down.
+    fn mark_of(&self, side: Side, below: u16) -> u16
+        ensures { result ≡ mark_of (guard self.now.bits) below side }
     {
         match side {
             Side::Any => 0,
             Side::AtLeast => self.guard(),
-            Side::Below => 0,
+            Side::Below => below,
         }
     }
 

@@ -1,9 +1,9 @@
 //! Events of pieces as masks on packed states.
 
-ghost use Rattle.std.specs.Prelude.{◌≡◌, ◌<◌, ◌+◌, ◌-◌, ◌%◌, ◌^◌, ◌↔◌, ℕ, IsTrue, length, slice_index, nat_eq, bit_and, if◌then◌else◌};
+ghost use Rattle.std.specs.Prelude.{◌≡◌, ◌<◌, ◌+◌, ◌-◌, ◌%◌, ◌^◌, ◌↔◌, ℕ, false, IsTrue, length, slice_index, nat_eq, bit_and, if◌then◌else◌};
 ghost use Rattle.psi_packed.specs.Views.{low_words, high_words, low_word, high_word, masks_by, moving_by};
 ghost use Rattle.psi_piecewise.specs.Piecewise.{IsPiece, IsPiecewise};
-ghost use Rattle.psi_packed.specs.Moves.{AreMasksOf, IsMoveOf, IsMoved, ChangesNothing};
+ghost use Rattle.psi_packed.specs.Moves.{holds, AreMasksOf, IsMoveOf, IsMoved, IsLowered, IsOfFirst, ChangesNothing};
 ghost use Rattle.psi_packed.specs.Views.{pair_at};
 
 use crate::layout::{Layout, Packed};
@@ -19,10 +19,12 @@ pub struct Masks<const K: usize> {
 }
 
 /// An event of pieces on two packed states: what is added to bring up the guards of the queues that are at their bounds or
-/// above them, and the masks of the two pieces. Each is there twice, once for each state.
+/// above them, the same less the guards that the first piece wants up, and the masks of the two pieces. Each is there twice,
+/// once for each state.
 #[derive(Clone, Copy)]
 pub struct PackedEvent<const K: usize> {
     pub(crate) offsets: PackedPair<K>,
+    pub(crate) lowered: PackedPair<K>,
     pub(crate) first: Masks<K>,
     pub(crate) second: Masks<K>,
 }
@@ -74,9 +76,13 @@ impl<const K: usize> PackedEvent<K> {
         requires { IsPiecewise layout.now.caps pieces.now }
         ensures pieces { IsMoveOf K layout.now pieces.now (moving_by low_word result) }
         ensures twice { moving_by high_word result ≡ moving_by low_word result }
+        ensures lowered { IsLowered K (moving_by low_word result) }
     {
+        let offsets = layout.offsets(&pieces.bounds);
+        let wanted = layout.wanted(&pieces.first.sides);
         PackedEvent {
-            offsets: layout.offsets(&pieces.bounds).twice(),
+            offsets: offsets.twice(),
+            lowered: difference(&offsets, &wanted).twice(),
             first: Masks::of(layout, &pieces.first),
             second: Masks::of(layout, &pieces.second),
         }
@@ -95,61 +101,102 @@ impl<const K: usize> PackedEvent<K> {
         ensures low { IsMoved K (moving_by low_word self.now) (low_words x.old) (low_words x.new) }
         ensures high { IsMoved K (moving_by high_word self.now) (high_words x.old) (high_words x.new) }
     {
-        let mut first = Pair::twice(u64::MAX);
-        let mut second = Pair::twice(u64::MAX);
-        for at in 0..K {
-            let raised = x.pairs[at].plus(self.offsets.pairs[at]);
-            first = first.and(self.first.held_at(at, raised));
-            second = second.and(self.second.held_at(at, raised));
-        }
-        for at in 0..K {
-            x.pairs[at] = x.pairs[at]
-                .plus(first.and(self.first.change.pairs[at]))
-                .plus(second.and(self.second.change.pairs[at]));
-        }
+        self.advance_by::<true>(x);
     }
 
-    // Puts what the event makes of each packed state of the list in its place. The masks stay in registers.
-    #[inline(never)]
-    pub(crate) fn advance_all(&self, list: &mut [PackedPair<K>])
-        ensures count { length list.new ≡ length list.old }
-        ensures low { (i : ℕ) → i < length list.old → IsMoved K (moving_by low_word self.now) (low_words (pair_at list.old i)) (low_words (pair_at list.new i)) }
-        ensures high { (i : ℕ) → i < length list.old → IsMoved K (moving_by high_word self.now) (high_words (pair_at list.old i)) (high_words (pair_at list.new i)) }
-    {
-        for x in list.iter_mut() {
-            self.advance(x);
-        }
-    }
-
-    // The same for an event whose second piece changes no state.
-    #[inline(never)]
-    pub(crate) fn advance_all_by_first(&self, list: &mut [PackedPair<K>])
-        requires low { ChangesNothing K (masks_by low_word self.now.second) }
-        requires high { ChangesNothing K (masks_by high_word self.now.second) }
-        ensures count { length list.new ≡ length list.old }
-        ensures low { (i : ℕ) → i < length list.old → IsMoved K (moving_by low_word self.now) (low_words (pair_at list.old i)) (low_words (pair_at list.new i)) }
-        ensures high { (i : ℕ) → i < length list.old → IsMoved K (moving_by high_word self.now) (high_words (pair_at list.old i)) (high_words (pair_at list.new i)) }
-    {
-        for x in list.iter_mut() {
-            self.advance_by_first(x);
-        }
-    }
-
-    // The same for an event whose second piece changes no state.
+    // The same, by both pieces or, where the second changes no state, by the first alone.
     #[inline]
-    pub(crate) fn advance_by_first(&self, x: &mut PackedPair<K>)
-        requires low { ChangesNothing K (masks_by low_word self.now.second) }
-        requires high { ChangesNothing K (masks_by high_word self.now.second) }
+    pub(crate) fn advance_by<const BOTH: bool>(&self, x: &mut PackedPair<K>)
+        requires low { BOTH ≡ false → IsOfFirst K (moving_by low_word self.now) }
+        requires high { BOTH ≡ false → IsOfFirst K (moving_by high_word self.now) }
         ensures low { IsMoved K (moving_by low_word self.now) (low_words x.old) (low_words x.new) }
         ensures high { IsMoved K (moving_by high_word self.now) (high_words x.old) (high_words x.new) }
+    {
+        let first = self.first_held::<BOTH>(x);
+        let second = self.held(&self.second, x);
+        for at in 0..K {
+            x.pairs[at] = self.changed_at::<BOTH>(at, x.pairs[at], first, second);
+        }
+    }
+
+    // All bits one where the first piece applies, and none otherwise.
+    #[inline]
+    fn first_held<const BOTH: bool>(&self, x: &PackedPair<K>) -> Pair
+        requires low { BOTH ≡ false → IsOfFirst K (moving_by low_word self.now) }
+        requires high { BOTH ≡ false → IsOfFirst K (moving_by high_word self.now) }
+        ensures low { low_word result ≡ (if holds K (low_words self.now.offsets) (masks_by low_word self.now.first) (low_words x.now) then 2 ^ 64 - 1 else 0) }
+        ensures high { high_word result ≡ (if holds K (high_words self.now.offsets) (masks_by high_word self.now.first) (high_words x.now) then 2 ^ 64 - 1 else 0) }
+    {
+        if BOTH {
+            return self.held(&self.first, x);
+        }
+        self.none_up(x)
+    }
+
+    // All bits one where a piece of these masks applies, and none otherwise.
+    #[inline]
+    fn held(&self, masks: &Masks<K>, x: &PackedPair<K>) -> Pair
+        ensures low { low_word result ≡ (if holds K (low_words self.now.offsets) (masks_by low_word masks.now) (low_words x.now) then 2 ^ 64 - 1 else 0) }
+        ensures high { high_word result ≡ (if holds K (high_words self.now.offsets) (masks_by high_word masks.now) (high_words x.now) then 2 ^ 64 - 1 else 0) }
     {
         let mut held = Pair::twice(u64::MAX);
         for at in 0..K {
             let raised = x.pairs[at].plus(self.offsets.pairs[at]);
-            held = held.and(self.first.held_at(at, raised));
+            held = held.and(masks.held_at(at, raised));
         }
+        held
+    }
+
+    // The same of the first piece, by the lowered offsets: with these none of the guards that it looks at is to be up, so one
+    // comparison tells it for all words.
+    #[inline]
+    fn none_up(&self, x: &PackedPair<K>) -> Pair
+        requires low { IsLowered K (moving_by low_word self.now) }
+        requires high { IsLowered K (moving_by high_word self.now) }
+        ensures low { low_word result ≡ (if holds K (low_words self.now.offsets) (masks_by low_word self.now.first) (low_words x.now) then 2 ^ 64 - 1 else 0) }
+        ensures high { high_word result ≡ (if holds K (high_words self.now.offsets) (masks_by high_word self.now.first) (high_words x.now) then 2 ^ 64 - 1 else 0) }
+    {
+        let mut up = Pair::twice(0);
         for at in 0..K {
-            x.pairs[at] = x.pairs[at].plus(held.and(self.first.change.pairs[at]));
+            let raised = x.pairs[at].plus(self.lowered.pairs[at]);
+            up = up.or(raised.and(self.first.guards.pairs[at]));
+        }
+        up.ones_if_equal(Pair::twice(0))
+    }
+
+    // What the words in this place become by the masks of the pieces that apply, or by the first's alone.
+    #[inline]
+    fn changed_at<const BOTH: bool>(
+        &self,
+        at: usize,
+        words: Pair,
+        first: Pair,
+        second: Pair,
+    ) -> Pair
+        requires place { at < K }
+        requires low { BOTH ≡ false → slice_index (low_words self.now.second.change) at ≡ 0 }
+        requires high { BOTH ≡ false → slice_index (high_words self.now.second.change) at ≡ 0 }
+        ensures low { low_word result ≡ ((low_word words + bit_and (low_word first) (slice_index (low_words self.now.first.change) at)) % 2 ^ 64 + bit_and (low_word second) (slice_index (low_words self.now.second.change) at)) % 2 ^ 64 }
+        ensures high { high_word result ≡ ((high_word words + bit_and (high_word first) (slice_index (high_words self.now.first.change) at)) % 2 ^ 64 + bit_and (high_word second) (slice_index (high_words self.now.second.change) at)) % 2 ^ 64 }
+    {
+        let changed = words.plus(first.and(self.first.change.pairs[at]));
+        if BOTH {
+            return changed.plus(second.and(self.second.change.pairs[at]));
+        }
+        changed
+    }
+
+    // Puts what the event makes of each packed state of the list in its place. The masks stay in registers.
+    #[inline(never)]
+    pub(crate) fn advance_all<const BOTH: bool>(&self, list: &mut [PackedPair<K>])
+        requires low { BOTH ≡ false → IsOfFirst K (moving_by low_word self.now) }
+        requires high { BOTH ≡ false → IsOfFirst K (moving_by high_word self.now) }
+        ensures count { length list.new ≡ length list.old }
+        ensures low { (i : ℕ) → i < length list.old → IsMoved K (moving_by low_word self.now) (low_words (pair_at list.old i)) (low_words (pair_at list.new i)) }
+        ensures high { (i : ℕ) → i < length list.old → IsMoved K (moving_by high_word self.now) (high_words (pair_at list.old i)) (high_words (pair_at list.new i)) }
+    {
+        for x in list.iter_mut() {
+            self.advance_by::<BOTH>(x);
         }
     }
 }

@@ -1,8 +1,8 @@
 //! Two packed states side by side, so that one operation does both.
 
-ghost use Rattle.std.specs.Prelude.{◌≡◌, ◌↔◌, ◌+◌, ◌%◌, ◌^◌, ◌-◌, IsTrue, nat_eq, bit_and, replicate, if◌then◌else◌};
+ghost use Rattle.std.specs.Prelude.{◌≡◌, ◌↔◌, ◌<◌, ◌+◌, ◌%◌, ◌^◌, ◌-◌, slice_index, IsTrue, nat_eq, bit_and, bit_or, replicate, if◌then◌else◌};
 ghost use Rattle.psi_packed.specs.Boxes.{AreGaps};
-ghost use Rattle.psi_packed.specs.Views.{low_word, high_word, low_words, high_words};
+ghost use Rattle.psi_packed.specs.Views.{words_by, low_word, high_word, low_words, high_words};
 
 use crate::layout::Packed;
 use std::simd::prelude::*;
@@ -83,6 +83,17 @@ impl Pair {
         }
     }
 
+    // The bits that are one in either.
+    #[inline]
+    pub(crate) fn or(self, other: Pair) -> Pair
+        ensures low { low_word result ≡ bit_or (low_word self) (low_word other) }
+        ensures high { high_word result ≡ bit_or (high_word self) (high_word other) }
+    {
+        Pair {
+            lanes: self.lanes | other.lanes,
+        }
+    }
+
     // All bits one where the words are equal, and none otherwise.
     #[inline]
     pub(crate) fn ones_if_equal(self, other: Pair) -> Pair
@@ -115,11 +126,7 @@ impl<const K: usize> PackedPair<K> {
     pub fn low(&self) -> Packed<K>
         ensures { result.words ≡ low_words self.now }
     {
-        let mut words = [0; K];
-        for at in 0..K {
-            words[at] = self.pairs[at].low();
-        }
-        Packed { words }
+        self.side::<0>()
     }
 
     /// The high one.
@@ -127,9 +134,18 @@ impl<const K: usize> PackedPair<K> {
     pub fn high(&self) -> Packed<K>
         ensures { result.words ≡ high_words self.now }
     {
+        self.side::<1>()
+    }
+
+    // The state in this lane of the pairs.
+    #[inline]
+    fn side<const LANE: usize>(&self) -> Packed<K>
+        requires { LANE < 2 }
+        ensures { result.words ≡ words_by (λ p. slice_index p.lanes LANE) self.now }
+    {
         let mut words = [0; K];
         for at in 0..K {
-            words[at] = self.pairs[at].high();
+            words[at] = self.pairs[at].lanes.to_array()[LANE];
         }
         Packed { words }
     }

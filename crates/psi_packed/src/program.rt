@@ -1,11 +1,11 @@
 //! The events of a network, made ready for packed states.
 
-ghost use Rattle.std.specs.Prelude.{◌≡◌, ◌<◌, ℕ, List, length, map, slice_index, slice_index_or, All, IfOk, IfSome, EachIndex};
+ghost use Rattle.std.specs.Prelude.{◌≡◌, ◌<◌, ℕ, List, length, map, slice_index, slice_index_or, All, IfOk, IfSome, EachIndex, false};
 ghost use Rattle.psi_state.specs.State.{IsBelow};
 ghost use Rattle.psi_packed.specs.Packed.{packed};
-ghost use Rattle.psi_packed.specs.Moves.{ChangesNothing, no_move};
+ghost use Rattle.psi_packed.specs.Moves.{ChangesNothing, IsLowered, no_move};
 ghost use Rattle.psi_packed.specs.Programs.{Prepares, Follows, AllFollow};
-ghost use Rattle.psi_packed.specs.Views.{low_words, high_words};
+ghost use Rattle.psi_packed.specs.Views.{low_word, high_word, low_words, high_words, moving_by};
 
 use crate::layout::{Layout, Packed};
 use crate::moves::PackedEvent;
@@ -110,17 +110,29 @@ impl<const K: usize> Program<K> {
         self.layout.unpack(x)
     }
 
+    // The event of a number.
+    #[inline]
+    pub(crate) fn event(&self, number: u16) -> &PackedEvent<K>
+        requires { number < length self.now.moves }
+        ensures low { moving_by low_word result.now ≡ slice_index_or self.now.moves number no_move }
+        ensures high { moving_by high_word result.now ≡ slice_index_or self.now.moves number no_move }
+        ensures lowered { IsLowered K (slice_index_or self.now.moves number no_move) }
+    {
+        &self.moves.as_slice()[number as usize]
+    }
+
     /// Puts what the event of this number makes of each packed state of the list in its place.
     pub fn step(&self, number: u16, list: &mut [PackedPair<K>])
         requires number { number < length self.now.moves }
         ensures { AllFollow self.now number list.old list.new }
     {
-        let moves = self.moves.as_slice();
-        let own = &moves[number as usize];
-        if own.is_of_one_piece() {
-            own.advance_all_by_first(list);
+        // Named for what it keeps: a pair has few words.
+        let _layout = &self.layout;
+        let event = self.event(number);
+        if event.is_of_one_piece() {
+            event.advance_all::<false>(list);
         } else {
-            own.advance_all(list);
+            event.advance_all::<true>(list);
         }
     }
 
@@ -132,40 +144,27 @@ impl<const K: usize> Program<K> {
         ensures high { Follows K self.now numbers.now (high_words x.old) (high_words x.new) }
     {
         if self.first_alone {
-            self.follow_first(numbers, x);
+            self.follow_by::<false>(numbers, x);
         } else {
-            self.follow_both(numbers, x);
+            self.follow_by::<true>(numbers, x);
         }
     }
 
-    // The same by both pieces. Where the words come from and go to is kept out of the loop: each pair is then one register.
+    // The same by both pieces or, where no second piece changes a state, by the first ones alone. Where the words come from
+    // and go to is kept out of the loop: each pair is then one register.
     #[inline(never)]
-    fn follow_both(&self, numbers: &[u16], x: &mut PackedPair<K>)
+    fn follow_by<const BOTH: bool>(&self, numbers: &[u16], x: &mut PackedPair<K>)
         requires numbers { EachIndex numbers.now (λ i. slice_index numbers.now i < length self.now.moves) }
+        requires alone { BOTH ≡ false → (i : ℕ) → i < length self.now.moves → ChangesNothing K (slice_index_or self.now.moves i no_move).second }
         ensures low { Follows K self.now numbers.now (low_words x.old) (low_words x.new) }
         ensures high { Follows K self.now numbers.now (high_words x.old) (high_words x.new) }
     {
-        let moves = self.moves.as_slice();
+        // Named for what it keeps: a pair has few words.
+        let _layout = &self.layout;
         // In a variable of its own it stays in registers.
         let mut own = *x;
         for place in (0..numbers.len()).rev() {
-            moves[numbers[place] as usize].advance(&mut own);
-        }
-        *x = own;
-    }
-
-    // The same by the first pieces alone, where no second piece changes a state.
-    #[inline(never)]
-    fn follow_first(&self, numbers: &[u16], x: &mut PackedPair<K>)
-        requires numbers { EachIndex numbers.now (λ i. slice_index numbers.now i < length self.now.moves) }
-        requires alone { (i : ℕ) → i < length self.now.moves → ChangesNothing K (slice_index_or self.now.moves i no_move).second }
-        ensures low { Follows K self.now numbers.now (low_words x.old) (low_words x.new) }
-        ensures high { Follows K self.now numbers.now (high_words x.old) (high_words x.new) }
-    {
-        let moves = self.moves.as_slice();
-        let mut own = *x;
-        for place in (0..numbers.len()).rev() {
-            moves[numbers[place] as usize].advance_by_first(&mut own);
+            self.event(numbers[place]).advance_by::<BOTH>(&mut own);
         }
         *x = own;
     }

@@ -12,8 +12,8 @@ loop-x-preserved g c =
     let at = c.loop-x.x-index in
     let kept = c.loop-x.invariant in
     record {
-      count = length-set now at c.advance.new.x ∙ kept.count;
-      low = pairs-step (λ x y. IsMoved g.row.K (moving_by low_word own) (low_words x) (low_words y)) old now at c.x-item.result c.advance.new.x (omega (arith, kept.count, c.loop-x-test.true)) kept.low kept.waiting c.advance.ensures.low;
-      high = pairs-step (λ x y. IsMoved g.row.K (moving_by high_word own) (high_words x) (high_words y)) old now at c.x-item.result c.advance.new.x (omega (arith, kept.count, c.loop-x-test.true)) kept.high kept.waiting c.advance.ensures.high;
-      waiting = pairs-wait old now at c.advance.new.x kept.waiting;
+      count = length-set now at c.advance_by.new.x ∙ kept.count;
+      low = pairs-step (λ x y. IsMoved g.row.K (moving_by low_word own) (low_words x) (low_words y)) old now at c.x-item.result c.advance_by.new.x (omega (arith, kept.count, c.loop-x-test.true)) kept.low kept.waiting c.advance_by.ensures.low;
+      high = pairs-step (λ x y. IsMoved g.row.K (moving_by high_word own) (high_words x) (high_words y)) old now at c.x-item.result c.advance_by.new.x (omega (arith, kept.count, c.loop-x-test.true)) kept.high kept.waiting c.advance_by.ensures.high;
+      waiting = pairs-wait old now at c.advance_by.new.x kept.waiting;
     }

@@ -1,12 +1,11 @@
-use Rattle.std.proofs.Common.{◌≡◌, ◌+◌, ◌-◌, ◌<◌, ◌≤◌, inl, inr, length, map, slice_index, slice_index_or, ap, sym, subst, ◌∙◌, refl, arith}
-use Rattle.psi_packed.specs.Moves.{Moving, IsMoved, no_move}
+use Rattle.std.proofs.Common.{◌≡◌, ◌+◌, ◌-◌, ◌<◌, ◌≤◌, inl, inr, length, slice_index, ap, sym, subst, ◌∙◌, refl, arith}
+use Rattle.psi_packed.specs.Moves.{Moving, IsMoved}
 use Rattle.psi_packed.specs.Programs.{Prepared}
 use Rattle.psi_packed.specs.Boxes.{AreFollowed, Ends, GapsTell, box_from}
-use Rattle.psi_packed.specs.Views.{low_words, high_words, low_word, high_word, moving_by}
-use Rattle.psi_packed.proofs.FollowingLemmas.{move-read}
+use Rattle.psi_packed.specs.Views.{low_words, high_words}
 use Rattle.psi_packed.proofs.DescendingLemmas.{many-told, followed-none, followed-more}
 use Rattle.psi_packed.proofs.program.Program.follow_while_many.Goals as goal
-use Rattle.psi_packed.proofs.program.Program.follow_while_many.Goals.{then-became_few-via-then-became_few, then-became_few-via-else-became_few+then-halts-event}
+use Rattle.psi_packed.proofs.program.Program.follow_while_many.Goals.{then-became_few-via-then-became_few, then-became_few-via-else-became_few+then-halts-number}
 
 pub returns-then-has_at_most-clause-run : goal.returns-then-has_at_most-clause-run
 returns-then-has_at_most-clause-run g c = λ caps functions lo hi prepared monotone corners.
@@ -33,25 +32,18 @@ loop-place-preserved g c = record {
       let i = c.loop-place.place in
       let own = c.loop-place.own in
       let new = c.advance.new.x in
-      let items = c.self.inside.moves.items in
       let some : 1 ≤ i = c.loop-place-test.true in
       let within : i ≤ length numbers = c.loop-place.auto.place in
       let number = slice_index numbers (i - 1) in
       let small : number < length p.moves = c.requires.numbers (i - 1) (omega arith) in
-      let m = c.index-moves-event.result in
-      let low_moves : map (moving_by {K = g.row.K} low_word) items ≡ p.moves = ap (λ (q : Prepared). q.moves) c.self.view_is in
-      let low_move : moving_by low_word m ≡ slice_index_or p.moves number no_move =
-      move-read p (moving_by low_word) items c.as_slice-moves.result.now number m low_moves c.as_slice-moves.ensures.value c.index-moves-event.is small in
-      let high_move : moving_by high_word m ≡ slice_index_or p.moves number no_move =
-      move-read p (moving_by high_word) items c.as_slice-moves.result.now number m (c.self.invariant.same ∙ low_moves) c.as_slice-moves.ensures.value c.index-moves-event.is small in
       let bits : p.packing.bits ≡ c.bits-bits.result = sym (ap (λ (q : Prepared). q.packing.bits) c.self.view_is) ∙ sym c.bits-bits.ensures.value in
       let followed = c.loop-place.invariant.run caps functions lo hi prepared monotone corners in
       let tells = c.became_few.ensures p.packing (low_words own) (high_words own) prepared.packing bits c.gaps-gaps.ensures _ _ followed.corners in
       let many : c.args.most < length (box_from functions numbers lo hi i) = many-told c.became_few.result (length (box_from functions numbers lo hi i)) c.args.most tells c.if-became_few.false in
       followed-more g.row.K p caps functions numbers c.args.halts.now c.args.most lo hi prepared monotone i (low_words own) (high_words own) some within small followed (low_words new) (high_words new)
-      many c.if-halts-event.false
-      (subst (λ (n : Moving). IsMoved g.row.K n (low_words own) (low_words new)) low_move c.advance.ensures.low)
-      (subst (λ (n : Moving). IsMoved g.row.K n (high_words own) (high_words new)) high_move c.advance.ensures.high);
+      many c.if-halts-number.false
+      (subst (λ (n : Moving). IsMoved g.row.K n (low_words own) (low_words new)) c.event.ensures.low c.advance.ensures.low)
+      (subst (λ (n : Moving). IsMoved g.row.K n (high_words own) (high_words new)) c.event.ensures.high c.advance.ensures.high);
   tested = subst (λ told. GapsTell g.row.K c.bits-bits.result c.args.most c.gaps-gaps.result.words told) c.if-became_few.false c.became_few.ensures;
 }
 
@@ -69,7 +61,7 @@ returns-then-became_few-clause-run g c = λ caps functions lo hi prepared monoto
     let tells = c.became_few.ensures p.packing (low_words own) (high_words own) prepared.packing bits c.gaps-gaps.ensures _ _ followed.corners in
     let ends : Ends functions numbers halts c.args.most lo hi i = elim c.then-became_few.branch [
       | then-became_few-via-then-became_few w ↦ inr (inl (tells.0 w.if-became_few.true))
-      | then-became_few-via-else-became_few+then-halts-event w ↦ inr (inr w.if-halts-event.true)
+      | then-became_few-via-else-became_few+then-halts-number w ↦ inr (inr w.if-halts-number.true)
     ] in
     subst (λ n. AreFollowed g.row.K p.packing functions numbers halts c.args.most lo hi (low_words own) (high_words own) n × Ends functions numbers halts c.args.most lo hi n) same (followed, ends)
 

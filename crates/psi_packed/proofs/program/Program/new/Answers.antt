@@ -4,9 +4,9 @@ use Rattle.std.proofs.lemmas.List.Elements.{All-get_or}
 use Rattle.psi_event.specs.Law.{Function, IsClosed}
 use Rattle.psi_piecewise.specs.Piecewise.{Does}
 use Rattle.psi_packed.specs.Views.{low_word, high_word, moving_by}
-use Rattle.psi_packed.specs.Moves.{Moving, ChangesNothing, no_move}
+use Rattle.psi_packed.specs.Moves.{Moving, IsLowered, ChangesNothing, no_move}
 use Rattle.psi_packed.specs.Programs.{IsMoveFor}
-use Rattle.psi_packed.proofs.MovingLemmas.{moves-more, moving-push, length-more, alone-more, and-first, and-second}
+use Rattle.psi_packed.proofs.MovingLemmas.{moves-more, moving-push, length-more, each-more, and-first, and-second}
 use Rattle.psi_packed.specs.declared.moves.PackedEvent.{PackedEvent}
 use Rattle.psi_packed.proofs.program.Program.new.Goals as goal
 
@@ -42,8 +42,10 @@ loop-event-preserved g c =
           (moves-more g.row.K layout (map g.E.EventLaw.function events) (map low moves) k (low own_move) long c.loop-event.invariant.each
           (subst (λ (f : Function). IsMoveFor g.row.K layout f (low own_move)) (sym function) own));
       same = pushed_high ∙ ap₂ (λ (ms : List Moving) (m : Moving). ms ++ m ∷ []) c.loop-event.invariant.same c.of-own.ensures.twice ∙ sym pushed;
+      lowered = subst (λ (ms : List Moving). (i : ℕ) → i < k + 1 → IsLowered g.row.K (slice_index_or ms i no_move)) (sym pushed)
+          (each-more (λ (m : Moving). IsLowered g.row.K m) (map low moves) k (low own_move) long c.loop-event.invariant.lowered c.of-own.ensures.lowered);
       alone = λ both. subst (λ (ms : List Moving). (i : ℕ) → i < k + 1 → ChangesNothing g.row.K (slice_index_or ms i no_move).second) (sym pushed)
-          (alone-more g.row.K (map low moves) k (low own_move) long
+          (each-more (λ (m : Moving). ChangesNothing g.row.K m.second) (map low moves) k (low own_move) long
           (c.loop-event.invariant.alone (and-first c.loop-event.first_alone c.is_of_one_piece-first_alone.result both))
           (c.is_of_one_piece-first_alone.ensures.0 (and-second c.loop-event.first_alone c.is_of_one_piece-first_alone.result both)));
     }
@@ -56,6 +58,7 @@ loop-event-init g c =
       room = c.in_ok-moves.ensures.exact;
       each = λ i small. absurd (omega arith);
       same = ap (map (moving_by {K = g.row.K} high_word)) none ∙ sym (ap (map (moving_by {K = g.row.K} low_word)) none);
+      lowered = λ i small. absurd (omega arith);
       alone = λ yes i small. absurd (omega arith);
     }
 
@@ -64,6 +67,7 @@ invariant_of-result g c =
     record {
       packing = search rules;
       same = c.loop-event.invariant.same;
+      lowered = λ i small. c.loop-event.invariant.lowered i (omega (arith, length-map c.loop-event.moves.items (moving_by {K = g.row.K} low_word), c.loop-event.invariant.long));
       alone = λ yes i small. c.loop-event.invariant.alone yes i (omega (arith, length-map c.loop-event.moves.items (moving_by {K = g.row.K} low_word), c.loop-event.invariant.long));
     }
 

@@ -1,7 +1,7 @@
 use Rattle.std.proofs.Common.{drop}
 use Rattle.psi_packed.specs.Views.{low_words, high_words}
 use Rattle.psi_packed.specs.Programs.{Follows}
-use Rattle.psi_packed.proofs.program.Program.follow_both.Given as goal
+use Rattle.psi_packed.proofs.program.Program.follow_by.Given as goal
 
 -- the words are those that the numbers behind this place make of the words of before
 abbrev pub invariant-loop-place : goal.invariant-loop-place

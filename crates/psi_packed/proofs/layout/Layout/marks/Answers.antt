@@ -1,10 +1,10 @@
 use Rattle.std.proofs.Common.{rules, ◌<◌, ◌^◌, arith, ap, sym, subst, ◌∙◌, slice_index_or}
 use Rattle.psi_piecewise.specs.declared.sides.Side.TheVariants.{Any}
 use Rattle.psi_packed.specs.Packed.{packed}
-use Rattle.psi_packed.specs.Moves.{wanted_of}
-use Rattle.psi_packed.proofs.TestingLemmas.{wanted_of-lt}
+use Rattle.psi_packed.specs.Moves.{guard, mark_of}
+use Rattle.psi_packed.proofs.TestingLemmas.{mark_of-lt}
 use Rattle.psi_packed.proofs.BuildingLemmas.{same-sided}
-use Rattle.psi_packed.proofs.layout.Layout.wanted.Goals as goal
+use Rattle.psi_packed.proofs.layout.Layout.marks.Goals as goal
 
 pub pack_numbers-requires : goal.pack_numbers-requires
 pack_numbers-requires g c = (
@@ -12,16 +12,16 @@ pack_numbers-requires g c = (
   (
     search rules,
     (
-      omega (arith, c.loop-queue.invariant.long, c.requires),
+      omega (arith, c.loop-queue.invariant.long, c.requires.length),
       λ q small.
           subst (λ v. v < 2 ^ c.args.self.now.bits) (sym (c.loop-queue.invariant.each q (omega (arith, c.loop-queue.invariant.long, c.len-queue-end.ensures.value))))
-          (wanted_of-lt c.args.self.now.bits (slice_index_or c.args.sides.now q Any) (omega (arith, c.caps-wanted.ensures.valid.least))),
+          (mark_of-lt c.args.self.now.bits c.args.below (slice_index_or c.args.sides.now q Any) (omega (arith, c.caps-marks.ensures.valid.least)) c.requires.few),
     ),
   ),
 )
 
-pub returns : goal.returns
-returns g c =
+pub returns-clause-words : goal.returns-clause-words
+returns-clause-words g c =
     c.pack_numbers.ensures ∙ ap (packed g.row.K c.args.self.now)
-    (same-sided (wanted_of c.args.self.now.bits) c.args.sides.now c.loop-queue.wanted c.loop-queue.invariant.long
+    (same-sided (mark_of (guard c.args.self.now.bits) c.args.below) c.args.sides.now c.loop-queue.marks c.loop-queue.invariant.long
     (λ q small. c.loop-queue.invariant.each q (omega (arith, c.len-queue-end.ensures.value))))
