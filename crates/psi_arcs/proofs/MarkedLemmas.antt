@@ -1,5 +1,5 @@
 -- Marks tell which ends of arcs are reached, and so which arcs are useful.
-use Rattle.std.proofs.Common.{◌≡◌, ◌⊎◌, ◌↔◌, ℕ, zero, suc, ◌+◌, ◌-◌, ◌^◌, ◌<◌, ◌≤◌, true, false, List, [], ◌∷◌, length, slice_index, slice_set, inl, inr, ap, sym, ◌∙◌, subst, arith, refl}
+use Rattle.std.proofs.Common.{◌≡◌, ◌⊎◌, ◌↔◌, ℕ, zero, suc, ◌+◌, ◌-◌, ◌^◌, ◌<◌, ◌≤◌, true, false, List, [], ◌∷◌, length, slice_index, slice_set, min, max, inl, inr, ap, sym, ◌∙◌, subst, arith, refl}
 use Rattle.std.proofs.lemmas.Bool.{cases_eq, cases_lt, lt-ltb, le-ltb, eq-eqb, ne_eqb, true≢false}
 use Rattle.psi_arcs.specs.declared.ends.Arc.{Arc}
 use Rattle.psi_arcs.specs.declared.sums.Sums.{Sums}
@@ -225,6 +225,14 @@ module _ (arcs : List Arc) (rule : Rule) (n t : ℕ) (ranged : AreRanged n t arc
     pub tells-useful : TellsUseful (Listed arcs) n t low high P marks
     tells-useful = record { each = tells-each }
 
+-- and so from the first of two queues to the last
+pub tells-between : (arcs : List Arc) (n t : ℕ) → AreRanged n t arcs → t ≤ 256 → (from to low high : ℕ) → low ≡ min from to → high ≡ max from to → (marks : Marks) (rule : Rule)
+    (P : ℕ → ℕ → Type 0) → AreMarked (Listed arcs) n t low high marks → marks.rule ≡ rule → ((l v : ℕ) → v < 2 ^ 16 → Allows rule l v ↔ P l v)
+    → TellsUseful (Listed arcs) n t (min from to) (max from to) P marks
+tells-between arcs n t ranged fits from to low high least most marks rule P marked is says =
+    subst (λ i. TellsUseful (Listed arcs) n t i (max from to) P marks) least
+    (subst (λ i. TellsUseful (Listed arcs) n t low i P marks) most (tells-useful arcs rule n t ranged fits low high marks P marked is says))
+
 -- the numbers of `past` and `here`
 pub past-small : (i l : ℕ) → past i l ≤ 1
 unfolding past
@@ -336,7 +344,7 @@ module _ (A : ℕ → ℕ → ℕ → Type 0) (marks : Marks) (from to total l s
       let keep = (keeps (u - sum)).0 (record { small = omega arith; there = subst (λ k. has kept k ≡ true) (sym whole) found.3 }) in
       (u - sum, keep, omega arith)
 
-  pub shifts-lead : (v : ℕ) → Leads turned s v ↔ Shifts A marks from to l s v
+  shifts-lead : (v : ℕ) → Leads turned s v ↔ Shifts A marks from to l s v
   shifts-lead v = (
     λ leads. (let found = shifts-own (s + v) leads.small leads.there in
         let e = found.2 in
@@ -354,7 +362,7 @@ module _ (A : ℕ → ℕ → ℕ → Type 0) (marks : Marks) (from to total l s
         record { small = less; there = moved (s + v) (sum + shifts.own) less led.small (omega arith) ∙ led.there }),
   )
 
-  pub shifts-ranged : (t : ℕ) → t < 320 → has turned t ≡ true → (s ≤ t) × (t ≤ total)
+  shifts-ranged : (t : ℕ) → t < 320 → has turned t ≡ true → (s ≤ t) × (t ≤ total)
   shifts-ranged t small given =
       let found = shifts-own t small given in
       let e = found.2 in
@@ -362,3 +370,6 @@ module _ (A : ℕ → ℕ → ℕ → Type 0) (marks : Marks) (from to total l s
       let room = can.room in
       let own = can.source in
       (omega arith, omega arith)
+
+  pub shifts-both : ((v : ℕ) → Leads turned s v ↔ Shifts A marks from to l s v) × ((t : ℕ) → t < 320 → has turned t ≡ true → (s ≤ t) × (t ≤ total))
+  shifts-both = (shifts-lead, shifts-ranged)

@@ -127,24 +127,15 @@ pub gives-joined : (A : ℕ → ℕ → ℕ → Type 0) (n t low high from k to 
     → TellsUseful A n t low high (IsShort from k) reach.short → TellsUseful A n t low high (IsFull to room) reach.full → (l s v : ℕ) → low ≤ l → l ≤ high
     → Gives A reach from to l s v ↔ Joined A n t from k to room l s v
 gives-joined A n t low high from k to room reach changing short full l s v above below =
+    let changes = λ (r u : ℕ). keeps-useful A n t low high (IsChanging from k to room) reach.changing changing l r u above below in
     let shorts = keeps-useful A n t low high (IsShort from k) reach.short short l s v above below in
     let fulls = keeps-useful A n t low high (IsFull to room) reach.full full l s v above below in (
       λ gives. elim gives [
-        | inl shifts ↦ inl (record {
-          sum = shifts.sum;
-          own = shifts.own;
-          useful = (keeps-useful A n t low high (IsChanging from k to room) reach.changing changing l shifts.sum shifts.own above below).0 shifts.keeps;
-          shifted = shifts.shifted;
-        })
+        | inl shifts ↦ inl (record { sum = shifts.sum; own = shifts.own; useful = (changes shifts.sum shifts.own).0 shifts.keeps; shifted = shifts.shifted })
         | inr stays ↦ inr (elim stays [ inl k ↦ inl (shorts.0 k) | inr k ↦ inr (fulls.0 k) ])
       ],
       λ joined. elim joined [
-        | inl has ↦ inl (record {
-          sum = has.sum;
-          own = has.own;
-          keeps = (keeps-useful A n t low high (IsChanging from k to room) reach.changing changing l has.sum has.own above below).1 has.useful;
-          shifted = has.shifted;
-        })
+        | inl has ↦ inl (record { sum = has.sum; own = has.own; keeps = (changes has.sum has.own).1 has.useful; shifted = has.shifted })
         | inr stays ↦ inr (elim stays [ inl u ↦ inl (shorts.1 u) | inr u ↦ inr (fulls.1 u) ])
       ],
     )

@@ -135,6 +135,10 @@ module _ (rows : List Sums) (levels total : ℕ) (a : ArcList) (keep : AreRows r
   pub seen-length : (n : ℕ) → n ≡ length (arcs_below rows total (levels * 66049)) → n ≡ length a.arcs
   seen-length n count = count ∙ (own-length ∙ ap (λ (xs : List Arc). length xs) seen-arcs)
 
+  -- the place of an end
+  pub seen-end : (l s : ℕ) → l < a.levels → s ≤ a.total → l * 257 + s < length rows
+  seen-end l s level before = (let fits = keep.small in let count = keep.count in omega (arith, seen-levels, seen-total))
+
   -- the row of an end
   pub seen-row : (l s : ℕ) (row : Sums) → l < a.levels → s ≤ a.total → row ≡ row_of rows l s → (v : ℕ) → Leads row s v ↔ Listed a.arcs l s v
   seen-row l s row level before read v =
@@ -170,45 +174,54 @@ pub read-other : (rows : List Sums) (e f : ℕ) (row : Sums) → (f ≡ e → �
 read-other rows e f row other = get_or-set_other rows e f row none other
 
 -- a row is written
-module _ (rows : List Sums) (levels total : ℕ) (keep : AreRows rows levels total) (l s e : ℕ) (row : Sums) (level : l < levels) (before : s ≤ total) (at : e ≡ l * 257 + s)
-    (ranged : (t : ℕ) → t < 320 → has row t ≡ true → (s ≤ t) × (t ≤ total)) where
+module _ (rows : List Sums) (levels total : ℕ) (a : ArcList) (keep : AreRows rows levels total) (is : record { levels = levels; total = total; arcs = arcs_of rows levels total } ≡ a)
+    (l s e : ℕ) (row : Sums) (level : l < a.levels) (before : s ≤ a.total) (at : e ≡ l * 257 + s) (ranged : (t : ℕ) → t < 320 → has row t ≡ true → (s ≤ t) × (t ≤ a.total)) where
+  written-place : l < levels
+  written-place = omega (arith, seen-levels rows levels total a keep is)
+
+  written-inside : e < length rows
+  written-inside = omega (arith, seen-end rows levels total a keep is l s level before)
+
   pub written-rows : AreRows (slice_set rows e row) levels total
   written-rows =
+      let total_is = seen-total rows levels total a keep is in
       let small = keep.small in
-      let count = keep.count in
       record {
         some = keep.some;
         few = keep.few;
         small = keep.small;
         count = length-set rows e row ∙ keep.count;
         ranged = λ f t within less given. elim (cases_eq f e) [
-          | inl same ↦ (let range = ranged t less (subst (λ (x : Sums). has x t ≡ true) (ap (λ k. sums_at (slice_set rows e row) k) same ∙ read-own rows e row (omega arith)) given) in
+          | inl same ↦ (let range = ranged t less (subst (λ (x : Sums). has x t ≡ true) (ap (λ k. sums_at (slice_set rows e row) k) same ∙ read-own rows e row written-inside) given) in
               let low = range.0 in
-              (omega arith, range.1))
+              let high = range.1 in
+              (omega arith, omega arith))
           | inr other ↦ keep.ranged f t within less (subst (λ (x : Sums). has x t ≡ true) (read-other rows e f row other) given)
         ];
       }
 
   pub written-own : (v : ℕ) → Listed (arcs_of (slice_set rows e row) levels total) l s v ↔ Leads row s v
   written-own v =
+      let total_is = seen-total rows levels total a keep is in
       let small = keep.small in
-      let count = keep.count in
-      let read : row_of (slice_set rows e row) l s ≡ row = ap (λ k. sums_at (slice_set rows e row) k) (sym at) ∙ read-own rows e row (omega arith) in (
+      let read : row_of (slice_set rows e row) l s ≡ row = ap (λ k. sums_at (slice_set rows e row) k) (sym at) ∙ read-own rows e row written-inside in (
         λ member. (let kept = listed-kept (slice_set rows e row) levels total l s v member in
             let sum = kept.sum in
             record { small = omega arith; there = subst (λ (x : Sums). has x (s + v) ≡ true) read kept.there }),
-        λ leads. kept-listed (slice_set rows e row) levels total l s v keep.small
-            (record { place = level; sum = (ranged (s + v) leads.small leads.there).1; there = subst (λ (x : Sums). has x (s + v) ≡ true) (sym read) leads.there }),
+        λ leads. (let high = (ranged (s + v) leads.small leads.there).1 in
+            kept-listed (slice_set rows e row) levels total l s v keep.small
+            (record { place = written-place; sum = omega arith; there = subst (λ (x : Sums). has x (s + v) ≡ true) (sym read) leads.there })),
       )
 
-  pub written-others : (i r v : ℕ) → (i ≡ l → r ≡ s → ⊥) → Listed (arcs_of (slice_set rows e row) levels total) i r v ↔ Listed (arcs_of rows levels total) i r v
+  pub written-others : (i r v : ℕ) → (i ≡ l → r ≡ s → ⊥) → Listed (arcs_of (slice_set rows e row) levels total) i r v ↔ Listed a.arcs i r v
   written-others i r v other =
+      let total_is = seen-total rows levels total a keep is in
       let small = keep.small in
       let read : r + v ≤ total → row_of (slice_set rows e row) i r ≡ row_of rows i r =
       λ sum. read-other rows e (i * 257 + r) row (λ same. other (omega arith) (omega arith)) in (
         λ member. (let kept = listed-kept (slice_set rows e row) levels total i r v member in
-            kept-listed rows levels total i r v keep.small (record { place = kept.place; sum = kept.sum; there = subst (λ (x : Sums). has x (r + v) ≡ true) (read kept.sum) kept.there })),
-        λ member. (let kept = listed-kept rows levels total i r v member in
+            kept-seen rows levels total a keep is i r v (record { place = kept.place; sum = kept.sum; there = subst (λ (x : Sums). has x (r + v) ≡ true) (read kept.sum) kept.there })),
+        λ member. (let kept = seen-kept rows levels total a keep is i r v member in
             kept-listed (slice_set rows e row) levels total i r v keep.small (record { place = kept.place; sum = kept.sum; there = subst (λ (x : Sums). has x (r + v) ≡ true) (sym (read kept.sum)) kept.there })),
       )
 

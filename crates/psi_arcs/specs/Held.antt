@@ -22,6 +22,12 @@ pub record IsRanged (levels total : ℕ) (arc : Arc) : Type 0 where
 abbrev pub AreRanged : ℕ → ℕ → List Arc → Type 0
 AreRanged levels total arcs = (arc : Arc) → In arc arcs → IsRanged levels total arc
 
+-- at most 32 queues and 256 customers, and each arc in range
+pub record IsSized (a : ArcList) : Type 0 where
+  pub few : a.levels ≤ 32
+  pub small : a.total ≤ 256
+  pub ranged : AreRanged a.levels a.total a.arcs
+
 -- it is this arc
 pub record IsThis (arc : Arc) (l s v : ℕ) : Type 0 where
   pub level : arc.level ≡ l

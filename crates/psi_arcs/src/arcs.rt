@@ -100,22 +100,26 @@ impl Arcs {
     }
 
     /// The number of queues, 1 to 32.
+    ///
+    /// Its last clause is how a caller learns that each arc is in range.
     #[inline]
     pub fn levels(&self) -> u8
         ensures value { result ≡ self.now.levels }
         ensures some { 1 ≤ self.now.levels }
         ensures few { self.now.levels ≤ 32 }
+        ensures ranged { AreRanged self.now.levels self.now.total self.now.arcs }
     {
         self.levels
     }
 
     /// The number of customers in all, 0 to 256.
     ///
-    /// Its third clause is how a caller learns that each arc is in range.
+    /// Its other clauses are how a caller learns that each arc is in range, and the number of queues.
     #[inline]
     pub fn total(&self) -> u16
         ensures value { result ≡ self.now.total }
         ensures small { self.now.total ≤ 256 }
+        ensures few { self.now.levels ≤ 32 }
         ensures ranged { AreRanged self.now.levels self.now.total self.now.arcs }
     {
         self.total
@@ -165,8 +169,6 @@ impl Arcs {
         ensures total { self.new.total ≡ self.old.total }
         ensures arcs { (l s v : ℕ) → Listed self.new.arcs l s v ↔ (Listed self.old.arcs l s v ⊎ IsThis arc l s v) }
     {
-        // Called for its clause: sums are small.
-        let _total = self.total();
         let mut row = self.row(arc.level, arc.before);
         row.insert(arc.before + arc.value);
         self.put(arc.level, arc.before, row);
@@ -193,6 +195,7 @@ impl Arcs {
         requires level { level < self.now.levels }
         requires before { before ≤ self.now.total }
         ensures arcs { (v : ℕ) → Leads result before v ↔ Listed self.now.arcs level before v }
+        ensures small { self.now.total ≤ 256 }
         ensures ranged { (t : ℕ) → t < 320 → has result t ≡ true → (before ≤ t) × (t ≤ self.now.total) }
     {
         self.rows[end_of(level, before)]

@@ -27,8 +27,6 @@ impl Arcs {
         ensures total { self.new.total ≡ self.old.total }
         ensures arcs { (l s v : ℕ) → Listed self.new.arcs l s v ↔ IsAny caps.now self.old.total l s v }
     {
-        // Called for its clause: the arcs are in range.
-        let _total = self.total();
         for level in 0..self.levels() {
             self.fill_queue(level, caps.get(level));
         }

@@ -58,12 +58,11 @@ fn source(now: u16, away: u16, come: u16, total: u16) -> Option<u16>
 fn shifted(of: &Arcs, level: u8, before: u16, from: u8, to: u8, marks: &Marks) -> Sums
     requires level { level < of.now.levels }
     requires before { before ≤ of.now.total }
+    requires few { of.now.levels ≤ 32 }
     requires shiftable { (s v : ℕ) → Listed of.now.arcs level s v → IsReached marks.now level s v → IsShiftable from to of.now.total level s v }
     ensures arcs { (v : ℕ) → Leads result before v ↔ Shifts (Listed of.now.arcs) marks.now from to level before v }
     ensures ranged { (t : ℕ) → t < 320 → has result t ≡ true → (before ≤ t) × (t ≤ of.now.total) }
 {
-    // Called for their clauses: the arcs are in range.
-    let _levels = of.levels();
     let total = of.total();
     match source(before, one_past(from, level), one_past(to, level), total) {
         Some(sum) => turned(
@@ -80,13 +79,12 @@ fn shifted(of: &Arcs, level: u8, before: u16, from: u8, to: u8, marks: &Marks) -
 fn given(of: &Arcs, level: u8, before: u16, from: u8, to: u8, reach: &Reach) -> Sums
     requires level { level < of.now.levels }
     requires before { before ≤ of.now.total }
+    requires few { of.now.levels ≤ 32 }
+    requires small { of.now.total ≤ 256 }
     requires shiftable { (s v : ℕ) → Listed of.now.arcs level s v → IsReached reach.now.changing level s v → IsShiftable from to of.now.total level s v }
     ensures arcs { (v : ℕ) → Leads result before v ↔ Gives (Listed of.now.arcs) reach.now from to level before v }
     ensures ranged { (t : ℕ) → t < 320 → has result t ≡ true → (before ≤ t) × (t ≤ of.now.total) }
 {
-    // Called for their clauses: the arcs are in range.
-    let _levels = of.levels();
-    let _total = of.total();
     let changed = shifted(of, level, before, from, to, &reach.changing);
     let short = reach.short.kept(of, level, before);
     let full = reach.full.kept(of, level, before);
@@ -98,6 +96,8 @@ fn given(of: &Arcs, level: u8, before: u16, from: u8, to: u8, reach: &Reach) -> 
 fn give_rows(of: &Arcs, level: u8, span: Span, from: u8, to: u8, reach: &mut Reach)
     requires level { level < of.now.levels }
     requires inside { span.end ≤ of.now.total + 1 }
+    requires few { of.now.levels ≤ 32 }
+    requires small { of.now.total ≤ 256 }
     requires shiftable { (s v : ℕ) → Listed of.now.arcs level s v → IsReached reach.old.changing level s v → IsShiftable from to of.now.total level s v }
     ensures arcs { (s v : ℕ) → span.first ≤ s → s < span.end
         → Leads (sums_at reach.new.next.items s) s v ↔ Gives (Listed of.now.arcs) reach.old from to level s v }
@@ -106,8 +106,6 @@ fn give_rows(of: &Arcs, level: u8, span: Span, from: u8, to: u8, reach: &mut Rea
     ensures short { reach.new.short ≡ reach.old.short }
     ensures full { reach.new.full ≡ reach.old.full }
 {
-    // Called for its clause: sums are small.
-    let _total = of.total();
     for before in span.first..span.end {
         let row = given(of, level, before, from, to, reach);
         reach.next[before as usize] = row;
@@ -121,7 +119,6 @@ impl Arcs {
         ensures total { self.new.total ≡ self.old.total }
         ensures arcs { (l s v : ℕ) → Listed self.new.arcs l s v ↔ Useful (Listed self.old.arcs) self.old.levels self.old.total l s v }
     {
-        // Called for their clauses: the arcs are in range.
         let total = self.total();
         let last = self.levels() - 1;
         tell_spans(self, 0, last, reach.spans.as_mut_slice());
@@ -174,8 +171,6 @@ impl Arcs {
         ensures total { self.new.total ≡ self.old.total }
         ensures arcs { (l s v : ℕ) → Listed self.new.arcs l s v ↔ Joined (Listed self.old.arcs) self.old.levels self.old.total from k to room l s v }
     {
-        // Called for its clause: the arcs are in range.
-        let _levels = self.levels();
         reach.mark(self, from, k, to, room);
         let low = from.min(to);
         let high = from.max(to);

@@ -1,9 +1,9 @@
 //! The reach of arcs from both sides: which of them lie on a whole walk.
 
-ghost use Rattle.std.specs.Prelude.{◌≡◌, ◌≢◌, ℕ, suc, ◌+◌, ◌<◌, ◌≤◌, ◌↔◌, ◌⊎◌, IsTrue, IfOk, true, false, length, min, max};
+ghost use Rattle.std.specs.Prelude.{◌≡◌, ◌≢◌, ℕ, suc, ◌+◌, ◌^◌, ◌<◌, ◌≤◌, ◌↔◌, ◌⊎◌, IsTrue, IfOk, true, false, length, min, max};
 ghost use Rattle.psi_arcs.specs.Sums.{has, Leads};
 ghost use Rattle.psi_arcs.specs.Walks.{Before, After, Useful};
-ghost use Rattle.psi_arcs.specs.Held.{Listed};
+ghost use Rattle.psi_arcs.specs.Held.{Listed, IsSized};
 ghost use Rattle.psi_arcs.specs.Windows.{IsWithin, Allows, Enters, EntersBelow, Exits, MarkBefore, MarkAfter};
 ghost use Rattle.psi_arcs.specs.Joining.{Only, IsChanging, IsShort, IsFull};
 ghost use Rattle.psi_arcs.specs.SpansKept.{IsSpan, AreSpans};
@@ -35,10 +35,9 @@ fn windowed(of: &Arcs, level: u8, before: u16, window: Window) -> Sums
     requires level { level < of.now.levels }
     requires before { before ≤ of.now.total }
     ensures arcs { (v : ℕ) → Leads result before v ↔ (Listed of.now.arcs level before v × IsWithin window v) }
+    ensures small { of.now.total ≤ 256 }
     ensures ranged { (t : ℕ) → t < 320 → has result t ≡ true → (before ≤ t) × (t ≤ of.now.total) }
 {
-    // Called for its clause: sums are small.
-    let _total = of.total();
     let row = of.row(level, before);
     if window.is_any() {
         return row;
@@ -56,11 +55,10 @@ fn windowed(of: &Arcs, level: u8, before: u16, window: Window) -> Sums
 fn and_past(past: Sums, of: &Arcs, level: u8, before: u16, window: Window, marks: &Sums) -> Sums
     requires level { level < of.now.levels }
     requires before { before ≤ of.now.total }
+    requires small { of.now.total ≤ 256 }
     ensures { (t : ℕ) → t < 320 → ((has past t ≡ true) ↔ EntersBelow of.now.arcs level t window marks.now before)
         → (has result t ≡ true) ↔ EntersBelow of.now.arcs level t window marks.now (before + 1) }
 {
-    // Called for its clause: sums are small.
-    let _total = of.total();
     if !marks.holds(before) {
         return past;
     }
@@ -72,10 +70,9 @@ fn and_past(past: Sums, of: &Arcs, level: u8, before: u16, window: Window, marks
 fn marks_past(of: &Arcs, level: u8, span: Span, window: Window, marks: &Sums) -> Sums
     requires level { level < of.now.levels }
     requires span { IsSpan of.now.arcs of.now.total level span }
+    requires small { of.now.total ≤ 256 }
     ensures { (t : ℕ) → t < 320 → (has result t ≡ true) ↔ Enters of.now.arcs level t window marks.now }
 {
-    // Called for its clause: sums are small.
-    let _total = of.total();
     let mut past = Sums::none();
     if marks.is_none() {
         return past;
@@ -94,8 +91,6 @@ fn exits(of: &Arcs, level: u8, before: u16, window: Window, marks: &Sums) -> boo
     ensures some { result ≡ true → Exits of.now.arcs level before window marks.now }
     ensures none { result ≡ false → Exits of.now.arcs level before window marks.now → ⊥ }
 {
-    // Called for its clause: sums are small.
-    let _total = of.total();
     !windowed(of, level, before, window).and(marks).is_none()
 }
 
@@ -103,10 +98,9 @@ fn exits(of: &Arcs, level: u8, before: u16, window: Window, marks: &Sums) -> boo
 fn marks_before(of: &Arcs, level: u8, span: Span, window: Window, marks: &Sums) -> Sums
     requires level { level < of.now.levels }
     requires span { IsSpan of.now.arcs of.now.total level span }
+    requires sized { IsSized of.now }
     ensures { (s : ℕ) → s < 320 → (has result s ≡ true) ↔ Exits of.now.arcs level s window marks.now }
 {
-    // Called for its clause: sums are small.
-    let _total = of.total();
     let mut left = Sums::none();
     if marks.is_none() {
         return left;
@@ -146,12 +140,10 @@ fn mark_before(
     requires start { low ≤ start }
     requires order { start ≤ high }
     requires inside { high < of.now.levels }
+    requires sized { IsSized of.now }
     requires begin { (l s v : ℕ) → low ≤ l → l ≤ start → Listed of.now.arcs l s v → (has first s ≡ true) ↔ Before (Only (Listed of.now.arcs) (Allows rule.now)) l s }
     ensures { MarkBefore (Listed of.now.arcs) (Only (Listed of.now.arcs) (Allows rule.now)) low high marks.new }
 {
-    // Called for their clauses: the arcs are in range.
-    let _levels = of.levels();
-    let _total = of.total();
     fill(marks, low, start, first);
     for level in start..high {
         let own = marks[level as usize];
@@ -178,13 +170,11 @@ fn mark_after(
     requires order { low ≤ stop }
     requires stop { stop ≤ high }
     requires inside { high < of.now.levels }
+    requires sized { IsSized of.now }
     requires begin { (l s v : ℕ) → stop ≤ l → l ≤ high → Listed of.now.arcs l s v
         → (has last (s + v) ≡ true) ↔ After (Only (Listed of.now.arcs) (Allows rule.now)) of.now.levels of.now.total (suc l) (s + v) }
     ensures { MarkAfter (Listed of.now.arcs) (Only (Listed of.now.arcs) (Allows rule.now)) of.now.levels of.now.total low high marks.new }
 {
-    // Called for their clauses: the arcs are in range.
-    let _levels = of.levels();
-    let _total = of.total();
     fill(marks, stop + 1, high + 1, last);
     let mut level = stop;
     while level > low {
@@ -227,6 +217,7 @@ impl Marks {
         requires start_high { start ≤ high }
         requires stop_high { stop ≤ high }
         requires inside { high < of.now.levels }
+        requires sized { IsSized of.now }
         requires first { (l s v : ℕ) → low ≤ l → l ≤ start → Listed of.now.arcs l s v → (has first s ≡ true) ↔ Before (Only (Listed of.now.arcs) (Allows rule)) l s }
         requires last { (l s v : ℕ) → stop ≤ l → l ≤ high → Listed of.now.arcs l s v
             → (has last (s + v) ≡ true) ↔ After (Only (Listed of.now.arcs) (Allows rule)) of.now.levels of.now.total (suc l) (s + v) }
@@ -261,16 +252,47 @@ impl Marks {
     pub(crate) fn kept(&self, of: &Arcs, level: u8, before: u16) -> Sums
         requires level { level < of.now.levels }
         requires before { before ≤ of.now.total }
+        requires few { of.now.levels ≤ 32 }
+        requires small { of.now.total ≤ 256 }
         ensures arcs { (v : ℕ) → Leads result before v ↔ Keeps (Listed of.now.arcs) self.now level before v }
         ensures ranged { (t : ℕ) → t < 320 → has result t ≡ true → (before ≤ t) × (t ≤ of.now.total) }
     {
-        // Called for their clauses: the arcs are in range.
-        let _levels = of.levels();
-        let _total = of.total();
         if !self.before[level as usize].holds(before) {
             return Sums::none();
         }
         windowed(of, level, before, self.rule.window(level)).and(&self.after[level as usize + 1])
+    }
+}
+
+impl Marks {
+    // Marks the ends of the arcs that the rule allows, where all arcs are useful and it allows all of the queues before
+    // `start` and past `stop`: all ends are reached up to the first, and all past the second lead to the end.
+    fn mark_between(
+        &mut self,
+        of: &Arcs,
+        spans: &[Span],
+        rule: Rule,
+        low: u8,
+        start: u8,
+        stop: u8,
+        high: u8,
+    )
+        requires span_room { length spans.now ≡ 32 }
+        requires spans { AreSpans of.now.arcs of.now.total low high spans.now }
+        requires low_start { low ≤ start }
+        requires low_stop { low ≤ stop }
+        requires start_high { start ≤ high }
+        requires stop_high { stop ≤ high }
+        requires inside { high < of.now.levels }
+        requires sized { IsSized of.now }
+        requires whole { (l s v : ℕ) → Listed of.now.arcs l s v → Useful (Listed of.now.arcs) of.now.levels of.now.total l s v }
+        requires before { (l v : ℕ) → l < start → v < 2 ^ 16 → Allows rule l v }
+        requires past { (l v : ℕ) → stop < l → v < 2 ^ 16 → Allows rule l v }
+        ensures rule { self.new.rule ≡ rule }
+        ensures marked { AreMarked (Listed of.now.arcs) of.now.levels of.now.total low high self.new }
+    {
+        let all = Sums::all();
+        self.mark(of, spans, rule, low, start, stop, high, all, all);
     }
 }
 
@@ -300,6 +322,7 @@ impl Reach {
         requires target { to < of.now.levels }
         requires apart { from ≢ to }
         requires whole { (l s v : ℕ) → Listed of.now.arcs l s v → Useful (Listed of.now.arcs) of.now.levels of.now.total l s v }
+        ensures few { of.now.levels ≤ 32 }
         ensures changing { TellsUseful (Listed of.now.arcs) of.now.levels of.now.total (min from to) (max from to) (IsChanging from k to room) self.new.changing }
         ensures short { TellsUseful (Listed of.now.arcs) of.now.levels of.now.total (min from to) (max from to) (IsShort from k) self.new.short }
         ensures full { TellsUseful (Listed of.now.arcs) of.now.levels of.now.total (min from to) (max from to) (IsFull to room) self.new.full }
@@ -308,17 +331,15 @@ impl Reach {
         let _total = of.total();
         let low = from.min(to);
         let high = from.max(to);
-        let all = Sums::all();
         tell_spans(of, low, high, self.spans.as_mut_slice());
         let spans = self.spans.as_slice();
         let changing = Rule::changing(from, k, to, room);
         let short = Rule::short(from, k);
         let full = Rule::full(to, room);
         self.changing
-            .mark(of, spans, changing, low, low, high, high, all, all);
-        // Where one queue alone has a window, all ends are reached up to it, and all past it lead to the end.
+            .mark_between(of, spans, changing, low, low, high, high);
         self.short
-            .mark(of, spans, short, low, from, from, high, all, all);
-        self.full.mark(of, spans, full, low, to, to, high, all, all);
+            .mark_between(of, spans, short, low, from, from, high);
+        self.full.mark_between(of, spans, full, low, to, to, high);
     }
 }

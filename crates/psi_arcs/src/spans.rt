@@ -83,10 +83,9 @@ pub(crate) fn tell_spans(of: &Arcs, low: u8, high: u8, spans: &mut [Span])
     requires room { length spans.old ≡ 32 }
     requires order { low ≤ high }
     requires inside { high < of.now.levels }
+    requires few { of.now.levels ≤ 32 }
     ensures { AreSpans of.now.arcs of.now.total low high spans.new }
 {
-    // Called for its clause: there are at most 32 queues.
-    let _levels = of.levels();
     for level in low..high + 1 {
         spans[level as usize] = span_of(of, level);
     }

@@ -12,5 +12,5 @@ returns-then-not-holds c t small before = (
 pub returns : goal.returns
 returns c t small before =
     enters-more c.args.of.now.arcs c.args.level c.args.window c.args.marks.now c.windowed.result c.args.past c.or.result c.args.before (sym c.holds.ensures ∙ c.if-not-holds.false)
-    c.windowed.ensures.arcs (λ u less given. (let range = c.windowed.ensures.ranged u less given in let high = range.1 in let few = c.total-total.ensures.small in (range.0, omega arith)))
+    c.windowed.ensures.arcs (λ u less given. (let range = c.windowed.ensures.ranged u less given in let high = range.1 in let few = c.requires.small in (range.0, omega arith)))
     c.or.ensures t small before

@@ -13,24 +13,18 @@ loop-level-init c =
     record {
       low = c.requires.order;
       high = c.requires.stop;
-      marked = ahead-begun of.arcs c.args.rule.now of.levels of.total c.total-total.ensures.ranged c.total-total.ensures.small c.args.stop c.args.high c.fill.new.marks c.args.last
+      marked = ahead-begun of.arcs c.args.rule.now of.levels of.total c.requires.sized.ranged c.requires.sized.small c.args.stop c.args.high c.fill.new.marks c.args.last
           c.fill.ensures c.requires.begin;
     }
 
 pub loop-level-preserved : goal.loop-level-preserved
 loop-level-preserved c =
     let of = c.args.of.now in
-    let few = c.levels-levels.ensures.few in
-    let inside = c.requires.inside in
-    let room = c.requires.room in
-    let long = c.loop-level.auto.marks in
-    let filled = c.fill.auto.marks in
-    let test = c.loop-level-test.true in
-    let below = c.loop-level.invariant.high in
+    let few = c.requires.sized.few in
     record {
       low = omega arith;
       high = omega arith;
-      marked = ahead-previous of.arcs c.args.rule.now of.levels of.total c.total-total.ensures.ranged c.total-total.ensures.small c.args.high c.loop-level.level c.window.result c.loop-level.marks
+      marked = ahead-previous of.arcs c.args.rule.now of.levels of.total c.requires.sized.ranged c.requires.sized.small c.args.high c.loop-level.level c.window.result c.loop-level.marks
           _ c.marks_before-left.result (omega arith) c.loop-level.invariant.high (omega arith) (omega arith)
           (read-default c.loop-level.marks (c.loop-level.level + 1) (record { words = [] }) (omega arith)) c.window.ensures c.marks_before-left.ensures c.loop-level.invariant.marked;
     }

@@ -10,21 +10,14 @@ use Rattle.psi_arcs.proofs.reach.mark_before.Goals as goal
 pub loop-level-init : goal.loop-level-init
 loop-level-init c =
     let of = c.args.of.now in
-    behind-begun of.arcs c.args.rule.now of.levels of.total c.total-total.ensures.ranged c.total-total.ensures.small c.args.low c.args.start c.fill.new.marks c.args.first
+    behind-begun of.arcs c.args.rule.now of.levels of.total c.requires.sized.ranged c.requires.sized.small c.args.low c.args.start c.fill.new.marks c.args.first
     c.fill.ensures c.requires.begin
 
 pub loop-level-preserved : goal.loop-level-preserved
 loop-level-preserved c =
     let of = c.args.of.now in
-    let few = c.levels-levels.ensures.few in
-    let inside = c.requires.inside in
-    let room = c.requires.room in
-    let long = c.loop-level.auto.marks in
-    let filled = c.fill.auto.marks in
-    let start = c.requires.start in
-    let test = c.loop-level-test.true in
-    let low = c.loop-level.auto.level in
-    behind-next of.arcs c.args.rule.now of.levels of.total c.total-total.ensures.ranged c.total-total.ensures.small c.args.low c.loop-level.level c.window.result c.loop-level.marks
+    let few = c.requires.sized.few in
+    behind-next of.arcs c.args.rule.now of.levels of.total c.requires.sized.ranged c.requires.sized.small c.args.low c.loop-level.level c.window.result c.loop-level.marks
     _ c.marks_past-past.result (omega arith) (omega arith) (read-default c.loop-level.marks c.loop-level.level (record { words = [] }) (omega arith)) c.window.ensures
     c.marks_past-past.ensures c.loop-level.invariant
 

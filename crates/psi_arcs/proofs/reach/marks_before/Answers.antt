@@ -8,8 +8,8 @@ use Rattle.psi_arcs.proofs.reach.marks_before.Goals as goal
 pub returns-then-is_none : goal.returns-then-is_none
 returns-then-is_none c s small = (
   λ given. absurd (true≢false (sym given ∙ c.none-left.ensures s small)),
-  λ exits. (let sum = (c.total-total.ensures.ranged (arc_of c.args.level s exits.value) exits.listed).sum in
-      let few = c.total-total.ensures.small in
+  λ exits. (let sum = (c.requires.sized.ranged (arc_of c.args.level s exits.value) exits.listed).sum in
+      let few = c.requires.sized.small in
       absurd (true≢false (sym exits.marked ∙ c.if-is_none.ensures.none refl (s + exits.value) (omega arith)))),
 )
 

@@ -29,4 +29,4 @@ returns-clause-arcs c =
     let levels = c.levels-level-end.ensures.value in
     let count = c.requires in
     done-all (IsAny c.args.caps.now c.args.self.now.total) c.args.self.now.arcs c.loop-level.self.arcs c.loop-level.level c.loop-level.invariant.done
-    (λ l s v member. (let place = (c.total-total.ensures.ranged (arc_of l s v) member).place in omega arith)) (λ l s v any. (let place = any.place in omega arith))
+    (λ l s v member. (let place = (c.levels-level-end.ensures.ranged (arc_of l s v) member).place in omega arith)) (λ l s v any. (let place = any.place in omega arith))

@@ -5,5 +5,5 @@ use Rattle.psi_arcs.proofs.arcs.Arcs.insert.Goals as goal
 
 pub returns-clause-arcs : goal.returns-clause-arcs
 returns-clause-arcs c =
-    let small = c.total-total.ensures.small in
+    let small = c.row-row.ensures.small in
     insert-arcs c.args.self.now.arcs c.put.new.self.arcs c.args.arc c.row-row.result c.insert.new.self (omega arith) c.row-row.ensures.arcs c.insert.ensures c.put.ensures.own c.put.ensures.others

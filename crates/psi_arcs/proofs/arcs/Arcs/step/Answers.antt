@@ -13,10 +13,6 @@ pub shift_level-requires-clause-shiftable : goal.shift_level-requires-clause-shi
 shift_level-requires-clause-shiftable c s v listed reached =
     let first = c.args.self.now in
     let inv = c.loop-level.invariant in
-    let low = c.loop-level.auto.level in
-    let test = c.loop-level-test.true in
-    let least = c.min-low.ensures in
-    let most = c.max-high.ensures in
     let there = (done-next (min c.args.from c.args.to) (Joined (Listed first.arcs) first.levels first.total c.args.from c.args.k c.args.to c.args.room) first.arcs c.loop-level.self.arcs
     c.loop-level.level inv.done s v).0 listed in
     subst (λ t. IsShiftable c.args.from c.args.to t c.loop-level.level s v) (sym inv.total)
@@ -27,10 +23,6 @@ pub loop-level-preserved : goal.loop-level-preserved
 loop-level-preserved c =
     let first = c.args.self.now in
     let inv = c.loop-level.invariant in
-    let low = c.loop-level.auto.level in
-    let test = c.loop-level-test.true in
-    let least = c.min-low.ensures in
-    let most = c.max-high.ensures in
     record {
       levels = c.shift_level.ensures.levels ∙ inv.levels;
       total = c.shift_level.ensures.total ∙ inv.total;

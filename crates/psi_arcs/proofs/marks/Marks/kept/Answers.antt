@@ -12,7 +12,6 @@ pub returns-clause-arcs : goal.returns-clause-arcs
 returns-clause-arcs c v =
     let m = c.args.self.now in
     let led = c.windowed.ensures.arcs v in
-    let levels = c.levels-levels.ensures.few in
     let inside = c.requires.level in
     let long_before = m.before_all in
     let long_after = m.after_all in
