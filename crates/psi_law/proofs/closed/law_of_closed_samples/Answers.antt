@@ -1,16 +1,10 @@
 -- Answers in the proof of `law_of_closed_samples`.
+use Rattle.std.proofs.Common.{rules}
 use Rattle.psi_law.proofs.ClosedLemmas.{moves-lawful}
 use Rattle.psi_law.proofs.closed.law_of_closed_samples.Goals as goal
 
 pub returns : goal.returns
 returns c =
     let is = moves-lawful c.args.caps c.args.total c.args.moves.now c.args.wheel.now c.args.limit c.requires.moves c.requires.fits c.events-events.ensures.valid c.requires.same_count in
-    record {
-      balance = is.laws.balance;
-      law = is.laws.law;
-      falls = is.laws.falls;
-      one = is.laws.one;
-      mean = is.laws.mean;
-      words = is.laws.words;
-      sample = is.promised;
-    }
+    let laws = is.laws in
+    search rules
