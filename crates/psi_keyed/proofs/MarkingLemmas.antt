@@ -5,7 +5,7 @@ use Rattle.std.proofs.lemmas.Bool.{cases_lt, cases_eq}
 use Rattle.std.proofs.lemmas.List.{set-get_or, get_or-replicate}
 use Rattle.psi_state.specs.State.{IsBelow}
 use Rattle.psi_event.specs.Law.{Function}
-use Rattle.psi_keyed.specs.Keys.{Keys, no_key, cap_at, AreRanked, key_at, key_in, AreKeys, left, joined, Joins}
+use Rattle.psi_keyed.specs.Keys.{Keys, no_key, cap_at, AreRanked, key_at, key_in, AreKeys, IsChosen, left, joined, Joins}
 
 -- the number of a target is at most its capacity
 pub held-most : (k : Keys) (x : List ℕ) (i : ℕ) → AreRanked k → IsBelow x k.caps → i < length k.targets
@@ -46,13 +46,6 @@ keys-beside k x keys q v are none = record {
   own = λ i within. are.own i within ∙ ap (λ n. key_at k i n) (sym (get_or-set_other {A = ℕ} x q (slice_index k.targets i) v 0 (none i within)));
   past = are.past;
 }
-
--- the least of the keys is that of the place that it tells
-pub record IsChosen (k : Keys) (x : List ℕ) (least : ℕ) : Type 0 where
-  pub place : least % 32 < length k.targets
-  pub own : key_in k x (least % 32) ≡ least
-  pub room : slice_index x (slice_index k.targets (least % 32)) < cap_at k.caps k.targets (least % 32)
-  pub others : (i : ℕ) → i < length k.targets → i ≢ least % 32 → key_in k x (least % 32) < key_in k x i
 
 -- a place with a key has room
 pub key-room : (k : Keys) (x : List ℕ) (i : ℕ) → AreRanked k → IsBelow x k.caps → i < length k.targets → key_in k x i < no_key

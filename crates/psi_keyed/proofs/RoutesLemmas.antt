@@ -9,7 +9,7 @@ use Rattle.psi_route.specs.Acting.{NoRoom}
 use Rattle.psi_route.specs.ActingLaws.{act-idle, act-serves}
 use Rattle.psi_route.specs.Accepted.{IsRouteShape}
 use Rattle.psi_route.proofs.ActingLemmas.{act-some, act-lost, best-none, taken-past}
-use Rattle.psi_keyed.specs.Keys.{Keys, no_key, cap_at, AreRanked, IsBoard, key_in, left, Joins, IsBoardFor}
+use Rattle.psi_keyed.specs.Keys.{Keys, no_key, cap_at, AreRanked, key_in, left, Joins, IsBoardFor}
 use Rattle.psi_keyed.specs.RowsKept.{AreRowsOf}
 use Rattle.psi_keyed.proofs.MarkingLemmas.{key-room}
 
@@ -34,12 +34,6 @@ rows-ranked s bases entries is rows = record {
   placed = λ i v small room. (let few : length s.targets ≤ 32 = is.few in
       ap (λ n. n % 32) ((rows.each i small).keys v room) ∙ place-told (weight s i v) i (omega arith));
   full = λ i small. (rows.each i small).full;
-}
-
-pub rows-board : (s : Shape) (bases entries : List ℕ) → IsRouteShape s → AreRowsOf s (length s.targets) bases entries → IsBoard (keys_of s bases entries)
-rows-board s bases entries is rows = record {
-  ranked = rows-ranked s bases entries is rows;
-  inside = λ i small. (rows.each i small).inside;
 }
 
 -- the place of the least key is the best one
@@ -131,12 +125,6 @@ routed-still s x empty none below =
     act-lost (routing s) x (omega arith) (record { each = λ i small. absurd (omega arith) }) (inr empty) ∙ free.1
 
 -- the keys of a route's targets, by what is kept of them
-pub board-is : (s : Shape) (caps targets bases entries : List ℕ) → IsRouteShape s → AreRowsOf s (length s.targets) bases entries → caps ≡ s.caps → targets ≡ s.targets
-    → IsBoard (record { caps = caps; targets = targets; bases = bases; entries = entries })
-board-is s caps targets bases entries is rows same_caps same =
-    subst (λ (cs : List ℕ). IsBoard (record { caps = cs; targets = targets; bases = bases; entries = entries })) (sym same_caps)
-    (subst (λ (ts : List ℕ). IsBoard (record { caps = s.caps; targets = ts; bases = bases; entries = entries })) (sym same) (rows-board s bases entries is rows))
-
 pub board-for : (s : Shape) (caps targets bases entries : List ℕ) → IsRouteShape s → s.source ≡ None → s.size ≡ 1 → AreRowsOf s (length s.targets) bases entries
     → caps ≡ s.caps → targets ≡ s.targets → IsBoardFor s.caps (routed s) (record { caps = caps; targets = targets; bases = bases; entries = entries })
 board-for s caps targets bases entries is none one rows same_caps same = record {

@@ -50,6 +50,13 @@ pub record AreKeys (k : Keys) (x keys : List ℕ) : Type 0 where
   pub own : (i : ℕ) → i < length k.targets → slice_index keys i ≡ key_in k x i
   pub past : (i : ℕ) → length k.targets ≤ i → i < 32 → slice_index keys i ≡ no_key
 
+-- the least of the keys is that of the place that it tells
+pub record IsChosen (k : Keys) (x : List ℕ) (least : ℕ) : Type 0 where
+  pub place : least % 32 < length k.targets
+  pub own : key_in k x (least % 32) ≡ least
+  pub room : slice_index x (slice_index k.targets (least % 32)) < cap_at k.caps k.targets (least % 32)
+  pub others : (i : ℕ) → i < length k.targets → i ≢ least % 32 → key_in k x (least % 32) < key_in k x i
+
 -- the place of a queue in a list of targets, or 32 where it is none of them
 abbrev pub IsPlaceOf : List ℕ → ℕ → ℕ → Type 0
 IsPlaceOf targets queue place =

@@ -76,8 +76,6 @@ impl Keyed {
         ensures low { Follows self.now numbers.now low.old low.new }
         ensures high { Follows self.now numbers.now high.old high.new }
     {
-        // Called for its clause: each key tells its place.
-        let _targets = self.board.targets();
         let mut least = Marked::of(&self.board, low);
         let mut greatest = Marked::of(&self.board, high);
         self.advance(numbers, &mut least, &mut greatest);

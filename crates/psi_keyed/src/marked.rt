@@ -2,7 +2,7 @@
 
 ghost use Rattle.std.specs.Prelude.{◌≡◌, ◌<◌, ◌≤◌, ℕ, List, length, slice_index};
 ghost use Rattle.psi_state.specs.State.{IsBelow};
-ghost use Rattle.psi_keyed.specs.Keys.{AreRanked, AreKeys, IsPlaceOf, Joins, left};
+ghost use Rattle.psi_keyed.specs.Keys.{no_key, AreRanked, AreKeys, IsChosen, IsPlaceOf, Joins, left};
 ghost use Rattle.psi_keyed.specs.Steps.{IsStep, IsMade};
 
 use crate::board::Board;
@@ -25,6 +25,7 @@ impl Marked {
         requires { IsBelow state.now board.now.caps }
         ensures state { result.state ≡ state.now }
         ensures keys { AreKeys board.now state.now result.keys }
+        ensures ranked { AreRanked board.now }
     {
         let mut keys = [NO_KEY; 32];
         let targets = board.targets();
@@ -94,6 +95,21 @@ impl Marked {
         if least == NO_KEY {
             return;
         }
+        self.join_chosen(board, least);
+    }
+
+    // A customer joins the target whose key is the least of all.
+    #[inline]
+    fn join_chosen(&mut self, board: &Board, least: u32)
+        requires ranked { AreRanked board.now }
+        requires within { IsBelow self.old.state board.now.caps }
+        requires keys { AreKeys board.now self.old.state self.old.keys }
+        requires chosen { IsChosen board.now self.old.state least }
+        requires some { least < no_key }
+        ensures joined { (f : List ℕ → List ℕ) → Joins board.now f → self.new.state ≡ f self.old.state }
+        ensures within { IsBelow self.new.state board.now.caps }
+        ensures keys { AreKeys board.now self.new.state self.new.keys }
+    {
         let place = (least % 32) as u8;
         let queue = board.queue(place);
         let number = self.state.get(queue) + 1;
