@@ -87,29 +87,27 @@ spread-end term [] (queue ∷ queues) x y same = absurd (omega arith)
 spread-end term (part ∷ parts) [] x y same = absurd (omega arith)
 spread-end term (part ∷ parts) (queue ∷ queues) x y same = spread-end term parts queues x y (omega arith)
 
+-- the values at two of the numbers are below all and above all
+span-ends : (f : ℕ → ℤ) (l h a b : ℕ) (low high : ℤ) → (l ≤ a) × (a ≤ h) → (l ≤ b) × (b ≤ h) → low ≡ f a → high ≡ f b → ((v : ℕ) → l ≤ v → v ≤ h → f a ≤ℤ f v)
+    → ((v : ℕ) → l ≤ v → v ≤ h → f v ≤ℤ f b) → IsSpan f l h low high
+span-ends f l h a b low high first last low_is high_is above below = record {
+  above = λ v more less. (let own = above v more less in omega (arith, ints));
+  below = λ v more less. (let own = below v more less in omega (arith, ints));
+  low_at = (a, first.0, first.1, sym low_is);
+  high_at = (b, last.0, last.1, sym high_is);
+}
+
 -- a number of customers with a weight is least and greatest at the ends
 pub weighted-span : (weight : ℤ) (l h : ℕ) → l ≤ h
     → IsSpan (weighted weight) l h (int_min (weighted weight l) (weighted weight h)) (int_max (weighted weight l) (weighted weight h))
 weighted-span (pos n) l h ordered =
     let rises : weighted (pos n) l ≤ℤ weighted (pos n) h = weighted-rises n l h ordered in
-    let least : int_min (weighted (pos n) l) (weighted (pos n) h) ≡ weighted (pos n) l = int_min-is_left (weighted (pos n) l) (weighted (pos n) h) rises in
-    let most : int_max (weighted (pos n) l) (weighted (pos n) h) ≡ weighted (pos n) h = int_max-is_right (weighted (pos n) l) (weighted (pos n) h) rises in
-    record {
-      above = λ v low high. (let up : weighted (pos n) l ≤ℤ weighted (pos n) v = weighted-rises n l v low in omega (arith, ints));
-      below = λ v low high. (let up : weighted (pos n) v ≤ℤ weighted (pos n) h = weighted-rises n v h high in omega (arith, ints));
-      low_at = (l, omega arith, ordered, sym least);
-      high_at = (h, ordered, omega arith, sym most);
-    }
+    span-ends (weighted (pos n)) l h l h _ _ (omega arith, ordered) (ordered, omega arith) (int_min-is_left (weighted (pos n) l) (weighted (pos n) h) rises)
+    (int_max-is_right (weighted (pos n) l) (weighted (pos n) h) rises) (λ v low high. weighted-rises n l v low) (λ v low high. weighted-rises n v h high)
 weighted-span (negsuc n) l h ordered =
     let falls : weighted (negsuc n) h ≤ℤ weighted (negsuc n) l = weighted-falls n l h ordered in
-    let least : int_min (weighted (negsuc n) l) (weighted (negsuc n) h) ≡ weighted (negsuc n) h = int_min-is_right (weighted (negsuc n) l) (weighted (negsuc n) h) falls in
-    let most : int_max (weighted (negsuc n) l) (weighted (negsuc n) h) ≡ weighted (negsuc n) l = int_max-is_left (weighted (negsuc n) l) (weighted (negsuc n) h) falls in
-    record {
-      above = λ v low high. (let down : weighted (negsuc n) h ≤ℤ weighted (negsuc n) v = weighted-falls n v h high in omega (arith, ints));
-      below = λ v low high. (let down : weighted (negsuc n) v ≤ℤ weighted (negsuc n) l = weighted-falls n l v low in omega (arith, ints));
-      low_at = (h, ordered, omega arith, sym least);
-      high_at = (l, omega arith, ordered, sym most);
-    }
+    span-ends (weighted (negsuc n)) l h h l _ _ (ordered, omega arith) (omega arith, ordered) (int_min-is_right (weighted (negsuc n) l) (weighted (negsuc n) h) falls)
+    (int_max-is_left (weighted (negsuc n) l) (weighted (negsuc n) h) falls) (λ v low high. weighted-falls n v h high) (λ v low high. weighted-falls n l v low)
 
 -- the same in the words of a loop that goes from the last place to the first
 pub sum-step : {A : Type 0} (term : A → ℕ → ℤ) (parts : List A) (d : A) (queues x : List ℕ) (place : ℕ) (value sum : ℤ) → 0 < place → place ≤ length queues → length parts ≡ length queues

@@ -1,5 +1,6 @@
 -- The greatest and the least number held, and how many are above a level, rise with the numbers: so their ranges are those of the corners.
 use Rattle.std.specs.Prelude.{◌≡◌, ℕ, suc, ◌+◌, ◌≤◌, ℤ, pos, ◌≤ℤ◌, List, [], ◌∷◌, length, map, count_by, nat_lt, cond, true, false, refl}
+use Rattle.std.specs.Int.{int_min, int_max}
 use Rattle.std.proofs.Common.{inl, inr, arith, lt-ltb, le-ltb}
 use Rattle.std.proofs.lemmas.Bool.{cases_lt}
 use Rattle.std.proofs.lemmas.Int.{ints}
@@ -23,31 +24,29 @@ spread-rising f ls hs rising ordered = record {
   high_at = (hs, record { low = ordered; high = below-itself hs }, refl);
 }
 
-greatest-below : (vs ws : List ℕ) → IsBelow vs ws → greatest (map pos vs) ≤ℤ greatest (map pos ws)
-greatest-below [] [] below = omega (arith, ints)
-greatest-below [] (w ∷ ws) below = absurd (let e : 0 ≡ suc (length ws) = below.same_length in omega arith)
-greatest-below (v ∷ vs) [] below = absurd (let e : suc (length vs) ≡ 0 = below.same_length in omega arith)
-greatest-below (v ∷ []) (w ∷ []) below = let first : v ≤ w = below-head v [] w [] below in omega (arith, ints)
-greatest-below (v ∷ []) (w ∷ u ∷ ws) below = absurd (let e : 1 ≡ suc (suc (length ws)) = below.same_length in omega arith)
-greatest-below (v ∷ u ∷ vs) (w ∷ []) below = absurd (let e : suc (suc (length vs)) ≡ 1 = below.same_length in omega arith)
-greatest-below (v ∷ u ∷ vs) (w ∷ t ∷ ws) below =
+-- what joins the first number with that of the rest rises with the numbers
+joined-below : (f : List ℤ → ℤ) (join : ℤ → ℤ → ℤ) → ((z : ℤ) → f (z ∷ []) ≡ z) → ((z y : ℤ) (ys : List ℤ) → f (z ∷ y ∷ ys) ≡ join z (f (y ∷ ys)))
+    → ((a b c d : ℤ) → a ≤ℤ c → b ≤ℤ d → join a b ≤ℤ join c d) → (vs ws : List ℕ) → IsBelow vs ws → f (map pos vs) ≤ℤ f (map pos ws)
+joined-below f join one more monotone [] [] below = omega (arith, ints)
+joined-below f join one more monotone [] (w ∷ ws) below = absurd (let e : 0 ≡ suc (length ws) = below.same_length in omega arith)
+joined-below f join one more monotone (v ∷ vs) [] below = absurd (let e : suc (length vs) ≡ 0 = below.same_length in omega arith)
+joined-below f join one more monotone (v ∷ []) (w ∷ []) below =
+    let first : v ≤ w = below-head v [] w [] below in
+    rw (one (pos v), one (pos w)) (omega (arith, ints))
+joined-below f join one more monotone (v ∷ []) (w ∷ u ∷ ws) below = absurd (let e : 1 ≡ suc (suc (length ws)) = below.same_length in omega arith)
+joined-below f join one more monotone (v ∷ u ∷ vs) (w ∷ []) below = absurd (let e : suc (suc (length vs)) ≡ 1 = below.same_length in omega arith)
+joined-below f join one more monotone (v ∷ u ∷ vs) (w ∷ t ∷ ws) below =
     let first : v ≤ w = below-head v (u ∷ vs) w (t ∷ ws) below in
     let own : pos v ≤ℤ pos w = omega (arith, ints) in
-    int_max-monotone (pos v) (greatest (map pos (u ∷ vs))) (pos w) (greatest (map pos (t ∷ ws))) own
-    (greatest-below (u ∷ vs) (t ∷ ws) (below-tail v (u ∷ vs) w (t ∷ ws) below))
+    rw (more (pos v) (pos u) (map pos vs), more (pos w) (pos t) (map pos ws))
+    (monotone (pos v) (f (map pos (u ∷ vs))) (pos w) (f (map pos (t ∷ ws))) own
+    (joined-below f join one more monotone (u ∷ vs) (t ∷ ws) (below-tail v (u ∷ vs) w (t ∷ ws) below)))
+
+greatest-below : (vs ws : List ℕ) → IsBelow vs ws → greatest (map pos vs) ≤ℤ greatest (map pos ws)
+greatest-below vs ws below = joined-below greatest int_max (λ z. refl) (λ z y ys. refl) int_max-monotone vs ws below
 
 least-below : (vs ws : List ℕ) → IsBelow vs ws → least (map pos vs) ≤ℤ least (map pos ws)
-least-below [] [] below = omega (arith, ints)
-least-below [] (w ∷ ws) below = absurd (let e : 0 ≡ suc (length ws) = below.same_length in omega arith)
-least-below (v ∷ vs) [] below = absurd (let e : suc (length vs) ≡ 0 = below.same_length in omega arith)
-least-below (v ∷ []) (w ∷ []) below = let first : v ≤ w = below-head v [] w [] below in omega (arith, ints)
-least-below (v ∷ []) (w ∷ u ∷ ws) below = absurd (let e : 1 ≡ suc (suc (length ws)) = below.same_length in omega arith)
-least-below (v ∷ u ∷ vs) (w ∷ []) below = absurd (let e : suc (suc (length vs)) ≡ 1 = below.same_length in omega arith)
-least-below (v ∷ u ∷ vs) (w ∷ t ∷ ws) below =
-    let first : v ≤ w = below-head v (u ∷ vs) w (t ∷ ws) below in
-    let own : pos v ≤ℤ pos w = omega (arith, ints) in
-    int_min-monotone (pos v) (least (map pos (u ∷ vs))) (pos w) (least (map pos (t ∷ ws))) own
-    (least-below (u ∷ vs) (t ∷ ws) (below-tail v (u ∷ vs) w (t ∷ ws) below))
+least-below vs ws below = joined-below least int_min (λ z. refl) (λ z y ys. refl) int_min-monotone vs ws below
 
 count-cons : (level v : ℕ) (vs : List ℕ) → count_by (λ n. nat_lt level n) (v ∷ vs) ≡ cond (nat_lt level v) 1 0 + count_by (λ n. nat_lt level n) vs
 count-cons level v vs = sum_by-cons (λ n. cond (nat_lt level n) 1 0) v vs

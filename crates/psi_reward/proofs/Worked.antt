@@ -40,14 +40,14 @@ above-one = refl
 abbrev listing : RewardKind
 listing = Table (0 ∷ 1 ∷ []) ((pos 5 ∷ negsuc 0 ∷ pos 2 ∷ []) ∷ (pos 0 ∷ pos 7 ∷ negsuc 9 ∷ []) ∷ [])
 
-listing-worth : map (worth_of listing) ((0 ∷ 0 ∷ []) ∷ (1 ∷ 2 ∷ []) ∷ (2 ∷ 1 ∷ []) ∷ []) ≡ pos 5 ∷ negsuc 10 ∷ pos 9 ∷ []
-listing-worth = refl
-
 listing-range : range listing (0 ∷ 0 ∷ []) (1 ∷ 1 ∷ []) ≡ (negsuc 0, pos 12)
 listing-range = refl
 
 listing-inner : range listing (0 ∷ 1 ∷ []) (2 ∷ 1 ∷ []) ≡ (pos 6, pos 12)
 listing-inner = refl
+
+listing-worth : map (worth_of listing) ((0 ∷ 0 ∷ []) ∷ (1 ∷ 2 ∷ []) ∷ (2 ∷ 1 ∷ []) ∷ []) ≡ pos 5 ∷ negsuc 10 ∷ pos 9 ∷ []
+listing-worth = refl
 
 -- the greatest and the least number held, of two queues and of the second alone
 greatest-range : range (Greatest (0 ∷ 1 ∷ [])) (0 ∷ 1 ∷ []) (2 ∷ 1 ∷ []) ≡ (pos 1, pos 2)

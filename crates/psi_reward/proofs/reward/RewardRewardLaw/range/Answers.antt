@@ -1,9 +1,8 @@
 -- Answers in the proof of `RewardRewardLaw::range`.
-use Rattle.std.specs.Prelude.{◌≡◌, List, ℕ, map}
-use Rattle.std.proofs.Common.{ap, sym, ◌∙◌, subst, arith, to_z, of_z, w64}
+use Rattle.std.specs.Prelude.{◌≡◌, List, ℕ}
+use Rattle.std.proofs.Common.{ap, sym, ◌∙◌, subst, arith, rules, to_z, of_z, w64}
 use Rattle.std.proofs.lemmas.Int.{ints}
 use Rattle.psi_state.specs.State.{IsBelow, box}
-use Rattle.psi_reward.specs.Sums.{weighted, entry, added}
 use Rattle.psi_reward.specs.Spans.{IsRange}
 use Rattle.psi_reward.specs.Worth.{worth_of}
 use Rattle.psi_reward.proofs.ExtentsLemmas.{least-range, greatest-range}
@@ -21,30 +20,14 @@ table_range-requires-clause-rows c =
 pub returns-in-Linear : goal.returns-in-Linear
 returns-in-Linear c =
     let range : IsRange (worth_of c.args.self.now.kind) (box c.args.b.now.lo c.args.b.now.hi) c.weighted_range.result.0 c.weighted_range.result.1 =
-    range-linear c.args.self.now.caps c.args.b.now.lo c.args.b.now.hi c.in-Linear.queues c.in-Linear.weights c.args.self.now.kind c.weighted_range.result.0 c.weighted_range.result.1
-    c.in-Linear.is c.args.self.now.valid c.lo-lo.ensures.ordered c.requires
-    (spread-between (added (map weighted c.in-Linear.weights)) c.in-Linear.queues c.lo-lo.result c.hi-hi.result c.args.b.now.lo c.args.b.now.hi
-    c.weighted_range.result.0 c.weighted_range.result.1 c.lo-lo.ensures.value c.hi-hi.ensures.value c.weighted_range.ensures) in
-    record {
-      least = least-range (worth_of c.args.self.now.kind) (box c.args.b.now.lo c.args.b.now.hi) c.weighted_range.result.0 c.weighted_range.result.1 range;
-      greatest = greatest-range (worth_of c.args.self.now.kind) (box c.args.b.now.lo c.args.b.now.hi) c.weighted_range.result.0 c.weighted_range.result.1 range;
-      least_reached = range.low_at;
-      greatest_reached = range.high_at;
-    }
+    range-linear _ _ _ _ _ _ _ _ c.in-Linear.is c.args.self.now.valid c.lo-lo.ensures.ordered c.requires (spread-between _ _ _ _ _ _ _ _ c.lo-lo.ensures.value c.hi-hi.ensures.value c.weighted_range.ensures) in
+    search (rules, least-range, greatest-range)
 
 pub returns-in-Table : goal.returns-in-Table
 returns-in-Table c =
     let range : IsRange (worth_of c.args.self.now.kind) (box c.args.b.now.lo c.args.b.now.hi) c.table_range.result.0 c.table_range.result.1 =
-    range-table c.args.self.now.caps c.args.b.now.lo c.args.b.now.hi c.in-Table.queues c.in-Table.table c.args.self.now.kind c.table_range.result.0 c.table_range.result.1
-    c.in-Table.is c.args.self.now.valid c.lo-lo.ensures.ordered c.requires
-    (spread-between (added (map entry c.in-Table.table)) c.in-Table.queues c.lo-lo.result c.hi-hi.result c.args.b.now.lo c.args.b.now.hi
-    c.table_range.result.0 c.table_range.result.1 c.lo-lo.ensures.value c.hi-hi.ensures.value c.table_range.ensures) in
-    record {
-      least = least-range (worth_of c.args.self.now.kind) (box c.args.b.now.lo c.args.b.now.hi) c.table_range.result.0 c.table_range.result.1 range;
-      greatest = greatest-range (worth_of c.args.self.now.kind) (box c.args.b.now.lo c.args.b.now.hi) c.table_range.result.0 c.table_range.result.1 range;
-      least_reached = range.low_at;
-      greatest_reached = range.high_at;
-    }
+    range-table _ _ _ _ _ _ _ _ c.in-Table.is c.args.self.now.valid c.lo-lo.ensures.ordered c.requires (spread-between _ _ _ _ _ _ _ _ c.lo-lo.ensures.value c.hi-hi.ensures.value c.table_range.ensures) in
+    search (rules, least-range, greatest-range)
 
 pub returns-in_default : goal.returns-in_default
 returns-in_default c =
@@ -56,9 +39,4 @@ returns-in_default c =
     range-same (worth_of c.args.self.now.kind) (box c.args.b.now.lo c.args.b.now.hi) _ _ _ _
     (sym (low ∙ (c.value.ensures ∙ ap (λ (x : List ℕ). worth_of c.args.self.now.kind x) c.lo-lo.ensures.value)))
     (sym (high ∙ (c.value-in_default.ensures ∙ ap (λ (x : List ℕ). worth_of c.args.self.now.kind x) c.hi-hi.ensures.value))) own in
-    record {
-      least = least-range (worth_of c.args.self.now.kind) (box c.args.b.now.lo c.args.b.now.hi) _ _ range;
-      greatest = greatest-range (worth_of c.args.self.now.kind) (box c.args.b.now.lo c.args.b.now.hi) _ _ range;
-      least_reached = range.low_at;
-      greatest_reached = range.high_at;
-    }
+    search (rules, least-range, greatest-range)
