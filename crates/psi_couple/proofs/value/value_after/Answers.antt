@@ -21,9 +21,9 @@ returns-in-Some-clause-value g c =
 
 pub returns-in-None-clause-value : goal.returns-in-None-clause-value
 returns-in-None-clause-value g c =
+    let value = worth_of (reward_kind c.args.reward.now) in
     let plan = c.run_whole.new.plan in
     let words = g.P.Past.words plan.past in
-    let value = worth_of (reward_kind c.args.reward.now) in
     let run_of = λ (s : Parts g.row.E.Denot) (w : ℕ → ℕ). value_at value s.split (system_functions g.E.EventLaw.function s w) s.caps c.args.horizon in
     let shown = shown-ended (λ (a : Area). c.states.result.now ≡ a.states) plan.system.split plan.system.caps (system_functions g.E.EventLaw.function plan.system words)
     c.args.horizon plan.run c.run_whole.ensures.run c.states.ensures.states in

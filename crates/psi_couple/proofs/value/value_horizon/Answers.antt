@@ -56,9 +56,9 @@ returns-in-Some-clause-reached g c =
 
 pub returns-in-Some-clause-later : goal.returns-in-Some-clause-later
 returns-in-Some-clause-later g c =
+    let value = worth_of (reward_kind c.args.reward.now) in
     let system = c.args.plan.now.system in
     let words = g.P.Past.words c.args.plan.now.past in
-    let value = worth_of (reward_kind c.args.reward.now) in
     let closed = functions-closed g.E.EventLaw.capacities g.E.EventLaw.function system words g.met.E.EventLaw.closed c.limit-limit.ensures.fit.same_caps in
     valued-decides value system.split system.caps (system_functions g.E.EventLaw.function system words) system.limit
     (At (1 * 2 ^ c.loop-exponent.exponent % 4294967296) (to_z w64 (of_z w64 c.in-Some.value))) closed (returns-in-Some-clause-first g c)
@@ -81,9 +81,9 @@ returns-clause-answer g c =
 
 pub returns-clause-later : goal.returns-clause-later
 returns-clause-later g c =
-    let system = c.args.plan.now.system in
     let words = g.P.Past.words c.args.plan.now.past in
     let value = worth_of (reward_kind c.args.reward.now) in
+    let system = c.args.plan.now.system in
     let closed = functions-closed g.E.EventLaw.capacities g.E.EventLaw.function system words g.met.E.EventLaw.closed c.limit-limit.ensures.fit.same_caps in
     valued-decides value system.split system.caps (system_functions g.E.EventLaw.function system words) system.limit (NotAt c.limit-limit.result) closed
     (returns-clause-first g c)
