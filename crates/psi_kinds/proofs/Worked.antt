@@ -207,13 +207,13 @@ jump : map (do_kind (5 ∷ []) (Guarded (part 0 0 2 (pos 0) 5 5 ∷ []))) (box (
 unfolding do_kind guarded
 jump = refl
 
-jump-pair : upset_of (5 ∷ []) (Guarded (part 0 0 2 (pos 0) 5 5 ∷ [])) ≡ Some (2 ∷ [], 3 ∷ [])
-unfolding upset_of guard.upset_of first_some
-jump-pair = refl
-
 jump-box : corners (image (do_kind (5 ∷ []) (Guarded (part 0 0 2 (pos 0) 5 5 ∷ []))) (box (1 ∷ []) (4 ∷ []))) ≡ record { lo = 3 ∷ []; hi = 5 ∷ [] }
 unfolding do_kind guarded
 jump-box = refl
+
+jump-pair : upset_of (5 ∷ []) (Guarded (part 0 0 2 (pos 0) 5 5 ∷ [])) ≡ Some (2 ∷ [], 3 ∷ [])
+unfolding upset_of guard.upset_of first_some
+jump-pair = refl
 
 -- three and more become one
 clear : map (do_kind (5 ∷ []) (Guarded (part 0 3 5 (pos 0) 0 1 ∷ []))) (box (0 ∷ []) (5 ∷ [])) ≡ (0 ∷ []) ∷ (1 ∷ []) ∷ (2 ∷ []) ∷ (1 ∷ []) ∷ (1 ∷ []) ∷ (1 ∷ []) ∷ []
