@@ -51,10 +51,9 @@ keeping r caps l h x q fit between refused =
 low_inside : (r : Rule) (caps : List ℕ) (f : List ℕ → List ℕ) (l h x : List ℕ) (q u : ℕ) → IsRuleOf r caps f → IsBoxOf r caps l h → IsBetween l h x → q < r.queues
     → IsLow r l h q u → u ≤ slice_index (f x) q
 low_inside r caps f l h x q u is fit between place low =
-    let made = is.makes x (below-through x h caps between.high fit.within) in
     let start : slice_index l q ≤ slice_index x q = between.low.each q (omega (arith, fit.long)) in
     let stop : slice_index x q ≤ slice_index h q = between.high.each q (omega (arith, fit.longer, between.high.same_length)) in
-    elim made.turn [
+    elim (is.makes x (below-through x h caps between.high fit.within)).turn [
       | inl a ↦ (let to : slice_index (f x) q ≡ r.moves q (slice_index x q) = a.1 q place in
           let least : r.least q ≤ slice_index x q = a.0.low q place in
           let up : r.moves q (max (slice_index l q) (r.least q)) ≤ r.moves q (slice_index x q) = rises_to r q (max (slice_index l q) (r.least q)) (slice_index x q) is.lawful place (omega arith) in
@@ -66,10 +65,9 @@ low_inside r caps f l h x q u is fit between place low =
 high_inside : (r : Rule) (caps : List ℕ) (f : List ℕ → List ℕ) (l h x : List ℕ) (q w : ℕ) → IsRuleOf r caps f → IsBoxOf r caps l h → IsBetween l h x → q < r.queues
     → IsHigh r l h q w → slice_index (f x) q ≤ w
 high_inside r caps f l h x q w is fit between place high =
-    let made = is.makes x (below-through x h caps between.high fit.within) in
     let start : slice_index l q ≤ slice_index x q = between.low.each q (omega (arith, fit.long)) in
     let stop : slice_index x q ≤ slice_index h q = between.high.each q (omega (arith, fit.longer, between.high.same_length)) in
-    elim made.turn [
+    elim (is.makes x (below-through x h caps between.high fit.within)).turn [
       | inl a ↦ (let to : slice_index (f x) q ≡ r.moves q (slice_index x q) = a.1 q place in
           let most : slice_index x q ≤ r.most q = a.0.high q place in
           let up : r.moves q (slice_index x q) ≤ r.moves q (min (slice_index h q) (r.most q)) = rises_to r q (slice_index x q) (min (slice_index h q) (r.most q)) is.lawful place (omega arith) in
@@ -210,19 +208,17 @@ reach_kept r caps f l h q v is fit place low high can =
 
 low_reached : (r : Rule) (caps : List ℕ) (f : List ℕ → List ℕ) (l h : List ℕ) (q u : ℕ) → IsRuleOf r caps f → IsBoxOf r caps l h → q < r.queues → IsLow r l h q u
     → (x : List ℕ) × IsBetween l h x × (slice_index (f x) q ≡ u)
-low_reached r caps f l h q u is fit place low =
-    elim low.reached [
-      | inl a ↦ (let found = reach_low r caps f l h q is fit place a.0 in (found.0, found.1, found.2 ∙ sym a.1))
-      | inr b ↦ reach_kept r caps f l h q u is fit place b.1.0 b.1.1 b.0
-    ]
+low_reached r caps f l h q u is fit place low = elim low.reached [
+  | inl a ↦ (let found = reach_low r caps f l h q is fit place a.0 in (found.0, found.1, found.2 ∙ sym a.1))
+  | inr b ↦ reach_kept r caps f l h q u is fit place b.1.0 b.1.1 b.0
+]
 
 high_reached : (r : Rule) (caps : List ℕ) (f : List ℕ → List ℕ) (l h : List ℕ) (q w : ℕ) → IsRuleOf r caps f → IsBoxOf r caps l h → q < r.queues → IsHigh r l h q w
     → (x : List ℕ) × IsBetween l h x × (slice_index (f x) q ≡ w)
-high_reached r caps f l h q w is fit place high =
-    elim high.reached [
-      | inl a ↦ (let found = reach_high r caps f l h q is fit place a.0 in (found.0, found.1, found.2 ∙ sym a.1))
-      | inr b ↦ reach_kept r caps f l h q w is fit place b.1.0 b.1.1 b.0
-    ]
+high_reached r caps f l h q w is fit place high = elim high.reached [
+  | inl a ↦ (let found = reach_high r caps f l h q is fit place a.0 in (found.0, found.1, found.2 ∙ sym a.1))
+  | inr b ↦ reach_kept r caps f l h q w is fit place b.1.0 b.1.1 b.0
+]
 
 -- the two ends of a queue
 pub record AreEnds (r : Rule) (l h : List ℕ) (q u w : ℕ) : Type 0 where

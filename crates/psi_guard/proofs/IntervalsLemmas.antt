@@ -241,29 +241,23 @@ free-ends caps parts l h q moves leaving answers ordered within place free =
     let most : slice_index h q ≤ slice_index caps q = within.each q there in
     let step : slice_index l q ≤ slice_index h q = ordered.each q (omega (arith, ordered.same_length)) in
     let long : length l ≡ length caps = ordered.same_length ∙ within.same_length in
-    let turn = can-turn caps parts l h part q moves leaving answers ordered long (sym free.part) in
+    let told : (moves ≡ true) ⊎ (others leaving q ≡ true) = elim (can-turn caps parts l h part q moves leaving answers ordered long (sym free.part)) [
+      | inl move ↦ inl move
+      | inr stay ↦ elim stay [
+        | inl other ↦ inr other
+        | inr own ↦ elim own [ inl out ↦ absurd (omega arith) | inr out ↦ absurd (omega arith) ]
+      ]
+    ] in
     record {
       low = low-from caps parts l h part q (slice_index l q) moves leaving answers (sym free.part) (record {
         image = λ _. omega arith;
         kept = λ v start stop may. start;
-        reached = elim turn [
-          | inl move ↦ inl (move, omega arith)
-          | inr stay ↦ elim stay [
-            | inl other ↦ inr (inl other, (omega arith, step))
-            | inr own ↦ elim own [ inl out ↦ absurd (omega arith) | inr out ↦ absurd (omega arith) ]
-          ]
-        ];
+        reached = elim told [ inl move ↦ inl (move, omega arith) | inr other ↦ inr (inl other, (omega arith, step)) ];
       });
       high = high-from caps parts l h part q (slice_index h q) moves leaving answers (sym free.part) (record {
         image = λ _. omega arith;
         kept = λ v start stop may. stop;
-        reached = elim turn [
-          | inl move ↦ inl (move, omega arith)
-          | inr stay ↦ elim stay [
-            | inl other ↦ inr (inl other, (step, omega arith))
-            | inr own ↦ elim own [ inl out ↦ absurd (omega arith) | inr out ↦ absurd (omega arith) ]
-          ]
-        ];
+        reached = elim told [ inl move ↦ inl (move, omega arith) | inr other ↦ inr (inl other, (step, omega arith)) ];
       });
     }
 

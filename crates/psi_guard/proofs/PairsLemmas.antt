@@ -248,13 +248,13 @@ queue-shows caps parts f pair each is =
 pub leaps-show : (caps : List ℕ) (parts : List Part) (pair : List ℕ × List ℕ) → AreGuards caps parts → over_queues caps (leap caps parts) ≡ Some pair → IsShown caps parts pair
 leaps-show caps parts pair guards is = queue-shows caps parts (leap caps parts) pair (λ p found place at. leap-shows caps parts p found guards place at) is
 
+pub plunges-show : (caps : List ℕ) (parts : List Part) (pair : List ℕ × List ℕ) → AreGuards caps parts → over_queues caps (plunge caps parts) ≡ Some pair → IsShown caps parts pair
+plunges-show caps parts pair guards is = queue-shows caps parts (plunge caps parts) pair (λ p found place at. plunge-shows caps parts p found guards place at) is
+
 pub rises-show : (caps : List ℕ) (parts : List Part) (pair : List ℕ × List ℕ) → AreGuards caps parts → over_pairs caps (rise caps parts) ≡ Some pair → IsShown caps parts pair
 rises-show caps parts pair guards is =
     queue-shows caps parts (λ p. over_queues caps (rise caps parts p)) pair (λ p found place at.
     queue-shows caps parts (rise caps parts p) found (λ q last other there. rise-shows caps parts p q last guards place other there) at) is
-
-pub plunges-show : (caps : List ℕ) (parts : List Part) (pair : List ℕ × List ℕ) → AreGuards caps parts → over_queues caps (plunge caps parts) ≡ Some pair → IsShown caps parts pair
-plunges-show caps parts pair guards is = queue-shows caps parts (plunge caps parts) pair (λ p found place at. plunge-shows caps parts p found guards place at) is
 
 pub falls-show : (caps : List ℕ) (parts : List Part) (pair : List ℕ × List ℕ) → AreGuards caps parts → over_pairs caps (fall caps parts) ≡ Some pair → IsShown caps parts pair
 falls-show caps parts pair guards is =

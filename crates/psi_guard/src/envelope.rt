@@ -28,6 +28,7 @@ impl Guarded {
         requires { IsBelow b.old.hi self.now.caps }
         ensures hull { b.new ≡ corners (image (guarded self.now.parts) (box b.old.lo b.old.hi)) }
         ensures tight { IsTight (image (guarded self.now.parts) (box b.old.lo b.old.hi)) b.new.lo b.new.hi }
+        ensures ordered { IsBelow b.old.lo b.old.hi }
     {
         // Called for its clause: the corners are in order.
         let _queues = b.len();

@@ -36,8 +36,6 @@ impl EventLaw for Guarded {
     }
 
     fn envelope(&self, b: &mut Bounds) {
-        // Called for its clause: the corners are in order.
-        let _queues = b.len();
         self.move_ends(b);
     }
 

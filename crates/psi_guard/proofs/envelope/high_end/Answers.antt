@@ -7,9 +7,4 @@ pub returns-then-kept-image : goal.returns-then-kept-image
 returns-then-kept-image c =
     let stop : c.min.result ≡ min c.args.h c.args.part.most = omega (arith, c.min.ensures) in
     let image : c.moved-image.result ≡ moved c.args.part (min c.args.h c.args.part.most) = c.moved-image.ensures ∙ ap (λ v. moved c.args.part v) stop in
-    let found = c.in-Some.ensures in
-    record {
-      image = λ _. omega (arith, image);
-      kept = λ v low high may. (let most : v ≤ c.in-Some.kept = found.3 v low high may in omega (arith, c.if-kept-image.true));
-      reached = inl (c.if-moves.true, image);
-    }
+    record { image = λ _. omega (arith, image); kept = λ v low high may. (let most : v ≤ c.in-Some.kept = c.in-Some.ensures.3 v low high may in omega (arith, c.if-kept-image.true)); reached = inl (c.if-moves.true, image) }

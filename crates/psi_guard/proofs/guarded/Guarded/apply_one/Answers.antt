@@ -28,16 +28,15 @@ returns-then-held-part c =
 
 pub returns-else-part-held : goal.returns-else-part-held
 returns-else-part-held c =
-    let event = c.args.self.now in
     let x = c.args.x.now in
     let part = c.part-part.result in
-    let one : length event.parts ≡ 1 = omega (arith, c.requires.few, c.count.ensures) in
+    let one : length c.args.self.now.parts ≡ 1 = omega (arith, c.requires.few, c.count.ensures) in
     let own : slice_index x part.queue ≡ c.get-held.result = sym c.get-held.ensures in
     let out : (slice_index x part.queue < part.least) ⊎ (part.most < slice_index x part.queue) = elim c.else-part-held.branch [
       | else-part-held-via-then-part-held+else-held-part w ↦ inr (omega (arith, w.if-held-part.false))
       | else-part-held-via-else-part-held w ↦ inl (omega (arith, w.if-part-held.false))
     ] in
-    sym (guarded-keeps event.parts x (all_allow-out event.parts x 0 (omega (arith, one))
+    sym (guarded-keeps c.args.self.now.parts x (all_allow-out c.args.self.now.parts x 0 (omega (arith, one))
     (subst (λ (p : Part). (slice_index x p.queue < p.least) ⊎ (p.most < slice_index x p.queue)) c.part-part.ensures.value out)))
 
 pub returns-then-count-eq0 : goal.returns-then-count-eq0
