@@ -1,8 +1,8 @@
 -- Spans of ends.
-use Rattle.std.specs.Prelude.{ℕ, ◌+◌, ◌<◌, ◌≤◌, List, get_or}
+use Rattle.std.specs.Prelude.{◌≡◌, ℕ, ◌+◌, ◌<◌, ◌≤◌, List, length, get_or}
 use Rattle.psi_arcs.specs.declared.ends.Arc.{Arc}
 use Rattle.psi_arcs.specs.declared.spans.Span.{Span}
-use Rattle.psi_arcs.specs.Held.{Listed}
+use Rattle.psi_arcs.specs.Held.{ArcList, Listed, IsSized}
 
 -- the span at a place of a list
 abbrev pub span_at : List Span → ℕ → Span
@@ -16,3 +16,14 @@ pub record IsSpan (arcs : List Arc) (total l : ℕ) (span : Span) : Type 0 where
 -- so are those of the queues from `low` to `high` in their spans
 pub record AreSpans (arcs : List Arc) (total low high : ℕ) (spans : List Span) : Type 0 where
   pub each : (l : ℕ) → low ≤ l → l ≤ high → IsSpan arcs total l (span_at spans l)
+
+-- the spans of the queues from `low` to `high`, and two of these queues
+pub record IsStretch (of : ArcList) (spans : List Span) (low start stop high : ℕ) : Type 0 where
+  pub room : length spans ≡ 32
+  pub told : AreSpans of.arcs of.total low high spans
+  pub low_start : low ≤ start
+  pub low_stop : low ≤ stop
+  pub start_high : start ≤ high
+  pub stop_high : stop ≤ high
+  pub inside : high < of.levels
+  pub sized : IsSized of

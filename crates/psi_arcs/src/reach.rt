@@ -6,7 +6,7 @@ ghost use Rattle.psi_arcs.specs.Walks.{Before, After, Useful};
 ghost use Rattle.psi_arcs.specs.Held.{Listed, IsSized};
 ghost use Rattle.psi_arcs.specs.Windows.{IsWithin, Allows, Enters, EntersBelow, Exits, MarkBefore, MarkAfter};
 ghost use Rattle.psi_arcs.specs.Joining.{Only, IsChanging, IsShort, IsFull};
-ghost use Rattle.psi_arcs.specs.SpansKept.{IsSpan, AreSpans};
+ghost use Rattle.psi_arcs.specs.SpansKept.{IsSpan, AreSpans, IsStretch};
 ghost use Rattle.psi_arcs.specs.RowsKept.{sums_at};
 ghost use Rattle.psi_arcs.specs.MarksKept.{AreMarked, IsReached, Keeps, TellsUseful};
 
@@ -210,14 +210,7 @@ impl Marks {
         first: Sums,
         last: Sums,
     )
-        requires span_room { length spans.now ≡ 32 }
-        requires spans { AreSpans of.now.arcs of.now.total low high spans.now }
-        requires low_start { low ≤ start }
-        requires low_stop { low ≤ stop }
-        requires start_high { start ≤ high }
-        requires stop_high { stop ≤ high }
-        requires inside { high < of.now.levels }
-        requires sized { IsSized of.now }
+        requires stretch { IsStretch of.now spans.now low start stop high }
         requires first { (l s v : ℕ) → low ≤ l → l ≤ start → Listed of.now.arcs l s v → (has first s ≡ true) ↔ Before (Only (Listed of.now.arcs) (Allows rule)) l s }
         requires last { (l s v : ℕ) → stop ≤ l → l ≤ high → Listed of.now.arcs l s v
             → (has last (s + v) ≡ true) ↔ After (Only (Listed of.now.arcs) (Allows rule)) of.now.levels of.now.total (suc l) (s + v) }
@@ -277,14 +270,7 @@ impl Marks {
         stop: u8,
         high: u8,
     )
-        requires span_room { length spans.now ≡ 32 }
-        requires spans { AreSpans of.now.arcs of.now.total low high spans.now }
-        requires low_start { low ≤ start }
-        requires low_stop { low ≤ stop }
-        requires start_high { start ≤ high }
-        requires stop_high { stop ≤ high }
-        requires inside { high < of.now.levels }
-        requires sized { IsSized of.now }
+        requires stretch { IsStretch of.now spans.now low start stop high }
         requires whole { (l s v : ℕ) → Listed of.now.arcs l s v → Useful (Listed of.now.arcs) of.now.levels of.now.total l s v }
         requires before { (l v : ℕ) → l < start → v < 2 ^ 16 → Allows rule l v }
         requires past { (l v : ℕ) → stop < l → v < 2 ^ 16 → Allows rule l v }
