@@ -8,7 +8,7 @@ use Rattle.psi_route.specs.Routing.{Shape, Routing, routing, routed, source_leas
 use Rattle.psi_route.proofs.ActingLemmas.{leaves_or_remains}
 use Rattle.psi_route.specs.Accepted.{IsRouteShape}
 use Rattle.psi_route.proofs.AcceptedLemmas.{routing-is}
-use Rattle.psi_route.specs.Ends.{IsLowEnd, IsHighEnd, AreLowEnds, AreHighEnds, AreEnds, AreTargetEnds}
+use Rattle.psi_route.specs.Ends.{IsLowEnd, IsHighEnd, AreSet, AreCornerEnds, AreEnds, AreTargetEnds}
 use Rattle.psi_route.specs.Coming.{Comes, Misses, AreComing, is_gone, without}
 use Rattle.psi_route.specs.declared.parts.Source.{Source}
 use Rattle.psi_route.specs.declared.envelope.Coming.{Coming}
@@ -60,50 +60,24 @@ gone-is r x y true passes made small comes left =
           subst (λ b. slice_index y r.source ≡ slice_index x r.source - (if b then 1 else 0)) (sym kept) (omega arith))
     ]
 
--- the source after the targets
-pub source-low : (s : Shape) → IsRouteShape s → (l h u w : List ℕ) (serves passes : Bool) → length l ≡ length s.caps
-    → AreTargetEnds (routing s) l h u w (length s.targets) → MatchBool serves (Comes (routing s) l 0) (Misses (routing s) l 0)
-    → MatchBool passes (Comes (routing s) l (length s.targets)) (Misses (routing s) l (length s.targets))
-    → AreLowEnds (routing s) (routed s) l h (without (routing s) (is_gone (routing s) serves passes) u)
-source-low s is l h u w serves passes count ends coming left =
+-- the source after the targets, at a corner x
+source-ends : (s : Shape) → IsRouteShape s → (E : ℕ → ℕ → Type 0) (x u : List ℕ) (serves passes : Bool) → length x ≡ length s.caps
+    → AreSet ((routing s).queue) E x u (length s.targets) → MatchBool serves (Comes (routing s) x 0) (Misses (routing s) x 0)
+    → MatchBool passes (Comes (routing s) x (length s.targets)) (Misses (routing s) x (length s.targets))
+    → AreCornerEnds (routing s) (routed s) E x (without (routing s) (is_gone (routing s) serves passes) u)
+source-ends s is E x u serves passes count ends coming left =
     let r = routing s in
     let n : ℕ = slice_index u r.source - (if is_gone r serves passes then 1 else 0) in
-    let long : length u ≡ length l = ends.low.count in
-    let made = shape-routes s is l count in
+    let long : length u ≡ length x = ends.count in
+    let made = shape-routes s is x count in
     record {
-      count = length-set {A = ℕ} u r.source (slice_index u r.source - (if is_gone r serves passes then 1 else 0)) ∙ (long ∙ count);
-      targets = λ j small.
-          subst (λ v. IsLowEnd r l h j v)
-          (sym (get_or-set_other {A = ℕ} u r.source (r.queue j) (slice_index u r.source - (if is_gone r serves passes then 1 else 0)) 0 ((routing-is s is).no_source j small)))
-          (ends.low.set j small);
+      count = length-set {A = ℕ} u r.source n ∙ (long ∙ count);
+      targets = λ j small. subst (λ v. E j v) (sym (get_or-set_other {A = ℕ} u r.source (r.queue j) n 0 ((routing-is s is).no_source j small))) (ends.set j small);
       source = λ small.
-          get_or-set_same {A = ℕ} u r.source (slice_index u r.source - (if is_gone r serves passes then 1 else 0)) 0 (omega arith)
-          ∙ (ap (λ v. v - (if is_gone r serves passes then 1 else 0)) (ends.low.rest r.source (λ i within. (routing-is s is).no_source i within))
-          ∙ sym (gone-is r l (routed s l) serves passes made small coming left));
-      others = λ p away free.
-          get_or-set_other {A = ℕ} u r.source p (slice_index u r.source - (if is_gone r serves passes then 1 else 0)) 0 away ∙ ends.low.rest p free;
-    }
-
-pub source-high : (s : Shape) → IsRouteShape s → (l h u w : List ℕ) (serves passes : Bool) → length h ≡ length s.caps
-    → AreTargetEnds (routing s) l h u w (length s.targets) → MatchBool serves (Comes (routing s) h 0) (Misses (routing s) h 0)
-    → MatchBool passes (Comes (routing s) h (length s.targets)) (Misses (routing s) h (length s.targets))
-    → AreHighEnds (routing s) (routed s) l h (without (routing s) (is_gone (routing s) serves passes) w)
-source-high s is l h u w serves passes count ends coming left =
-    let r = routing s in
-    let long : length w ≡ length h = ends.high.count in
-    let made = shape-routes s is h count in
-    record {
-      count = length-set {A = ℕ} w r.source (slice_index w r.source - (if is_gone r serves passes then 1 else 0)) ∙ (long ∙ count);
-      targets = λ j small.
-          subst (λ v. IsHighEnd r l h j v)
-          (sym (get_or-set_other {A = ℕ} w r.source (r.queue j) (slice_index w r.source - (if is_gone r serves passes then 1 else 0)) 0 ((routing-is s is).no_source j small)))
-          (ends.high.set j small);
-      source = λ small.
-          get_or-set_same {A = ℕ} w r.source (slice_index w r.source - (if is_gone r serves passes then 1 else 0)) 0 (omega arith)
-          ∙ (ap (λ v. v - (if is_gone r serves passes then 1 else 0)) (ends.high.rest r.source (λ i within. (routing-is s is).no_source i within))
-          ∙ sym (gone-is r h (routed s h) serves passes made small coming left));
-      others = λ p away free.
-          get_or-set_other {A = ℕ} w r.source p (slice_index w r.source - (if is_gone r serves passes then 1 else 0)) 0 away ∙ ends.high.rest p free;
+          get_or-set_same {A = ℕ} u r.source n 0 (omega arith)
+          ∙ (ap (λ v. v - (if is_gone r serves passes then 1 else 0)) (ends.rest r.source (λ i within. (routing-is s is).no_source i within))
+          ∙ sym (gone-is r x (routed s x) serves passes made small coming left));
+      others = λ p away free. get_or-set_other {A = ℕ} u r.source p n 0 away ∙ ends.rest p free;
     }
 
 -- so these are the ends of the route
@@ -112,8 +86,8 @@ pub ends-with_source : (s : Shape) → IsRouteShape s → (l h u w : List ℕ) (
     → AreEnds (routing s) (routed s) l h (without (routing s) (is_gone (routing s) coming.always left.always) u)
     (without (routing s) (is_gone (routing s) coming.sometimes left.sometimes) w)
 ends-with_source s is l h u w coming left ordered within ends first last = record {
-  low = source-low s is l h u w coming.always left.always (ordered.same_length ∙ within.same_length) ends first.low last.low;
-  high = source-high s is l h u w coming.sometimes left.sometimes within.same_length ends first.high last.high;
+  low = source-ends s is (λ j v. IsLowEnd (routing s) l h j v) l u coming.always left.always (ordered.same_length ∙ within.same_length) ends.low first.low last.low;
+  high = source-ends s is (λ j v. IsHighEnd (routing s) l h j v) h w coming.sometimes left.sometimes within.same_length ends.high first.high last.high;
 }
 
 -- where the source serves in no state of the box, the route leaves the box as it is

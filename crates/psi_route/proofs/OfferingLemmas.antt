@@ -149,36 +149,36 @@ passed-rival r l h j v key is less =
     let same : r.key key.place met.0 ≡ key_of key = met.4 in
     inr (inr (key.place, is.place, is.other, (met.0, met.1, met.2, met.3, omega arith)))
 
--- and can't where there is room, the source serves and no rival has a lesser key
+-- a target's number that passes where there is room and the source serves has a rival with a lesser key
+abbrev HasRival : Routing → List ℕ → List ℕ → ℕ → ℕ → Type 0
+HasRival r l h j v = (i : ℕ) × (i < r.places) × (i ≢ j) × ((w : ℕ) × (slice_index l (r.queue i) ≤ w) × (w ≤ slice_index h (r.queue i)) × HasRoom r i w × (r.key i w < r.key j v))
+
+passed-has_rival : (r : Routing) (l h : List ℕ) (j v : ℕ) → HasRoom r j v → r.least ≤ slice_index l r.source → CanPass r l h j v → HasRival r l h j v
+passed-has_rival r l h j v room serve can = elim can [
+  | inl lacks ↦ absurd (omega arith)
+  | inr rest ↦ elim rest [ inl idle ↦ absurd (omega arith) | inr found ↦ found ]
+]
+
+-- so it can't where no rival has a lesser key
 pub no_rival-passed : (r : Routing) (l h : List ℕ) (j v : ℕ) → IsLeastOffer (IsRival r l h) r.places j None → HasRoom r j v → r.least ≤ slice_index l r.source
     → CanPass r l h j v → ⊥
 no_rival-passed r l h j v is room serve can =
-    elim can [
-      | inl lacks ↦ omega arith
-      | inr rest ↦ elim rest [
-        | inl idle ↦ omega arith
-        | inr found ↦ (let w = found.3 in
-            let fits : HasRoom r found.0 w.0 = w.3 in
-            let lacks : Lacks r found.0 w.0 = is found.0 found.1 found.2 w.0 w.1 w.2 in omega arith)
-      ]
-    ]
+    let found = passed-has_rival r l h j v room serve can in
+    let w = found.3 in
+    let fits : HasRoom r found.0 w.0 = w.3 in
+    let lacks : Lacks r found.0 w.0 = is found.0 found.1 found.2 w.0 w.1 w.2 in
+    omega arith
 
 pub rival-passed : (r : Routing) (l h : List ℕ) (j v : ℕ) (key : Key) → IsLeastOffer (IsRival r l h) r.places j (Some key) → r.key j v ≤ key_of key → HasRoom r j v
     → r.least ≤ slice_index l r.source → CanPass r l h j v → ⊥
 rival-passed r l h j v key is most room serve can =
-    elim can [
-      | inl lacks ↦ omega arith
-      | inr rest ↦ elim rest [
-        | inl idle ↦ omega arith
-        | inr found ↦ (let w = found.3 in
-            let fits : HasRoom r found.0 w.0 = w.3 in
-            let less : r.key found.0 w.0 < r.key j v = w.4 in
-            elim (is.least found.0 found.1 found.2) [
-              | inl empty ↦ (let lacks : Lacks r found.0 w.0 = empty w.0 w.1 w.2 in omega arith)
-              | inr other ↦ (let near : key_of other.0 ≤ r.key found.0 w.0 = other.1.least w.0 w.1 w.2 fits in
-                  let far : key_of key ≤ key_of other.0 = other.2 in omega arith)
-            ])
-      ]
+    let found = passed-has_rival r l h j v room serve can in
+    let w = found.3 in
+    let less : r.key found.0 w.0 < r.key j v = w.4 in
+    elim (is.least found.0 found.1 found.2) [
+      | inl empty ↦ (let lacks : Lacks r found.0 w.0 = empty w.0 w.1 w.2 in let fits : HasRoom r found.0 w.0 = w.3 in omega arith)
+      | inr other ↦ (let near : key_of other.0 ≤ r.key found.0 w.0 = other.1.least w.0 w.1 w.2 w.3 in
+          let far : key_of key ≤ key_of other.0 = other.2 in omega arith)
     ]
 
 -- a number can be chosen where there is room, the source serves and no other place always has a lesser key
@@ -245,15 +245,7 @@ pub low-weighed : (r : Routing) (l h : List ℕ) (j u : ℕ) (rival : Option Key
     → IsLeastAfter (MayStay r j rival) (MustRise r j rival) r.size (slice_index l (r.queue j)) (slice_index h (r.queue j)) u → IsLowEnd r l h j u
 low-weighed r l h j u rival offers serve end =
     elim end [
-      | inl found ↦ inl (
-        found.0,
-        found.1,
-        found.2,
-        found.3,
-        stay-can r l h j rival found.0 offers found.4,
-        (λ t over under. rise-must r l h j rival t offers serve (found.5 t over under)),
-        found.6,
-      )
+      | inl found ↦ inl (found.0, found.1, found.2, found.3, stay-can r l h j rival found.0 offers found.4, (λ t over under. rise-must r l h j rival t offers serve (found.5 t over under)), found.6)
       | inr all ↦ inr (λ t over under near. rise-must r l h j rival t offers serve (all.0 t over under near), all.1)
     ]
 
@@ -263,15 +255,7 @@ pub high-weighed : (r : Routing) (l h : List ℕ) (j u : ℕ) (bar : Option Key)
     → IsGreatestAfter (MayRise r j bar) (MustStay r j bar) r.size (slice_index l (r.queue j)) (slice_index h (r.queue j)) u → IsHighEnd r l h j u
 high-weighed r l h j u bar ordered offers serve end =
     elim end [
-      | inl found ↦ inl (
-        found.0,
-        found.1,
-        found.2,
-        found.3,
-        rise-can r l h j bar found.0 ordered offers serve found.4,
-        (λ t over under. stay-must r l h j bar t offers (found.5 t over under)),
-        found.6,
-      )
+      | inl found ↦ inl (found.0, found.1, found.2, found.3, rise-can r l h j bar found.0 ordered offers serve found.4, (λ t over under. stay-must r l h j bar t offers (found.5 t over under)), found.6)
       | inr all ↦ inr (λ t over under near. stay-must r l h j bar t offers (all.0 t over under near), all.1)
     ]
 

@@ -9,7 +9,7 @@ use Rattle.psi_state.specs.Hull.{IsTight}
 use Rattle.psi_event.proofs.LawLemmas.{tight-by}
 use Rattle.psi_route.specs.Routing.{Routing, IsRouting, HasRoom, Lacks, IsBest, IsPassed, Routed}
 use Rattle.psi_route.proofs.ActingLemmas.{best_or_passed}
-use Rattle.psi_route.specs.Ends.{CanChoose, CanPass, IsLowEnd, IsHighEnd, AreEnds}
+use Rattle.psi_route.specs.Ends.{AreCornerEnds, CanChoose, CanPass, IsLowEnd, IsHighEnd, AreEnds}
 use Rattle.psi_route.proofs.MonotoneLemmas.{serves-up, source-below, place_of}
 use Rattle.psi_route.proofs.WitnessesLemmas.{State, state_with}
 
@@ -231,8 +231,6 @@ low_inside : (r : Routing) → IsRouting r → (f : List ℕ → List ℕ) → R
     → IsLowEnd r l h j u → u ≤ slice_index (f x) (r.queue j)
 low_inside r is f routes l h x j u is_box between small end =
     let held = holds_at r is l h x j is_box between small in
-    let low : slice_index l (r.queue j) ≤ slice_index x (r.queue j) = held.low in
-    let high : slice_index x (r.queue j) ≤ slice_index h (r.queue j) = held.high in
     elim end [
       | inl first ↦ (let v = first.0 in
           let is_v : u ≡ v = first.6 in
@@ -240,7 +238,7 @@ low_inside r is f routes l h x j u is_box between small end =
           elim (turn_of r is l h x (f x) j is_box between small (routes x (between-long r l h x is_box between))) [
             | raised can more ↦ omega arith
             | kept can same ↦ elim (cases_lt (slice_index x (r.queue j)) v) [
-              | inl less ↦ absurd (first.5 (slice_index x (r.queue j)) low less can)
+              | inl less ↦ absurd (first.5 (slice_index x (r.queue j)) held.low less can)
               | inr most ↦ omega arith
             ]
           ])
@@ -248,7 +246,7 @@ low_inside r is f routes l h x j u is_box between small end =
           elim (turn_of r is l h x (f x) j is_box between small (routes x (between-long r l h x is_box between))) [
             | raised can more ↦ omega arith
             | kept can same ↦ elim (cases_lt (slice_index x (r.queue j)) (slice_index l (r.queue j) + r.size)) [
-              | inl less ↦ absurd (all.0 (slice_index x (r.queue j)) low high less can)
+              | inl less ↦ absurd (all.0 (slice_index x (r.queue j)) held.low held.high less can)
               | inr most ↦ omega arith
             ]
           ])
@@ -258,15 +256,13 @@ high_inside : (r : Routing) → IsRouting r → (f : List ℕ → List ℕ) → 
     → IsHighEnd r l h j u → slice_index (f x) (r.queue j) ≤ u
 high_inside r is f routes l h x j u is_box between small end =
     let held = holds_at r is l h x j is_box between small in
-    let low : slice_index l (r.queue j) ≤ slice_index x (r.queue j) = held.low in
-    let high : slice_index x (r.queue j) ≤ slice_index h (r.queue j) = held.high in
     elim end [
       | inl last ↦ (let v = last.0 in
           let is_v : u ≡ v + r.size = last.6 in
           let near : slice_index h (r.queue j) < v + r.size = last.3 in
           elim (turn_of r is l h x (f x) j is_box between small (routes x (between-long r l h x is_box between))) [
             | raised can more ↦ elim (cases_lt v (slice_index x (r.queue j))) [
-              | inl less ↦ absurd (last.5 (slice_index x (r.queue j)) less high can)
+              | inl less ↦ absurd (last.5 (slice_index x (r.queue j)) less held.high can)
               | inr most ↦ omega arith
             ]
             | kept can same ↦ omega arith
@@ -274,7 +270,7 @@ high_inside r is f routes l h x j u is_box between small end =
       | inr all ↦ (let is_u : u ≡ slice_index h (r.queue j) = all.1 in
           elim (turn_of r is l h x (f x) j is_box between small (routes x (between-long r l h x is_box between))) [
             | raised can more ↦ elim (cases_lt (slice_index h (r.queue j)) (slice_index x (r.queue j) + r.size)) [
-              | inl past ↦ absurd (all.0 (slice_index x (r.queue j)) low high past can)
+              | inl past ↦ absurd (all.0 (slice_index x (r.queue j)) held.low held.high past can)
               | inr most ↦ omega arith
             ]
             | kept can same ↦ omega arith
@@ -291,6 +287,9 @@ target-ordered r is f routes l h j u w is_box small low high =
 -- a state of the box whose image has this number at the queue
 abbrev Meets : (List ℕ → List ℕ) → List ℕ → List ℕ → ℕ → ℕ → Type 0
 Meets f l h p u = (x : List ℕ) × IsBetween l h x × (slice_index (f x) p ≡ u)
+
+meets-same : (f : List ℕ → List ℕ) (l h : List ℕ) (p v u : ℕ) → Meets f l h p v → u ≡ v → Meets f l h p u
+meets-same f l h p v u found same = (found.0, found.1, found.2 ∙ sym same)
 
 passed-meets : (r : Routing) → IsRouting r → (f : List ℕ → List ℕ) → Routes r f → (l h : List ℕ) (j v : ℕ) → IsBoxOf r l h → IsHeld r l h j v
     → CanPass r l h j v → Meets f l h (r.queue j) v
@@ -316,8 +315,7 @@ low_reached : (r : Routing) → IsRouting r → (f : List ℕ → List ℕ) → 
     → IsLowEnd r l h j u → Meets f l h (r.queue j) u
 low_reached r is f routes l h j u is_box small end =
     elim end [
-      | inl first ↦ (let found = passed-meets r is f routes l h j first.0 is_box (record { place = small; low = first.1; high = first.2 }) first.4 in
-          (found.0, found.1, found.2 ∙ sym first.6))
+      | inl first ↦ meets-same f l h (r.queue j) first.0 u (passed-meets r is f routes l h j first.0 is_box (record { place = small; low = first.1; high = first.2 }) first.4) first.6
       | inr all ↦ (let between = between-low l h is_box.below in
           let order : slice_index l (r.queue j) ≤ slice_index h (r.queue j) = (holds_at r is l h l j is_box between small).high in
           let positive = is.sized in (
@@ -334,11 +332,10 @@ high_reached : (r : Routing) → IsRouting r → (f : List ℕ → List ℕ) →
     → IsHighEnd r l h j u → Meets f l h (r.queue j) u
 high_reached r is f routes l h j u is_box small end =
     elim end [
-      | inl last ↦ (let found = chosen-meets r is f routes l h j last.0 is_box (record { place = small; low = last.1; high = last.2 }) last.4 in
-          (found.0, found.1, found.2 ∙ sym last.6))
-      | inr all ↦ (let between = between-high l h is_box.below in
-          let order : slice_index l (r.queue j) ≤ slice_index h (r.queue j) = (holds_at r is l h h j is_box between small).low in
-          let positive = is.sized in (
+      | inl last ↦ meets-same f l h (r.queue j) (last.0 + r.size) u (chosen-meets r is f routes l h j last.0 is_box (record { place = small; low = last.1; high = last.2 }) last.4) last.6
+      | inr all ↦ (let positive = is.sized in
+          let between = between-high l h is_box.below in
+          let order : slice_index l (r.queue j) ≤ slice_index h (r.queue j) = (holds_at r is l h h j is_box between small).low in (
             h,
             between,
             elim (turn_of r is l h h (f h) j is_box between small (routes h (between-long r l h h is_box between))) [
@@ -402,31 +399,27 @@ ends_inside r is f routes l h u w x is_box ends between =
               let order : slice_index x p ≤ slice_index h p = between.high.each p (omega arith) in omega arith)
         ]
 
+corner-met : (r : Routing) (f : List ℕ → List ℕ) → Routes r f → (E : ℕ → ℕ → Type 0) (l h x u : List ℕ) (p : ℕ) → length x ≡ r.queues → IsBetween l h x
+    → AreCornerEnds r f E x u → ((i : ℕ) → i < r.places → Meets f l h (r.queue i) (slice_index u (r.queue i))) → p < r.queues → Meets f l h p (slice_index u p)
+corner-met r f routes E l h x u p long between ends targets small =
+    elim (place_is r p) [
+      | is_target i within e ↦ subst (λ q. Meets f l h q (slice_index u q)) e (targets i within)
+      | is_source e ↦ (let at : r.source < r.queues = omega arith in
+          subst (λ q. Meets f l h q (slice_index u q)) (sym e) (x, between, sym (ends.source at)))
+      | is_other ne apart ↦ (x, between, (routes x long).others p ne apart ∙ sym (ends.others p ne apart))
+    ]
+
 low_met : (r : Routing) → IsRouting r → (f : List ℕ → List ℕ) → Routes r f → (l h u w : List ℕ) (p : ℕ) → IsBoxOf r l h → AreEnds r f l h u w → p < r.queues
     → Meets f l h p (slice_index u p)
 low_met r is f routes l h u w p is_box ends small =
-    elim (place_is r p) [
-      | is_target i within e ↦ subst (λ q. Meets f l h q (slice_index u q)) e
-          (low_reached r is f routes l h i (slice_index u (r.queue i)) is_box within (ends.low.targets i within))
-      | is_source e ↦ (let at : r.source < r.queues = omega arith in
-          subst (λ q. Meets f l h q (slice_index u q)) (sym e) (l, between-low l h is_box.below, sym (ends.low.source at)))
-      | is_other ne apart ↦ (l, between-low l h is_box.below, (routes l is_box.count).others p ne apart ∙ sym (ends.low.others p ne apart))
-    ]
+    corner-met r f routes (λ j v. IsLowEnd r l h j v) l h l u p is_box.count (between-low l h is_box.below) ends.low
+    (λ i within. low_reached r is f routes l h i (slice_index u (r.queue i)) is_box within (ends.low.targets i within)) small
 
 high_met : (r : Routing) → IsRouting r → (f : List ℕ → List ℕ) → Routes r f → (l h u w : List ℕ) (p : ℕ) → IsBoxOf r l h → AreEnds r f l h u w → p < r.queues
     → Meets f l h p (slice_index w p)
 high_met r is f routes l h u w p is_box ends small =
-    elim (place_is r p) [
-      | is_target i within e ↦ subst (λ q. Meets f l h q (slice_index w q)) e
-          (high_reached r is f routes l h i (slice_index w (r.queue i)) is_box within (ends.high.targets i within))
-      | is_source e ↦ (let at : r.source < r.queues = omega arith in
-          subst (λ q. Meets f l h q (slice_index w q)) (sym e) (h, between-high l h is_box.below, sym (ends.high.source at)))
-      | is_other ne apart ↦ (
-        h,
-        between-high l h is_box.below,
-        (routes h (between-long r l h h is_box (between-high l h is_box.below))).others p ne apart ∙ sym (ends.high.others p ne apart),
-      )
-    ]
+    corner-met r f routes (λ j v. IsHighEnd r l h j v) l h h w p (between-long r l h h is_box (between-high l h is_box.below)) (between-high l h is_box.below) ends.high
+    (λ i within. high_reached r is f routes l h i (slice_index w (r.queue i)) is_box within (ends.high.targets i within)) small
 
 -- so the box between the ends is tight around the image of the box
 pub ends-tight : (r : Routing) → IsRouting r → (f : List ℕ → List ℕ) → Routes r f → (l h u w : List ℕ) → IsBoxOf r l h → AreEnds r f l h u w

@@ -50,23 +50,16 @@ module _ (r : Routing) (l h : List ℕ) where
     pub low : AreSet r.queue (λ i v. IsLowEnd i v) l u n
     pub high : AreSet r.queue (λ i v. IsHighEnd i v) h w n
 
--- a route with its function in the box from l to h
-module _ (r : Routing) (f : List ℕ → List ℕ) (l h : List ℕ) where
-  -- u has the least numbers of what the function of a route makes of the box from l to h
-  pub record AreLowEnds (u : List ℕ) : Type 0 where
-    pub count : length u ≡ r.queues
-    pub targets : (j : ℕ) → j < r.places → IsLowEnd r l h j (slice_index u (r.queue j))
-    pub source : r.source < r.queues → slice_index u r.source ≡ slice_index (f l) r.source
-    pub others : (p : ℕ) → p ≢ r.source → ((i : ℕ) → i < r.places → r.queue i ≢ p) → slice_index u p ≡ slice_index l p
+-- a route with its function
+module _ (r : Routing) (f : List ℕ → List ℕ) where
+  -- targets have the numbers that E says; the source has what the function makes of this corner, and the others what they have there
+  pub record AreCornerEnds (E : ℕ → ℕ → Type 0) (corner ends : List ℕ) : Type 0 where
+    pub count : length ends ≡ r.queues
+    pub targets : (j : ℕ) → j < r.places → E j (slice_index ends (r.queue j))
+    pub source : r.source < r.queues → slice_index ends r.source ≡ slice_index (f corner) r.source
+    pub others : (p : ℕ) → p ≢ r.source → ((i : ℕ) → i < r.places → r.queue i ≢ p) → slice_index ends p ≡ slice_index corner p
 
-  -- and w the greatest ones
-  pub record AreHighEnds (w : List ℕ) : Type 0 where
-    pub count : length w ≡ r.queues
-    pub targets : (j : ℕ) → j < r.places → IsHighEnd r l h j (slice_index w (r.queue j))
-    pub source : r.source < r.queues → slice_index w r.source ≡ slice_index (f h) r.source
-    pub others : (p : ℕ) → p ≢ r.source → ((i : ℕ) → i < r.places → r.queue i ≢ p) → slice_index w p ≡ slice_index h p
-
-  -- both together
-  pub record AreEnds (u w : List ℕ) : Type 0 where
-    pub low : AreLowEnds u
-    pub high : AreHighEnds w
+  -- u has the least numbers of what the function makes of the box from l to h, and w the greatest ones
+  pub record AreEnds (l h u w : List ℕ) : Type 0 where
+    pub low : AreCornerEnds (λ j v. IsLowEnd r l h j v) l u
+    pub high : AreCornerEnds (λ j v. IsHighEnd r l h j v) h w

@@ -34,6 +34,7 @@ impl Route {
         requires { IsBelow b.old.hi self.now.caps }
         ensures hull { b.new ≡ corners (image (routed (shape_of self.now)) (box b.old.lo b.old.hi)) }
         ensures tight { IsTight (image (routed (shape_of self.now)) (box b.old.lo b.old.hi)) b.new.lo b.new.hi }
+        ensures ordered { IsBelow b.old.lo b.old.hi }
     {
         // Called for its clause: the corners are in order.
         let _queues = b.len();
@@ -66,8 +67,7 @@ impl Route {
     fn set_targets(&self, b: &mut Bounds, always: bool) -> Coming
         requires ordered { IsBelow b.old.lo b.old.hi }
         requires within { IsBelow b.old.hi self.now.caps }
-        requires low { MatchBool always (Comes (routing (shape_of self.now)) b.old.lo 0) (Misses (routing (shape_of self.now)) b.old.lo 0) }
-        requires high { Comes (routing (shape_of self.now)) b.old.hi 0 }
+        requires coming { let r = routing (shape_of self.now) in MatchBool always (Comes r b.old.lo 0) (Misses r b.old.lo 0) × Comes r b.old.hi 0 }
         ensures ends { AreTargetEnds (routing (shape_of self.now)) b.old.lo b.old.hi b.new.lo b.new.hi (length self.now.targets) }
         ensures left { AreComing (routing (shape_of self.now)) b.old.lo b.old.hi (length self.now.targets) result }
     {

@@ -32,8 +32,6 @@ impl EventLaw for Route {
     }
 
     fn envelope(&self, b: &mut Bounds) {
-        // Called for its clause: the corners are in order.
-        let _queues = b.len();
         self.spread(b);
     }
 

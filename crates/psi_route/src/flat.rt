@@ -1,6 +1,6 @@
 //! What a route keeps beside its parts, so that a step reads it without a choice or a sum.
 
-ghost use Rattle.std.specs.Prelude.{◌<◌, length, slice_index, EachIndex};
+ghost use Rattle.std.specs.Prelude.{◌<◌, ◌≤◌, length, slice_index, EachIndex};
 ghost use Rattle.psi_route.specs.ServerKept.{AreRooms, IsServer};
 
 use crate::parts::Source;
@@ -41,7 +41,8 @@ impl Server {
 /// it never has, and past the last place.
 pub(crate) fn rooms_of(caps: &State, size: u16, targets: &Queues) -> [u16; 32]
     requires { EachIndex targets.now (λ i. slice_index targets.now i < length caps.now) }
-    ensures { AreRooms caps.now size targets.now result }
+    ensures rooms { AreRooms caps.now size targets.now result }
+    ensures few { length targets.now ≤ 32 }
 {
     let mut rooms = [0; 32];
     for i in 0..targets.len() {

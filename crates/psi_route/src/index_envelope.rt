@@ -26,8 +26,7 @@ impl Route {
         requires tables { 0 < length self.now.tables.items }
         requires ordered { IsBelow b.old.lo b.old.hi }
         requires within { IsBelow b.old.hi self.now.caps }
-        requires low { MatchBool always (Comes (routing (shape_of self.now)) b.old.lo 0) (Misses (routing (shape_of self.now)) b.old.lo 0) }
-        requires high { Comes (routing (shape_of self.now)) b.old.hi 0 }
+        requires coming { let r = routing (shape_of self.now) in MatchBool always (Comes r b.old.lo 0) (Misses r b.old.lo 0) × Comes r b.old.hi 0 }
         ensures ends { AreTargetEnds (routing (shape_of self.now)) b.old.lo b.old.hi b.new.lo b.new.hi (length self.now.targets) }
         ensures left { AreComing (routing (shape_of self.now)) b.old.lo b.old.hi (length self.now.targets) result }
     {
@@ -51,8 +50,7 @@ impl Route {
     // the source always serves; else they aren't asked for.
     fn served_rivals(&self, b: &Bounds, always: bool) -> Offers
         requires tables { 0 < length self.now.tables.items }
-        requires ordered { IsBelow b.now.lo b.now.hi }
-        requires within { IsBelow b.now.hi self.now.caps }
+        requires inside { IsBelow b.now.lo b.now.hi × IsBelow b.now.hi self.now.caps }
         ensures { always ≡ true → AreLeastTwo (IsRival (routing (shape_of self.now)) b.now.lo b.now.hi) (length self.now.targets) result.first result.second }
     {
         if !always {
@@ -66,8 +64,7 @@ impl Route {
     fn low_after(&self, always: bool, j: u8, least: u16, greatest: u16, rival: Option<Key>) -> u16
         requires tables { 0 < length self.now.tables.items }
         requires place { j < length self.now.targets }
-        requires ordered { least ≤ greatest }
-        requires within { greatest ≤ slice_index self.now.caps (slice_index self.now.targets j) }
+        requires within { (least ≤ greatest) × (greatest ≤ slice_index self.now.caps (slice_index self.now.targets j)) }
         ensures kept { always ≡ false → result ≡ least }
         ensures served { always ≡ true → IsLeastAfter (MayStay (routing (shape_of self.now)) j rival) (MustRise (routing (shape_of self.now)) j rival) self.now.size least greatest result }
     {

@@ -71,8 +71,7 @@ impl Route {
     /// The least key of a target with room in some state of the box, and the least one of the other targets.
     pub(crate) fn rivals(&self, b: &Bounds) -> Offers
         requires tables { 0 < length self.now.tables.items }
-        requires ordered { IsBelow b.now.lo b.now.hi }
-        requires within { IsBelow b.now.hi self.now.caps }
+        requires inside { IsBelow b.now.lo b.now.hi × IsBelow b.now.hi self.now.caps }
         ensures { AreLeastTwo (IsRival (routing (shape_of self.now)) b.now.lo b.now.hi) (length self.now.targets) result.first result.second }
     {
         self.least_two(|i| self.rival(b, i))
@@ -81,8 +80,7 @@ impl Route {
     /// The two least of the greatest keys of the targets that always have room in the box.
     pub(crate) fn bars(&self, b: &Bounds) -> Offers
         requires tables { 0 < length self.now.tables.items }
-        requires ordered { IsBelow b.now.lo b.now.hi }
-        requires within { IsBelow b.now.hi self.now.caps }
+        requires inside { IsBelow b.now.lo b.now.hi × IsBelow b.now.hi self.now.caps }
         ensures { AreLeastTwo (IsBar (routing (shape_of self.now)) b.now.lo b.now.hi) (length self.now.targets) result.first result.second }
     {
         self.least_two(|i| self.bar(b, i))
@@ -105,8 +103,7 @@ impl Route {
     fn rival(&self, b: &Bounds, i: u8) -> Option<Key>
         requires tables { 0 < length self.now.tables.items }
         requires place { i < length self.now.targets }
-        requires ordered { IsBelow b.now.lo b.now.hi }
-        requires within { IsBelow b.now.hi self.now.caps }
+        requires inside { IsBelow b.now.lo b.now.hi × IsBelow b.now.hi self.now.caps }
         ensures { IsRival (routing (shape_of self.now)) b.now.lo b.now.hi i result }
     {
         let queue = self.target(i);
@@ -123,16 +120,14 @@ impl Route {
     fn bar(&self, b: &Bounds, i: u8) -> Option<Key>
         requires tables { 0 < length self.now.tables.items }
         requires place { i < length self.now.targets }
-        requires ordered { IsBelow b.now.lo b.now.hi }
-        requires within { IsBelow b.now.hi self.now.caps }
+        requires inside { IsBelow b.now.lo b.now.hi × IsBelow b.now.hi self.now.caps }
         ensures { IsBar (routing (shape_of self.now)) b.now.lo b.now.hi i result }
     {
-        let queue = self.target(i);
-        let most = b.greatest(queue);
+        let most = b.greatest(self.target(i));
         if self.most_with_room(i) < most {
             return None;
         }
-        let weight = self.greatest_weight(i, b.least(queue), most);
+        let weight = self.greatest_weight(i, b.least(self.target(i)), most);
         Some(Key { weight, place: i })
     }
 

@@ -138,8 +138,8 @@ impl Route {
     fn on_side(&self, i: u8, sides: Sides, side: Side) -> Sides
         requires place { i < length self.now.targets }
         requires length { length sides ≡ length self.now.caps }
-        ensures value { result ≡ on_side (shape_of self.now) i sides side }
         ensures length { length result ≡ length self.now.caps }
+        ensures value { result ≡ on_side (shape_of self.now) i sides side }
     {
         let mut changed = sides;
         changed.set(self.target(i), side);

@@ -70,8 +70,6 @@ impl Route {
         ensures function { IfOk result (λ route. ⟦<Route as EventLaw>⟧.function route ≡ routed (shape caps source size targets tables.items full)) }
         ensures upset { IfOk result (λ route. ⟦<Route as EventLaw>⟧.upset_pair route ≡ upset_of (shape caps source size targets tables.items full)) }
     {
-        // Called for its clause: a list has at most 32 queues.
-        let _few = targets.len();
         if is_self_target(source, &targets) {
             return Err(RouteRefusal::SelfTarget);
         }
@@ -105,8 +103,6 @@ impl Route {
         ensures function { ⟦<Route as EventLaw>⟧.function result ≡ routed (shape caps source size targets tables.items full) }
         ensures upset { ⟦<Route as EventLaw>⟧.upset_pair result ≡ upset_of (shape caps source size targets tables.items full) }
     {
-        // Called for its clause: a list has at most 32 queues.
-        let _few = targets.len();
         let rooms = rooms_of(&caps, size, &targets);
         Route {
             server: Server::of(source),

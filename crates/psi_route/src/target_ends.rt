@@ -18,8 +18,7 @@ impl Route {
     pub(crate) fn target_low(&self, j: u8, least: u16, greatest: u16, rival: Option<Key>) -> u16
         requires tables { 0 < length self.now.tables.items }
         requires place { j < length self.now.targets }
-        requires ordered { least ≤ greatest }
-        requires within { greatest ≤ slice_index self.now.caps (slice_index self.now.targets j) }
+        requires within { (least ≤ greatest) × (greatest ≤ slice_index self.now.caps (slice_index self.now.targets j)) }
         ensures { IsLeastAfter (MayStay (routing (shape_of self.now)) j rival) (MustRise (routing (shape_of self.now)) j rival) self.now.size least greatest result }
     {
         let last = least + (greatest - least).min(self.size - 1);
@@ -37,8 +36,7 @@ impl Route {
     pub(crate) fn target_high(&self, j: u8, least: u16, greatest: u16, bar: Option<Key>) -> u16
         requires tables { 0 < length self.now.tables.items }
         requires place { j < length self.now.targets }
-        requires ordered { least ≤ greatest }
-        requires within { greatest ≤ slice_index self.now.caps (slice_index self.now.targets j) }
+        requires within { (least ≤ greatest) × (greatest ≤ slice_index self.now.caps (slice_index self.now.targets j)) }
         ensures { IsGreatestAfter (MayRise (routing (shape_of self.now)) j bar) (MustStay (routing (shape_of self.now)) j bar) self.now.size least greatest result }
     {
         let first = greatest - (greatest - least).min(self.size - 1);
@@ -55,8 +53,7 @@ impl Route {
     fn first_staying(&self, j: u8, first: u16, last: u16, rival: Option<Key>) -> u16
         requires tables { 0 < length self.now.tables.items }
         requires place { j < length self.now.targets }
-        requires ordered { first ≤ last }
-        requires within { last ≤ slice_index self.now.caps (slice_index self.now.targets j) }
+        requires within { (first ≤ last) × (last ≤ slice_index self.now.caps (slice_index self.now.targets j)) }
         ensures from { first ≤ result }
         ensures rises { (v : ℕ) → first ≤ v → v < result → v ≤ last → MustRise (routing (shape_of self.now)) j rival v }
         ensures stays { result ≤ last → MayStay (routing (shape_of self.now)) j rival result }
@@ -73,8 +70,7 @@ impl Route {
     fn past_rising(&self, j: u8, first: u16, last: u16, bar: Option<Key>) -> u16
         requires tables { 0 < length self.now.tables.items }
         requires place { j < length self.now.targets }
-        requires ordered { first ≤ last }
-        requires within { last ≤ slice_index self.now.caps (slice_index self.now.targets j) }
+        requires within { (first ≤ last) × (last ≤ slice_index self.now.caps (slice_index self.now.targets j)) }
         ensures from { first ≤ result }
         ensures within { result ≤ last + 1 }
         ensures stays { (v : ℕ) → result ≤ v → v ≤ last → MustStay (routing (shape_of self.now)) j bar v }
@@ -91,8 +87,7 @@ impl Route {
     // does.
     fn past_room(&self, j: u8, first: u16, last: u16) -> u16
         requires place { j < length self.now.targets }
-        requires ordered { first ≤ last }
-        requires within { last ≤ slice_index self.now.caps (slice_index self.now.targets j) }
+        requires within { (first ≤ last) × (last ≤ slice_index self.now.caps (slice_index self.now.targets j)) }
         ensures from { first ≤ result }
         ensures few { result ≤ slice_index self.now.caps (slice_index self.now.targets j) }
         ensures within { result ≤ last + 1 }
@@ -112,15 +107,11 @@ impl Route {
     fn first_behind(&self, j: u8, first: u16, past: u16, key: Key) -> u16
         requires tables { 0 < length self.now.tables.items }
         requires place { j < length self.now.targets }
-        requires ordered { first ≤ past }
-        requires within { past ≤ slice_index self.now.caps (slice_index self.now.targets j) }
-        ensures from { first ≤ result }
-        ensures within { result ≤ past }
+        requires within { (first ≤ past) × (past ≤ slice_index self.now.caps (slice_index self.now.targets j)) }
+        ensures within { (first ≤ result) × (result ≤ past) }
         ensures before { (v : ℕ) → first ≤ v → v < result → (routing (shape_of self.now)).key j v ≤ key_of key }
         ensures found { result < past → key_of key < (routing (shape_of self.now)).key j result }
     {
-        // Called for its clause: there are at most 32 places.
-        let _few = self.places();
         let bound = key.weight as u64 + (j <= key.place) as u64;
         self.tables[j as usize].first_at_least_between(first, past, bound)
     }
@@ -130,15 +121,11 @@ impl Route {
     fn past_before(&self, j: u8, first: u16, past: u16, key: Key) -> u16
         requires tables { 0 < length self.now.tables.items }
         requires place { j < length self.now.targets }
-        requires ordered { first ≤ past }
-        requires within { past ≤ slice_index self.now.caps (slice_index self.now.targets j) }
-        ensures from { first ≤ result }
-        ensures within { result ≤ past }
+        requires within { (first ≤ past) × (past ≤ slice_index self.now.caps (slice_index self.now.targets j)) }
+        ensures within { (first ≤ result) × (result ≤ past) }
         ensures after { (v : ℕ) → result ≤ v → v < past → key_of key ≤ (routing (shape_of self.now)).key j v }
         ensures found { first < result → (routing (shape_of self.now)).key j (result - 1) < key_of key }
     {
-        // Called for its clause: there are at most 32 places.
-        let _few = self.places();
         let bound = key.weight as u64 + (j < key.place) as u64;
         self.tables[j as usize].past_last_below(first, past, bound)
     }

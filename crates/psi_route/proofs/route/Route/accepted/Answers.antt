@@ -7,7 +7,7 @@ pub invariant_of-result : goal.invariant_of-result
 invariant_of-result c = record {
   valid =
       accepted (shape c.args.caps c.args.source c.args.size c.args.targets c.args.tables.items c.args.full) c.requires.caps
-      c.requires.source c.len-few.ensures.numbers.few c.requires.targets c.requires.accepted;
-  roomy = c.rooms_of-rooms.ensures;
+      c.requires.source c.rooms_of-rooms.ensures.few c.requires.targets c.requires.accepted;
+  roomy = c.rooms_of-rooms.ensures.rooms;
   served = c.of.ensures;
 }

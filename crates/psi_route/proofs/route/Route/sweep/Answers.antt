@@ -21,7 +21,6 @@ least-least-requires c =
 pub returns-then-greatest-room-clause-ends : goal.returns-then-greatest-room-clause-ends
 returns-then-greatest-room-clause-ends c =
     let s = shape_of c.args.self.now in
-    let r = routing s in
     let valid = c.args.self.now.valid in
     let l = c.args.b.now.lo in
     let h = c.args.b.now.hi in
@@ -29,11 +28,11 @@ returns-then-greatest-room-clause-ends c =
     let small : c.loop-j.j < length s.targets = omega (arith, c.loop-j-test.true, c.places-j-end.ensures.value) in
     let at : q ≡ slice_index s.targets c.loop-j.j = c.target-queue.ensures.value in
     let cap = c.most_with_room-room.ensures in
-    let old = target-ends_kept r l h c.loop-j.b.lo c.loop-j.b.hi c.loop-j.j (routing-is s valid) c.loop-j.invariant.ends small in
+    let old = target-ends_kept (routing s) l h c.loop-j.b.lo c.loop-j.b.hi c.loop-j.j (routing-is s valid) c.loop-j.invariant.ends small in
     let high : c.greatest-greatest.result ≡ slice_index h (slice_index s.targets c.loop-j.j) =
     c.greatest-greatest.ensures.value ∙ (ap (λ n. slice_index c.loop-j.b.hi n) at ∙ old.1) in
     ends-behind s valid c.requires.plain l h c.set.new.self.lo c.set.new.self.hi c.loop-j.j c.requires.ordered c.requires.within
-    (subst (λ (m : Corners). AreTargetEnds r l h m.lo m.hi (c.loop-j.j + 1)) (sym c.set.ensures)
+    (subst (λ (m : Corners). AreTargetEnds (routing s) l h m.lo m.hi (c.loop-j.j + 1)) (sym c.set.ensures)
     (ends-raised s valid c.requires.plain l h c.loop-j.b.lo c.loop-j.b.hi c.loop-j.j q c.least-least.result c.greatest-greatest.result c.most_with_room-room.result c.lowest-low.result
     (c.min.result + s.size) c.loop-j.always c.requires.ordered c.requires.within c.loop-j.invariant.ends small at cap c.least-least.ensures.value
     c.greatest-greatest.ensures.value c.if-least-room.true c.loop-j.invariant.low c.loop-j.invariant.high c.lowest-low.ensures.kept c.lowest-low.ensures.roomy c.lowest-low.ensures.narrow
@@ -43,18 +42,17 @@ returns-then-greatest-room-clause-ends c =
 pub returns-then-greatest-room-clause-left : goal.returns-then-greatest-room-clause-left
 returns-then-greatest-room-clause-left c =
     let s = shape_of c.args.self.now in
-    let r = routing s in
     let l = c.args.b.now.lo in
     let h = c.args.b.now.hi in
     let j = c.loop-j.j in
     let small : j < length s.targets = omega (arith, c.loop-j-test.true, c.places-j-end.ensures.value) in
     let at : c.target-queue.result ≡ slice_index s.targets j = c.target-queue.ensures.value in
     let cap = c.most_with_room-room.ensures in
-    let old = target-ends_kept r l h c.loop-j.b.lo c.loop-j.b.hi j (routing-is s c.args.self.now.valid) c.loop-j.invariant.ends small in
+    let old = target-ends_kept (routing s) l h c.loop-j.b.lo c.loop-j.b.hi j (routing-is s c.args.self.now.valid) c.loop-j.invariant.ends small in
     let low : c.least-least.result ≡ slice_index l (slice_index s.targets j) = c.least-least.ensures.value ∙ (ap (λ n. slice_index c.loop-j.b.lo n) at ∙ old.0) in
     let high : c.greatest-greatest.result ≡ slice_index h (slice_index s.targets j) = c.greatest-greatest.ensures.value ∙ (ap (λ n. slice_index c.loop-j.b.hi n) at ∙ old.1) in
-    let room_low : HasRoom r j (slice_index l (slice_index s.targets j)) = omega (arith, c.if-least-room.true, low, cap) in
-    let room_high : HasRoom r j (slice_index h (slice_index s.targets j)) = omega (arith, c.if-greatest-room.true, high, cap) in
+    let room_low : HasRoom (routing s) j (slice_index l (slice_index s.targets j)) = omega (arith, c.if-least-room.true, low, cap) in
+    let room_high : HasRoom (routing s) j (slice_index h (slice_index s.targets j)) = omega (arith, c.if-greatest-room.true, high, cap) in
     record { low = inr (j, small, room_low); high = inr (j, small, room_high) }
 
 pub loop-j-preserved : goal.loop-j-preserved

@@ -9,7 +9,7 @@ returns-then-stays-last c =
     inl (
       c.first_staying-stays.result,
       stays.from,
-      omega (arith, c.if-stays-last.true, c.min.ensures, c.requires.ordered),
+      omega (arith, c.if-stays-last.true, c.min.ensures, c.requires.within.0),
       omega (arith, c.if-stays-last.true, c.min.ensures, sized),
       stays.stays c.if-stays-last.true,
       λ t low less. stays.rises t low less (omega (arith, c.if-stays-last.true)),

@@ -11,13 +11,10 @@ use Rattle.psi_route.proofs.route.Route.weigh.Goals.{then-always, else-always}
 
 pub set-requires-clause-ordered : goal.set-requires-clause-ordered
 set-requires-clause-ordered c =
-    let s = shape_of c.args.self.now in
-    let small : c.loop-j.j < length s.targets = omega (arith, c.loop-j-test.true, c.places-j-end.ensures.value) in
-    let both =
-    both-ends s c.args.self.now.valid _ _ _ _ _ _ _ _ _ _ _ _ _ _ _ _ _ c.requires.ordered c.requires.within c.loop-j.invariant small c.target-queue.ensures.value
-    c.least-least.ensures.value c.greatest-greatest.ensures.value c.requires.low c.requires.high c.served_rivals-rivals.ensures c.bars-bars.ensures
-    c.beside.ensures c.beside-in-loop-j.ensures c.low_after-low.ensures.kept c.low_after-low.ensures.served c.target_high-high.ensures in
-    both.ordered
+    let small : c.loop-j.j < length c.args.self.now.targets = omega (arith, c.loop-j-test.true, c.places-j-end.ensures.value) in
+    (both-ends (shape_of c.args.self.now) c.args.self.now.valid _ _ _ _ _ _ _ _ _ _ _ _ _ _ _ _ _ c.requires.ordered c.requires.within c.loop-j.invariant small c.target-queue.ensures.value
+    c.least-least.ensures.value c.greatest-greatest.ensures.value c.requires.coming.0 c.requires.coming.1 c.served_rivals-rivals.ensures c.bars-bars.ensures
+    c.beside.ensures c.beside-in-loop-j.ensures c.low_after-low.ensures.kept c.low_after-low.ensures.served c.target_high-high.ensures).ordered
 
 pub loop-j-preserved : goal.loop-j-preserved
 loop-j-preserved c =
@@ -25,7 +22,7 @@ loop-j-preserved c =
     let small : c.loop-j.j < length s.targets = omega (arith, c.loop-j-test.true, c.places-j-end.ensures.value) in
     let both =
     both-ends s c.args.self.now.valid _ _ _ _ _ _ _ _ _ _ _ _ _ _ _ _ _ c.requires.ordered c.requires.within c.loop-j.invariant small c.target-queue.ensures.value
-    c.least-least.ensures.value c.greatest-greatest.ensures.value c.requires.low c.requires.high c.served_rivals-rivals.ensures c.bars-bars.ensures
+    c.least-least.ensures.value c.greatest-greatest.ensures.value c.requires.coming.0 c.requires.coming.1 c.served_rivals-rivals.ensures c.bars-bars.ensures
     c.beside.ensures c.beside-in-loop-j.ensures c.low_after-low.ensures.kept c.low_after-low.ensures.served c.target_high-high.ensures in
     subst (λ (m : Corners). AreTargetEnds (routing s) c.args.b.now.lo c.args.b.now.hi m.lo m.hi (c.loop-j.j + 1)) (sym c.set.ensures)
     (subst (λ q. AreTargetEnds (routing s) c.args.b.now.lo c.args.b.now.hi (slice_set c.loop-j.b.lo q c.low_after-low.result) (slice_set c.loop-j.b.hi q c.target_high-high.result) (c.loop-j.j + 1))
@@ -43,5 +40,5 @@ returns-clause-left c =
       | else-always w ↦ (λ e. absurd (cc), λ e. w.result-is ∙ e)
     ] in
     coming-weighed (shape_of c.args.self.now) c.args.self.now.valid c.args.b.now.lo c.args.b.now.hi c.args.always c.if-always.result c.is_none-2.result rivals.first bars.first
-    c.requires.ordered c.requires.within c.requires.low c.requires.high rivals.second bars.second c.served_rivals-rivals.ensures c.bars-bars.ensures told.0 told.1
+    c.requires.ordered c.requires.within c.requires.coming.0 c.requires.coming.1 rivals.second bars.second c.served_rivals-rivals.ensures c.bars-bars.ensures told.0 told.1
     (absent-is bars.first c.is_none-2.result c.is_none-2.ensures)
