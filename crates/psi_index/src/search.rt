@@ -23,29 +23,12 @@ impl IndexTable {
             return self.first_at_least_between(0, near, bound);
         }
         let end = near + SOON.min(self.len() - near);
-        let place = self.first_at_least_along(near, end, bound);
-        if place < end {
-            return place;
-        }
-        self.first_at_least_between(end, self.len(), bound)
-    }
-
-    // The first place from `first` on and before `past` whose value is at least the bound, or `past` where there is
-    // none: for a few places.
-    fn first_at_least_along(&self, first: u16, past: u16, bound: u64) -> u16
-        requires ordered { first ≤ past }
-        requires within { past ≤ length self.now }
-        ensures from { first ≤ result }
-        ensures within { result ≤ past }
-        ensures before { (k : ℕ) → first ≤ k → k < result → slice_index self.now k < bound }
-        ensures found { result < past → bound ≤ slice_index self.now result }
-    {
-        for place in first..past {
+        for place in near..end {
             if self.at(place) as u64 >= bound {
                 return place;
             }
         }
-        past
+        self.first_at_least_between(end, self.len(), bound)
     }
 
     /// The first place from `first` on and before `past` whose value is at least `bound`, or `past` where there is
@@ -113,10 +96,10 @@ impl IndexTable {
     pub fn first_below(&self, first: u16, past: u16, bound: u64) -> u16
         requires ordered { first ≤ past }
         requires within { past ≤ length self.now }
-        ensures from { first ≤ result }
-        ensures within { result ≤ past }
         ensures before { (k : ℕ) → first ≤ k → k < result → bound ≤ slice_index self.now k }
         ensures found { result < past → slice_index self.now result < bound }
+        ensures from { first ≤ result }
+        ensures within { result ≤ past }
     {
         let mut low = first;
         let mut high = past;
