@@ -5,14 +5,14 @@ use Rattle.psi_state.specs.Members.{In}
 use Rattle.psi_state.proofs.MembersLemmas.{In-append, In-append_left, In-append_right}
 use Rattle.psi_state.specs.Sets.{insert_state, ascending, image}
 use Rattle.psi_state.proofs.SetsLemmas.{In-ascending, In-of_ascending}
-use Rattle.psi_state.specs.Ascending.{IsDistinct, HaveSame}
+use Rattle.psi_state.specs.Ascending.{IsDistinct, IsRising, HaveSame}
 use Rattle.psi_state.proofs.AscendingLemmas.{ascending-members, ascending-rising, length-ascending, image-ascending}
 use Rattle.psi_pool.specs.declared.nodes.Node.{Node}
 use Rattle.psi_pool.specs.declared.table.Table.{Table}
 use Rattle.psi_pool.specs.BucketsKept.{bucket}
 use Rattle.psi_pool.specs.Pooled.{Pooled}
 use Rattle.psi_pool.specs.NodesKept.{node_at, states, IsLinked, AreLinked, HoldSet}
-use Rattle.psi_pool.specs.TablesKept.{held, IsTable}
+use Rattle.psi_pool.specs.TablesKept.{held, IsTable, IsPool}
 use Rattle.psi_pool.proofs.SortingLemmas.{insert_state-there, ascending-short}
 use Rattle.psi_pool.proofs.PlacesLemmas.{states-take, states-same, distinct-more, length-states}
 use Rattle.psi_pool.proofs.LinkingLemmas.{linked-none, linked-more}
@@ -42,6 +42,11 @@ table-empty {t} heads same small buckets whole none empty =
     distinct [] = tt
     distinct (m ∷ ns) = tt
 
+-- a table by its counts and its links
+table-counted : (t : Table) → (length t.nodes.items ≤ 4096) × (length t.heads.items ≡ 4 * length t.nodes.items + 1) × (1 ≤ t.used) × (t.used ≤ length t.heads.items)
+    × (t.len ≤ length t.nodes.items) → (IsTrue t.is_linked → AreLinked t.used t.nodes.items t.heads.items t.len) → IsTable t
+table-counted t counts links = record { small = counts.0; buckets = counts.1; some = counts.2; few = counts.3; fits = counts.4; links = links }
+
 -- the nodes are linked anew
 pub table-linked : (t : Table) {now : Table} (nodes : List Node) (heads : List ℕ) (xs : List (List ℕ)) → IsTable t → now.nodes.items ≡ nodes → now.heads.items ≡ heads
     → length nodes ≡ length t.nodes.items → length heads ≡ length t.heads.items → now.used ≡ 4 * t.len + 1 → now.len ≤ t.len → HoldSet now.used nodes heads now.len xs
@@ -52,19 +57,13 @@ table-linked t {now} nodes heads xs ok nodes_are heads_are nodes_same heads_same
     let buckets = ok.buckets in
     let nodes_long = ap (λ (ns : List Node). length ns) nodes_are in
     let heads_long = ap (λ (hs : List ℕ). length hs) heads_are in
-    record {
-      small = omega arith;
-      buckets = omega arith;
-      some = omega arith;
-      few = omega arith;
-      fits = omega arith;
-      links = λ yes. subst (λ (ns : List Node). AreLinked now.used ns now.heads.items now.len) (sym nodes_are)
-          (subst (λ (hs : List ℕ). AreLinked now.used nodes hs now.len) (sym heads_are) (record {
-            linked = holds.linked;
-            chained = chained-linked now.used nodes heads now.len (omega arith) (omega arith) holds.linked;
-            distinct = holds.distinct;
-          }));
-    }
+    table-counted now (omega arith, omega arith, omega arith, omega arith, omega arith)
+    (λ yes. subst (λ (ns : List Node). AreLinked now.used ns now.heads.items now.len) (sym nodes_are)
+    (subst (λ (hs : List ℕ). AreLinked now.used nodes hs now.len) (sym heads_are) (record {
+      linked = holds.linked;
+      chained = chained-linked now.used nodes heads now.len (omega arith) (omega arith) holds.linked;
+      distinct = holds.distinct;
+    })))
 
 -- a node more, whose state is new, comes to its bucket
 module _ (nodes : List Node) (heads : List ℕ) (used len : ℕ) (limit : length nodes ≤ 4096) (room : used ≤ length heads) (some : 1 ≤ used)
@@ -126,30 +125,18 @@ table-inserted t {now} x home next ok linked nodes_are heads_are used_is len_is 
     let few = ok.few in
     let nodes_long = ap (λ (ns : List Node). length ns) nodes_are ∙ length-set t.nodes.items t.len (record { state = x; next = next }) in
     let heads_long = ap (λ (hs : List ℕ). length hs) heads_are ∙ length-set t.heads.items home t.len in
-    record {
-      small = omega arith;
-      buckets = omega arith;
-      some = omega arith;
-      few = omega arith;
-      fits = omega arith;
-      links = λ yes.
-          subst (λ (ns : List Node). AreLinked now.used ns now.heads.items now.len) (sym nodes_are)
-          (subst (λ (hs : List ℕ). AreLinked now.used (slice_set t.nodes.items t.len (record { state = x; next = next })) hs now.len) (sym heads_are)
-          (subst (λ k. AreLinked k (slice_set t.nodes.items t.len (record { state = x; next = next })) (slice_set t.heads.items home t.len) now.len) (sym used_is)
-          (subst (λ k. AreLinked t.used (slice_set t.nodes.items t.len (record { state = x; next = next })) (slice_set t.heads.items home t.len) k) (sym len_is)
-          (links-inserted t.nodes.items t.heads.items t.used t.len limit few some (ok.links linked) x home next own inside read free absent))));
-    }
+    table-counted now (omega arith, omega arith, omega arith, omega arith, omega arith)
+    (λ yes.
+    subst (λ (ns : List Node). AreLinked now.used ns now.heads.items now.len) (sym nodes_are)
+    (subst (λ (hs : List ℕ). AreLinked now.used (slice_set t.nodes.items t.len (record { state = x; next = next })) hs now.len) (sym heads_are)
+    (subst (λ k. AreLinked k (slice_set t.nodes.items t.len (record { state = x; next = next })) (slice_set t.heads.items home t.len) now.len) (sym used_is)
+    (subst (λ k. AreLinked t.used (slice_set t.nodes.items t.len (record { state = x; next = next })) (slice_set t.heads.items home t.len) k) (sym len_is)
+    (links-inserted t.nodes.items t.heads.items t.used t.len limit few some (ok.links linked) x home next own inside read free absent)))))
 
 pub more-members : (xs : List (List ℕ)) (x : List ℕ) → HaveSame (xs ++ x ∷ []) (x ∷ xs)
 more-members xs x = record {
-  there = λ z member. elim (In-append z xs (x ∷ []) member) [
-    | inl old ↦ inr old
-    | inr end ↦ elim end [ inl e ↦ inl e | inr none ↦ absurd none ]
-  ];
-  back = λ z member. elim member [
-    | inl e ↦ In-append_right z xs (x ∷ []) (inl e)
-    | inr old ↦ In-append_left z xs (x ∷ []) old
-  ];
+  there = λ z member. elim (In-append z xs (x ∷ []) member) [ inl old ↦ inr old | inr end ↦ elim end [ inl e ↦ inl e | inr none ↦ absurd none ] ];
+  back = λ z member. elim member [ inl e ↦ In-append_right z xs (x ∷ []) (inl e) | inr old ↦ In-append_left z xs (x ∷ []) old ];
 }
 
 -- one state more at the end is one more among them
@@ -177,11 +164,23 @@ table-length t ok linked =
     sym (length-ascending (held t) links.distinct ∙ length-states t.nodes.items t.len fits)
 
 -- and otherwise the set isn't larger
-pub table-short : (t : Table) → IsTable t → length (ascending (held t)) ≤ t.len
+table-short : (t : Table) → IsTable t → length (ascending (held t)) ≤ t.len
 table-short t ok =
     let short = ascending-short (held t) in
     let long = length-states t.nodes.items t.len ok.fits in
     omega arith
+
+-- so a pool has no more states than it has room for
+pub pool-few : (t : Table) (most room : ℕ) (p : Pooled) → IsPool t most room → record { most = most; states = ascending (held t) } ≡ p → length p.states ≤ p.most
+pool-few t most room p kept is =
+    let fits = kept.table.fits in
+    let count = kept.count in
+    let short = table-short t kept.table in
+    subst (λ (q : Pooled). length q.states ≤ q.most) is (omega arith)
+
+-- and lists them in their order
+pub pool-rising : (t : Table) (most : ℕ) (p : Pooled) → record { most = most; states = ascending (held t) } ≡ p → IsRising p.states
+pool-rising t most p is = subst (λ (q : Pooled). IsRising q.states) is (ascending-rising (held t))
 
 -- where the set may take a state that isn't there, a node is free
 pub table-free : (t old : Table) (most : ℕ) (p : Pooled) (x : List ℕ) → IsTable t → t.is_linked ≡ true → HaveSame (held t) (held old)

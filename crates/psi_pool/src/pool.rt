@@ -167,11 +167,11 @@ impl Pool {
 fn list_all(table: &mut Table, order: &mut Vec<State>)
     requires table { IsTable table.old }
     requires listed { length table.old.nodes.items ≤ vec_capacity order.old }
+    ensures states { order.new.items ≡ ascending (held table.old) }
+    ensures capacity { vec_capacity order.new ≡ vec_capacity order.old }
     ensures table { IsTable table.new }
     ensures members { HaveSame (held table.new) (held table.old) }
     ensures room { length table.new.nodes.items ≡ length table.old.nodes.items }
-    ensures states { order.new.items ≡ ascending (held table.old) }
-    ensures capacity { vec_capacity order.new ≡ vec_capacity order.old }
 {
     for _merge in 0..MERGES {
         if table.list(order) {

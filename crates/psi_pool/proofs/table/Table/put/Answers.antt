@@ -16,8 +16,7 @@ returns-clause-table c =
 
 pub returns-clause-members : goal.returns-clause-members
 returns-clause-members c =
-    let t = c.args.self.now in
-    let told = seek-whole t.nodes.items c.deref.result.now t.len c.args.x c.has.result c.deref.ensures.value c.has.ensures in
-    let absent : In c.args.x (held t) → ⊥ = seek-absent (held t) c.args.x c.has.result told c.if-has.false in
-    let free : t.len < length t.nodes.items = elim c.requires.room [ inl fewer ↦ fewer | inr member ↦ absurd (absent member) ] in
-    members-inserted t.nodes.items t.len (record { state = c.args.x; next = c.index.result.now }) free
+    let told = seek-whole c.args.self.now.nodes.items c.deref.result.now c.args.self.now.len c.args.x c.has.result c.deref.ensures.value c.has.ensures in
+    let absent : In c.args.x (held c.args.self.now) → ⊥ = seek-absent (held c.args.self.now) c.args.x c.has.result told c.if-has.false in
+    let free : c.args.self.now.len < length c.args.self.now.nodes.items = elim c.requires.room [ inl fewer ↦ fewer | inr member ↦ absurd (absent member) ] in
+    members-inserted c.args.self.now.nodes.items c.args.self.now.len (record { state = c.args.x; next = c.index.result.now }) free
