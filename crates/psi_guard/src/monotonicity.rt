@@ -108,11 +108,10 @@ impl Guarded {
         requires { p < length self.now.caps }
         ensures { result ≡ over_queues self.now.caps (fall self.now.caps self.now.parts p) }
     {
-        if 0 < self.part_of(p).least {
-            self.first_over(|q| self.fall(p, q))
-        } else {
-            None
+        if self.part_of(p).least == 0 {
+            return None;
         }
+        self.first_over(|q| self.fall(p, q))
     }
 
     // Queue `q` falls, unless queue `p` holds less than its least.
