@@ -3,7 +3,7 @@
 
 ghost use Rattle.std.specs.Prelude.{◌≡◌, All, length, map};
 ghost use Rattle.psi_state.specs.State.{zeros};
-ghost use Rattle.psi_event.specs.Law.{IsMonotone};
+ghost use Rattle.psi_event.specs.Law.{IsClosed, IsMonotone};
 ghost use Rattle.psi_event.specs.Numbers.{follow_numbers, AreEvents};
 ghost use Rattle.psi_region.specs.Followed.{followed, IsOne, ending_of};
 
@@ -23,7 +23,7 @@ pub struct Corners<'n, E: EventLaw> {
 
 impl<'n, E: EventLaw> Model for Corners<'n, E> {
     ghost use Rattle.std.specs.Prelude.{All, map};
-    ghost use Rattle.psi_event.specs.Law.{IsMonotone};
+    ghost use Rattle.psi_event.specs.Law.{IsClosed, IsMonotone};
     ghost use Rattle.psi_region.specs.Followed.{Network};
 
     ghost Value = { Network E };
@@ -47,8 +47,6 @@ impl<'n, E: EventLaw> Follower for Corners<'n, E> {
     ghost stands_for = { λ n. followed E.function n };
 
     fn ending(&mut self, numbers: &[u16]) -> Option<State> {
-        // Called for its clause: each event makes states of states.
-        let _caps = self.course.caps();
         meeting(&self.course, numbers)
     }
 }
@@ -57,7 +55,8 @@ impl<'n, E: EventLaw> Follower for Corners<'n, E> {
 // they have.
 fn meeting<E: EventLaw>(course: &Course<'_, E>, numbers: &[u16]) -> Option<State>
     requires { AreEvents (length (map E.function course.now.events)) numbers.now }
-    ensures { let functions = map E.function course.now.events in
+    ensures closed { All (λ f. IsClosed course.now.caps f) (map E.function course.now.events) }
+    ensures met { let functions = map E.function course.now.events in
         IsOne (follow_numbers functions numbers.now (zeros course.now.caps)) (follow_numbers functions numbers.now course.now.caps) result }
 {
     let mut greatest = course.caps();

@@ -15,8 +15,8 @@ use std::marker::Model;
 #[derive(Drop)]
 pub struct Course<'n, E: EventLaw> {
     caps: State,
-    events: &'n [E],
     split: u16,
+    events: &'n [E],
 }
 
 impl<'n, E: EventLaw> Model for Course<'n, E> {

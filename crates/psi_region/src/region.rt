@@ -3,8 +3,8 @@
 ghost use Rattle.std.specs.Prelude.{◌≡◌, ℕ, ◌≤◌, ⊤, true, None, [], ◌∷◌, List, length, IfOk, IfSome};
 ghost use Rattle.std.specs.Borrow.{sem, follows_so};
 ghost use mathlib.Core.Option.{none};
-ghost use Rattle.psi_state.specs.State.{IsBelow, box};
 ghost use Rattle.psi_state.specs.Members.{In};
+ghost use Rattle.psi_state.specs.State.{IsBelow, box};
 ghost use Rattle.psi_state.specs.Sets.{single};
 ghost use Rattle.psi_state.specs.Ascending.{IsRising};
 ghost use Rattle.psi_region.specs.Region.{start, settled, step, ShowsBox};

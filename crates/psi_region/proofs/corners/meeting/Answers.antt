@@ -7,13 +7,13 @@ use Rattle.psi_region.proofs.corners.meeting.Goals as goal
 
 pub loop-place-preserved : goal.loop-place-preserved
 loop-place-preserved g c =
-    let course = c.args.course.now in
-    let functions = map g.E.EventLaw.function course.events in
-    let numbers = c.args.numbers.now in
     let kept = c.loop-place.invariant in
     let t = c.loop-place.place in
+    let numbers = c.args.numbers.now in
     let some : 1 ≤ t = c.loop-place-test.true in
     let within : t ≤ length numbers = omega arith in
+    let course = c.args.course.now in
+    let functions = map g.E.EventLaw.function course.events in
     let number = slice_index numbers (t - 1) in
     let same = c.event-event.ensures.same_caps in
     let low : c.apply.new.x ≡ slice_index_or functions number (λ x. x) c.loop-place.least =

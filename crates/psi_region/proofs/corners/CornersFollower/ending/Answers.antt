@@ -7,4 +7,4 @@ use Rattle.psi_region.proofs.corners.CornersFollower.ending.Goals as goal
 pub returns-clause-ending : goal.returns-clause-ending
 returns-clause-ending g c =
     subst (λ (n : Network g.row.E.Denot). c.meeting.result ≡ ending_of (followed g.E.EventLaw.function n) c.args.numbers.now) c.self.view_is
-    (corners-ending (followed g.E.EventLaw.function c.self.inside.course) c.args.numbers.now c.meeting.result c.caps-caps.ensures.closed c.self.invariant c.meeting.ensures)
+    (corners-ending (followed g.E.EventLaw.function c.self.inside.course) c.args.numbers.now c.meeting.result c.meeting.ensures.closed c.self.invariant c.meeting.ensures.met)
