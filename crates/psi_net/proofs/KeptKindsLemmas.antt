@@ -3,7 +3,7 @@ use Rattle.std.specs.Prelude.{◌≡◌, ℕ, ◌+◌, ◌<◌, ◌≤◌, ℤ, 
 use Rattle.std.proofs.Common.{ap, sym, subst, arith, length-append, lit≤}
 use Rattle.std.specs.List.{list_all, list_any}
 use Rattle.std.specs.Int.RustNames.{unsigned_abs}
-use Rattle.std.proofs.lemmas.Bool.{and_from, eqb-true, eq-eqb, leb-true}
+use Rattle.std.proofs.lemmas.Bool.{and_from, eq-eqb, leb-true}
 use Rattle.std.proofs.lemmas.List.{take_more, take_all, append-nil, append_assoc}
 use Rattle.toml.specs.Data.{Data, Members, get_member}
 use Rattle.psi_state.specs.State.{AreCapacities}
@@ -19,7 +19,7 @@ use Rattle.psi_kinds.specs.Refusals.{is_empty}
 use Rattle.psi_kinds.specs.declared.Kind.{Kind}
 use Rattle.psi_kinds.specs.declared.Kind.TheVariants as kind
 use Rattle.psi_net_document.specs.Refusal.{holds_or}
-use Rattle.psi_net_document.specs.Values.{no_unknown, required, optional, number_in, integer_in, array_in, elements_in, each}
+use Rattle.psi_net_document.specs.Values.{no_unknown, required, optional, number_in, integer_in, elements_in, counted_in, each}
 use Rattle.psi_net_document.specs.References.{is_in, queue_in, targets_in, some_targets_in}
 use Rattle.psi_net_document.specs.Targets.{AreTargets}
 use Rattle.psi_state.specs.Repeats.{repeats}
@@ -33,7 +33,7 @@ use Rattle.psi_net_document.specs.declared.refusals.Place.{Place}
 use Rattle.psi_net_document.specs.declared.refusals.NetRefusal.{NetRefusal}
 use Rattle.psi_net.specs.declared.words.KindWord.{KindWord}
 use Rattle.psi_net.specs.declared.words.KindWord.TheVariants as word
-use Rattle.psi_net_document.proofs.ReadingLemmas.{if_ok, bind_ok, ok_same, held, required_ok, optional_kept, number_range, integer_range, elements_count, each_kept, each_kept_below, queue_small}
+use Rattle.psi_net_document.proofs.ReadingLemmas.{if_ok, bind_ok, ok_same, held, required_ok, optional_kept, number_range, integer_range, elements_count, each_kept, counted_kept, queue_small}
 use Rattle.psi_net_document.proofs.PigeonLemmas.{no_targets}
 use Rattle.psi_net_document.proofs.TargetLemmas.{AreSomeTargets, targets_kept, some_targets_kept, target_small, target_apart, away, among}
 use Rattle.psi_model.proofs.KindLemmas.{accepted, first_source}
@@ -98,18 +98,15 @@ numbers_count place ds ns h =
     omega arith
 
 row_step_kept : (place : Place) (caps to : List ℕ) (n : ℕ) (s t : List (List ℕ)) (d : Data) → n < 1 + length to → AreRows caps to n s → row_step place caps to n s d ≡ Ok t → AreRows caps to (n + 1) t
-unfolding row_step
+unfolding row_step counted_in
 row_step_kept place caps to n s t d small kept h = grind (arith, numbers_count, length-append {A = List ℕ}, tables_next)
 
 table_kept : (place : Place) (caps to : List ℕ) (d : Data) (table : List (List ℕ)) → table_of place caps to d ≡ Ok table → are_tables caps to table ≡ true
 unfolding table_of
 table_kept place caps to d table h =
-    let elements = bind_ok (array_in place (codes "table") d) _ table h in
-    let fits = bind_ok (holds_or _ _) _ table elements.2 in
-    let many : length elements.0 ≡ length to = eqb-true (length elements.0) (length to) (held _ _ fits.0 fits.1) in
     let kept : AreRows caps to (1 + length to) table =
-    each_kept_below (AreRows caps to) (row_step place caps to) (1 + length to) (λ n s t e small k r. row_step_kept place caps to n s t e small k r) elements.0 1 [] table (omega arith)
-    (record { tables = refl; count = refl }) fits.2 in
+    counted_kept place (codes "table") (length to) d (AreRows caps to) (row_step place caps to) (λ n s t e small k r. row_step_kept place caps to n s t e small k r) [] table
+    (record { tables = refl; count = refl }) h in
     let count = kept.count in
     subst (λ (qs : List ℕ). are_tables caps qs table ≡ true) (take_all (length table) to (omega arith)) kept.tables
 

@@ -2,7 +2,7 @@
 use Rattle.std.specs.Prelude.{◌≡◌, ℕ, get_or, ◌+◌, ◌<◌, ℤ, List, [], ◌∷◌, ◌++◌, length, map, take, slice_index, codes, IfOk, All, true, false, ◌==◌, Option, Ok, refl}
 use Rattle.std.proofs.Common.{subst, arith, length-append}
 use Rattle.std.specs.List.{flat_map}
-use Rattle.std.proofs.lemmas.Bool.{and_from, eqb-true, eq-eqb}
+use Rattle.std.proofs.lemmas.Bool.{and_from, eq-eqb}
 use Rattle.std.proofs.lemmas.List.{map_push, take_more, take_all}
 use Rattle.std.proofs.lemmas.List.Elements.{All-nil, All-push, All-append, All-from_get_or}
 use Rattle.std.proofs.lemmas.List.Concat.{flat_map-append}
@@ -11,8 +11,7 @@ use Rattle.psi_reward.specs.Held.{held as held_by}
 use Rattle.psi_reward.specs.Refusing.{IsSmall, is_none_listed, has_rows}
 use Rattle.psi_reward.specs.declared.RewardKind.{RewardKind}
 use Rattle.psi_reward.specs.Rewards.{reward_caps}
-use Rattle.psi_net_document.specs.Refusal.{holds_or}
-use Rattle.psi_net_document.specs.Values.{required, array_in, each}
+use Rattle.psi_net_document.specs.Values.{required, counted_in, each}
 use Rattle.psi_net_document.specs.References.{some_targets_in}
 use Rattle.psi_net.specs.RewardTables.{integer_step, weights_in, grid_step, grid_in, reward_kind_of}
 use Rattle.psi_model.specs.Draft.{named}
@@ -21,7 +20,7 @@ use Rattle.psi_model.specs.Valid.{IsReward}
 use Rattle.psi_model.specs.declared.entries.RewardEntry.{RewardEntry}
 use Rattle.psi_net_document.specs.declared.refusals.Place.{Place}
 use Rattle.psi_net.specs.declared.words.RewardWord.{RewardWord}
-use Rattle.psi_net_document.proofs.ReadingLemmas.{bind_ok, held, required_ok, integer_range, each_kept, each_kept_below}
+use Rattle.psi_net_document.proofs.ReadingLemmas.{required_ok, integer_range, each_kept, counted_kept}
 use Rattle.psi_net_document.proofs.FoundLemmas.{below_at}
 use Rattle.psi_net_document.proofs.TargetLemmas.{AreSomeTargets, some_targets_kept}
 use Rattle.psi_model.proofs.RewardLemmas.{reward_accepted}
@@ -48,7 +47,7 @@ record AreWeights (count : ℕ) (zs : List ℤ) : Type 0 where
   sized : (length zs == count) ≡ true
 
 weights_kept : (place : Place) (count : ℕ) (d : Data) (zs : List ℤ) → weights_in place count d ≡ Ok zs → AreWeights count zs
-unfolding weights_in
+unfolding weights_in counted_in
 weights_kept place count d zs h = grind (arith, integers_kept)
 
 rows_more : (caps : List ℕ) (rows : List (List ℤ)) (cap : ℕ) (row : List ℤ) → has_rows caps rows ≡ true → (length row == cap + 1) ≡ true → has_rows (caps ++ cap ∷ []) (rows ++ row ∷ []) ≡ true
@@ -69,7 +68,7 @@ record AreGridRows (caps queues : List ℕ) (n : ℕ) (rows : List (List ℤ)) :
   count : n ≡ length rows + 1
 
 grid_step_kept : (place : Place) (caps queues : List ℕ) (n : ℕ) (s t : List (List ℤ)) (d : Data) → n < 1 + length queues → AreGridRows caps queues n s → grid_step place caps queues n s d ≡ Ok t → AreGridRows caps queues (n + 1) t
-unfolding grid_step
+unfolding grid_step counted_in
 grid_step_kept place caps queues n s t d less kept h = grind (arith, integers_kept, grid_next, flat_map-append (λ (r : List ℤ). r), All-append IsSmall, length-append {A = List ℤ})
 
 record IsGrid (caps queues : List ℕ) (rows : List (List ℤ)) : Type 0 where
@@ -79,12 +78,9 @@ record IsGrid (caps queues : List ℕ) (rows : List (List ℤ)) : Type 0 where
 grid_kept : (place : Place) (caps queues : List ℕ) (d : Data) (rows : List (List ℤ)) → grid_in place caps queues d ≡ Ok rows → IsGrid caps queues rows
 unfolding grid_in
 grid_kept place caps queues d rows h =
-    let elements = bind_ok (array_in place (codes "table") d) _ rows h in
-    let fits = bind_ok (holds_or _ _) _ rows elements.2 in
-    let many : length elements.0 ≡ length queues = eqb-true (length elements.0) (length queues) (held _ _ fits.0 fits.1) in
     let kept : AreGridRows caps queues (1 + length queues) rows =
-    each_kept_below (AreGridRows caps queues) (grid_step place caps queues) (1 + length queues) (λ n s t e less k r. grid_step_kept place caps queues n s t e less k r) elements.0 1 [] rows (omega arith)
-    (record { fits = refl; small = All-nil IsSmall; count = refl }) fits.2 in
+    counted_kept place (codes "table") (length queues) d (AreGridRows caps queues) (grid_step place caps queues) (λ n s t e less k r. grid_step_kept place caps queues n s t e less k r) [] rows
+    (record { fits = refl; small = All-nil IsSmall; count = refl }) h in
     let count = kept.count in
     record { fits = subst (λ (qs : List ℕ). has_rows (held_by qs caps) rows ≡ true) (take_all (length rows) queues (omega arith)) kept.fits; small = kept.small }
 

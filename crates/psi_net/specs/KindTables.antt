@@ -9,9 +9,9 @@ use Rattle.psi_route.specs.declared.Full.TheVariants.{Lost, Stay}
 use Rattle.psi_kinds.specs.declared.Kind.{Kind}
 use Rattle.psi_kinds.specs.declared.Kind.TheVariants as kind
 use Rattle.psi_net_document.specs.Refusal.{◌>>=◌, holds_or, at_key}
-use Rattle.psi_net_document.specs.Values.{required, optional, number_in, array_in, each}
+use Rattle.psi_net_document.specs.Values.{required, optional, number_in, counted_in, each}
 use Rattle.psi_net_document.specs.References.{queue_in, target_in, targets_in, some_targets_in}
-use Rattle.psi_net_document.specs.declared.refusals.Cause.TheVariants.{WrongType, OutOfRange, TableLength, BatchTooLarge}
+use Rattle.psi_net_document.specs.declared.refusals.Cause.TheVariants.{WrongType, OutOfRange, BatchTooLarge}
 use Rattle.psi_net_document.specs.declared.refusals.Place.{Place}
 use Rattle.psi_net_document.specs.declared.refusals.NetRefusal.{NetRefusal}
 use Rattle.psi_model.specs.Expansion.{first_server}
@@ -44,16 +44,14 @@ module _ (place : Place) where
   -- one row of an index's table, with the rows before it: as many integers as the next target's capacity
   unfoldable pub row_step : List ℕ → List ℕ → ℕ → List (List ℕ) → Data → Result (List (List ℕ)) NetRefusal
   row_step caps to n rows d = do
-    elements ← array_in place (codes "table") d
-    fits ← holds_or (at_key TableLength place (codes "table")) (length elements == slice_index caps (slice_index to (length rows)))
+    elements ← counted_in place (codes "table") (slice_index caps (slice_index to (length rows))) d
     row ← each number_step 1 [] elements
     Ok (rows ++ row ∷ [])
 
   -- `table` of an index: one row for each target
   unfoldable pub table_of : List ℕ → List ℕ → Data → Result (List (List ℕ)) NetRefusal
   table_of caps to d = do
-    elements ← array_in place (codes "table") d
-    fits ← holds_or (at_key TableLength place (codes "table")) (length elements == length to)
+    elements ← counted_in place (codes "table") (length to) d
     each (row_step caps to) 1 [] elements
 
   -- `size`: 1 beside a source, and at most every target's capacity

@@ -1,15 +1,15 @@
 -- The array `reward`.
-use Rattle.std.specs.Prelude.{ℕ, ◌+◌, ℤ, List, [], ◌∷◌, ◌++◌, map, length, slice_index, codes, ◌==◌, nat_le, Option, Some, None, ok_or, Result, Ok, if◌then◌else◌}
+use Rattle.std.specs.Prelude.{ℕ, ◌+◌, ℤ, List, [], ◌∷◌, ◌++◌, map, length, slice_index, codes, nat_le, Option, Some, None, ok_or, Result, Ok, if◌then◌else◌}
 use Rattle.std.specs.Str.{bytes_eq}
 use Rattle.toml.specs.Data.{Data, Members, get_member}
 use Rattle.psi_reward.specs.declared.RewardKind.{RewardKind}
 use Rattle.psi_reward.specs.declared.RewardKind.TheVariants as kind
 use Rattle.psi_net_document.specs.Refusal.{◌>>=◌, holds_or, at_key, top, reward_place}
-use Rattle.psi_net_document.specs.Values.{no_unknown, required, optional, number_in, integer_in, text_in, array_in, table_in, each}
+use Rattle.psi_net_document.specs.Values.{no_unknown, required, optional, number_in, integer_in, text_in, array_in, counted_in, table_in, each}
 use Rattle.psi_net_document.specs.Names.{name_in, unless_taken}
 use Rattle.psi_net_document.specs.References.{some_targets_in}
 use Rattle.psi_model.specs.Network.{NamedReward}
-use Rattle.psi_net_document.specs.declared.refusals.Cause.TheVariants.{UnknownKind, TooMany, TableLength}
+use Rattle.psi_net_document.specs.declared.refusals.Cause.TheVariants.{UnknownKind, TooMany}
 use Rattle.psi_net_document.specs.declared.refusals.Place.{Place}
 use Rattle.psi_net_document.specs.declared.refusals.NetRefusal.{NetRefusal}
 use Rattle.psi_net.specs.declared.words.RewardWord.{RewardWord}
@@ -58,23 +58,20 @@ module _ (place : Place) where
   -- `weights`: as many integers as queues
   unfoldable pub weights_in : ℕ → Data → Result (List ℤ) NetRefusal
   weights_in count d = do
-    elements ← array_in place (codes "weights") d
-    fits ← holds_or (at_key TableLength place (codes "weights")) (length elements == count)
+    elements ← counted_in place (codes "weights") count d
     each (integer_step (codes "weights")) 1 [] elements
 
   -- one row of `table`, with the rows before it: an integer for 0 customers up to the next queue's capacity
   unfoldable pub grid_step : List ℕ → List ℕ → ℕ → List (List ℤ) → Data → Result (List (List ℤ)) NetRefusal
   grid_step caps queues n rows d = do
-    elements ← array_in place (codes "table") d
-    fits ← holds_or (at_key TableLength place (codes "table")) (length elements == slice_index caps (slice_index queues (length rows)) + 1)
+    elements ← counted_in place (codes "table") (slice_index caps (slice_index queues (length rows)) + 1) d
     row ← each (integer_step (codes "table")) 1 [] elements
     Ok (rows ++ row ∷ [])
 
   -- `table`: one row for each queue
   unfoldable pub grid_in : List ℕ → List ℕ → Data → Result (List (List ℤ)) NetRefusal
   grid_in caps queues d = do
-    elements ← array_in place (codes "table") d
-    fits ← holds_or (at_key TableLength place (codes "table")) (length elements == length queues)
+    elements ← counted_in place (codes "table") (length queues) d
     each (grid_step caps queues) 1 [] elements
 
   -- the key of its own that a kind has

@@ -16,8 +16,8 @@ use crate::known_queues::KnownQueues;
 use crate::net_error::NetError;
 use psi_kinds::{Kind, Tables};
 use psi_net_document::{
-    Cause, KnownNames, NetRefusal, Place, array_in, find, number_in, number_or, present, queue_in,
-    read, required_number, required_queue, required_target, required_targets, target_in,
+    Cause, KnownNames, NetRefusal, Place, counted_in, find, number_in, number_or, present,
+    queue_in, read, required_number, required_queue, required_target, required_targets, target_in,
     targets_in,
 };
 use psi_route::{Full, Source};
@@ -126,15 +126,11 @@ fn push_row(
     ensures value { (n : ℕ) → Reads (λ _. rows.new) result (row_step place caps.now to.now n rows.old (view value.now)) }
     ensures count { OnOk result (length rows.new ≡ number + 1) }
 {
-    let values = judged!(array_in(place, "table", value));
-    if values.len() != caps.get(to.get(number)) as usize {
-        return Err(NetError::Refused(Cause::TableLength.at_key(place, "table")));
-    }
+    let count = caps.get(to.get(number)) as usize;
+    let values = judged!(counted_in(place, "table", count, value));
     let row = read!(all_numbers(alloc, place, values));
-    match rows.push(row) {
-        Ok(()) => Ok(()),
-        Err(_) => Err(NetError::OutOfMemory),
-    }
+    rows.push(row)?;
+    Ok(())
 }
 
 // The rows of an index's table.
@@ -171,10 +167,7 @@ fn table_of(
     ensures { Reads (λ rows. rows) result (required place (codes "table") (table_of place caps.now to.now) (seen value.entry)) }
 {
     let value = judged!(present(place, "table", value));
-    let values = judged!(array_in(place, "table", value));
-    if values.len() != to.len() as usize {
-        return Err(NetError::Refused(Cause::TableLength.at_key(place, "table")));
-    }
+    let values = judged!(counted_in(place, "table", to.len() as usize, value));
     all_rows(alloc, place, caps, to, values)
 }
 
@@ -282,13 +275,8 @@ pub(crate) fn index(
 pub(crate) fn batch(place: Place, known: &KnownQueues, table: &Table) -> Result<Kind, NetRefusal>
     ensures { Gives (λ kind. kind) result (batch_of place known.now.names.list.keys known.now.caps (table_view table.now)) }
 {
-    let to = read!(required_targets(
-        place,
-        "to",
-        &known.names,
-        &Queues::empty(),
-        find(table, "to")
-    ));
+    let sources = Queues::empty();
+    let to = read!(required_targets(place, "to", &known.names, &sources, find(table, "to")));
     let size = read!(required_number(place, "size", 1, MOST_CUSTOMERS, find(table, "size")));
     let size = read!(size_fits(place, &known.caps, false, &to, size));
     Ok(Kind::Batch { to, size })

@@ -38,13 +38,8 @@ fn queue(place: Place, earlier: &IndexSet<Name>, table: &Table) -> Result<Queue,
     read!(no_unknown(place, &["name", "capacity", "servers"], &[], table));
     let name = read!(required_name(place, "name", find(table, "name")));
     read!(unless_taken(place, earlier, name));
-    let capacity = read!(required_number(
-        place,
-        "capacity",
-        1,
-        MOST_CUSTOMERS,
-        find(table, "capacity")
-    ));
+    let found = find(table, "capacity");
+    let capacity = read!(required_number(place, "capacity", 1, MOST_CUSTOMERS, found));
     let most = 64.min(capacity);
     let servers = read!(number_or(place, "servers", 1, 1, most, find(table, "servers")));
     Ok(Queue {

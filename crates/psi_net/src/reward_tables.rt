@@ -20,8 +20,9 @@ use crate::words::RewardWord;
 use indexmap::IndexSet;
 use psi_model::{Name, RewardEntry, accepted_reward};
 use psi_net_document::{
-    Cause, KnownNames, NetRefusal, Place, Section, array_in, find, integer_in, no_unknown, present,
-    read, required_name, required_number, some_targets_in, table_in, text_in, unless_taken,
+    Cause, KnownNames, NetRefusal, Place, Section, array_in, counted_in, find, integer_in,
+    no_unknown, present, read, required_name, required_number, some_targets_in, table_in, text_in,
+    unless_taken,
 };
 use psi_reward::{Grid, Numbers, RewardKind};
 use psi_state::{MOST_CUSTOMERS, Queues, State};
@@ -94,10 +95,8 @@ fn push_integer(
     ensures { (n : ℕ) → Reads (λ _. numbers.new) result (integer_step place key.now n numbers.old (view value.now)) }
 {
     let number = judged!(integer_in(place, key, MOST_NUMBER, value));
-    match numbers.push(number) {
-        Ok(()) => Ok(()),
-        Err(_) => Err(NetError::OutOfMemory),
-    }
+    numbers.push(number)?;
+    Ok(())
 }
 
 // The integers of an array.
@@ -128,10 +127,7 @@ fn weights(
     ensures { Reads (λ numbers. numbers) result (required place (codes "weights") (weights_in place (length queues.now)) (seen value.entry)) }
 {
     let value = judged!(present(place, "weights", value));
-    let values = judged!(array_in(place, "weights", value));
-    if values.len() != queues.len() as usize {
-        return Err(NetError::Refused(Cause::TableLength.at_key(place, "weights")));
-    }
+    let values = judged!(counted_in(place, "weights", queues.len() as usize, value));
     all_integers(alloc, place, "weights", values)
 }
 
@@ -152,15 +148,11 @@ fn push_grid_row(
     ensures value { (n : ℕ) → Reads (λ _. rows.new) result (grid_step place caps.now queues.now n rows.old (view value.now)) }
     ensures count { OnOk result (length rows.new ≡ number + 1) }
 {
-    let values = judged!(array_in(place, "table", value));
-    if values.len() != caps.get(queues.get(number)) as usize + 1 {
-        return Err(NetError::Refused(Cause::TableLength.at_key(place, "table")));
-    }
+    let count = caps.get(queues.get(number)) as usize + 1;
+    let values = judged!(counted_in(place, "table", count, value));
     let row = read!(all_integers(alloc, place, "table", values));
-    match rows.push(row) {
-        Ok(()) => Ok(()),
-        Err(_) => Err(NetError::OutOfMemory),
-    }
+    rows.push(row)?;
+    Ok(())
 }
 
 // The rows of `table`.
@@ -197,10 +189,7 @@ fn grid(
     ensures { Reads (λ rows. rows) result (required place (codes "table") (grid_in place caps.now queues.now) (seen value.entry)) }
 {
     let value = judged!(present(place, "table", value));
-    let values = judged!(array_in(place, "table", value));
-    if values.len() != queues.len() as usize {
-        return Err(NetError::Refused(Cause::TableLength.at_key(place, "table")));
-    }
+    let values = judged!(counted_in(place, "table", queues.len() as usize, value));
     all_grid_rows(alloc, place, caps, queues, values)
 }
 
@@ -229,13 +218,8 @@ fn reward_kind_of(
         RewardWord::Greatest => Ok(RewardKind::Greatest { queues }),
         RewardWord::Least => Ok(RewardKind::Least { queues }),
         RewardWord::Above => {
-            let level = judged!(required_number(
-                place,
-                "level",
-                0,
-                MOST_CUSTOMERS,
-                find(table, "level")
-            ));
+            let found = find(table, "level");
+            let level = judged!(required_number(place, "level", 0, MOST_CUSTOMERS, found));
             Ok(RewardKind::Above {
                 queues,
                 level: level as u16,

@@ -7,7 +7,7 @@ use Rattle.std.specs.Str.{bytes_eq}
 use Rattle.std.proofs.lemmas.List.Quantifiers.{position-Some}
 use Rattle.toml.specs.Data.{Data}
 use Rattle.psi_net_document.specs.Refusal.{◌>>=◌, holds_or}
-use Rattle.psi_net_document.specs.Values.{required, optional, number_in, integer_in, elements_in, each}
+use Rattle.psi_net_document.specs.Values.{required, optional, number_in, integer_in, elements_in, counted_in, each}
 use Rattle.psi_net_document.specs.References.{number_of, queue_in}
 use Rattle.psi_net_document.specs.declared.refusals.Cause.{Cause}
 use Rattle.psi_net_document.specs.declared.refusals.Place.{Place}
@@ -82,3 +82,16 @@ pub each_kept : {S : Type 0} (P : ℕ → S → Type 0) (step : ℕ → S → Da
     → ((n : ℕ) (s t : S) (d : Data) → P n s → step n s d ≡ Ok t → P (n + 1) t)
     → (ds : List Data) (n m : ℕ) (s t : S) → m ≡ n + length ds → P n s → each step n s ds ≡ Ok t → P m t
 each_kept P step keep ds n m s t count start h = each_kept_below P step m (λ k u v d less so r. keep k u v d so r) ds n s t count start h
+
+-- an array of exactly so many elements has so many, and each of them keeps what is kept
+pub counted_count : (place : Place) (key : List ℕ) (count : ℕ) (d : Data) (ds : List Data) → counted_in place key count d ≡ Ok ds → length ds ≡ count
+unfolding counted_in
+counted_count place key count d ds h = grind arith
+
+pub counted_kept : {S : Type 0} (place : Place) (key : List ℕ) (count : ℕ) (d : Data) (P : ℕ → S → Type 0) (step : ℕ → S → Data → Result S NetRefusal)
+    → ((n : ℕ) (s t : S) (e : Data) → n < 1 + count → P n s → step n s e ≡ Ok t → P (n + 1) t)
+    → (s t : S) → P 1 s → (counted_in place key count d >>= (λ ds. each step 1 s ds)) ≡ Ok t → P (1 + count) t
+counted_kept {S} place key count d P step keep s t start h =
+    let elements = bind_ok (counted_in place key count d) (λ ds. each step 1 s ds) t h in
+    let many = counted_count place key count d elements.0 elements.1 in
+    each_kept_below P step (1 + count) keep elements.0 1 s t (omega arith) start elements.2

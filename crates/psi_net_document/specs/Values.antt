@@ -1,5 +1,5 @@
 -- The values of a document: each reading takes what a look-up found, and gives a value or the first refusal.
-use Rattle.std.specs.Prelude.{ℕ, ◌+◌, ℤ, pos, negsuc, List, [], ◌∷◌, length, filter, not, ◌&&◌, nat_lt, nat_le, Option, Some, None, option_map, Result, Ok, Err, if◌then◌else◌}
+use Rattle.std.specs.Prelude.{ℕ, ◌+◌, ℤ, pos, negsuc, List, [], ◌∷◌, length, filter, not, ◌&&◌, ◌==◌, nat_lt, nat_le, Option, Some, None, option_map, Result, Ok, Err, if◌then◌else◌}
 use Rattle.std.proofs.Common.{Bor}
 use Rattle.std.specs.Int.RustNames.{unsigned_abs}
 use Rattle.std.specs.Cmp.Lexicographic.{slice_cmp}
@@ -11,7 +11,7 @@ use Rattle.toml.specs.View.{view}
 use Rattle.toml.specs.declared.value.Value.{Value}
 use Rattle.psi_net_document.specs.Refusal.{◌>>=◌, holds_or, at_key, at_place}
 use Rattle.psi_net_document.specs.declared.refusals.Cause.{Cause}
-use Rattle.psi_net_document.specs.declared.refusals.Cause.TheVariants.{UnknownKey, MissingKey, WrongType, OutOfRange, TooMany}
+use Rattle.psi_net_document.specs.declared.refusals.Cause.TheVariants.{UnknownKey, MissingKey, WrongType, OutOfRange, TooMany, TableLength}
 use Rattle.psi_net_document.specs.declared.refusals.Place.{Place}
 use Rattle.psi_net_document.specs.declared.refusals.NetRefusal.{NetRefusal}
 
@@ -86,6 +86,13 @@ module _ (place : Place) (key : List ℕ) where
     elements ← array_in d
     some ← holds_or (at_key empty place key) (nat_lt 0 (length elements))
     few ← holds_or (at_key TooMany place key) (nat_le (length elements) most)
+    Ok elements
+
+  -- an array of exactly so many elements
+  unfoldable pub counted_in : ℕ → Data → Result (List Data) NetRefusal
+  counted_in count d = do
+    elements ← array_in d
+    fits ← holds_or (at_key TableLength place key) (length elements == count)
     Ok elements
 
 -- an element that is a table

@@ -8,7 +8,7 @@ ghost use Rattle.toml.specs.Data.{get_member};
 ghost use Rattle.toml.specs.View.{view, table_view};
 ghost use Rattle.psi_net_document.specs.Refusal.{Gives, at_key};
 ghost use Rattle.psi_net_document.specs.declared.refusals.Cause.TheVariants.{MissingKey};
-ghost use Rattle.psi_net_document.specs.Values.{seen, no_unknown, required, optional, number_in, integer_in, text_in, array_in, elements_in, table_in};
+ghost use Rattle.psi_net_document.specs.Values.{seen, no_unknown, required, optional, number_in, integer_in, text_in, array_in, elements_in, counted_in, table_in};
 
 use crate::read;
 use crate::refusals::{Cause, NetRefusal, Place};
@@ -258,6 +258,28 @@ pub fn elements_in<'t>(
     }
     if values.len() > most {
         return Err(Cause::TooMany.at_key(place, key));
+    }
+    Ok(values)
+}
+
+/// The elements of an array of exactly `count` elements, in their order.
+///
+/// # Errors
+///
+/// At the key, `WrongType` where the value is no array, and `TableLength` where it has more elements or fewer.
+#[tactic(auto, unfolding(crate::specs::Values::counted_in))]
+pub fn counted_in<'t>(
+    place: Place,
+    key: &str,
+    count: usize,
+    value: &'t Value,
+) -> Result<&'t [Value], NetRefusal>
+    ensures value { Gives (λ values. map view values.now) result (counted_in place key.now count (view value.now)) }
+    ensures count { IfOk result (λ values. length values.now ≡ count) }
+{
+    let values = read!(array_in(place, key, value));
+    if values.len() != count {
+        return Err(Cause::TableLength.at_key(place, key));
     }
     Ok(values)
 }

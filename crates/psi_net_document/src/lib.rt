@@ -14,8 +14,8 @@ mod references;
 mod refusals;
 
 pub use keys::{
-    array_in, elements_in, find, integer_in, integer_or_zero, no_unknown, number_in, number_or,
-    present, required_number, table_in, text_in,
+    array_in, counted_in, elements_in, find, integer_in, integer_or_zero, no_unknown, number_in,
+    number_or, present, required_number, table_in, text_in,
 };
 pub use known_names::KnownNames;
 pub use names::{required_name, unless_taken};
