@@ -24,6 +24,9 @@ pub record IsAllowed (n : ℕ) (low high sum : ℤ) : Type 0 where
   pub least : (pos n *ℤ low +ℤ high) ≤ℤ sum
   pub most : sum ≤ℤ (pos n *ℤ high +ℤ low)
 
+allowed-by : (k : ℕ) (low high sum : ℤ) → low ≤ℤ high → ((low +ℤ (pos k *ℤ low)) +ℤ high) ≤ℤ sum → sum ≤ℤ ((high +ℤ (pos k *ℤ high)) +ℤ low) → IsAllowed (suc k) low high sum
+allowed-by k low high sum order least most = record { order = order; least = rw (times-more k low) least; most = rw (times-more k high) most }
+
 allowed-more : (k : ℕ) (z low high sum : ℤ) → IsAllowed k low high sum → IsAllowed (suc k) (int_min z low) (int_max z high) (z +ℤ sum)
 allowed-more k z low high sum is =
     let order = is.order in
@@ -34,29 +37,17 @@ allowed-more k z low high sum is =
     let first : int_min z low ≡ z = omega (arith, ints, clamps) in
     let second : int_max z high ≡ high = omega (arith, ints, clamps) in
     let down : (pos k *ℤ z) ≤ℤ (pos k *ℤ low) = times-rises k z low (omega (arith, ints)) in
-    rw (first, second) (record {
-      order = omega (arith, ints);
-      least = rw (times-more k z) (omega (arith, ints));
-      most = rw (times-more k high) (omega (arith, ints));
-    }))
+    rw (first, second) (allowed-by k z high (z +ℤ sum) (omega (arith, ints)) (omega (arith, ints)) (omega (arith, ints))))
     (λ more.
     let first : int_min z low ≡ low = omega (arith, ints, clamps) in
     by_lt_z high z
     (λ less.
     let second : int_max z high ≡ z = omega (arith, ints, clamps) in
     let up : (pos k *ℤ high) ≤ℤ (pos k *ℤ z) = times-rises k high z (omega (arith, ints)) in
-    rw (first, second) (record {
-      order = omega (arith, ints);
-      least = rw (times-more k low) (omega (arith, ints));
-      most = rw (times-more k z) (omega (arith, ints));
-    }))
+    rw (first, second) (allowed-by k low z (z +ℤ sum) (omega (arith, ints)) (omega (arith, ints)) (omega (arith, ints))))
     (λ within.
     let second : int_max z high ≡ high = omega (arith, ints, clamps) in
-    rw (first, second) (record {
-      order = omega (arith, ints);
-      least = rw (times-more k low) (omega (arith, ints));
-      most = rw (times-more k high) (omega (arith, ints));
-    })))
+    rw (first, second) (allowed-by k low high (z +ℤ sum) (omega (arith, ints)) (omega (arith, ints)) (omega (arith, ints)))))
 
 pub allowed : (z : ℤ) (zs : List ℤ) → IsAllowed (length zs) (least (z ∷ zs)) (greatest (z ∷ zs)) (sum_of (z ∷ zs))
 unfolding sum_of

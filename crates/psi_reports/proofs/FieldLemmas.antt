@@ -134,12 +134,7 @@ signed-same y z first second same = some-same y z (sym (integer-signed y first) 
 
 item-again : (item : Item) → item_of (item_text item) ≡ Some item
 unfolding item_of
-item-again Sum = refl
-item-again Least = refl
-item-again Greatest = refl
-item-again RewardSum = refl
-item-again RewardLeast = refl
-item-again RewardGreatest = refl
+item-again item = grind arith
 
 item-horizon : item_of (codes "horizon") ≡ None
 unfolding item_of

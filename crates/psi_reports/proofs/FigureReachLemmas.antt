@@ -16,7 +16,7 @@ use Rattle.psi_model.specs.Name.{is_name}
 use Rattle.psi_reward.specs.Ranges.{least, greatest}
 use Rattle.psi_report.specs.Quantities.{sum_of}
 use Rattle.psi_report.specs.declared.figure.Item.{Item}
-use Rattle.psi_report.specs.declared.figure.Item.TheVariants.{Sum, Least, Greatest, RewardSum, RewardLeast, RewardGreatest}
+use Rattle.psi_report.specs.declared.figure.Item.TheVariants.{Sum, Least, Greatest}
 use Rattle.psi_report.specs.declared.figure.Figure.{Figure}
 use Rattle.psi_report.specs.Report.{queue_trio, figure, figures_of}
 use Rattle.psi_reports.specs.Reached.{is_of_queue, AreOfQueues}
@@ -186,44 +186,19 @@ new-unnamed before s is new =
 -- ---- items
 
 sum-from : (i : Item) → is_of_queue i ≡ true → item_follows true Greatest i ≡ true → i ≡ Sum
-sum-from Sum queue follows = refl
-sum-from Least queue follows = absurd cc
-sum-from Greatest queue follows = absurd cc
-sum-from RewardSum queue follows = absurd cc
-sum-from RewardLeast queue follows = absurd cc
-sum-from RewardGreatest queue follows = absurd cc
+sum-from i queue follows = grind arith
 
 sum-after : (i : Item) → is_of_queue i ≡ true → item_follows false Sum i ≡ true → i ≡ Sum
-sum-after Sum queue follows = refl
-sum-after Least queue follows = absurd cc
-sum-after Greatest queue follows = absurd cc
-sum-after RewardSum queue follows = absurd cc
-sum-after RewardLeast queue follows = absurd cc
-sum-after RewardGreatest queue follows = absurd cc
+sum-after i queue follows = grind arith
 
 least-from : (i : Item) → item_follows true Sum i ≡ true → i ≡ Least
-least-from Sum follows = absurd cc
-least-from Least follows = refl
-least-from Greatest follows = absurd cc
-least-from RewardSum follows = absurd cc
-least-from RewardLeast follows = absurd cc
-least-from RewardGreatest follows = absurd cc
+least-from i follows = grind arith
 
 greatest-from : (i : Item) → item_follows true Least i ≡ true → i ≡ Greatest
-greatest-from Sum follows = absurd cc
-greatest-from Least follows = absurd cc
-greatest-from Greatest follows = refl
-greatest-from RewardSum follows = absurd cc
-greatest-from RewardLeast follows = absurd cc
-greatest-from RewardGreatest follows = absurd cc
+greatest-from i follows = grind arith
 
-begins : (i : Item) → may_begin i ≡ true → i ≡ Sum
-begins Sum is = refl
-begins Least is = absurd cc
-begins Greatest is = absurd cc
-begins RewardSum is = absurd cc
-begins RewardLeast is = absurd cc
-begins RewardGreatest is = absurd cc
+pub begins : (i : Item) → may_begin i ≡ true → i ≡ Sum
+begins i is = grind arith
 
 -- ---- the figures of one queue
 

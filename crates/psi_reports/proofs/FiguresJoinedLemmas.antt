@@ -36,19 +36,11 @@ length-trios trio x y xs ys (q ∷ qs) = ap (λ n. suc (suc (suc n))) (length-tr
 
 queue-joined : (name : List ℕ) (y : ℤ) (ys : List ℤ) (z : ℤ) (zs : List ℤ)
     → paired joined_figure (figures_of queue_trio name (y ∷ ys)) (figures_of queue_trio name (z ∷ zs)) ≡ figures_of queue_trio name ((y ∷ ys) ++ (z ∷ zs))
-queue-joined name y ys z zs =
-    let sum = sum_of-append (y ∷ ys) (z ∷ zs) in
-    let low = least-append y ys z zs in
-    let high = greatest-append y ys z zs in
-    cc
+queue-joined name y ys z zs = cc (sum_of-append (y ∷ ys) (z ∷ zs), least-append y ys z zs, greatest-append y ys z zs)
 
 reward-joined : (name : List ℕ) (y : ℤ) (ys : List ℤ) (z : ℤ) (zs : List ℤ)
     → paired joined_figure (figures_of reward_trio name (y ∷ ys)) (figures_of reward_trio name (z ∷ zs)) ≡ figures_of reward_trio name ((y ∷ ys) ++ (z ∷ zs))
-reward-joined name y ys z zs =
-    let sum = sum_of-append (y ∷ ys) (z ∷ zs) in
-    let low = least-append y ys z zs in
-    let high = greatest-append y ys z zs in
-    cc
+reward-joined name y ys z zs = cc (sum_of-append (y ∷ ys) (z ∷ zs), least-append y ys z zs, greatest-append y ys z zs)
 
 -- a trio whose figures are joined so
 abbrev IsJoined : Trio → Type 0

@@ -90,19 +90,12 @@ length-samples k [] (x ∷ xs) same = absurd (omega arith)
 length-samples k (t ∷ ts) [] same = absurd (omega arith)
 length-samples k (t ∷ ts) (x ∷ xs) same = (let rest = length-samples k ts xs (omega arith) in omega arith)
 
-states-samples : (k : ℕ) (ts : List ℕ) (xs : List (List ℕ)) → length ts ≡ length xs → met_states (samples k ts xs) ≡ xs
-unfolding met_states
-states-samples k [] [] same = unmet-states k
-states-samples k [] (x ∷ xs) same = absurd (omega arith)
-states-samples k (t ∷ ts) [] same = absurd (omega arith)
-states-samples k (t ∷ ts) (x ∷ xs) same = ap (λ ys. x ∷ ys) (states-samples k ts xs (omega arith))
-
-horizons-samples : (k : ℕ) (ts : List ℕ) (xs : List (List ℕ)) → length ts ≡ length xs → met_horizons (samples k ts xs) ≡ ts
-unfolding met_horizons
-horizons-samples k [] [] same = unmet-horizons k
-horizons-samples k [] (x ∷ xs) same = absurd (omega arith)
-horizons-samples k (t ∷ ts) [] same = absurd (omega arith)
-horizons-samples k (t ∷ ts) (x ∷ xs) same = ap (λ ys. t ∷ ys) (horizons-samples k ts xs (omega arith))
+samples-of : (k : ℕ) (ts : List ℕ) (xs : List (List ℕ)) → length ts ≡ length xs → (met_states (samples k ts xs) ≡ xs) × (met_horizons (samples k ts xs) ≡ ts)
+unfolding met_states met_horizons
+samples-of k [] [] same = (unmet-states k, unmet-horizons k)
+samples-of k [] (x ∷ xs) same = absurd (omega arith)
+samples-of k (t ∷ ts) [] same = absurd (omega arith)
+samples-of k (t ∷ ts) (x ∷ xs) same = (let rest = samples-of k ts xs (omega arith) in (ap (λ ys. x ∷ ys) rest.0, ap (λ ys. t ∷ ys) rest.1))
 
 unmet-are : (net : Network) (k : ℕ) → All (IsSampleOf net) (unmet k)
 unmet-are net zero = All-nil (IsSampleOf net)
@@ -257,8 +250,9 @@ module _ (n : ℕ) (figures : List Figure) (held : AreHeld n [] figures) where
           let all = length-samples (c.samples - c.met) counted.horizons rows long in
           let count = rows-long in
           let whole : length (samples (c.samples - c.met) counted.horizons rows) ≡ c.samples = omega arith in
-          let states = states-samples (c.samples - c.met) counted.horizons rows long in
-          let horizons = horizons-samples (c.samples - c.met) counted.horizons rows long in
+          let both = samples-of (c.samples - c.met) counted.horizons rows long in
+          let states = both.0 in
+          let horizons = both.1 in
           let these = rows-figures in
           let own : length rows ≡ c.met = rows-long ∙ sym met in
           let counts = counted.counts in

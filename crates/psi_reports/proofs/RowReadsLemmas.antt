@@ -2,13 +2,13 @@
 use Rattle.std.specs.Prelude.{◌≡◌, ℕ, ◌+◌, ◌-◌, ◌^◌, ◌<◌, ℤ, List, [], ◌∷◌, ◌++◌, map, codes, All, true, Some, refl}
 use Rattle.std.specs.Fmt.{decimal, signed_decimal}
 use Rattle.std.specs.Int.RustNames.{unsigned_abs}
-use Rattle.std.specs.List.{list_all, flat_map, slice_split}
+use Rattle.std.specs.List.{flat_map, slice_split}
 use Rattle.std.proofs.Common.{ap, sym, ◌∙◌, append_assoc, arith}
 use Rattle.std.proofs.lemmas.List.{append-nil}
 use Rattle.std.proofs.lemmas.List.Concat.{flat_map-append}
 use Rattle.std.proofs.lemmas.List.Elements.{All-head, All-tail}
 use Rattle.csv.specs.Writing.{default_writer, row_text}
-use Rattle.psi_model.specs.Name.{is_name, is_name_byte}
+use Rattle.psi_model.specs.Name.{is_name}
 use Rattle.psi_report.specs.Text.{row, horizon_row, rows_text, number_rows, item_text, figure_row, count_row, contents_rows}
 use Rattle.psi_report.specs.declared.figure.Item.{Item}
 use Rattle.psi_report.specs.declared.figure.Item.TheVariants.{Sum, Least, Greatest, RewardSum, RewardLeast, RewardGreatest}
@@ -17,6 +17,7 @@ use Rattle.psi_report.specs.declared.figure.Figure.{Figure}
 use Rattle.psi_report.specs.Contents.{Contents}
 use Rattle.psi_reports.specs.Reading.{blank, is_feed, item_of, with_samples, with_met, with_fields, with_row, read_lines, behind, IsReport}
 use Rattle.psi_reports.proofs.DigitLemmas.{count-decimal, integer-signed}
+use Rattle.psi_reports.proofs.FieldLemmas.{FitsCount, FitsFigure, literal, item-plain}
 use Rattle.psi_reports.proofs.NameLemmas.{name-bytes, name-again}
 use Rattle.psi_reports.proofs.PlainLemmas.{IsPlain, name-bytes-plain, decimal-plain, signed-plain, row-line, line-ends, line-fields}
 
@@ -68,10 +69,6 @@ reads-append rows more c d e front back = λ n rest. (
 abbrev told : ℕ → ℕ → List HorizonCount → List Figure → Contents
 told samples met horizons figures = record { samples = samples; met = met; horizons = horizons; figures = figures }
 
--- a literal of bytes as they stand in names
-literal : (word : List ℕ) → list_all is_name_byte word ≡ true → All IsPlain word
-literal word are = name-bytes-plain word are
-
 samples-fields : (c : Contents) (n : ℕ) → n < 2 ^ 64 → with_fields c (codes "samples") (codes "-") (decimal n) ≡ Some (record c { samples = n })
 unfolding with_fields
 samples-fields c n fits = ap (with_samples c) (count-decimal n fits)
@@ -95,43 +92,34 @@ figure-fields c RewardSum name value is fits = rw (name-again name is, integer-s
 figure-fields c RewardLeast name value is fits = rw (name-again name is, integer-signed value fits) refl
 figure-fields c RewardGreatest name value is fits = rw (name-again name is, integer-signed value fits) refl
 
-item-plain : (item : Item) → All IsPlain (item_text item)
-item-plain Sum = literal (codes "sum") refl
-item-plain Least = literal (codes "least") refl
-item-plain Greatest = literal (codes "greatest") refl
-item-plain RewardSum = literal (codes "reward-sum") refl
-item-plain RewardLeast = literal (codes "reward-least") refl
-item-plain RewardGreatest = literal (codes "reward-greatest") refl
+-- the rows of entries, told one behind the other
+each-read : {A : Type 0} (Fits : A → Type 0) (row_of : A → List (List ℕ)) (so_far : List A → Contents)
+    → ((x : A) (before : List A) (rows : List (List (List ℕ))) (all : Contents) → Fits x → Reads rows (so_far (before ++ x ∷ [])) all → Reads (row_of x ∷ rows) (so_far before) all)
+    → (xs before after : List A) → All Fits xs → after ≡ before ++ xs → Reads (map row_of xs) (so_far before) (so_far after)
+each-read Fits row_of so_far one [] before after all is = rw (is ∙ append-nil before) (reads-none (so_far before))
+each-read Fits row_of so_far one (x ∷ xs) before after all is =
+    one x before (map row_of xs) (so_far after) (All-head Fits x xs all)
+    (each-read Fits row_of so_far one xs (before ++ x ∷ []) after (All-tail Fits x xs all) (is ∙ sym (append_assoc before (x ∷ []) xs)))
 
 -- the rows of horizons
-abbrev FitsCount : HorizonCount → Type 0
-FitsCount h = (h.horizon < 2 ^ 64) × (h.count < 2 ^ 64)
-
 horizons-read : (s m : ℕ) (fs : List Figure) (hs before after : List HorizonCount) → All FitsCount hs → after ≡ before ++ hs
     → Reads (map count_row hs) (told s m before fs) (told s m after fs)
 unfolding horizon_row
-horizons-read s m fs [] before after all is = rw (is ∙ append-nil before) (reads-none (told s m before fs))
-horizons-read s m fs (h ∷ hs) before after all is =
-    let fits : FitsCount h = All-head FitsCount h hs all in
-    reads-more (codes "horizon") (decimal h.horizon) (decimal h.count) (map count_row hs) (told s m before fs) (told s m (before ++ h ∷ []) fs) (told s m after fs)
+horizons-read s m fs = each-read FitsCount count_row (λ hs. told s m hs fs)
+    (λ h before rows all fits rest.
+    reads-more (codes "horizon") (decimal h.horizon) (decimal h.count) rows (told s m before fs) (told s m (before ++ h ∷ []) fs) all
     (literal (codes "horizon") refl) (decimal-plain h.horizon (let small = fits.0 in omega arith)) (decimal-plain h.count (let small = fits.1 in omega arith))
-    (horizon-fields (told s m before fs) h.horizon h.count fits.0 fits.1)
-    (horizons-read s m fs hs (before ++ h ∷ []) after (All-tail FitsCount h hs all) (is ∙ sym (append_assoc before (h ∷ []) hs)))
+    (horizon-fields (told s m before fs) h.horizon h.count fits.0 fits.1) rest)
 
 -- the rows of figures
-abbrev FitsFigure : Figure → Type 0
-FitsFigure f = (is_name f.name ≡ true) × (unsigned_abs f.value < 10 ^ 37)
-
 figures-read : (s m : ℕ) (hs : List HorizonCount) (fs before after : List Figure) → All FitsFigure fs → after ≡ before ++ fs
     → Reads (map figure_row fs) (told s m hs before) (told s m hs after)
 unfolding figure_row
-figures-read s m hs [] before after all is = rw (is ∙ append-nil before) (reads-none (told s m hs before))
-figures-read s m hs (f ∷ fs) before after all is =
-    let fits : FitsFigure f = All-head FitsFigure f fs all in
-    reads-more (item_text f.item) f.name (signed_decimal f.value) (map figure_row fs) (told s m hs before) (told s m hs (before ++ f ∷ [])) (told s m hs after)
+figures-read s m hs = each-read FitsFigure figure_row (told s m hs)
+    (λ f before rows all fits rest.
+    reads-more (item_text f.item) f.name (signed_decimal f.value) rows (told s m hs before) (told s m hs (before ++ f ∷ [])) all
     (item-plain f.item) (name-bytes-plain f.name (name-bytes f.name fits.0)) (signed-plain f.value fits.1)
-    (figure-fields (told s m hs before) f.item f.name f.value fits.0 fits.1)
-    (figures-read s m hs fs (before ++ f ∷ []) after (All-tail FitsFigure f fs all) (is ∙ sym (append_assoc before (f ∷ []) fs)))
+    (figure-fields (told s m hs before) f.item f.name f.value fits.0 fits.1) rest)
 
 heading-fields : with_fields blank (codes "item") (codes "name") (codes "value") ≡ Some blank
 unfolding with_fields

@@ -27,6 +27,7 @@ use Rattle.psi_reports.specs.Merging.{sums_of}
 use Rattle.psi_reports.specs.Lines.{ReportsShowNetworks}
 use Rattle.psi_reports.proofs.FieldLemmas.{FitsFigure}
 use Rattle.psi_reports.proofs.FigureLawLemmas.{own-name}
+use Rattle.psi_reports.proofs.FigureReachLemmas.{begins}
 use Rattle.psi_reports.proofs.HorizonReachLemmas.{passed}
 use Rattle.psi_reports.proofs.NetworkLemmas.{sums-in, sums-out}
 use Rattle.psi_reports.proofs.ReachedLemmas.{right}
@@ -191,25 +192,29 @@ module _ (n : ℕ) (before : List Figure) (e f : Figure) (rest : List Figure) (s
       let sum_or_extreme = (and_parts (item_follows (nat_lt 0 n) e.item f.item) (if is_sum f.item then sum_stands n before f rest else extreme_follows e f) stands).1 in
       (and_parts (is_new before f) (agrees n f rest) (if-true (is_sum f.item) (sum_stands n before f rest) (extreme_follows e f) sum_or_extreme sum)).0
 
+  -- what those behind it show
+  behind-it : (queue reward : Bool) → same_sum f.item Sum ≡ queue → same_sum f.item RewardSum ≡ reward → sums Sum before + cond {A = ℕ} queue 1 0 ≤ 32
+      → sums RewardSum before + cond {A = ℕ} reward 1 0 ≤ 64 → AreNamed (before ++ f ∷ []) f rest
+  behind-it queue reward of_queue of_reward room place =
+      let queues = sums-push Sum before f queue of_queue in
+      let rewards = sums-push RewardSum before f reward of_reward in
+      behind (omega arith) (omega arith)
+
   with-extreme : is_sum f.item ≡ false → same_sum f.item Sum ≡ false → same_sum f.item RewardSum ≡ false → AreNamed before e (f ∷ rest)
   with-extreme isnt queue reward =
-      let queues = sums-push Sum before f false queue in
-      let rewards = sums-push RewardSum before f false reward in
-      behind-extreme before e f rest (nat_lt 0 n) follows named (behind (omega arith) (omega arith)) isnt queue reward
+      behind-extreme before e f rest (nat_lt 0 n) follows named (behind-it false false queue reward (omega arith) (omega arith)) isnt queue reward
 
   with-figure : (i : Item) → f.item ≡ i → AreNamed before e (f ∷ rest)
   with-figure Sum is =
       let new = new-sum Sum before f is (is-new (ap is_sum is)) in
       let less : sums Sum before < 32 = new.1 in
-      let queues = sums-push Sum before f true (ap (λ j. same_sum j Sum) is) in
-      let rewards = sums-push RewardSum before f false (ap (λ j. same_sum j RewardSum) is) in
-      behind-queue before e f rest (nat_lt 0 n) follows named (behind (omega arith) (omega arith)) is new.0
+      let behind_sum = behind-it true false (ap (λ j. same_sum j Sum) is) (ap (λ j. same_sum j RewardSum) is) (omega arith) (omega arith) in
+      behind-queue before e f rest (nat_lt 0 n) follows named behind_sum is new.0
   with-figure RewardSum is =
       let new = new-sum RewardSum before f is (is-new (ap is_sum is)) in
       let less : sums RewardSum before < 64 = new.1 in
-      let queues = sums-push Sum before f false (ap (λ j. same_sum j Sum) is) in
-      let rewards = sums-push RewardSum before f true (ap (λ j. same_sum j RewardSum) is) in
-      behind-reward before e f rest (nat_lt 0 n) follows named (behind (omega arith) (omega arith)) is new.0
+      let behind_sum = behind-it false true (ap (λ j. same_sum j Sum) is) (ap (λ j. same_sum j RewardSum) is) (omega arith) (omega arith) in
+      behind-reward before e f rest (nat_lt 0 n) follows named behind_sum is new.0
   with-figure Least is = with-extreme (ap is_sum is) (ap (λ j. same_sum j Sum) is) (ap (λ j. same_sum j RewardSum) is)
   with-figure Greatest is = with-extreme (ap is_sum is) (ap (λ j. same_sum j Sum) is) (ap (λ j. same_sum j RewardSum) is)
   with-figure RewardLeast is = with-extreme (ap is_sum is) (ap (λ j. same_sum j Sum) is) (ap (λ j. same_sum j RewardSum) is)
@@ -237,14 +242,6 @@ record HaveNames (figures : List Figure) : Type 0 where
   some : 1 ≤ length queues
   few : length queues ≤ 32
   few_rewards : length rewards ≤ 64
-
-begins : (i : Item) → may_begin i ≡ true → i ≡ Sum
-begins Sum may = refl
-begins Least may = absurd cc
-begins Greatest may = absurd cc
-begins RewardSum may = absurd cc
-begins RewardLeast may = absurd cc
-begins RewardGreatest may = absurd cc
 
 names-shown : (n : ℕ) (figures : List Figure) → All FitsFigure figures → figures_flaw n figures ≡ None → HaveNames figures
 names-shown n [] fits none = absurd cc

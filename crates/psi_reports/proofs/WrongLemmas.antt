@@ -6,7 +6,7 @@ use Rattle.std.proofs.lemmas.List.{length-map}
 use Rattle.std.proofs.Math.Seq.{drop-append-add}
 use Rattle.psi_report.specs.Text.{number_rows, item_text, figure_row, count_row, contents_rows}
 use Rattle.psi_report.specs.declared.figure.Item.{Item}
-use Rattle.psi_report.specs.declared.figure.Item.TheVariants.{Sum, Least, Greatest, RewardSum, RewardLeast, RewardGreatest}
+use Rattle.psi_report.specs.declared.figure.Item.TheVariants.{Sum, RewardSum}
 use Rattle.psi_report.specs.declared.figure.HorizonCount.{HorizonCount}
 use Rattle.psi_report.specs.declared.figure.Figure.{Figure}
 use Rattle.psi_report.specs.Contents.{Contents}
@@ -67,12 +67,7 @@ unfolding figure_row
 sum-row f rows = sum-item f.item
   where
     sum-item : (item : Item) → (bytes_eq (item_text item) (item_text Sum) || bytes_eq (item_text item) (item_text RewardSum)) ≡ is_sum item
-    sum-item Sum = refl
-    sum-item Least = refl
-    sum-item Greatest = refl
-    sum-item RewardSum = refl
-    sum-item RewardLeast = refl
-    sum-item RewardGreatest = refl
+    sum-item item = grind arith
 
 sum-rows : (fs : List Figure) (i : ℕ) → begins_with_sum (drop i (map figure_row fs)) ≡ sum_at i fs
 sum-rows [] zero = refl
