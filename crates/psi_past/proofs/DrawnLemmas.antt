@@ -1,7 +1,7 @@
 -- Words that are drawn one lot after another.
 use Rattle.std.proofs.Common.{◌≡◌, ◌<◌, ℕ, ◌+◌, ◌-◌, ◌*◌, ◌%◌, ◌^◌, List, refl, sym, subst, ap, ◌∙◌, inl, inr, arith}
 use Rattle.std.proofs.lemmas.Bool.{cases_lt}
-use Rattle.std.specs.Prelude.{slice_index}
+use Rattle.std.specs.Prelude.{length, slice_index}
 use Rattle.rand_chacha.specs.ChaCha.{ChaCha, word_at}
 use Rattle.psi_past.specs.Drawn.{Draws}
 
@@ -40,3 +40,13 @@ draws-block block first pos g h set k xs ys zs before start place is near more =
     let same : set ≡ h = is ∙ ap (λ (h : ChaCha). record h { word_pos = pos % 2 ^ 68 }) before.moved ∙ ap (λ n. record g { word_pos = n }) e ∙ sym before.moved in
     draws-more (64 * block) 64 (64 * (block + 1)) 0 (64 * block) g h k xs ys zs before
     (subst (λ (s : ChaCha). Draws 64 (64 * block) s k ys zs) same more) (omega arith) (omega arith)
+
+-- a block that is drawn into a list of its own, and put into another list
+pub draws-put : (at : ℕ) (g h : ChaCha) (list block xs ys : List ℕ) → Draws 64 0 g h list block → length ys ≡ length xs
+    → ((i : ℕ) → i < at → slice_index ys i ≡ slice_index xs i) → ((i : ℕ) → i < 64 → slice_index ys (at + i) ≡ slice_index block i) → Draws 64 at g h xs ys
+draws-put at g h list block xs ys drawn same_length kept put = record {
+  same_length = same_length;
+  kept = kept;
+  drawn = λ i small. (let e : i ≡ 0 + i = omega arith in put i small ∙ ap (slice_index block) e ∙ drawn.drawn i small);
+  moved = drawn.moved;
+}

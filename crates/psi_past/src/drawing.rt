@@ -1,6 +1,6 @@
 //! The words of a generator, many at a time.
 
-ghost use Rattle.std.specs.Prelude.{◌≡◌, ◌+◌, ◌*◌, ◌<◌, ◌^◌, ◌≤◌, length};
+ghost use Rattle.std.specs.Prelude.{◌≡◌, ◌+◌, ◌*◌, ◌<◌, ◌^◌, ◌≤◌, ℕ, length, slice_index};
 ghost use Rattle.psi_past.specs.Drawn.{Draws};
 
 use rand_chacha::ChaCha20Rng;
@@ -42,17 +42,32 @@ fn draw_blocks(generator: &mut ChaCha20Rng, first: usize, out: &mut [u32], block
     }
 }
 
-// Draws the next 64 words into the slice, from the place `at` on.
+// Draws the next 64 words into the slice, from the place `at` on. They are drawn into an array of its
+// own: a write to the slice might change the generator, for all that the compiler knows, so that it
+// would ask after each word which one is next.
 #[inline(always)]
 fn draw_block(generator: &mut ChaCha20Rng, out: &mut [u32], at: usize)
     requires fits { at + 64 ≤ length out.old }
     requires near { generator.old.word_pos + 64 ≤ 2 ^ 36 }
     ensures { Draws 64 at generator.old generator.new out.old out.new }
 {
-    draw_sixteen(generator, out, at);
-    draw_sixteen(generator, out, at + 16);
-    draw_sixteen(generator, out, at + 32);
-    draw_sixteen(generator, out, at + 48);
+    let mut words = [0; BLOCK];
+    draw_sixteen(generator, &mut words, 0);
+    draw_sixteen(generator, &mut words, 16);
+    draw_sixteen(generator, &mut words, 32);
+    draw_sixteen(generator, &mut words, 48);
+    put_block(out, at, &words);
+}
+
+// Puts a block of words into the slice, from the place `at` on.
+#[inline(always)]
+fn put_block(out: &mut [u32], at: usize, words: &[u32; 64])
+    requires fits { at + 64 ≤ length out.old }
+    ensures same_length { length out.new ≡ length out.old }
+    ensures kept { (i : ℕ) → i < at → slice_index out.new i ≡ slice_index out.old i }
+    ensures put { (i : ℕ) → i < 64 → slice_index out.new (at + i) ≡ slice_index words.now i }
+{
+    out[at..at + BLOCK].copy_from_slice(words);
 }
 
 // Draws the next 16 words.
