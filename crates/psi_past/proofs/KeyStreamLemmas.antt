@@ -116,6 +116,14 @@ set_word_pos-is g key stream next pos place e same near =
     ap (λ (h : ChaCha). record h { word_pos = pos % 2 ^ 68 }) e
     ∙ ap (λ (n : ℕ). let h : ChaCha = record { key = key; stream = stream; word_pos = n } in h) whole
 
+-- the generator of a seed, once it stands at a place
+pub stood-at : (g h : ChaCha) (seed stream next pos place : ℕ) → g ≡ record { key = key_of (key_bytes seed); stream = stream; word_pos = next }
+    → h ≡ record { key = g.key; stream = g.stream; word_pos = pos } → pos ≡ place → h ≡ record { key = key_of (key_bytes seed); stream = stream; word_pos = place }
+stood-at g h seed stream next pos place e stands same =
+    stands
+    ∙ ap (λ (i : ChaCha). let j : ChaCha = record { key = i.key; stream = i.stream; word_pos = pos } in j) e
+    ∙ ap (λ (n : ℕ). let j : ChaCha = record { key = key_of (key_bytes seed); stream = stream; word_pos = n } in j) same
+
 -- what a generator at a place answers
 pub next_word-is : (g after : ChaCha) (seed stream place word : ℕ) → (word, after) ≡ next_word 10 g
     → g ≡ record { key = key_of (key_bytes seed); stream = stream; word_pos = place }

@@ -1,6 +1,6 @@
 //! The past of a seed and a stream.
 
-ghost use Rattle.std.specs.Prelude.{◌≡◌};
+ghost use Rattle.std.specs.Prelude.{◌≡◌, ◌<◌, ◌^◌};
 
 use crate::drawing::draw;
 use crate::past::Past;
@@ -69,19 +69,27 @@ impl Past for SeedPast {
     #[inline]
     fn word(&mut self, place: u32) -> u32 {
         let place = u64::from(place);
-        if self.next != place {
-            self.generator.set_word_pos(u128::from(place));
-        }
+        stand_at(&mut self.generator, self.next, place);
         self.next = place + 1;
         self.generator.next_word()
     }
 
     fn fill(&mut self, place: u32, out: &mut [u32]) {
         let first = u64::from(place);
-        if self.next != first {
-            self.generator.set_word_pos(u128::from(first));
-        }
+        stand_at(&mut self.generator, self.next, first);
         self.next = first + out.len() as u64;
         draw(&mut self.generator, place, out);
+    }
+}
+
+// Lets a generator whose next word is that at the place `next` stand at a place.
+#[inline]
+fn stand_at(generator: &mut ChaCha20Rng, next: u64, place: u64)
+    requires next { generator.old.word_pos ≡ next }
+    requires near { place < 2 ^ 36 }
+    ensures { generator.new ≡ record { key = generator.old.key; stream = generator.old.stream; word_pos = place } }
+{
+    if next != place {
+        generator.set_word_pos(u128::from(place));
     }
 }
