@@ -114,7 +114,8 @@ impl Arcs {
 
     /// The number of customers in all, 0 to 256.
     ///
-    /// Its other clauses are how a caller learns that each arc is in range, and the number of queues.
+    /// Its other clauses are how a caller learns how many customers and queues there are at most, and that each arc is
+    /// in range.
     #[inline]
     pub fn total(&self) -> u16
         ensures value { result ≡ self.now.total }
