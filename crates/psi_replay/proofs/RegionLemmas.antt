@@ -1,15 +1,16 @@
 -- Regions of a log, and the tests of their states by corners or one after another.
-use Rattle.std.specs.Prelude.{◌≡◌, ◌↔◌, ℕ, zero, suc, ◌+◌, ◌<◌, ◌≤◌, List, [], ◌∷◌, length, drop, Bool, true, false, ◌==◌, nat_le, IsTrue, Option, Some, None, is_some, MatchOption, option_map, unwrap_or, slice_get, refl}
+use Rattle.std.specs.Prelude.{◌≡◌, ◌↔◌, ℕ, zero, suc, ◌+◌, ◌<◌, ◌≤◌, List, [], ◌∷◌, length, drop, Bool, true, false, ◌==◌, nat_le, IsTrue, Option, Some, None, is_some, MatchOption, option_map, unwrap_or, slice_get, slice_index, refl}
 use Rattle.std.specs.List.{list_all}
 use Rattle.std.specs.Cmp.Lexicographic.{pointwise}
 use Rattle.std.proofs.Common.{inl, inr, ap, sym, subst, arith}
-use Rattle.std.proofs.lemmas.Bool.{eq-eqb, eqb-true, le-leb, lt-leb, leb-true}
+use Rattle.std.proofs.lemmas.Bool.{eq-eqb, eqb-true, le-leb, lt-leb, leb-true, and_parts, and_from}
 use Rattle.std.proofs.lemmas.Option.{slice_get_cases}
 use Rattle.psi_state.specs.State.{Corners, IsBelow, box}
 use Rattle.psi_state.specs.Members.{In}
 use Rattle.psi_state.proofs.BoxesLemmas.{In-low, In-high, In-of_box, below-through}
 use Rattle.psi_region.specs.Covering.{Covers}
-use Rattle.psi_log_text.specs.Log.{LogRegion, in_box, Entry, Certificate, IsRegion, IsEntry, IsLog}
+use Rattle.psi_event.specs.Idle.{unchanged}
+use Rattle.psi_log_text.specs.Log.{LogRegion, in_box, in_set, Entry, Certificate, IsRegion, IsEntry, IsLog, IsSet}
 use Rattle.psi_log.proofs.StateLemmas.{below_found, below_again}
 use Rattle.psi_replay.specs.Verdict.{states_of, has, covers, is_within}
 use Rattle.psi_replay.specs.Numbered.{nth_region}
@@ -58,6 +59,27 @@ within_fails caps xs i r whole tells fails so_far =
     let at = told_at (slice_get xs i) (λ (x : List ℕ). IsTrue r ↔ IsBelow x caps) tells in
     all_fails (λ (x : List ℕ). pointwise nat_le x caps) xs i at.0 r whole at.1 (below_test at.0 caps r at.2) fails so_far
 
+-- numbers that fit in each queue fit in their own
+low_state : (caps x : List ℕ) (most : ℕ) → length x ≡ length caps → ((q : ℕ) → q < length caps → most ≤ slice_index caps q) → list_all (λ n. nat_le n most) x ≡ true
+    → pointwise nat_le x caps ≡ true
+low_state [] [] most same room low = refl
+low_state [] (n ∷ x) most same room low = absurd cc
+low_state (c ∷ caps) [] most same room low = absurd cc
+low_state (c ∷ caps) (n ∷ x) most same room low =
+    let parts = and_parts (nat_le n most) (list_all (λ k. nat_le k most) x) low in
+    let small : n ≤ most = leb-true n most parts.0 in
+    let most_fits : most ≤ c = room 0 (omega arith) in
+    let first : nat_le n c ≡ true = le-leb n c (omega arith) in
+    let rest_same : length x ≡ length caps = omega arith in
+    let rest_room : (q : ℕ) → q < length caps → most ≤ slice_index caps q = λ q inside. room (suc q) (omega arith) in
+    let rest : pointwise nat_le x caps ≡ true = low_state caps x most rest_same rest_room parts.1 in
+    and_from (nat_le n c) (pointwise nat_le x caps) first rest
+
+pub low_within : (caps : List ℕ) (xs : List (List ℕ)) (most : ℕ) → IsSet (length caps) xs → ((q : ℕ) → q < length caps → most ≤ slice_index caps q)
+    → list_all (list_all (λ n. nat_le n most)) xs ≡ true → list_all (λ (x : List ℕ). pointwise nat_le x caps) xs ≡ true
+low_within caps xs most is room low =
+    all_from (λ (x : List ℕ). pointwise nat_le x caps) xs (λ x member. low_state caps x most (is.each x member).count room (all_each (list_all (λ n. nat_le n most)) xs x low member))
+
 -- a box is within the capacities exactly where its upper corner is
 pub box_within : (caps : List ℕ) (b : Corners) (hi : List ℕ) (r : Bool) → IsBelow b.lo b.hi → hi ≡ b.hi → (IsTrue r ↔ IsBelow hi caps) → r ≡ is_within caps (in_box b)
 box_within caps b hi r ordered corner tells =
@@ -98,6 +120,10 @@ pub box_holds : (b : Corners) (x : List ℕ) (r : Bool) → (IsTrue r ↔ In x (
 box_holds b x r tells = same_test r (has (box b.lo b.hi) x)
     (λ is. has-from_In (box b.lo b.hi) x (tells.0 is))
     (λ found. tells.1 (has-In (box b.lo b.hi) x found))
+
+-- a set holds its states
+pub covers_itself : (xs : List (List ℕ)) → covers unchanged (in_set xs) (in_set xs) ≡ true
+covers_itself xs = all_from (λ (x : List ℕ). has xs x) xs (λ x member. has-from_In xs x member)
 
 -- the test of a box by corners is that of what the function makes of its states
 pub box_covers : (f : List ℕ → List ℕ) (b c : Corners) (r : Bool) → (IsTrue r ↔ Covers f (box b.lo b.hi) (box c.lo c.hi)) → r ≡ covers f (in_box b) (in_box c)

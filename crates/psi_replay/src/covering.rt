@@ -102,6 +102,22 @@ fn covers<E: EventLaw>(event: &E, before: &ReadRegion<'_>, after: &ReadRegion<'_
     }
 }
 
+// Whether a region holds each state of another; at once where both are the same set.
+fn idle_covers(caps: &State, before: &ReadRegion<'_>, after: &ReadRegion<'_>) -> bool
+    requires valid { AreCapacities caps.now }
+    requires before { is_within caps.now (seen before.now) ≡ true }
+    requires after { IsRegion (length caps.now) (seen after.now) }
+    requires within { is_within caps.now (seen after.now) ≡ true }
+    ensures { result ≡ covers unchanged (seen before.now) (seen after.now) }
+{
+    if let (ReadRegion::Set(set), ReadRegion::Set(next)) = (before, after) {
+        if set.are_same(next) {
+            return true;
+        }
+    }
+    covers(&Idle::new(*caps), before, after)
+}
+
 /// Whether a region holds what a step makes of each state of another. An idle step, which has no event,
 /// leaves them as they are.
 pub(crate) fn step_covers<E: EventLaw>(
@@ -119,7 +135,7 @@ pub(crate) fn step_covers<E: EventLaw>(
 {
     match event {
         Some(event) => covers(event, before, after),
-        None => covers(&Idle::new(*caps), before, after),
+        None => idle_covers(caps, before, after),
     }
 }
 

@@ -1,6 +1,6 @@
 //! A region of a log, and the rules that speak of its states.
 
-ghost use Rattle.std.specs.Prelude.{◌≡◌, ◌==◌, ◌≤◌, ℕ, true, length};
+ghost use Rattle.std.specs.Prelude.{◌≡◌, ◌==◌, ◌<◌, ◌≤◌, ℕ, true, length, slice_index};
 ghost use Rattle.psi_state.specs.State.{IsBelow, box};
 ghost use Rattle.psi_log_text.specs.Log.{in_box, in_set, IsLog, IsRegion};
 ghost use Rattle.psi_replay.specs.Verdict.{states_of, has, is_within, is_small};
@@ -89,11 +89,26 @@ fn box_is_within(bounds: &Bounds, caps: &State) -> bool
     bounds.hi().leq(caps)
 }
 
-// Whether no state of a set has more customers than a queue has room for.
+// How many customers fit in each queue.
+fn least_room(caps: &State) -> u16
+    ensures { (queue : ℕ) → queue < length caps.now → result ≤ slice_index caps.now queue }
+{
+    let mut least = u16::MAX;
+    for queue in 0..caps.len() {
+        least = least.min(caps.get(queue));
+    }
+    least
+}
+
+// Whether no state of a set has more customers than a queue has room for; at once where no number is above the least
+// capacity.
 fn set_is_within(set: &Set<'_>, caps: &State) -> bool
     requires { IsRegion (length caps.now) (in_set set.now) }
     ensures { result ≡ is_within caps.now (in_set set.now) }
 {
+    if set.are_at_most(least_room(caps)) {
+        return true;
+    }
     for place in 0..set.len() {
         if !set.leq(place, caps) {
             return false;

@@ -1,6 +1,7 @@
 //! The states of a region that is a set.
 
-ghost use Rattle.std.specs.Prelude.{◌≡◌, ◌<◌, ◌≤◌, ◌↔◌, length, Some, IsTrue, MatchOption, slice_get};
+ghost use Rattle.std.specs.Prelude.{◌≡◌, ◌<◌, ◌≤◌, ◌↔◌, length, nat_le, Some, IsTrue, MatchOption, slice_get};
+ghost use Rattle.std.specs.List.{list_all};
 ghost use Rattle.psi_state.specs.State.{IsBelow};
 ghost use Rattle.psi_state.specs.Ascending.{IsRising};
 ghost use Rattle.psi_replay.specs.Verdict.{has};
@@ -56,6 +57,22 @@ impl<'l> Set<'l> {
         ensures { MatchOption (slice_get self.now place) ⊥ (λ x. IsTrue result ↔ IsBelow x most.now) }
     {
         self.rows.leq(place, most)
+    }
+
+    /// Whether no queue holds more customers than `most` in any of them.
+    #[inline]
+    pub(crate) fn are_at_most(&self, most: u16) -> bool
+        ensures { result ≡ list_all (list_all (λ n. nat_le n most)) self.now }
+    {
+        self.rows.are_at_most(most)
+    }
+
+    /// Whether they are the states of another set.
+    #[inline]
+    pub(crate) fn are_same(&self, other: &Set<'_>) -> bool
+        ensures { IsTrue result → self.now ≡ other.now }
+    {
+        self.rows.are_same(&other.rows)
     }
 
     // Whether a state stands at a place.

@@ -33,7 +33,7 @@ box_line boxes line i b is there =
     made r = record { step = line.step; region = r }
 
 pub set_line : (boxes : List Corners) (line : Line) (first count : ℕ) → line.region ≡ kept.Set first count
-    → line_of boxes (record { step = line.step; region = place.Set first count }) ≡ line
+    → line_of boxes (record { step = line.step; region = place.Set count first }) ≡ line
 set_line boxes line first count is = ap (λ (r : ListedRegion). made r) (sym is)
   where
     made : ListedRegion → Line
@@ -49,12 +49,12 @@ module _ (old new : List Corners) (front : take (length old) new ≡ old) where
 
   inside_kept : (p : Place) → IsInside old p → IsInside new p
   inside_kept (place.Box i) there = (let long = longer in omega arith)
-  inside_kept (place.Set first count) there = tt
+  inside_kept (place.Set count first) there = tt
 
   place_kept : (p : Place) → IsInside old p → kept_of new p ≡ kept_of old p
   place_kept (place.Box i) there =
       ap (λ (c : Corners). kept.Box c) (sym (get_or-take (length old) new i nothing there) ∙ ap (λ (bs : List Corners). get_or bs i nothing) front)
-  place_kept (place.Set first count) there = refl
+  place_kept (place.Set count first) there = refl
 
   pub placed_kept : (slots : List Slot) → All (IsPlaced old) slots → All (IsPlaced new) slots
   placed_kept slots all = All-weaker (IsPlaced old) (IsPlaced new) (λ slot there. inside_kept slot.region there) slots all

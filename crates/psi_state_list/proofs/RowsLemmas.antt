@@ -1,6 +1,6 @@
 -- States that are kept as their numbers.
-use Rattle.std.specs.Prelude.{◌≡◌, ℕ, zero, suc, ◌+◌, ◌*◌, ◌<◌, ◌≤◌, ◌-◌, List, [], ◌∷◌, ◌++◌, length, take, drop, Some, nat_lt, false, refl}
-use Rattle.std.specs.List.{slice_get}
+use Rattle.std.specs.Prelude.{◌≡◌, ℕ, zero, suc, ◌+◌, ◌*◌, ◌<◌, ◌≤◌, ◌-◌, List, [], ◌∷◌, ◌++◌, length, take, drop, Some, Bool, ◌&&◌, nat_lt, false, refl}
+use Rattle.std.specs.List.{slice_get, list_all}
 use Rattle.std.specs.Ordering.{is_lt, nat_cmp, ordering_then}
 use Rattle.std.specs.declared.cmp.Ordering.{Ordering}
 use Rattle.std.specs.declared.cmp.Ordering.TheVariants.{Equal}
@@ -8,10 +8,11 @@ use Rattle.std.specs.Cmp.{nat_cmp_is}
 use Rattle.std.specs.Cmp.Lexicographic.{slice_cmp}
 use Rattle.std.proofs.Common.{get_or, ap, sym, ◌∙◌, arith}
 use Rattle.std.proofs.lemmas.Grind.{common_steps}
-use Rattle.std.proofs.lemmas.List.{take_all, nil_from_length, take-append-le, drop-append-le, drop-drop, drop-take, take-take, length-drop}
+use Rattle.std.proofs.lemmas.List.{take_all, nil_from_length, take-append-drop, take-append-le, drop-append-le, drop-drop, drop-take, take-take, length-drop}
+use Rattle.std.proofs.lemmas.List.Folds.{list_all-append}
 use Rattle.std.proofs.lemmas.Nat.{mul-le}
 use Rattle.std.proofs.Math.Nat.{suc-mul}
-use Rattle.psi_state_list.specs.Rows.{rows}
+use Rattle.psi_state_list.specs.Rows.{rows, States}
 
 pub length_rows : (count queues : ℕ) (numbers : List ℕ) → length (rows count queues numbers) ≡ count
 length_rows zero queues numbers = refl
@@ -113,3 +114,40 @@ less_never (x ∷ xs) [] same = absurd cc
 less_never (x ∷ xs) (y ∷ ys) same =
     let tied : Equal ≡ nat_cmp x y = nat_cmp_is x y Equal cc in
     rw (← tied) (less_never xs ys cc)
+
+-- a test of all numbers is one of the numbers of each state
+pub all_rows : (test : ℕ → Bool) (count queues : ℕ) (numbers : List ℕ) → length numbers ≡ count * queues
+    → list_all (list_all test) (rows count queues numbers) ≡ list_all test numbers
+all_rows test zero queues numbers long = (let none : numbers ≡ [] = nil_from_length numbers (omega arith) in rw none refl)
+all_rows test (suc count) queues numbers long =
+    let size : suc count * queues ≡ count * queues + queues = suc-mul count queues in
+    let rest : list_all (list_all test) (rows count queues (drop queues numbers)) ≡ list_all test (drop queues numbers) =
+    all_rows test count queues (drop queues numbers) (omega (arith, length-drop queues numbers)) in
+    ap (λ (b : Bool). list_all test (take queues numbers) && b) rest ∙ sym (list_all-append test (take queues numbers) (drop queues numbers))
+    ∙ ap (list_all test) (take-append-drop queues numbers)
+
+-- as many numbers are the same where the states are
+rows_numbers : (count queues : ℕ) (xs ys : List ℕ) → length xs ≡ count * queues → length ys ≡ count * queues → rows count queues xs ≡ rows count queues ys → xs ≡ ys
+rows_numbers zero queues xs ys long other same =
+    nil_from_length xs (omega arith) ∙ sym (nil_from_length ys (omega arith))
+rows_numbers (suc count) queues xs ys long other same =
+    let size : suc count * queues ≡ count * queues + queues = suc-mul count queues in
+    let first : take queues xs ≡ take queues ys = cc in
+    let behind : drop queues xs ≡ drop queues ys =
+    rows_numbers count queues (drop queues xs) (drop queues ys) (omega (arith, length-drop queues xs)) (omega (arith, length-drop queues ys)) cc in
+    sym (take-append-drop queues xs) ∙ ap (λ (front : List ℕ). front ++ drop queues xs) first ∙ ap (λ (rest : List ℕ). take queues ys ++ rest) behind
+    ∙ take-append-drop queues ys
+
+pub rows_equal : (a b q r : ℕ) (xs ys : List ℕ) → length xs ≡ a * q → length ys ≡ b * r
+    → ◌≡◌ {A = States} (record { queues = q; states = rows a q xs }) (record { queues = r; states = rows b r ys }) → (q ≡ r) × (a ≡ b) × (xs ≡ ys)
+rows_equal a b q r xs ys long other same =
+    let queues : q ≡ r = ap (λ (s : States). s.queues) same in
+    let states : rows a q xs ≡ rows b r ys = ap (λ (s : States). s.states) same in
+    let count : a ≡ b = sym (length_rows a q xs) ∙ ap length states ∙ length_rows b r ys in
+    let numbers : length ys ≡ a * q = other ∙ ap (λ (k : ℕ). k * r) (sym count) ∙ ap (λ (k : ℕ). a * k) (sym queues) in
+    let rest : rows a q xs ≡ rows a q ys = states ∙ ap (λ (k : ℕ). rows k r ys) (sym count) ∙ ap (λ (k : ℕ). rows a k ys) (sym queues) in
+    (queues, count, rows_numbers a q xs ys long numbers rest)
+
+pub rows_same : (a b q r : ℕ) (xs ys : List ℕ) → q ≡ r → a ≡ b → xs ≡ ys
+    → ◌≡◌ {A = States} (record { queues = q; states = rows a q xs }) (record { queues = r; states = rows b r ys })
+rows_same a b q r xs ys queues count numbers = cc

@@ -22,7 +22,7 @@ owned (borrowed.Set first count) = kept.Set first count
 -- the region of a place
 abbrev pub kept_of : List Corners → Place → ListedRegion
 kept_of boxes (place.Box i) = kept.Box (slice_index_or boxes i nothing)
-kept_of boxes (place.Set first count) = kept.Set first count
+kept_of boxes (place.Set count first) = kept.Set first count
 
 -- a step and the region after it
 abbrev pub line_of : List Corners → Slot → Line
@@ -31,7 +31,7 @@ line_of boxes slot = record { step = slot.step; region = kept_of boxes slot.regi
 -- a box is one of the list's
 abbrev pub IsInside : List Corners → Place → Type 0
 IsInside boxes (place.Box i) = i < length boxes
-IsInside boxes (place.Set first count) = Unit {0}
+IsInside boxes (place.Set count first) = Unit {0}
 
 -- the box of a line is one of the list's
 abbrev pub IsPlaced : List Corners → Slot → Type 0

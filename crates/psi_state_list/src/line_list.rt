@@ -51,11 +51,11 @@ pub struct Line {
     pub region: ListedRegion,
 }
 
-// A region, a box by its place in a list of boxes.
+// A region, a box by its place in a list of boxes. The count comes first, so that it stands beside the tag.
 #[derive(Clone, Copy, Debug)]
 enum Place {
     Box { place: usize },
-    Set { first: usize, count: u16 },
+    Set { count: u16, first: usize },
 }
 
 // A step and the region after it, a box by its place.
@@ -65,7 +65,7 @@ struct Slot {
     region: Place,
 }
 
-/// A list of lines; it is seen as them. A line takes 32 bytes, and 132 more where the region after it is a box, and
+/// A list of lines; it is seen as them. A line takes 24 bytes, and 132 more where the region after it is a box, and
 /// another one than the last box before it; of each the list has room for up to an eighth more.
 #[derive(Drop)]
 pub struct LineList {
@@ -109,14 +109,15 @@ fn slot_of(boxes: &mut Vec<Bounds>, line: &Line) -> Result<Slot, AllocError>
     ensures placed { IfOk result (λ slot. IsPlaced boxes.new.items slot) }
 {
     let step = line.step;
-    match line.region {
+    match &line.region {
         ListedRegion::Box(bounds) => {
-            let place = place_of(boxes, &bounds)?;
+            let place = place_of(boxes, bounds)?;
             let region = Place::Box { place };
             Ok(Slot { step, region })
         }
         ListedRegion::Set { first, count } => {
-            let region = Place::Set { first, count };
+            let (count, first) = (*count, *first);
+            let region = Place::Set { count, first };
             Ok(Slot { step, region })
         }
     }
@@ -163,7 +164,7 @@ impl LineList {
     {
         match self.slots[i].region {
             Place::Box { place } => ListedRegion::Box(self.boxes[place]),
-            Place::Set { first, count } => ListedRegion::Set { first, count },
+            Place::Set { count, first } => ListedRegion::Set { first, count },
         }
     }
 
@@ -175,7 +176,7 @@ impl LineList {
     {
         match self.slots[i].region {
             Place::Box { place } => Borrowed::Box(&self.boxes[place]),
-            Place::Set { first, count } => Borrowed::Set { first, count },
+            Place::Set { count, first } => Borrowed::Set { first, count },
         }
     }
 }

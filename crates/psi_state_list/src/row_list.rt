@@ -1,9 +1,9 @@
 //! States one behind another, borrowed from the vector of their numbers.
 
-ghost use Rattle.std.specs.Prelude.{◌≡◌, ◌↔◌, IsTrue, MatchOption, ◌+◌, ◌*◌, ◌<◌, ◌≤◌, length, take, drop, Some};
+ghost use Rattle.std.specs.Prelude.{◌≡◌, ◌↔◌, IsTrue, MatchOption, ◌+◌, ◌*◌, ◌<◌, ◌≤◌, ℕ, nat_le, length, take, drop, Some};
 ghost use Rattle.std.specs.Ordering.{is_lt, nat_cmp};
 ghost use Rattle.std.specs.Cmp.Lexicographic.{slice_cmp};
-ghost use Rattle.std.specs.List.{slice_get};
+ghost use Rattle.std.specs.List.{slice_get, list_all};
 ghost use Rattle.psi_state.specs.State.{IsBelow};
 ghost use Rattle.psi_state_list.specs.Rows.{rows};
 
@@ -44,6 +44,18 @@ fn is_below(row: &[u16], most: &State) -> bool
         }
     }
     true
+}
+
+// The greatest of numbers, 0 where there is none. The compiler looks at several of them at once.
+#[inline]
+fn greatest_of(numbers: &[u16]) -> u16
+    ensures { (most : ℕ) → nat_le result most ≡ list_all (λ n. nat_le n most) numbers.now }
+{
+    let mut greatest = 0;
+    for number in numbers {
+        greatest = greatest.max(*number);
+    }
+    greatest
 }
 
 // Whether the numbers are those of a state.
@@ -171,6 +183,27 @@ impl<'l> Rows<'l> {
         ensures { MatchOption (slice_get self.now.states place) ⊥ (λ x. IsTrue result ↔ IsBelow x most.now) }
     {
         is_below(self.row(place), most)
+    }
+
+    /// Whether no queue holds more customers than `most` in any of the states.
+    #[tactic(auto, using(crate::proofs::RowsLemmas::all_rows))]
+    pub fn are_at_most(&self, most: u16) -> bool
+        ensures { result ≡ list_all (list_all (λ n. nat_le n most)) self.now.states }
+    {
+        greatest_of(self.numbers) <= most
+    }
+
+    /// Whether these are as many states of as many queues as others, each the same as the other at its place.
+    pub fn are_same(&self, other: &Rows<'_>) -> bool
+        ensures { IsTrue result ↔ (self.now ≡ other.now) }
+    {
+        if self.queues != other.queues {
+            return false;
+        }
+        if self.count != other.count {
+            return false;
+        }
+        self.numbers == other.numbers
     }
 
     /// Whether a state is the one at a place, counted from 0. It isn't copied.
