@@ -1,7 +1,7 @@
 -- Steps, one after another, while the states of their sets are put behind one another.
-use Rattle.std.specs.Prelude.{◌≡◌, ℕ, suc, ◌+◌, ◌-◌, ◌≤◌, List, [], ◌∷◌, ◌++◌, length, map, take, drop, Option, Result, Ok, Err, refl}
+use Rattle.std.specs.Prelude.{◌≡◌, ℕ, suc, ◌+◌, ◌-◌, ◌≤◌, List, [], ◌∷◌, ◌++◌, length, map, take, drop, Option, None, Some, IfSome, Result, Ok, Err, refl}
 use Rattle.std.specs.List.{All}
-use Rattle.std.proofs.Common.{ap, sym, ◌∙◌, arith, append_assoc}
+use Rattle.std.proofs.Common.{ap, sym, ◌∙◌, subst, arith, append_assoc}
 use Rattle.std.proofs.lemmas.List.{take-take, drop-take, map-append, append-nil}
 use Rattle.std.proofs.lemmas.List.Elements.{All-head, All-tail, All-weaker}
 use Rattle.psi_state.specs.State.{Corners}
@@ -11,8 +11,9 @@ use Rattle.psi_log.specs.Refusal.{Refusal, ◌>>=◌, IsLogError}
 use Rattle.psi_log.specs.Words.{line_of, words_of}
 use Rattle.psi_log.specs.Reading.{box_before, read_step, read_steps}
 use Rattle.psi_log.specs.RegionsViews.{region_of, IsThere}
-use Rattle.psi_log.specs.LinesViews.{entry_of, HasRegion}
-use Rattle.psi_log.specs.Scanned.{next_step}
+use Rattle.psi_log.specs.LinesViews.{entry_of, HasRegion, IsLast}
+use Rattle.psi_log.specs.declared.set_line.LastSet.{LastSet}
+use Rattle.psi_log.specs.Scanned.{TellsSet, next_step}
 use Rattle.psi_state_list.specs.declared.line_list.ListedRegion.{ListedRegion}
 use Rattle.psi_state_list.specs.declared.line_list.ListedRegion.TheVariants.{Box, Set}
 use Rattle.psi_state_list.specs.declared.line_list.Line.{Line}
@@ -104,6 +105,17 @@ steps_end h k n before text front none = rw none (ap (λ (es : List Entry). Ok (
 -- what stays in one step and in the next stays in both
 pub states_kept : {X : Type 0} (first old new : List X) → length first ≤ length old → take (length first) old ≡ first → take (length old) new ≡ old → take (length first) new ≡ first
 states_kept first old new small kept then = sym (take-take (length first) (length old) new small) ∙ ap (take (length first)) then ∙ kept
+
+-- so does the last set that was read
+pub last_kept : (queues : ℕ) (old new : List (List ℕ)) (last : Option LastSet) → take (length old) new ≡ old → length old ≤ length new
+    → IfSome last (λ (set : LastSet). IsLast queues old set) → IfSome last (λ (set : LastSet). IsLast queues new set)
+last_kept queues old new None kept more is = tt
+last_kept queues old new (Some set) kept more is =
+    let there : set.first + set.count ≤ length old = is.there in
+    record {
+      there = omega arith;
+      told = subst (λ (xs : List (List ℕ)). TellsSet queues set.text.now xs) (sym (front_of old new set.first set.count kept there)) is.told;
+    }
 
 -- one line with its step
 pub next_ok : (h : Header) (n : ℕ) (before : Option Corners) (text : List ℕ) (line : List ℕ × List ℕ) (e : Entry) → line_of n text ≡ Ok line

@@ -5,8 +5,8 @@ use Rattle.std.specs.Fmt.{decimal}
 use Rattle.psi_state.specs.State.{Corners}
 use Rattle.psi_state.specs.Members.{In}
 use Rattle.psi_log_text.specs.declared.header.Header.{Header}
-use Rattle.psi_log_text.specs.Log.{Entry, IsState}
-use Rattle.psi_log_text.specs.Text.{numbers_text, Change, change_text}
+use Rattle.psi_log_text.specs.Log.{Entry, in_set, IsState, IsSet}
+use Rattle.psi_log_text.specs.Text.{numbers_text, region_words, Change, change_text}
 use Rattle.psi_log_text.specs.Room.{Puts, spaced_words}
 use Rattle.psi_log.specs.Refusal.{Refusal, ◌>>=◌}
 use Rattle.psi_log.specs.Words.{line_of, words_of}
@@ -31,6 +31,11 @@ pub record AreScanned (queues : ℕ) (text : List ℕ) (at end : ℕ) (old new :
   pub more : length old ≤ length new
   pub each : (x : List ℕ) → In x (drop (length old) new) → IsState queues x
   pub words : Stands text at end (spaced_words (map numbers_text (drop (length old) new)))
+
+-- the end of a line, from behind its event on, that tells these states of so many queues as a set
+pub record TellsSet (queues : ℕ) (line : List ℕ) (xs : List (List ℕ)) : Type 0 where
+  pub set : IsSet queues xs
+  pub words : line ≡ spaced_words (region_words (in_set xs)) ++ (10 ∷ [])
 
 -- changes that make a box of another stand in the text from one place to another, each behind a space
 pub record AreChanged (queues : ℕ) (from : Corners) (text : List ℕ) (at end : ℕ) (to : Corners) : Type 0 where

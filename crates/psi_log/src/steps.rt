@@ -4,7 +4,7 @@ ghost use Rattle.std.specs.Prelude.{◌≡◌, ◌+◌, ◌-◌, ◌≤◌, leng
 ghost use Rattle.std.specs.List.{All};
 ghost use Rattle.psi_log.specs.Refusal.{IsLogError};
 ghost use Rattle.psi_log.specs.Reading.{read_step, read_steps};
-ghost use Rattle.psi_log.specs.LinesViews.{entry_of, HasRegion};
+ghost use Rattle.psi_log.specs.LinesViews.{entry_of, HasRegion, IsLast};
 ghost use Rattle.psi_log.specs.Scanned.{next_step};
 
 use crate::forms::form_of;
@@ -13,7 +13,7 @@ use crate::move_line::read_move_line;
 use crate::numbers::number_in;
 use crate::refusals::{Cause, LogError};
 use crate::regions::{box_before, read_given};
-use crate::set_line::read_set_line;
+use crate::set_line::{LastSet, read_set_line};
 use crate::words::read_words;
 use psi_log_text::Header;
 use psi_state::{Bounds, MOST_EVENTS, Step};
@@ -86,38 +86,45 @@ fn read_by_words<'t>(
     Ok((read, rest))
 }
 
-// The step whose line begins a text, and what follows the line: in one pass where it can be read so.
+// The step whose line begins a text, the line's end of the last set that was read in one pass, and what follows the
+// line: in one pass where it can be read so.
 #[tactic(auto, using(crate::proofs::StepLemmas::states_kept))]
 fn read_next<'t>(
     header: &Header,
     line: u32,
     before: Option<&Bounds>,
+    last: Option<LastSet<'t>>,
     text: &'t [u8],
     words: &mut Vec<&'t [u8]>,
     states: &mut StateList,
-) -> Result<(Line, &'t [u8]), LogError>
+) -> Result<(Line, Option<LastSet<'t>>, &'t [u8]), LogError>
     requires some { 1 ≤ header.now.queues }
     requires few { header.now.queues ≤ 32 }
     requires before { IfSome before (λ from. length from.now.lo ≡ header.now.queues) }
     requires queues { states.old.queues ≡ header.now.queues }
+    requires last { IfSome last (λ set. IsLast header.now.queues states.old.states set) }
     ensures queues { states.new.queues ≡ header.now.queues }
-    ensures value { IfOk result (λ read. next_step header.now line (option_copied before.entry) text.now ≡ Ok (entry_of states.new.states read.0, read.1.now)) }
+    ensures value { IfOk result (λ read. next_step header.now line (option_copied before.entry) text.now ≡ Ok (entry_of states.new.states read.0, read.2.now)) }
     ensures refused { IfErr result (λ error. IsLogError error (next_step header.now line (option_copied before.entry) text.now)) }
     ensures there { IfOk result (λ read. HasRegion header.now.queues states.new.states read.0) }
+    ensures last { IfOk result (λ read. IfSome read.1 (λ set. IsLast header.now.queues states.new.states set)) }
     ensures kept { OnOk result (take (length states.old.states) states.new.states ≡ states.old.states) }
     ensures more { OnOk result (length states.old.states ≤ length states.new.states) }
 {
     if let Some(from) = before {
-        if let Some(read) = read_move_line(header, from, text) {
-            return Ok(read);
+        if let Some((read, rest)) = read_move_line(header, from, text) {
+            return Ok((read, last, rest));
         }
     }
-    match read_set_line(header, text, states) {
-        Ok(Some(read)) => return Ok(read),
+    match read_set_line(header, text, last, states) {
+        Ok(Some((read, set, rest))) => return Ok((read, Some(set), rest)),
         Ok(None) => {}
         Err(_) => return Err(LogError::OutOfMemory),
     }
-    read_by_words(header, line, before, text, words, states)
+    match read_by_words(header, line, before, text, words, states) {
+        Ok((read, rest)) => Ok((read, last, rest)),
+        Err(error) => Err(error),
+    }
 }
 
 /// As many lines of steps as the horizon, from line 7 on, and what follows them; the states of their sets are
@@ -148,12 +155,15 @@ pub(crate) fn read_steps<'t>(
 {
     let mut lines = LineList::new(alloc);
     let mut from = before;
+    let mut last = None;
     let mut rest = text;
     for line in 7..7 + header.horizon {
-        let (read, after) = match read_next(header, line, from.as_ref(), rest, words, states) {
+        let next = read_next(header, line, from.as_ref(), last, rest, words, states);
+        let (read, set, after) = match next {
             Ok(next) => next,
             Err(error) => return Err(error),
         };
+        last = set;
         from = box_before(header.version, &read.region);
         lines.push(&read)?;
         rest = after;

@@ -1,22 +1,21 @@
 -- Answers in the proof of `set_line::read_set_line`.
-use Rattle.std.proofs.Common.{ℕ, List, Ok, take, drop, ◌+◌, ◌-◌, ◌∙◌, ap, sym, subst, refl, arith}
+use Rattle.std.proofs.Common.{List, ℕ, Ok, length, take, drop, ◌+◌, ◌∙◌, ap, sym, subst}
 use Rattle.std.specs.Prelude.{Option, IfSome}
-use Rattle.psi_log.specs.Scanned.{AreScanned}
 use Rattle.psi_log_text.specs.Log.{in_set}
+use Rattle.psi_log.specs.LinesViews.{IsLast}
+use Rattle.psi_log.specs.Scanned.{Stands}
+use Rattle.psi_log.specs.declared.set_line.LastSet.{LastSet}
 use Rattle.psi_log.proofs.LineWordsLemmas.{rest_of}
 use Rattle.psi_log.proofs.SetLineLemmas.{set_line}
 use Rattle.psi_log.proofs.set_line.read_set_line.Goals as goal
 
 pub returns-clause-value : goal.returns-clause-value
 returns-clause-value c = λ n before.
-    (let first = c.len-first.ensures in
-    let last = c.len.ensures in
-    let more = c.in_ok-end.ensures.more in
-    let some = c.if-count-eq0.false in
-    let few = c.if-count.false in
-    let rows = subst (λ (o : Option ℕ). IfSome o (λ end. AreScanned c.args.header.now.queues c.args.text.now (c.in-Some.at + 4) end c.args.states.now.states c.read_rows.new.states.states))
-    c.in-Some-2.is c.in_ok-end.ensures.rows in
-    set_line c.args.header.now n before c.args.text.now c.in-Some.at c.in-Some-2.end c.len-first.result (c.len.result - c.len-first.result) c.in-Some.step c.args.states.now.states
-    c.read_rows.new.states.states c.requires.some c.in-Some.ensures.least c.in-Some.ensures.most c.in-Some.ensures.event c.in-Some.ensures.there (c.if-not-has_word.ensures.there refl)
-    rows (c.if-not-has_byte.ensures.there refl) first (omega arith) (omega arith) few (sym c.ascends.ensures ∙ c.if-not-ascends.false)
-    ∙ ap (λ (t : List ℕ). Ok (record { step = c.in-Some.step; region = in_set (take (c.len.result - c.len-first.result) (drop c.len-first.result c.read_rows.new.states.states)) }, t)) (sym (rest_of c.args.text.now (c.in-Some-2.end + 1))))
+    (let set = c.in-Some-2.set in
+    let xs = take set.count (drop set.first c.read_set.new.states.states) in
+    let end = c.in-Some.at + length set.text.now in
+    let last = subst (λ (o : Option LastSet). IfSome o (λ s. IsLast c.args.header.now.queues c.read_set.new.states.states s)) c.in-Some-2.is c.in_ok-set.ensures.last in
+    let there = subst (λ (o : Option LastSet). IfSome o (λ s. Stands c.args.text.now c.in-Some.at (c.in-Some.at + length s.text.now) s.text.now)) c.in-Some-2.is c.in_ok-set.ensures.there in
+    set_line c.args.header.now n before c.args.text.now set.text.now c.in-Some.at end c.in-Some.step xs c.requires.some c.in-Some.ensures.least c.in-Some.ensures.most c.in-Some.ensures.event
+    c.in-Some.ensures.there last.told there
+    ∙ ap (λ (t : List ℕ). Ok (record { step = c.in-Some.step; region = in_set xs }, t)) (sym (rest_of c.args.text.now end)))

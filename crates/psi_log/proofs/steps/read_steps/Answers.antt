@@ -25,16 +25,17 @@ loop-line-preserved c =
     let second = c.in-Ok.ensures.more in
     record {
       queues = c.in-Ok.ensures.queues;
-      kept = states_kept c.args.states.now.states c.loop-line.states.states c.read_next.new.states.states c.loop-line.invariant.more c.loop-line.invariant.kept c.in-Ok.ensures.kept;
+      kept = states_kept c.args.states.now.states c.loop-line.states.states c.read_next-next.new.states.states c.loop-line.invariant.more c.loop-line.invariant.kept c.in-Ok.ensures.kept;
       more = omega arith;
-      from = c.box_before-from.ensures.count c.args.header.now.queues c.read_next.new.states.states c.in-Ok.ensures.there;
-      there = subst (λ (ls : List Line). All (HasRegion c.args.header.now.queues c.read_next.new.states.states) ls) (sym c.in_ok-push.ensures.lines)
-          (All-push (HasRegion c.args.header.now.queues c.read_next.new.states.states) c.loop-line.lines c.in-Ok.next.0
-          (regions_kept c.args.header.now.queues c.loop-line.states.states c.read_next.new.states.states c.loop-line.lines c.in-Ok.ensures.more c.loop-line.invariant.there)
+      from = c.box_before-from.ensures.count c.args.header.now.queues c.read_next-next.new.states.states c.in-Ok.ensures.there;
+      last = c.in-Ok.ensures.last;
+      there = subst (λ (ls : List Line). All (HasRegion c.args.header.now.queues c.read_next-next.new.states.states) ls) (sym c.in_ok-push.ensures.lines)
+          (All-push (HasRegion c.args.header.now.queues c.read_next-next.new.states.states) c.loop-line.lines c.in-Ok.next.0
+          (regions_kept c.args.header.now.queues c.loop-line.states.states c.read_next-next.new.states.states c.loop-line.lines c.in-Ok.ensures.more c.loop-line.invariant.there)
           c.in-Ok.ensures.there);
       value = next_pushed c.args.header.now (7 + c.args.header.now.horizon - c.loop-line.line) (7 + c.args.header.now.horizon - (c.loop-line.line + 1)) c.loop-line.line c.loop-line.from _
-          c.loop-line.rest.now c.in-Ok.next.1.now c.loop-line.states.states c.read_next.new.states.states c.loop-line.lines _ c.in-Ok.next.0 _ (omega arith) c.in-Ok.ensures.kept
-          c.loop-line.invariant.there c.in_ok-push.ensures.lines value (c.box_before-from.ensures.value c.read_next.new.states.states) c.loop-line.invariant.value;
+          c.loop-line.rest.now c.in-Ok.next.2.now c.loop-line.states.states c.read_next-next.new.states.states c.loop-line.lines _ c.in-Ok.next.0 _ (omega arith) c.in-Ok.ensures.kept
+          c.loop-line.invariant.there c.in_ok-push.ensures.lines value (c.box_before-from.ensures.value c.read_next-next.new.states.states) c.loop-line.invariant.value;
     }
 
 pub returns-clause-value : goal.returns-clause-value
