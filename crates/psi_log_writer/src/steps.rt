@@ -22,38 +22,34 @@ const MANY: usize = 8_192;
 /// the line of the begin at 1, those of the steps, and behind them that of the end. The run goes on by the step.
 /// Behind those that are held only the line of a step is put; they have at most 8,192 bytes then.
 ///
-/// `told` is the box of the region before the step, where it isn't split, and the answer is that of the region after
-/// it.
+/// `told` is the box of the region before the step, where it isn't split, and that of the region after it then.
 pub(crate) fn next_line<E: EventLaw, P: Past + Drop, F: Follower + Drop>(
     plan: &mut Plan<'_, E, P, F>,
     header: &Header,
     state: &State,
     place: u64,
-    told: Option<Bounds>,
+    told: &mut Option<Bounds>,
     line: &mut LineBuf,
-) -> Option<Bounds>
+)
     requires some { 1 ≤ header.now.horizon }
     requires most { header.now.horizon ≤ 2 ^ plan.old.system.limit }
     requires place { place ≤ header.now.horizon + 2 }
-    requires walking { IsWalking E.function P.words plan.old header.now.horizon place told }
+    requires walking { IsWalking E.function P.words plan.old header.now.horizon place told.old }
     requires held { length line.old ≤ most_held header.now.horizon place }
     ensures line { line.new ≡ line.old ++ line_in E.function plan.old.system (P.words plan.old.past) header.now state.now place }
-    ensures walking { IsWalking E.function P.words plan.new header.now.horizon (suc place) result }
+    ensures walking { IsWalking E.function P.words plan.new header.now.horizon (suc place) told.new }
     ensures system { plan.new.system ≡ plan.old.system }
     ensures words { P.words plan.new.past ≡ P.words plan.old.past }
 {
     if place == 0 {
         line.header(header);
-        return None;
+    } else if place == 1 {
+        *told = begin_line(plan, header.horizon, line);
+    } else if place - 2 < header.horizon as u64 {
+        step_line(plan, told, line);
+    } else {
+        line.end(state);
     }
-    if place == 1 {
-        return begin_line(plan, header.horizon, line);
-    }
-    if place - 2 < header.horizon as u64 {
-        return step_line(plan, told, line);
-    }
-    line.end(state);
-    None
 }
 
 /// How many bytes may be held where the lines of a place are put behind them.
@@ -87,32 +83,34 @@ fn begin_line<E: EventLaw, P: Past + Drop, F: Follower + Drop>(
 }
 
 // Does the next step of the run, and puts its line behind those that are held, which have at most 8,192 bytes.
-// `before` is the box of the region before the step, where it isn't split, and the answer is that of the region
-// after it.
+// `told` is the box of the region before the step, where it isn't split, and that of the region after it then: it is
+// written in its place, since a box has some size.
 fn step_line<E: EventLaw, P: Past + Drop, F: Follower + Drop>(
     plan: &mut Plan<'_, E, P, F>,
-    before: Option<Bounds>,
+    told: &mut Option<Bounds>,
     line: &mut LineBuf,
-) -> Option<Bounds>
+)
     requires begun { IsSome plan.old.run }
     requires left { IfSome plan.old.run (λ r. r.done < r.horizon) }
-    requires before { IfSome plan.old.run (λ r. IsToldAfter E.function plan.old.system (P.words plan.old.past) r.horizon r.done before) }
+    requires before { IfSome plan.old.run (λ r. IsToldAfter E.function plan.old.system (P.words plan.old.past) r.horizon r.done told.old) }
     requires room { length line.old ≤ 8192 }
     ensures line { IfSome plan.old.run (λ r. line.new ≡ line.old ++ line_of E.function plan.old.system (P.words plan.old.past) r.horizon r.done) }
-    ensures told { IfSome plan.old.run (λ r. IsToldAfter E.function plan.old.system (P.words plan.old.past) r.horizon (suc r.done) result) }
+    ensures told { IfSome plan.old.run (λ r. IsToldAfter E.function plan.old.system (P.words plan.old.past) r.horizon (suc r.done) told.new) }
     ensures run { plan.new ≡ record plan.old { run = onward plan.old.run } }
 {
     // Called for its clause: the system's parts fit each other.
     let _limit = plan.limit();
-    let step = plan.advance()?;
+    let Some(step) = plan.advance() else {
+        return;
+    };
     match plan.bounds() {
         Some(after) => {
-            box_line(&step, &before, &after, line);
-            Some(after)
+            box_line(&step, told, &after, line);
+            *told = Some(after);
         }
         None => {
             line.add_step_set(&step, plan.states());
-            None
+            *told = None;
         }
     }
 }

@@ -46,7 +46,7 @@ pub fn log_fits<E: EventLaw, P: Past + Drop, F: Follower + Drop>(
             return true;
         }
         line.clear();
-        told = next_line(plan, header, state, place, told, line);
+        next_line(plan, header, state, place, &mut told, line);
         match room.checked_sub(line.bytes().len()) {
             Some(left) => room = left,
             None => return false,
@@ -229,7 +229,7 @@ fn write_lines<E: EventLaw, P: Past + Drop, F: Follower + Drop, O: Sink>(
     let mut told = None;
     for place in 0..header.horizon as u64 + 3 {
         pass_on(line, most_held(header.horizon, place), block, out)?;
-        told = next_line(plan, header, state, place, told, line);
+        next_line(plan, header, state, place, &mut told, line);
     }
     put_last(line, block, out)
 }

@@ -24,18 +24,18 @@ pub returns-then-place-header-clause-line : goal.returns-then-place-header-claus
 returns-then-place-header-clause-line g c =
     let none = c.if-place-eq0.false in
     let one = c.if-place-eq1.false in
-    walking-line g.E.EventLaw.function g.P.Past.words c.args.plan.now c.args.header.now c.args.state.now c.args.place c.args.told c.args.line.now _ (omega arith)
+    walking-line g.E.EventLaw.function g.P.Past.words c.args.plan.now c.args.header.now c.args.state.now c.args.place c.args.told.now c.args.line.now _ (omega arith)
     c.if-place-header.true c.requires.walking c.step_line.ensures.line
 
 pub returns-then-place-header-clause-walking : goal.returns-then-place-header-clause-walking
 returns-then-place-header-clause-walking g c =
     let none = c.if-place-eq0.false in
     let one = c.if-place-eq1.false in
-    walking-step g.E.EventLaw.function g.P.Past.words c.args.plan.now c.step_line.new.plan c.args.header.now.horizon c.args.place c.args.told c.step_line.result (omega arith)
+    walking-step g.E.EventLaw.function g.P.Past.words c.args.plan.now c.step_line.new.plan c.args.header.now.horizon c.args.place c.args.told.now c.step_line.new.told (omega arith)
     c.if-place-header.true c.requires.walking c.step_line.ensures.run c.step_line.ensures.told
 
-pub returns-clause-line : goal.returns-clause-line
-returns-clause-line g c =
+pub returns-else-place-header-clause-line : goal.returns-else-place-header-clause-line
+returns-else-place-header-clause-line g c =
     let system = c.args.plan.now.system in
     let words = g.P.Past.words c.args.plan.now.past in
     let none = c.if-place-eq0.false in

@@ -26,8 +26,8 @@ returns-in-None-clause-fits g c =
     let place = c.loop-place.place in
     let small = c.loop-place-test.true in
     let kept = c.loop-place.invariant in
-    let line = line-only g.E.EventLaw.function _ system _ words h state place c.clear.new.self c.next_line-told.new.line c.bytes.result.now
-    (ap (λ p. p.system) c.surely_fits.ensures.same ∙ kept.system) (ap (λ p. g.P.Past.words p.past) c.surely_fits.ensures.same ∙ kept.words) c.clear.ensures c.next_line-told.ensures.line
+    let line = line-only g.E.EventLaw.function _ system _ words h state place c.clear.new.self c.next_line.new.line c.bytes.result.now
+    (ap (λ p. p.system) c.surely_fits.ensures.same ∙ kept.system) (ap (λ p. g.P.Past.words p.past) c.surely_fits.ensures.same ∙ kept.words) c.clear.ensures c.next_line.ensures.line
     c.bytes.ensures in
     let rest = text_in-rest g.E.EventLaw.function system words h state (suc place) c.requires.version (omega arith) in
     fits-no _ (line-past 33554432 c.loop-place.room (text_in g.E.EventLaw.function system words h state place) (line_in g.E.EventLaw.function system words h state place)
@@ -44,12 +44,12 @@ loop-place-preserved g c =
     let kept = c.loop-place.invariant in
     let same = ap (λ p. p.system) c.surely_fits.ensures.same ∙ kept.system in
     let same_words = ap (λ p. g.P.Past.words p.past) c.surely_fits.ensures.same ∙ kept.words in
-    let line = line-only g.E.EventLaw.function _ system _ words h state place c.clear.new.self c.next_line-told.new.line c.bytes.result.now same same_words c.clear.ensures
-    c.next_line-told.ensures.line c.bytes.ensures in
+    let line = line-only g.E.EventLaw.function _ system _ words h state place c.clear.new.self c.next_line.new.line c.bytes.result.now same same_words c.clear.ensures
+    c.next_line.ensures.line c.bytes.ensures in
     record {
-      walk = subst (λ n. IsWalking g.E.EventLaw.function g.P.Past.words c.next_line-told.new.plan h.horizon n c.next_line-told.result) (sym (add-one place)) c.next_line-told.ensures.walking;
-      system = c.next_line-told.ensures.system ∙ same;
-      words = c.next_line-told.ensures.words ∙ same_words;
+      walk = subst (λ n. IsWalking g.E.EventLaw.function g.P.Past.words c.next_line.new.plan h.horizon n c.next_line.new.told) (sym (add-one place)) c.next_line.ensures.walking;
+      system = c.next_line.ensures.system ∙ same;
+      words = c.next_line.ensures.words ∙ same_words;
       room = subst (λ n. c.in-Some.left + length (text_in g.E.EventLaw.function system words h state n) ≡ 33554432) (sym (add-one place))
           (line-fits 33554432 c.loop-place.room c.in-Some.left (text_in g.E.EventLaw.function system words h state place) (line_in g.E.EventLaw.function system words h state place)
           (text_in g.E.EventLaw.function system words h state (suc place)) c.bytes.result.now kept.room line (text_in-more g.E.EventLaw.function system words h state place) c.in-Some.ensures.0

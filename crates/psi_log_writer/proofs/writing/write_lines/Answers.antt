@@ -49,13 +49,13 @@ loop-place-preserved g c =
     let held = c.pass_on.new.line in
     let block = c.pass_on.new.block in
     let text = text_in g.E.EventLaw.function system words h state place in
-    let line = line-same g.E.EventLaw.function _ system _ words h state place held c.next_line-told.new.line kept.system kept.words c.next_line-told.ensures.line in
+    let line = line-same g.E.EventLaw.function _ system _ words h state place held c.next_line.new.line kept.system kept.words c.next_line.ensures.line in
     record {
-      walk = subst (λ n. IsWalking g.E.EventLaw.function g.P.Past.words c.next_line-told.new.plan h.horizon n c.next_line-told.result) (sym (add-one place)) c.next_line-told.ensures.walking;
-      system = c.next_line-told.ensures.system ∙ kept.system;
-      words = c.next_line-told.ensures.words ∙ kept.words;
-      sent = subst (λ n. IsSent first last (block ++ c.next_line-told.new.line) (text_in g.E.EventLaw.function system words h state n)) (sym (add-one place))
-          (sent-next first last block held (line_in g.E.EventLaw.function system words h state place) c.next_line-told.new.line text
+      walk = subst (λ n. IsWalking g.E.EventLaw.function g.P.Past.words c.next_line.new.plan h.horizon n c.next_line.new.told) (sym (add-one place)) c.next_line.ensures.walking;
+      system = c.next_line.ensures.system ∙ kept.system;
+      words = c.next_line.ensures.words ∙ kept.words;
+      sent = subst (λ n. IsSent first last (block ++ c.next_line.new.line) (text_in g.E.EventLaw.function system words h state n)) (sym (add-one place))
+          (sent-next first last block held (line_in g.E.EventLaw.function system words h state place) c.next_line.new.line text
           (text_in g.E.EventLaw.function system words h state (suc place)) line
           (text_in-more g.E.EventLaw.function system words h state place)
           (sent-on first _ last (c.loop-place.block ++ c.loop-place.line) (block ++ held) text kept.sent c.in_ok-pass_on.ensures.sent));
