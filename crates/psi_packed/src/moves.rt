@@ -186,7 +186,8 @@ impl<const K: usize> PackedEvent<K> {
         changed
     }
 
-    // Puts what the event makes of each packed state of the list in its place. The masks stay in registers.
+    // Puts what the event makes of each packed state of the list in its place. The masks are copied first, so that they stay
+    // in registers.
     #[inline(never)]
     pub(crate) fn advance_all<const BOTH: bool>(&self, list: &mut [PackedPair<K>])
         requires low { BOTH ≡ false → IsOfFirst K (moving_by low_word self.now) }
@@ -195,13 +196,14 @@ impl<const K: usize> PackedEvent<K> {
         ensures low { (i : ℕ) → i < length list.old → IsMoved K (moving_by low_word self.now) (low_words (pair_at list.old i)) (low_words (pair_at list.new i)) }
         ensures high { (i : ℕ) → i < length list.old → IsMoved K (moving_by high_word self.now) (high_words (pair_at list.old i)) (high_words (pair_at list.new i)) }
     {
+        let own = *self;
         for x in list.iter_mut() {
-            self.advance_by::<BOTH>(x);
+            own.advance_by::<BOTH>(x);
         }
     }
 }
 
-// What comes less what leaves, word by word.
+// What comes less what leaves, or offsets less guards, word by word.
 fn difference<const K: usize>(ups: &Packed<K>, downs: &Packed<K>) -> Packed<K>
     ensures { (at : ℕ) → at < K → slice_index result.words at ≡ (slice_index ups.now.words at + (2 ^ 64 - slice_index downs.now.words at)) % 2 ^ 64 }
 {
