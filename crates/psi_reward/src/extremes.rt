@@ -24,14 +24,15 @@ pub(crate) fn greatest_held(queues: &Queues, x: &State) -> i64
 
 // The least number held.
 pub(crate) fn least_held(queues: &Queues, x: &State) -> i64
-    requires some { 0 < length queues.now }
     requires listed { All (λ queue. queue < length x.now) queues.now }
+    requires some { 0 < length queues.now }
     ensures { result ≡ least (map pos (held queues.now x.now)) }
 {
     let last = queues.len() - 1;
     let mut least = x.get(queues.get(last)) as i64;
     for place in (0..last).rev() {
-        least = (x.get(queues.get(place)) as i64).min(least);
+        let held = x.get(queues.get(place)) as i64;
+        least = held.min(least);
     }
     least
 }

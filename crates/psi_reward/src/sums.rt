@@ -97,8 +97,8 @@ pub(crate) fn table_range(queues: &Queues, table: &Grid, lo: &State, hi: &State)
 {
     let (mut least, mut greatest): (i64, i64) = (0, 0);
     for place in (0..queues.len()).rev() {
-        let queue = queues.get(place);
         let row = table.get(place as usize);
+        let queue = queues.get(place);
         let (low, high) = row_ends(row, lo.get(queue), hi.get(queue));
         least = low as i64 + least;
         greatest = high as i64 + greatest;

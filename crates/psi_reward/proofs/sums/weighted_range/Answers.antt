@@ -8,13 +8,6 @@ use Rattle.psi_reward.proofs.WholeLemmas.{few-step}
 use Rattle.psi_reward.proofs.AddingLemmas.{span-at, spread-start, spread-step, spread-whole, spread-same}
 use Rattle.psi_reward.proofs.sums.weighted_range.Goals as goal
 
-pub loop-place-init : goal.loop-place-init
-loop-place-init c = record {
-  spread = spread-start weighted c.args.weights.now c.args.queues.now c.args.lo.now c.args.hi.now c.len-place.result c.len-place.ensures.value c.requires.lengths;
-  least_few = omega arith;
-  greatest_few = omega arith;
-}
-
 pub loop-place-preserved : goal.loop-place-preserved
 loop-place-preserved c =
     let low : to_z w64 (of_z w64 (to_z w64 (of_z w64 c.weighted_ends-low.result.0) +ℤ to_z w64 c.loop-place.least-bits)) ≡ c.weighted_ends-low.result.0 +ℤ to_z w64 c.loop-place.least-bits = omega (arith, ints) in
@@ -38,3 +31,10 @@ loop-place-preserved c =
 pub returns : goal.returns
 returns c =
     spread-whole weighted c.args.weights.now c.args.queues.now c.args.lo.now c.args.hi.now c.loop-place.place _ _ (omega arith) c.loop-place.invariant.spread
+
+pub loop-place-init : goal.loop-place-init
+loop-place-init c = record {
+  spread = spread-start weighted c.args.weights.now c.args.queues.now c.args.lo.now c.args.hi.now c.len-place.result c.len-place.ensures.value c.requires.lengths;
+  least_few = omega arith;
+  greatest_few = omega arith;
+}
