@@ -143,9 +143,9 @@ fn low_end(part: Part, l: u16, h: u16, moves: bool, stays: bool) -> u16
 
 // The greatest number of a part's queue that held `l` to `h`.
 fn high_end(part: Part, l: u16, h: u16, moves: bool, stays: bool) -> u16
-    requires ordered { l ≤ h }
-    requires some { CanTurn part l h moves stays }
     requires shift { unsigned_abs part.shift ≤ 65535 }
+    requires some { CanTurn part l h moves stays }
+    requires ordered { l ≤ h }
     ensures { IsGreatestOf part l h moves stays result }
 {
     let image = moved(part, h.min(part.most));
@@ -178,7 +178,7 @@ fn greatest_kept(part: Part, l: u16, h: u16, stays: bool) -> Option<u16>
         ((v : ℕ) → l ≤ v → v ≤ h → MayKeep part stays v → ⊥)
         (λ w. MayKeep part stays w × (l ≤ w) × (w ≤ h) × ((v : ℕ) → l ≤ v → v ≤ h → MayKeep part stays v → v ≤ w)) }
 {
-    if stays || h < part.least || part.most < h {
+    if h < part.least || part.most < h || stays {
         return Some(h);
     }
     if l < part.least {

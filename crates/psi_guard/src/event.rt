@@ -39,10 +39,6 @@ impl EventLaw for Guarded {
         self.move_ends(b);
     }
 
-    fn monotone(&self) -> bool {
-        self.upset().is_none()
-    }
-
     fn upset(&self) -> Option<(State, State)> {
         if let Some(pair) = self.first_leap() {
             return Some(pair);
@@ -54,6 +50,10 @@ impl EventLaw for Guarded {
             return Some(pair);
         }
         self.first_fall()
+    }
+
+    fn monotone(&self) -> bool {
+        self.upset().is_none()
     }
 }
 
