@@ -11,8 +11,7 @@ stand_at-requires-clause-next c = ap (λ (g : ChaCha). g.word_pos) c.self.invari
 
 pub returns-clause-value : goal.returns-clause-value
 returns-clause-value c =
-    let p = c.self.inside in
-    next_word-is _ _ p.seed p.stream c.args.place _ c.next_word.ensures
-    (stood-at p.generator c.stand_at.new.generator p.seed p.stream p.next c.from-place.result c.args.place c.self.invariant.0 c.stand_at.ensures c.from-place.ensures)
+    next_word-is _ _ c.self.inside.seed c.self.inside.stream c.args.place _ c.next_word.ensures
+    (stood-at c.self.inside.generator c.stand_at.new.generator c.self.inside.seed c.self.inside.stream c.self.inside.next c.from-place.result c.args.place c.self.invariant.0 c.stand_at.ensures c.from-place.ensures)
     (omega arith) c.self.invariant.1
     ∙ ap (λ (s : Seeded). seed_word s.seed s.stream c.args.place) c.self.view_is
