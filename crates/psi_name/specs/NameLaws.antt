@@ -7,7 +7,7 @@ use Rattle.psi_name.specs.declared.name.Name.TheInside.{Inside}
 abbrev inside : List ℕ → ℕ → Inside
 inside cells len = record { cells = cells; len = len }
 
--- a name's array is its bytes and zeros behind them
+-- behind its bytes a name's array of 32 has zeros alone
 pub padded : (cells : List ℕ) (len : ℕ) → len ≤ 32 → length cells ≡ 32 → drop len cells ≡ replicate (32 - len) 0
     → inside (take len cells ++ replicate (32 - length (take len cells)) 0) (length (take len cells)) ≡ inside cells len
 padded cells len few full rest = filled inside 0 cells len few full rest
