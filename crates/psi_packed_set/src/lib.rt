@@ -6,7 +6,6 @@ mod boxes;
 mod gathering;
 mod lists;
 mod moving;
-mod pace;
 mod packed_set;
 mod sets;
 

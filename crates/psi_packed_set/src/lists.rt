@@ -13,8 +13,8 @@ ghost use Rattle.psi_packed_set.specs.HoldingKept.{Holds, AreMoved};
 
 use crate::gathering::{gather, only, pair_up};
 use crate::moving::{follow_one, step_first};
-use crate::pace::Pace;
 use psi_packed::{Packed, PackedPair, Program};
+use psi_pool::Pace;
 use psi_state::Bounds;
 use std::alloc::{AllocError, Global};
 
@@ -135,15 +135,15 @@ impl<const K: usize> Lists<K> {
         ensures room { length self.new.states.items ≡ length self.old.states.items }
         ensures some { 1 ≤ self.new.used }
     {
-        let before = self.used;
+        let before = self.used as u16;
         let count = gather(
-            &self.pairs[..before],
+            &self.pairs[..self.used],
             self.seen.as_mut_slice(),
             self.shift,
             self.states.as_mut_slice(),
         );
         self.used = pair_up(&self.states[..count], self.pairs.as_mut_slice());
-        pace.adapt(before, self.used);
+        pace.adapt(before, self.used as u16);
     }
 
     /// The packed state that all are, where all are one.

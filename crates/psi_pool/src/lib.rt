@@ -11,6 +11,7 @@ mod pace;
 mod pool;
 mod table;
 
+pub use pace::Pace;
 pub use pool::Pool;
 
 /// There was no memory: the only way in which a call with this error fails.
