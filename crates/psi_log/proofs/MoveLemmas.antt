@@ -60,13 +60,6 @@ changed_below b (c ∷ cs) q s small above ascend =
     (changed_below (with_change b c) cs q (suc c.queue) (omega arith) rest.0 rest.1)
     (agree_other b c q (λ is. omega arith))
 
--- the lengths stay
-pub changed_length : (b : Corners) (cs : List Change) → (length (changed b cs).lo ≡ length b.lo) × (length (changed b cs).hi ≡ length b.hi)
-changed_length b [] = (refl, refl)
-changed_length b (c ∷ cs) =
-    let rest = changed_length (with_change b c) cs in
-    (rest.0 ∙ length-set b.lo c.queue c.least, rest.1 ∙ length-set b.hi c.queue c.greatest)
-
 -- the test of a queue, by what is known of it
 same_false : (from to : Corners) (q : ℕ) → Agree from to q → differs from to q ≡ false
 same_false from to q h =

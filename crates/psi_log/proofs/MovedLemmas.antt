@@ -1,9 +1,9 @@
 -- The box as the changes so far have it, as a loop makes it of the box before.
-use Rattle.std.specs.Prelude.{◌≡◌, ◌⊎◌, ℕ, ◌+◌, ◌<◌, ◌≤◌, List, [], ◌∷◌, ◌++◌, length, map, drop, slice_index, slice_set, Bool, true, false, not, ◌&&◌, ◌==◌, nat_le, nat_lt, Result, Ok, Err, refl}
+use Rattle.std.specs.Prelude.{◌≡◌, ◌⊎◌, ℕ, ◌+◌, ◌<◌, ◌≤◌, List, [], ◌∷◌, ◌++◌, length, map, drop, slice_set, Bool, true, false, ◌&&◌, nat_le, nat_lt, Result, Ok, Err, refl}
 use Rattle.std.specs.List.{list_all}
 use Rattle.std.proofs.Common.{get_or, ap, sym, ◌∙◌, arith, inl, inr}
 use Rattle.std.proofs.Math.Bool.{and_assoc}
-use Rattle.std.proofs.lemmas.Bool.{and_parts, and_from, leb-true, le-leb, lt-leb, ltb-true, ltb-false}
+use Rattle.std.proofs.lemmas.Bool.{and_parts, and_from, le-leb, lt-leb, ltb-true, ltb-false}
 use Rattle.std.proofs.lemmas.List.Folds.{list_all-append}
 use Rattle.psi_state.specs.State.{Corners}
 use Rattle.psi_log_text.specs.Log.{in_box}
@@ -110,11 +110,6 @@ moved_stop from cs to next ordered c is fails = record {
     go true test least off =
         right (queues_ascend cs) (list_all (is_change from) cs) (nat_le (behind_last cs) c.queue) (is_change from c)
         (elim (off refl) [ inl less ↦ inl (lt-leb (behind_last cs) c.queue (let next_is = least refl in omega arith)) | inr other ↦ inr other ])
-
--- a change's numbers are in their order
-pub change_ordered : (from : Corners) (c : Change) → is_change from c ≡ true → c.least ≤ c.greatest
-change_ordered from c is =
-    leb-true c.least c.greatest (and_parts (nat_le c.least c.greatest) (not (slice_index from.lo c.queue == c.least && slice_index from.hi c.queue == c.greatest)) is).0
 
 -- what is read of all changes
 pub move_read : (n queues : ℕ) (from : Corners) (words : List (List ℕ)) (cs : List Change) (to : Corners) (next : ℕ) → IsMoved from cs to next true

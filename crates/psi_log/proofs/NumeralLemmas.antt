@@ -4,7 +4,7 @@ use Rattle.std.specs.List.{list_all, prefix_len, take_while}
 use Rattle.std.specs.Char.{digit_value}
 use Rattle.std.specs.Str.Parse.{digits_value}
 use Rattle.std.proofs.Common.{get_or, ap, sym, ◌∙◌, subst, arith, below_more}
-use Rattle.std.proofs.lemmas.Bool.{and_parts, and_from, le-leb, leb-true, leb-false, lt-leb, ltb-true, ltb-false, false_from_ne_true}
+use Rattle.std.proofs.lemmas.Bool.{and_parts, and_from, le-leb, leb-true, leb-false, lt-leb, ltb-false, false_from_ne_true}
 use Rattle.std.proofs.lemmas.List.{take-take, length-take-le, get_or-take}
 use Rattle.std.proofs.lemmas.List.Folds.{list_all_at}
 use Rattle.std.proofs.lemmas.List.Sums.{prefix_len_is, prefix_len_stops, prefix_len-le-length, take_while-cons}
@@ -68,24 +68,9 @@ front_digits (b ∷ word) = go (is_digit b) refl (front_digits word)
         ∙ and_from (is_digit b) (list_all is_digit (take_while is_digit word)) is others
     go false is others = ap (list_all is_digit) (take_while-cons is_digit b word ∙ ap (λ (t : Bool). cond t (b ∷ take_while is_digit word) []) is)
 
--- a front whose digits are no numeral, or write a number of more than 64 bits
+-- the digits are a numeral whose number has 64 bits
 abbrev pub is_small : List ℕ → Bool
 is_small front = is_numeral front && nat_lt (digits_value 10 front) (2 ^ 64)
-
-pub none_front : (word : List ℕ) → prefix_len is_digit word ≡ 0 → is_small (take_while is_digit word) ≡ false
-none_front word none = ap (λ (k : ℕ). is_small (take k word)) none
-
-pub zero_front : (word : List ℕ) → 1 < prefix_len is_digit word → get_or word 0 0 ≡ 48 → is_small (take_while is_digit word) ≡ false
-zero_front word more zero = false_from_ne_true (is_small (take_while is_digit word))
-    (λ is. (let numeral = numeral_parts (take_while is_digit word) (and_parts (is_numeral (take_while is_digit word)) (nat_lt (digits_value 10 (take_while is_digit word)) (2 ^ 64)) is).0 in
-    let long : length (take_while is_digit word) ≡ prefix_len is_digit word = length-take-le (prefix_len is_digit word) word (prefix_len-le-length is_digit word) in
-    let first : get_or (take_while is_digit word) 0 0 ≡ 48 = get_or-take (prefix_len is_digit word) word 0 0 (omega arith) ∙ zero in
-    let one = numeral.2 first in omega arith))
-
-pub large_front : (word : List ℕ) → 2 ^ 64 ≤ digits_value 10 (take_while is_digit word) → is_small (take_while is_digit word) ≡ false
-large_front word large = false_from_ne_true (is_small (take_while is_digit word))
-    (λ is. (let small = ltb-true (digits_value 10 (take_while is_digit word)) (2 ^ 64)
-    (and_parts (is_numeral (take_while is_digit word)) (nat_lt (digits_value 10 (take_while is_digit word)) (2 ^ 64)) is).1 in omega arith))
 
 pub numeral_front : (word : List ℕ) → 1 ≤ prefix_len is_digit word → (get_or word 0 0 ≡ 48 → prefix_len is_digit word ≡ 1) → is_numeral (take_while is_digit word) ≡ true
 numeral_front word some one =

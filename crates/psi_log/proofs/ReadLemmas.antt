@@ -6,7 +6,7 @@ use Rattle.std.proofs.lemmas.List.{append-nil, nil_from_length}
 use Rattle.psi_log_text.specs.declared.header.Header.{Header}
 use Rattle.psi_log_text.specs.Log.{LogRegion, Entry, Certificate, IsHeader, IsLog}
 use Rattle.psi_log_text.specs.Text.{line_text, numbers_text, region_words, header_text, begin_text, entries_text, end_text, log_text, IsLogOf}
-use Rattle.psi_log.specs.Refusal.{Refusal, refused, ◌>>=◌, holds_or, Gives}
+use Rattle.psi_log.specs.Refusal.{refused, ◌>>=◌, holds_or, Gives}
 use Rattle.psi_log.specs.declared.refusals.LogError.{LogError}
 use Rattle.psi_log.specs.declared.refusals.LogError.TheVariants.{Refused, OutOfMemory}
 use Rattle.psi_log.specs.Words.{line_of, words_of}
@@ -118,7 +118,3 @@ pub read_only : (text : List ℕ) (result : Result Certificate LogError) → Giv
 read_only text (Ok log) gives c is = inl (ap (λ (k : Certificate). Ok k) (ok_same log c (sym gives ∙ read_again text c is)))
 read_only text (Err (Refused line cause)) gives c is = (let again : read text ≡ Ok c = read_again text c is in absurd cc)
 read_only text (Err OutOfMemory) gives c is = inr refl
-
--- a text that is refused is the text of no log
-pub refused_none : (text : List ℕ) (refusal : Refusal) (c : Certificate) → read text ≡ Err refusal → IsLogOf text c → ⊥
-refused_none text refusal c refuses is = (let again : read text ≡ Ok c = read_again text c is in absurd cc)

@@ -9,7 +9,7 @@ use Rattle.std.proofs.Math.Seq.{drop-append_seam}
 use Rattle.psi_state.specs.State.{Corners}
 use Rattle.psi_state.specs.declared.outcome.Step.{Step}
 use Rattle.psi_log_text.specs.declared.header.Header.{Header}
-use Rattle.psi_log_text.specs.Log.{in_set, Entry, greatest_horizon, IsSet}
+use Rattle.psi_log_text.specs.Log.{in_set, greatest_horizon, IsSet}
 use Rattle.psi_log_text.specs.Text.{numbers_text, region_words, step_text}
 use Rattle.psi_log_text.specs.Room.{spaced_words}
 use Rattle.psi_log_text.proofs.JoinedLemmas.{then, then_words, one_word}
@@ -33,9 +33,6 @@ step_stands text a b end number event first second space third =
     then (codes "step ") (decimal number ++ (32 ∷ decimal event)) _ first
     (then (decimal number) (32 ∷ decimal event) (decimal number ++ (32 ∷ decimal event)) second (then (32 ∷ []) (decimal event) (32 ∷ decimal event) space third refl) refl)
     (ap (λ (t : List ℕ). codes "step " ++ (decimal number ++ (32 ∷ t))) (sym (append-nil (decimal event))))
-
-step_is : Step → List (List ℕ) → Entry
-step_is s xs = record { step = s; region = in_set xs }
 
 whole : (before : Option Corners) (xs : List (List ℕ)) → words_after before (in_set xs) ≡ region_words (in_set xs)
 whole None xs = refl

@@ -54,10 +54,6 @@ abbrev pub behind : List Entry → Result (List Entry × List ℕ) Refusal → R
 behind front (Ok read) = Ok (front ++ read.0, read.1)
 behind front (Err refusal) = Err refusal
 
-pub behind_none : (r : Result (List Entry × List ℕ) Refusal) → behind [] r ≡ r
-behind_none (Ok read) = refl
-behind_none (Err refusal) = refl
-
 behind_more : (front : List Entry) (e : Entry) (r : Result (List Entry × List ℕ) Refusal) → behind front (r >>= (λ (m : List Entry × List ℕ). Ok (e ∷ m.0, m.1))) ≡ behind (front ++ e ∷ []) r
 behind_more front e (Ok read) = ap (λ (es : List Entry). Ok (es, read.1)) (sym (append_assoc front (e ∷ []) read.0))
 behind_more front e (Err refusal) = refl
@@ -84,20 +80,7 @@ step_pushed h k count n before next text old new ls ms l line whole size kept al
     ∙ ap (λ (b : Option Corners). behind (map (entry_of old) ls ++ entry_of new l ∷ []) (read_steps h count (n + 1) b line.1)) from
     ∙ step_turn h count n before text (map (entry_of old) ls) line (entry_of new l) whole cut read counted
 
--- a line that is missing, and a step that is refused, end it
-pub line_refused : (h : Header) (count n : ℕ) (before : Option Corners) (text : List ℕ) (front : List Entry) (error : LogError) (whole : Result (List Entry × List ℕ) Refusal)
-    → IsLogError error (line_of n text) → (k : ℕ) → k ≡ suc count → behind front (read_steps h k n before text) ≡ whole → IsLogError error whole
-unfolding read_steps
-line_refused h count n before text front (Refused line cause) whole fails k size same = sym same ∙ rw (size, fails) refl
-line_refused h count n before text front OutOfMemory whole fails k size same = tt
-
-pub step_refused : (h : Header) (count n : ℕ) (before : Option Corners) (text : List ℕ) (front : List Entry) (line : List ℕ × List ℕ) (error : LogError)
-    (whole : Result (List Entry × List ℕ) Refusal) → line_of n text ≡ Ok line → IsLogError error (read_step h n before (words_of line.0))
-    → (k : ℕ) → k ≡ suc count → behind front (read_steps h k n before text) ≡ whole → IsLogError error whole
-unfolding read_steps
-step_refused h count n before text front line (Refused l cause) whole cut fails k size same = sym same ∙ rw (size, cut, fails) refl
-step_refused h count n before text front line OutOfMemory whole cut fails k size same = tt
-
+-- behind the last line what was read is the answer
 pub steps_end : (h : Header) (k n : ℕ) (before : Option Corners) (text : List ℕ) (front : List Entry) → k ≡ 0 → behind front (read_steps h k n before text) ≡ Ok (front, text)
 unfolding read_steps
 steps_end h k n before text front none = rw none (ap (λ (es : List Entry). Ok (es, text)) (append-nil front))

@@ -1,10 +1,10 @@
 -- Tests of the members of a list, one after another as a loop makes them, and whether a state is one of a list.
-use Rattle.std.specs.Prelude.{◌≡◌, ℕ, zero, suc, ◌+◌, ◌≤◌, List, [], ◌∷◌, length, drop, Bool, true, false, ◌&&◌, ◌||◌, Some, slice_get, refl}
+use Rattle.std.specs.Prelude.{◌≡◌, ℕ, zero, suc, ◌+◌, List, [], ◌∷◌, drop, Bool, true, false, ◌&&◌, ◌||◌, Some, slice_get, refl}
 use Rattle.std.specs.List.{list_all}
 use Rattle.std.specs.Str.{bytes_eq}
 use Rattle.std.proofs.Common.{inl, inr, ap, sym, ◌∙◌}
 use Rattle.std.proofs.lemmas.Bool.{and_parts, or_cases, false_from_ne_true}
-use Rattle.std.proofs.lemmas.List.{drop_more, drop_all}
+use Rattle.std.proofs.lemmas.List.{drop_more}
 use Rattle.std.proofs.lemmas.Option.{slice_get_within, get_or_from_slice_get}
 use Rattle.std.proofs.lemmas.Slice.Eq.{bytes_eq-Decides}
 use Rattle.psi_state.specs.Members.{In}
@@ -19,7 +19,7 @@ same_test false false there back = refl
 pub drop_get : {X : Type 0} (xs : List X) (i : ℕ) (x : X) → slice_get xs i ≡ Some x → drop i xs ≡ x ∷ drop (i + 1) xs
 drop_get {X} xs i x is = drop_more xs i x (slice_get_within xs i x is) ∙ ap (λ (y : X). y ∷ drop (i + 1) xs) (get_or_from_slice_get xs i x x is)
 
--- a member that passes takes the loop one step on, another ends it, and behind the last one none fails
+-- a member that passes takes the loop one step on, and another ends it
 pub all_more : {X : Type 0} (p : X → Bool) (xs : List X) (i : ℕ) (x : X) (r whole : Bool) → slice_get xs i ≡ Some x → r ≡ p x → r ≡ true
     → list_all p (drop i xs) ≡ whole → list_all p (drop (i + 1) xs) ≡ whole
 all_more p xs i x r whole is test passes so_far =
@@ -29,9 +29,6 @@ pub all_fails : {X : Type 0} (p : X → Bool) (xs : List X) (i : ℕ) (x : X) (r
     → list_all p (drop i xs) ≡ whole → false ≡ whole
 all_fails p xs i x r whole is test fails so_far =
     sym (ap (list_all p) (drop_get xs i x is) ∙ ap (λ b. b && list_all p (drop (i + 1) xs)) (sym test ∙ fails)) ∙ so_far
-
-pub all_ends : {X : Type 0} (p : X → Bool) (xs : List X) (i : ℕ) → length xs ≤ i → list_all p (drop i xs) ≡ true
-all_ends p xs i past = ap (list_all p) (drop_all i xs past)
 
 -- a test of all members tells of each
 pub all_each : {X : Type 0} (p : X → Bool) (xs : List X) (x : X) → list_all p xs ≡ true → In x xs → p x ≡ true

@@ -1,37 +1,31 @@
 -- Answers in the proof of `set_line::read_new_set`.
-use Rattle.std.proofs.Common.{◌≡◌, ℕ, List, length, take, drop, ◌+◌, ◌-◌, ◌∙◌, sym, subst, refl, arith}
+use Rattle.std.proofs.Common.{◌≡◌, ℕ, length, take, drop, ◌+◌, ◌-◌, ◌∙◌, sym, subst, refl, arith, rules}
 use Rattle.std.specs.Prelude.{Option, IfSome}
 use Rattle.psi_log.specs.Scanned.{Stands, AreScanned}
 use Rattle.psi_log.proofs.SetLineLemmas.{new_set}
 use Rattle.psi_log.proofs.set_line.read_new_set.Goals as goal
 
-pub returns-clause-last : goal.returns-clause-last
-returns-clause-last c =
+pub returns : goal.returns
+returns c =
     let first = c.len-first.ensures in
     let last = c.len.ensures in
     let more = c.in_ok-end.ensures.more in
     let some = c.if-count-eq0.false in
     let few = c.if-count.false in
+    let room = c.if-not-has_byte.ensures.within refl in
     let rows = subst (λ (o : Option ℕ). IfSome o (λ end. AreScanned c.args.queues c.args.text.now (c.args.at + 4) end c.args.states.now.states c.read_rows.new.states.states))
     c.in-Some.is c.in_ok-end.ensures.rows in
     let told = new_set c.args.queues c.args.text.now c.args.at c.in-Some.end c.len-first.result (c.len.result - c.len-first.result) c.args.states.now.states c.read_rows.new.states.states
-    (c.if-not-has_word.ensures.there refl) rows (c.if-not-has_byte.ensures.there refl) first (omega arith) (omega arith) few (sym c.ascends.ensures ∙ c.if-not-ascends.false)
-    (c.if-not-has_byte.ensures.within refl) in
-    record { there = omega arith; told = told.0 }
-
-pub returns-clause-there : goal.returns-clause-there
-returns-clause-there c =
-    let first = c.len-first.ensures in
-    let last = c.len.ensures in
-    let more = c.in_ok-end.ensures.more in
-    let some = c.if-count-eq0.false in
-    let few = c.if-count.false in
-    let rows = subst (λ (o : Option ℕ). IfSome o (λ end. AreScanned c.args.queues c.args.text.now (c.args.at + 4) end c.args.states.now.states c.read_rows.new.states.states))
-    c.in-Some.is c.in_ok-end.ensures.rows in
-    let told = new_set c.args.queues c.args.text.now c.args.at c.in-Some.end c.len-first.result (c.len.result - c.len-first.result) c.args.states.now.states c.read_rows.new.states.states
-    (c.if-not-has_word.ensures.there refl) rows (c.if-not-has_byte.ensures.there refl) first (omega arith) (omega arith) few (sym c.ascends.ensures ∙ c.if-not-ascends.false)
-    (c.if-not-has_byte.ensures.within refl) in
+    (c.if-not-has_word.ensures.there refl) rows (c.if-not-has_byte.ensures.there refl) first (omega arith) (omega arith) few (sym c.ascends.ensures ∙ c.if-not-ascends.false) room in
+    let part = take (c.in-Some.end + 1 - c.args.at) (drop c.args.at c.args.text.now) in
     let size : length (take (c.in-Some.end + 1 - c.args.at) (drop c.args.at c.args.text.now)) ≡ c.in-Some.end + 1 - c.args.at = told.1 in
     let place = rows.words.place in
     let whole : c.in-Some.end + 1 ≡ c.args.at + length (take (c.in-Some.end + 1 - c.args.at) (drop c.args.at c.args.text.now)) = omega arith in
-    subst (λ (k : ℕ). Stands c.args.text.now c.args.at k (take (c.in-Some.end + 1 - c.args.at) (drop c.args.at c.args.text.now))) whole told.2
+    record {
+      queues = search rules;
+      kept = search rules;
+      more = search rules;
+      last = record { there = omega arith; told = told.0 };
+      there = subst (λ (k : ℕ). Stands c.args.text.now c.args.at k part) whole told.2;
+      within = omega arith;
+    }
