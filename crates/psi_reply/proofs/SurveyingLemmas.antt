@@ -107,11 +107,6 @@ region_by function system n seed stream h c kept of is =
     coupled_within-agree n.split (caps_of n) (function_at fs (rates_of n) (seed_word seed stream)) (functions_by_time n seed stream) h c alike.0 alike.1
     (of_network function system n seed stream (λ k f cs l. IsCoupled (ending_at k f cs) h c) of is)
 
--- the exponent that a meeting tells is that of its greatest horizon
-pub meeting_exponent : (run : ℕ → Option (List ℕ)) (h : ℕ) (m : Meeting) → h ≤ 12 → IsMeeting run h m → HasExponent m
-meeting_exponent run h (Constant t s) small is = tt
-meeting_exponent run h (NotConstant l) small is = (let same = is.0 in omega arith)
-
 -- ---- what is told of the network's composed map
 
 meeting-least : (n : Network) (seed stream h : ℕ) → IsMeeting (meetings n seed stream) h (meeting n seed stream h)

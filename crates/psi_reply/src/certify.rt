@@ -20,11 +20,6 @@ pub fn unmet_ending<'w>(alloc: Global, limit: u8) -> Ending<'w>
     requires { limit ≤ 22 }
     ensures { EndsWith (ending_of result) (text_reply NotCoupled (outcome_text (NotMet limit))) }
 {
-    match outcome_text(alloc, &Outcome::NotMet { limit }) {
-        Ok(text) => Ending::Printed {
-            status: Status::NotCoupled,
-            text,
-        },
-        Err(_) => Ending::OutOfMemory,
-    }
+    let text = outcome_text(alloc, &Outcome::NotMet { limit });
+    Ending::printed(Status::NotCoupled, text)
 }

@@ -52,25 +52,21 @@ fn room(net: &Net) -> u32
     room
 }
 
-// The sample of the closed network of these moves under the words of a seed and a stream.
+// The sample of the closed network of these moves under the words of a past.
 fn sample_of(
     alloc: Global,
     net: &Net,
     moves: &[Move],
-    seed: u64,
-    stream: u64,
+    past: SeedPast,
     total: u16,
 ) -> Result<Outcome, OutOfMemory>
     requires moves { AreMovesOf net.now.events moves.now }
     requires fits { IsTotal (caps_of net.now) total }
-    ensures value { IfOk result (λ outcome. outcome ≡ closed_sampled net.now seed stream total) }
+    ensures value { IfOk result (λ outcome. outcome ≡ closed_sampled net.now past.seed past.stream total) }
     ensures limit { IfOk result IsWithinLimit }
 {
-    // Called for its clause: the network is one that can be sampled.
-    let _queues = net.queues();
     let system = net.system();
     let limit = system.limit();
-    let past = SeedPast::new(seed, stream);
     let mut plan = ClosedPlan::new(
         alloc,
         system.caps(),
@@ -101,16 +97,10 @@ fn work_on_moves<'w>(
     if room(net) < total as u32 {
         return Ending::NoSuchTotal;
     }
-    let Ok(outcome) = sample_of(alloc, net, moves, seed, stream, total) else {
+    let Ok(outcome) = sample_of(alloc, net, moves, SeedPast::new(seed, stream), total) else {
         return Ending::OutOfMemory;
     };
-    match outcome_text(alloc, &outcome) {
-        Ok(text) => Ending::Printed {
-            status: outcome_status(&outcome),
-            text,
-        },
-        Err(_) => Ending::OutOfMemory,
-    }
+    Ending::printed(outcome_status(&outcome), outcome_text(alloc, &outcome))
 }
 
 /// The work for `closed`: the sample that a seed and a stream draw of the closed network among its states with `total`

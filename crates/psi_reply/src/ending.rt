@@ -1,9 +1,10 @@
 //! How the work of a call ends, before anything is written.
 
-ghost use Rattle.std.specs.Prelude.{◌≡◌};
+ghost use Rattle.std.specs.Prelude.{◌≡◌, ℕ, List, IfOk};
 
 use psi_command::Status;
 use psi_net_document::NetRefusal;
+use std::alloc::AllocError;
 
 /// How the work of a call ends, once its memory is taken and before anything is written.
 #[derive(Drop, Debug)]
@@ -52,8 +53,19 @@ pub enum Ending<'w> {
 }
 
 impl<'w> Ending<'w> {
-    ghost use Rattle.psi_reply.specs.Ending.{ending_reply};
+    ghost use Rattle.psi_program.specs.Reply.{text_reply};
+    ghost use Rattle.psi_reply.specs.Ending.{EndsWith, ending_reply};
     ghost use Rattle.psi_reply.specs.Ended.{ending_of};
+
+    // The ending with a text for out, or for want of memory for it.
+    pub(crate) fn printed(status: Status, text: Result<Vec<u8>, AllocError>) -> Ending<'w>
+        ensures { (wanted : List ℕ) → IfOk text (λ text. text.items ≡ wanted) → EndsWith (ending_of result) (text_reply status wanted) }
+    {
+        match text {
+            Ok(text) => Ending::Printed { status, text },
+            Err(_) => Ending::OutOfMemory,
+        }
+    }
 
     /// The status of the call, once the text of the ending is written whole.
     pub fn status(&self) -> Status

@@ -31,8 +31,6 @@ fn survey_of(alloc: Global, net: &Net, seed: u64, stream: u64, h: u8) -> Result<
     ensures few { OnOk result (state_count net.now ≤ 65536) }
     ensures refused { IfErr result (λ refusal. IsMapRefusal refusal (caps_of net.now)) }
 {
-    // Called for its clause: the network is one that can be sampled.
-    let _queues = net.queues();
     let system = net.system();
     let mut table = MapTable::reserve(alloc, system.caps())?;
     let mut past = SeedPast::new(seed, stream);
@@ -50,13 +48,21 @@ fn region_of(
     requires { h ≤ 12 }
     ensures { IfOk result (λ coupled. coupled ≡ region net.now seed stream h) }
 {
-    // Called for its clause: the network is one that can be sampled.
-    let _queues = net.queues();
     let system = net.system().with_limit(h);
     let mut plan = plan_of(alloc, system, SeedPast::new(seed, stream))?;
     let coupled = least_horizon(&mut plan);
     drop(plan);
     Ok(coupled)
+}
+
+// The status of a survey, once it is printed.
+fn meeting_status(meeting: &Meeting) -> Status
+    ensures { result ≡ meeting_status meeting.now }
+{
+    match meeting {
+        Meeting::Constant { .. } => Status::Done,
+        Meeting::NotConstant { .. } => Status::NotCoupled,
+    }
 }
 
 // The number of all states of a network that has at most 65,536.
@@ -68,16 +74,6 @@ fn count_of(net: &Net) -> u32
     match Bounds::whole(&caps).volume_at_most(MOST_STATES) {
         Some(states) => states,
         None => unreachable!(),
-    }
-}
-
-// The status of a survey, once it is printed.
-fn meeting_status(meeting: &Meeting) -> Status
-    ensures { result ≡ meeting_status meeting.now }
-{
-    match meeting {
-        Meeting::Constant { .. } => Status::Done,
-        Meeting::NotConstant { .. } => Status::NotCoupled,
     }
 }
 
@@ -97,11 +93,6 @@ pub fn exact_ending<'w>(alloc: Global, net: &Net, seed: u64, stream: u64, h: u8)
         return Ending::OutOfMemory;
     };
     let meeting = survey.meeting;
-    match survey_text(alloc, count_of(net), &survey.sizes, &meeting, &region) {
-        Ok(text) => Ending::Printed {
-            status: meeting_status(&meeting),
-            text,
-        },
-        Err(_) => Ending::OutOfMemory,
-    }
+    let text = survey_text(alloc, count_of(net), &survey.sizes, &meeting, &region);
+    Ending::printed(meeting_status(&meeting), text)
 }

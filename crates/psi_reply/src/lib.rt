@@ -12,6 +12,7 @@ mod closed;
 mod couple;
 mod ending;
 mod exact;
+mod planning;
 mod replay;
 mod report;
 mod reward;

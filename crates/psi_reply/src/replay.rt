@@ -21,21 +21,13 @@ use std::alloc::Global;
 fn accept<'w>(alloc: Global, horizon: u32, state: &State) -> Ending<'w>
     ensures { EndsWith (ending_of result) (verdict_reply (Accepted horizon state.now)) }
 {
-    match accepted_text(alloc, horizon, state) {
-        Ok(text) => Ending::Printed {
-            status: Status::Done,
-            text,
-        },
-        Err(_) => Ending::OutOfMemory,
-    }
+    Ending::printed(Status::Done, accepted_text(alloc, horizon, state))
 }
 
 // The verdict of the network on a log.
 fn verdict_on(net: &Net, log: &Log) -> Verdict
     ensures { result ≡ verdict_of log.now (judgement net.now log.now) }
 {
-    // Called for its clause: the network is one that can be sampled.
-    let _queues = net.queues();
     let system = net.system();
     verdict(&system, log)
 }

@@ -10,13 +10,12 @@ ghost use Rattle.psi_reply.specs.Ending.{EndsWith};
 ghost use Rattle.psi_reply.specs.Ended.{ending_of};
 
 use crate::ending::Ending;
+use crate::planning::plan_for;
 use psi_answers::value_text;
 use psi_command::Status;
 use psi_couple::{Valued, value_horizon};
-use psi_follow::plan_of;
 use psi_horizon::OutOfMemory;
 use psi_model::Net;
-use psi_past::SeedPast;
 use psi_reward::Reward;
 use std::alloc::Global;
 
@@ -46,25 +45,10 @@ fn value_of(
     ensures value { IfOk result (λ valued. valued ≡ valuation net.now seed stream (reward_kind reward.now)) }
     ensures limit { IfOk result HasLimit }
 {
-    // Called for its clause: the network is one that can be sampled.
-    let _queues = net.queues();
-    let system = net.system();
-    // Called for its clause: the limit is at most 22.
-    let _limit = system.limit();
-    let mut plan = plan_of(alloc, system, SeedPast::new(seed, stream))?;
+    let mut plan = plan_for(alloc, net, seed, stream)?;
     let valued = value_horizon(&mut plan, reward);
     drop(plan);
     Ok(valued)
-}
-
-// The status of a value, once it is printed.
-fn value_status(valued: &Valued) -> Status
-    ensures { result ≡ value_status valued.now }
-{
-    match valued {
-        Valued::At { .. } => Status::Done,
-        Valued::NotAt { .. } => Status::NotCoupled,
-    }
 }
 
 /// The work for `reward`: the first horizon of 1, 2, 4, .. steps at which all states have one value of the network's
@@ -79,11 +63,15 @@ pub fn reward_ending<'w>(alloc: Global, net: &Net, seed: u64, stream: u64, name:
     let Ok(valued) = value_of(alloc, net, reward, seed, stream) else {
         return Ending::OutOfMemory;
     };
-    match value_text(alloc, &valued) {
-        Ok(text) => Ending::Printed {
-            status: value_status(&valued),
-            text,
-        },
-        Err(_) => Ending::OutOfMemory,
+    Ending::printed(value_status(&valued), value_text(alloc, &valued))
+}
+
+// The status of a value, once it is printed.
+fn value_status(valued: &Valued) -> Status
+    ensures { result ≡ value_status valued.now }
+{
+    match valued {
+        Valued::At { .. } => Status::Done,
+        Valued::NotAt { .. } => Status::NotCoupled,
     }
 }

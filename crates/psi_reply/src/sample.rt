@@ -8,12 +8,11 @@ ghost use Rattle.psi_reply.specs.Ending.{EndsWith};
 ghost use Rattle.psi_reply.specs.Ended.{ending_of};
 
 use crate::ending::Ending;
+use crate::planning::plan_for;
 use psi_answers::outcome_text;
 use psi_command::Status;
-use psi_follow::plan_of;
 use psi_horizon::OutOfMemory;
 use psi_model::Net;
-use psi_past::SeedPast;
 use psi_state::Outcome;
 use std::alloc::Global;
 
@@ -22,12 +21,7 @@ fn sample_of(alloc: Global, net: &Net, seed: u64, stream: u64) -> Result<Outcome
     ensures value { IfOk result (λ outcome. outcome ≡ sampled net.now seed stream) }
     ensures limit { IfOk result IsWithinLimit }
 {
-    // Called for its clause: the network is one that can be sampled.
-    let _queues = net.queues();
-    let system = net.system();
-    // Called for its clause: the limit is at most 22.
-    let _limit = system.limit();
-    let mut plan = plan_of(alloc, system, SeedPast::new(seed, stream))?;
+    let mut plan = plan_for(alloc, net, seed, stream)?;
     let outcome = plan.sample();
     drop(plan);
     Ok(outcome)
@@ -51,11 +45,5 @@ pub fn sample_ending<'w>(alloc: Global, net: &Net, seed: u64, stream: u64) -> En
     let Ok(outcome) = sample_of(alloc, net, seed, stream) else {
         return Ending::OutOfMemory;
     };
-    match outcome_text(alloc, &outcome) {
-        Ok(text) => Ending::Printed {
-            status: outcome_status(&outcome),
-            text,
-        },
-        Err(_) => Ending::OutOfMemory,
-    }
+    Ending::printed(outcome_status(&outcome), outcome_text(alloc, &outcome))
 }

@@ -10,9 +10,10 @@ pub loop-i-preserved : goal.loop-i-preserved
 loop-i-preserved c =
     let found = entry_at c.args.net.now.queues c.loop-i.i (omega arith) in
     let name = field_of (λ (q : Queue). q.name) c.args.net.now.queues c.loop-i.i found.0 c.name-name.result found.1 c.name-name.ensures in
-    let capacity = field_of (λ (q : Queue). q.capacity) c.args.net.now.queues c.loop-i.i found.0 c.capacity.result found.1 c.capacity.ensures in
-    let servers = field_of (λ (q : Queue). q.servers) c.args.net.now.queues c.loop-i.i found.0 c.servers.result found.1 c.servers.ensures in
     lines-more (λ (q : Queue). queue_line q.name q.capacity q.servers) c.args.net.now.queues c.loop-i.i found.0 c.args.text.now.items c.loop-i.text.items c.push_queue.new.text.items
     _ found.1 c.loop-i.invariant c.in_ok-push_queue.ensures
     (ap (λ (n : List ℕ). queue_line n c.capacity.result c.servers.result) (c.bytes.ensures.value ∙ name)
-    ∙ (ap (λ n. queue_line found.0.name n c.servers.result) capacity ∙ ap (λ n. queue_line found.0.name found.0.capacity n) servers))
+    ∙ (ap (λ n. queue_line found.0.name n c.servers.result)
+    (field_of (λ (q : Queue). q.capacity) c.args.net.now.queues c.loop-i.i found.0 c.capacity.result found.1 c.capacity.ensures)
+    ∙ ap (λ n. queue_line found.0.name found.0.capacity n)
+    (field_of (λ (q : Queue). q.servers) c.args.net.now.queues c.loop-i.i found.0 c.servers.result found.1 c.servers.ensures)))

@@ -4,7 +4,5 @@ use Rattle.psi_reply.proofs.couple.coupling_of.Goals as goal
 
 pub returns-clause-value : goal.returns-clause-value
 returns-clause-value c =
-    let least = rw (c.in_ok-plan.ensures, c.new.ensures) at c.least_horizon-coupled.ensures.least in
-    let made = c.system-system.ensures in
-    coupled_by _ c.system-system.result c.args.net.now c.args.seed c.args.stream c.least_horizon-coupled.result c.queues-queues.ensures.kept
-    (record { caps = made.caps; functions = made.functions; rates = made.rates; limit = made.limit; split = made.split }) least
+    let least = rw c.in_ok-plan.ensures.past at c.least_horizon-coupled.ensures.least in
+    coupled_by _ c.in_ok-plan.plan.system c.args.net.now c.args.seed c.args.stream c.least_horizon-coupled.result c.in_ok-plan.ensures.kept c.in_ok-plan.ensures.system least

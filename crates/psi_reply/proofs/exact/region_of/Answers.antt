@@ -6,5 +6,5 @@ pub returns : goal.returns
 returns c =
     let least = rw (c.in_ok-plan.ensures, c.new.ensures, c.with_limit-system.ensures) at c.least_horizon-coupled.ensures.least in
     let made = c.system.ensures in
-    region_by _ c.system.result c.args.net.now c.args.seed c.args.stream c.args.h c.least_horizon-coupled.result c.queues-queues.ensures.kept
+    region_by _ c.system.result c.args.net.now c.args.seed c.args.stream c.args.h c.least_horizon-coupled.result made.kept
     (record { caps = made.caps; functions = made.functions; rates = made.rates; limit = made.limit; split = made.split }) least

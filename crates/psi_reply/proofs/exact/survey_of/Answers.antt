@@ -9,14 +9,14 @@ use Rattle.psi_reply.proofs.exact.survey_of.Goals as goal
 pub returns-clause-sizes : goal.returns-clause-sizes
 returns-clause-sizes c =
     let made = c.system-system.ensures in
-    sizes_by _ c.system-system.result c.args.net.now c.args.seed c.args.stream c.args.h c.survey.result.sizes _ c.queues-queues.ensures.kept
+    sizes_by _ c.system-system.result c.args.net.now c.args.seed c.args.stream c.args.h c.survey.result.sizes _ made.kept
     (record { caps = made.caps; functions = made.functions; rates = made.rates; limit = made.limit; split = made.split })
     (ap (λ (p : Seeded). seed_word p.seed p.stream) c.new-past.ensures) c.survey.ensures.sizes
 
 pub returns-clause-meeting : goal.returns-clause-meeting
 returns-clause-meeting c =
     let made = c.system-system.ensures in
-    meeting_by _ c.system-system.result c.args.net.now c.args.seed c.args.stream c.args.h c.survey.result.meeting c.queues-queues.ensures.kept
+    meeting_by _ c.system-system.result c.args.net.now c.args.seed c.args.stream c.args.h c.survey.result.meeting made.kept
     (record { caps = made.caps; functions = made.functions; rates = made.rates; limit = made.limit; split = made.split })
     (rw c.new-past.ensures at c.survey.ensures.least)
 

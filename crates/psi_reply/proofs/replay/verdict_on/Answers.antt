@@ -5,5 +5,5 @@ use Rattle.psi_reply.proofs.replay.verdict_on.Goals as goal
 pub returns : goal.returns
 returns c =
     let made = c.system-system.ensures in
-    judged_by _ c.system-system.result c.args.net.now c.args.log.now c.verdict.result c.queues-queues.ensures.kept
+    judged_by _ c.system-system.result c.args.net.now c.args.log.now c.verdict.result made.kept
     (record { caps = made.caps; functions = made.functions; rates = made.rates; limit = made.limit; split = made.split }) c.verdict.ensures.value

@@ -5,7 +5,6 @@ use Rattle.psi_reply.proofs.reward.value_of.Goals as goal
 
 pub returns-clause-value : goal.returns-clause-value
 returns-clause-value c =
-    let first = rw (c.in_ok-plan.ensures, c.new.ensures) at c.value_horizon-valued.ensures.first in
-    let made = c.system-system.ensures in
-    valued_by _ c.system-system.result c.args.net.now c.args.seed c.args.stream (reward_kind c.args.reward.now) c.value_horizon-valued.result c.queues-queues.ensures.kept
-    (record { caps = made.caps; functions = made.functions; rates = made.rates; limit = made.limit; split = made.split }) first
+    let first = rw c.in_ok-plan.ensures.past at c.value_horizon-valued.ensures.first in
+    valued_by _ c.in_ok-plan.plan.system c.args.net.now c.args.seed c.args.stream (reward_kind c.args.reward.now) c.value_horizon-valued.result c.in_ok-plan.ensures.kept
+    c.in_ok-plan.ensures.system first

@@ -4,6 +4,6 @@ use Rattle.psi_reply.proofs.sample.sample_of.Goals as goal
 
 pub returns-clause-value : goal.returns-clause-value
 returns-clause-value c =
-    let least = rw (c.in_ok-plan.ensures, c.new.ensures) at c.sample-outcome.ensures.sample.least in
-    let made = c.system-system.ensures in
-    sampled_by _ c.system-system.result c.args.net.now c.args.seed c.args.stream c.sample-outcome.result c.queues-queues.ensures.kept made.functions made.rates made.caps made.limit made.split least
+    let least = rw c.in_ok-plan.ensures.past at c.sample-outcome.ensures.sample.least in
+    let is = c.in_ok-plan.ensures.system in
+    sampled_by _ c.in_ok-plan.plan.system c.args.net.now c.args.seed c.args.stream c.sample-outcome.result c.in_ok-plan.ensures.kept is.functions is.rates is.caps is.limit is.split least
