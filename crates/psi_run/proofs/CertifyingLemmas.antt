@@ -39,10 +39,3 @@ module _ (text : List ℕ) (out_takes err_takes : ℕ → Type 0) (out err : Sin
       (finished_cut (replied (text_reply status.Done text)) out_takes err_takes out err (inl (record { cause = failed; part = part; rest = still }))
       (λ o e. never o.room o.taken o.fits))
       (fits-reply few)
-
-  -- a log that is too long has its line
-  pub log_long : (length text ≤ 33554432 → ⊥) → WithLog (replied (line_reply status.LogTooLong too_long_line))
-  log_long long = elim (cases_lt 33554432 (length text)) [
-    | inl more ↦ rw (lt-leb (length text) 33554432 more) refl
-    | inr few ↦ absurd (long (omega arith))
-  ]

@@ -17,7 +17,7 @@ use Rattle.psi_net.proofs.FrontLemmas.{network_of-take}
 use Rattle.psi_command.specs.declared.status.Status.{Status}
 use Rattle.psi_command.specs.declared.status.Status.TheVariants as status
 use Rattle.psi_reply.specs.declared.ending.Ending.{Ending as Ended}
-use Rattle.psi_reply.specs.declared.ending.Ending.TheVariants.{Printed, Usage, NetRefused, LogRefused, LogRejected, LogTooLong, UnknownReward, TooManyStates, NotClosed, NoSuchTotal, NetUnread, LogUnread, OutOfMemory}
+use Rattle.psi_reply.specs.declared.ending.Ending.TheVariants.{NetRefused, NetUnread, OutOfMemory}
 use Rattle.psi_log.specs.Reading.{read}
 use Rattle.psi_model.specs.Generated.{generated_network}
 use Rattle.psi_reply.specs.Couple.{coupling}
@@ -99,16 +99,6 @@ module _ (command : Command) (name : List ℕ) (Has : Network → Option (List �
       subst (λ o. IfSome o (MayReply ending)) (sym about.reply) (reply-judged (shelf.told name) (reply_of command shelf.told) judged ending is may)
 
   pub no_net : (ended : Ended) → IsAbout shelf.told command name Has → IsNoNet shelf name ended → WasLast shelf (net_file name) → IsEnding shelf (Ok command) (ending_of ended)
-  no_net (Printed own text) about none last = absurd none
-  no_net (Usage place) about none last = absurd none
-  no_net (LogRefused line cause) about none last = absurd none
-  no_net (LogRejected line cause) about none last = absurd none
-  no_net LogTooLong about none last = absurd none
-  no_net UnknownReward about none last = absurd none
-  no_net TooManyStates about none last = absurd none
-  no_net (NotClosed event) about none last = absurd none
-  no_net NoSuchTotal about none last = absurd none
-  no_net (LogUnread own) about none last = absurd none
   no_net (NetRefused refusal) about none last = record {
     reply = judged-reply (Err refusal) (replied (refused_reply refusal)) about none refl;
     cause = refused_replied command refusal;
@@ -122,6 +112,7 @@ module _ (command : Command) (name : List ℕ) (Has : Network → Option (List �
     means = tt;
   }
   no_net OutOfMemory about none last = record { reply = of_any (reply_to (Ok command) shelf.told); cause = refl; means = tt }
+  no_net ended about none last = absurd none
 
   -- the work on the network that was had, which ended with a reply
   pub replied_on : (net : Network) (given : Reply) → IsAbout shelf.told command name Has → IsNetAt shelf.told name net

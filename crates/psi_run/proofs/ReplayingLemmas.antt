@@ -12,7 +12,7 @@ use Rattle.psi_model.specs.Network.{Network}
 use Rattle.psi_net.specs.Reading.{network_of}
 use Rattle.psi_command.specs.declared.status.Status.TheVariants as status
 use Rattle.psi_reply.specs.declared.ending.Ending.{Ending as Ended}
-use Rattle.psi_reply.specs.declared.ending.Ending.TheVariants.{Printed, Usage, NetRefused, LogRefused, LogRejected, LogTooLong, UnknownReward, TooManyStates, NotClosed, NoSuchTotal, NetUnread, LogUnread, OutOfMemory}
+use Rattle.psi_reply.specs.declared.ending.Ending.TheVariants.{LogUnread, OutOfMemory}
 use Rattle.psi_command.specs.Command.{replay, net_file, log_file}
 use Rattle.psi_answers.specs.Lines.{log_refused_line}
 use Rattle.psi_reply.specs.Replay.{judgement}
@@ -75,17 +75,6 @@ module _ (shelf : ShelfSeen) (name log : List ℕ) (net : Network) where
 
   -- the work where no bytes were had
   pub no_text : (ended : Ended) → IsNetAt shelf.told name net → IsNoText shelf log ended → WasLast shelf (log_file log) → IsEnding shelf (Ok (replay name log)) (ending_of ended)
-  no_text (Printed own text) at none last = absurd none
-  no_text (Usage place) at none last = absurd none
-  no_text (NetRefused refusal) at none last = absurd none
-  no_text (LogRejected line cause) at none last = absurd none
-  no_text LogTooLong at none last = absurd none
-  no_text UnknownReward at none last = absurd none
-  no_text TooManyStates at none last = absurd none
-  no_text (NotClosed event) at none last = absurd none
-  no_text NoSuchTotal at none last = absurd none
-  no_text (NetUnread own) at none last = absurd none
-  no_text (LogRefused line cause) at none last = absurd none
   no_text (LogUnread own) at none last = record {
     reply = of_any (reply_to (Ok (replay name log)) shelf.told);
     cause = subst (λ (n : List ℕ). IsMissed shelf (Ok (replay name log)) (log_file n)) (sym none.0)
@@ -94,6 +83,7 @@ module _ (shelf : ShelfSeen) (name log : List ℕ) (net : Network) where
     means = tt;
   }
   no_text OutOfMemory at none last = record { reply = of_any (reply_to (Ok (replay name log)) shelf.told); cause = refl; means = tt }
+  no_text ended at none last = absurd none
 
   -- the work on what its bytes are read as: a log, or none
   on-answer : (answer : Result Certificate Refusal) (ending : Ending) → IsNetAt shelf.told name net → IfSome (shelf.told log) (λ bytes. read bytes ≡ answer)

@@ -77,6 +77,7 @@ fn work<'w, F: Shelf>(
 }
 
 // The work on the network of a file.
+#[tactic(auto, using(crate::proofs::ReadFilesLemmas::nothing_behind))]
 fn answer<'w, F: Shelf>(
     alloc: Global,
     shelf: &mut F,

@@ -81,8 +81,6 @@ fn write_sample<O: Sink, E: Sink>(
 {
     let queues = net.queues();
     let system = net.system();
-    // Called for its clause: the limit is at most 22.
-    let _limit = system.limit();
     let Ok(mut plan) = plan_of(alloc, system, SeedPast::new(seed, stream)) else {
         return finish(&Ending::OutOfMemory, out, err);
     };

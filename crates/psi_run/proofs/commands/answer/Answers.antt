@@ -5,7 +5,6 @@ use Rattle.psi_reply.specs.Reward.{kind_named}
 use Rattle.psi_reply.specs.Closed.{first_other}
 use Rattle.psi_run.proofs.EndingsLemmas.{on_net}
 use Rattle.psi_run.proofs.SparingLemmas.{log_given}
-use Rattle.psi_run.proofs.ReadFilesLemmas.{nothing_behind}
 use Rattle.psi_reply.proofs.SamplingLemmas.{sampled_printed}
 use Rattle.psi_run.proofs.AboutsLemmas.{sample_about, check_about, report_about, couple_about, reward_about, exact_about, closed_about}
 use Rattle.psi_reply.proofs.CheckingLemmas.{checked_printed}
@@ -65,27 +64,6 @@ returns-in-Replay-clause-read g c name given =
 pub returns-in-Replay-clause-spared : goal.returns-in-Replay-clause-spared
 returns-in-Replay-clause-spared g c name given =
     c.work.ensures.spared (log_given (g.F.Shelf.gives c.args.shelf.now) name c.in-Replay.log.now (rw c.in-Replay.is at given))
-
-pub returns-in-Sample-clause-asked : goal.returns-in-Sample-clause-asked
-returns-in-Sample-clause-asked g c name = rw c.in-Sample.is (nothing_behind _)
-
-pub returns-in-Check-clause-asked : goal.returns-in-Check-clause-asked
-returns-in-Check-clause-asked g c name = rw c.in-Check.is (nothing_behind _)
-
-pub returns-in-Report-clause-asked : goal.returns-in-Report-clause-asked
-returns-in-Report-clause-asked g c name = rw c.in-Report.is (nothing_behind _)
-
-pub returns-in-Couple-clause-asked : goal.returns-in-Couple-clause-asked
-returns-in-Couple-clause-asked g c name = rw c.in-Couple.is (nothing_behind _)
-
-pub returns-in-Reward-clause-asked : goal.returns-in-Reward-clause-asked
-returns-in-Reward-clause-asked g c name = rw c.in-Reward.is (nothing_behind _)
-
-pub returns-in-Exact-clause-asked : goal.returns-in-Exact-clause-asked
-returns-in-Exact-clause-asked g c name = rw c.in-Exact.is (nothing_behind _)
-
-pub returns-in-Closed-clause-asked : goal.returns-in-Closed-clause-asked
-returns-in-Closed-clause-asked g c name = rw c.in-Closed.is (nothing_behind _)
 
 pub returns-in-Replay-clause-asked : goal.returns-in-Replay-clause-asked
 returns-in-Replay-clause-asked g c name = rw c.in-Replay.is c.work.ensures.asked

@@ -26,8 +26,8 @@ returns-in-Met g c =
 
 pub returns-in-NotMet : goal.returns-in-NotMet
 returns-in-NotMet g c =
-    let made = c.system-system.ensures in
     let least = rw (c.in-Ok.ensures, c.new.ensures) at c.sample-outcome.ensures.sample.least in
+    let made = c.system-system.ensures in
     let is = sampled_by _ c.system-system.result c.args.net.now c.args.seed c.args.stream c.sample-outcome.result c.queues-queues.ensures.kept
     made.functions made.rates made.caps made.limit made.split least in
     finished_with _ _ _ _ _ _ c.finish-in-NotMet.result c.finish-in-NotMet.ensures
