@@ -1,11 +1,10 @@
 -- How a word is made field by field, and read.
-use Rattle.std.specs.Prelude.{◌≡◌, ℕ, suc, ◌+◌, ◌-◌, ◌*◌, ◌/◌, ◌^◌, ◌<◌, ◌≤◌, List, length, map, slice_index, slice_index_or, slice_set, bit_and}
-use Rattle.std.proofs.Common.{ap, ap₂, sym, subst, ◌∙◌, arith, pow_mono, pow_pos, add-one-le, get_or-set_same, get_or-set_other, below_more, ⊎_elim}
+use Rattle.std.specs.Prelude.{◌≡◌, ℕ, suc, ◌+◌, ◌-◌, ◌*◌, ◌/◌, ◌%◌, ◌^◌, ◌<◌, ◌≤◌, List, length, map, slice_index, slice_index_or, bit_and}
+use Rattle.std.proofs.Common.{ap, ap₂, sym, subst, ◌∙◌, arith, pow_mono, pow_pos, add-one-le, below_more, ⊎_elim}
 use Rattle.std.proofs.lemmas.Bool.{cases_lt}
 use Rattle.std.proofs.lemmas.List.{get_or_past, length-map}
-use native.Mathlib.Nat.{mul-le-mul_left, mul-le-mul_right}
-use Rattle.std.proofs.Math.Nat.{suc-mul, zero-mul}
-use Rattle.std.proofs.lemmas.Nat.{shr-shr, and_mask, leading_length, leading_top, le-div}
+use native.Mathlib.Nat.{mul-le-mul_left}
+use Rattle.std.proofs.lemmas.Nat.{one_shl, and_mask, leading_length, leading_top, le-div}
 use Rattle.std.proofs.lemmas.Grind.{same_number_lists}
 use Rattle.std.specs.Int.Count.{count_leading_zeros}
 use Rattle.psi_state.specs.State.{IsBelow}
@@ -61,68 +60,15 @@ word-whole count p x w word small made =
     ∙ sym (packed-at count p x w small)
 
 -- a field is read by a shift and a mask
-number-is : (count : ℕ) (p : Packing) (x words : List ℕ) (at field : ℕ) → IsPacking count p → at < count → field < p.fields → IsBelow x p.caps → words ≡ packed count p x
-    → bit_and (slice_index words at / 2 ^ (field * p.bits)) (2 ^ p.bits - 1) ≡ slice_index x (at * p.fields + field)
+pub number-is : (count : ℕ) (p : Packing) (x words : List ℕ) (at field : ℕ) → IsPacking count p → at < count → field < p.fields → IsBelow x p.caps → words ≡ packed count p x
+    → bit_and (slice_index words at / 2 ^ (field * p.bits)) (1 * 2 ^ p.bits % 2 ^ 64 - 1) ≡ slice_index x (at * p.fields + field)
 number-is count p x words at field is place small below same =
+    let high : p.bits < 64 = omega (arith, is.most) in
     let turned : field * p.bits ≡ p.bits * field = omega arith in
-    ap (λ (ws : List ℕ). bit_and (slice_index ws at / 2 ^ (field * p.bits)) (2 ^ p.bits - 1)) same
+    ap₂ (λ (ws : List ℕ) m. bit_and (slice_index ws at / 2 ^ (field * p.bits)) (m - 1)) same (one_shl p.bits 64 high)
     ∙ ap₂ (λ d k. bit_and (d / 2 ^ k) (2 ^ p.bits - 1)) (packed-at count p x at place) turned
     ∙ and_mask (digits p.bits p.fields (fields_of p.fields x at) / 2 ^ (p.bits * field)) p.bits
     ∙ digits-at p.bits p.fields (fields_of p.fields x at) field (AreDigits-fields p.bits p.fields x at (below-fit count p x is below)) small
-
--- what is left of the word at a place, from a field on
-pub record IsRest (bits fields at field queue rest : ℕ) (words : List ℕ) : Type 0 where
-  pub place : queue ≡ at * fields + field
-  pub small : field < fields
-  pub left : rest ≡ slice_index words at / 2 ^ (field * bits)
-
-times : (n m : ℕ) → (n + 1) * m ≡ n * m + m
-times n m = let e : n + 1 ≡ suc n = omega arith in ap (λ k. k * m) e ∙ suc-mul n m
-
-whole : (bits word : ℕ) → word ≡ word / 2 ^ (0 * bits)
-whole bits word = let none : 0 * bits ≡ 0 = zero-mul bits in sym (ap (λ k. word / 2 ^ k) none ∙ omega arith)
-
--- the next field, and the first one of the next word
-pub rest-more : (bits fields at field queue rest : ℕ) (words : List ℕ) → field + 1 < fields → IsRest bits fields at field queue rest words
-    → IsRest bits fields at (field + 1) (queue + 1) (rest / 2 ^ bits) words
-rest-more bits fields at field queue rest words small is =
-    let more : field * bits + bits ≡ (field + 1) * bits = sym (times field bits) in
-    record {
-      place = omega (arith, is.place);
-      small = small;
-      left = ap (λ r. r / 2 ^ bits) is.left ∙ shr-shr (slice_index words at) (field * bits) bits ∙ ap (λ k. slice_index words at / 2 ^ k) more;
-    }
-
-pub rest-next : (bits fields at field queue rest next : ℕ) (words : List ℕ) → field + 1 ≡ fields → next ≡ slice_index words (at + 1) → IsRest bits fields at field queue rest words
-    → IsRest bits fields (at + 1) 0 (queue + 1) next words
-rest-next bits fields at field queue rest next words last read is =
-    let more : at * fields + fields ≡ (at + 1) * fields = sym (times at fields) in
-    record {
-      place = omega (arith, is.place, more);
-      small = omega arith;
-      left = read ∙ whole bits (slice_index words (at + 1));
-    }
-
--- the same by other names
-pub rest-same : (bits fields queue : ℕ) (words : List ℕ) {at field rest a f r : ℕ} → at ≡ a → field ≡ f → rest ≡ r → IsRest bits fields a f queue r words → IsRest bits fields at field queue rest words
-rest-same bits fields queue words {at} {field} {rest} {a} {f} {r} one two three own =
-    subst (λ k. IsRest bits fields k field queue rest words) (sym one)
-    (subst (λ k. IsRest bits fields a k queue rest words) (sym two) (subst (λ k. IsRest bits fields a f queue k words) (sym three) own))
-
--- one number more is read
-pub unpacked-more : (count : ℕ) (p : Packing) (x made words : List ℕ) (queue at field rest v : ℕ) → IsPacking count p → IsBelow x p.caps → words ≡ packed count p x
-    → length made ≡ length p.caps → queue < length p.caps → IsRest p.bits p.fields at field queue rest words → v ≡ bit_and rest (2 ^ p.bits - 1)
-    → ((q : ℕ) → q < queue → slice_index made q ≡ slice_index x q) → (q : ℕ) → q < queue + 1 → slice_index (slice_set made queue v) q ≡ slice_index x q
-unpacked-more count p x made words queue at field rest v is below same long small from own each =
-    below_more (λ q. slice_index (slice_set made queue v) q ≡ slice_index x q) queue
-    (λ q under. get_or-set_other made queue q v 0 (omega arith) ∙ each q under)
-    (get_or-set_same made queue v 0 (omega (arith, long))
-    ∙ own ∙ ap (λ r. bit_and r (2 ^ p.bits - 1)) from.left
-    ∙ number-is count p x words at field is (place (at) (omega (arith, is.enough, from.place))) from.small below same
-    ∙ ap (slice_index x) (sym from.place))
-  where
-    place : (a : ℕ) → a * p.fields < count * p.fields → a < count
-    place a less = ⊎_elim (λ (under : a < count). under) (λ (past : count ≤ a). absurd (let most = mul-le-mul_right p.fields past in omega (arith, most, less))) (cases_lt a count)
 
 -- a list that has at each place what a list made number by number has is that list
 pub same-mapped : (f : ℕ → ℕ) (x y : List ℕ) → length y ≡ length x → ((q : ℕ) → q < length x → slice_index y q ≡ f (slice_index x q)) → y ≡ map f x

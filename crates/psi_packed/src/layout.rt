@@ -1,6 +1,6 @@
 //! How states are packed.
 
-ghost use Rattle.std.specs.Prelude.{◌≡◌, ◌-◌, ◌+◌, ◌<◌, ◌≤◌, ◌*◌, ◌^◌, ℕ, List, length, map, slice_index, bit_and, IfSome, IfNone, EachIndex};
+ghost use Rattle.std.specs.Prelude.{◌≡◌, ◌-◌, ◌+◌, ◌<◌, ◌≤◌, ◌*◌, ◌^◌, ℕ, List, length, map, slice_index, IfSome, IfNone, EachIndex};
 ghost use Rattle.psi_state.specs.State.{AreCapacities, IsBelow};
 ghost use Rattle.psi_packed.specs.Packed.{packed, LeavesFree};
 ghost use Rattle.psi_packed.specs.Moves.{guard, mark_of, guard_of, wanted_of};
@@ -106,27 +106,26 @@ impl<const K: usize> Layout<K> {
         let mut x = State::zero(self.caps.len());
         let mut at = 0;
         let mut field = 0;
-        let mut rest = words.word(0);
         for queue in 0..self.caps.len() {
-            x.set(queue, self.lowest(rest));
-            rest >>= self.bits;
+            x.set(queue, self.number(words, at, field));
             field += 1;
             if field == self.fields {
                 field = 0;
                 at += 1;
-                rest = words.word(at);
             }
         }
         x
     }
 
-    // The number in the lowest field of a word.
+    // The number in this field of the word at this place.
     #[inline]
-    fn lowest(&self, word: u64) -> u16
-        ensures value { result ≡ bit_and word (2 ^ self.now.bits - 1) }
-        ensures valid { IsPacking K self.now }
+    fn number(&self, words: &Packed<K>, at: usize, field: u8) -> u16
+        requires place { at < K }
+        requires field { field < self.now.fields }
+        ensures { (x : List ℕ) → IsBelow x self.now.caps → words.now.words ≡ packed K self.now x → result ≡ slice_index x (at * self.now.fields + field) }
     {
-        (word & ((1 << self.bits) - 1)) as u16
+        let shift = field * self.bits;
+        ((words.words[at] >> shift) & ((1 << self.bits) - 1)) as u16
     }
 
     /// The capacities, in customers.
@@ -227,14 +226,4 @@ fn bits_of(caps: &State) -> u8
         }
     }
     bits
-}
-
-impl<const K: usize> Packed<K> {
-    // The word at a place, and no bit past the last.
-    #[inline]
-    fn word(&self, at: usize) -> u64
-        ensures { result ≡ slice_index self.now.words at }
-    {
-        if at < K { self.words[at] } else { 0 }
-    }
 }
