@@ -14,9 +14,9 @@ use Rattle.psi_state.proofs.SetsLemmas.{In-image}
 use Rattle.psi_event.specs.Law.{IsClosed}
 use Rattle.psi_exact.specs.Mapping.{rank_of}
 use Rattle.psi_exact.specs.TableKept.{state_at, AreRanksOf}
-use Rattle.psi_exact.specs.Alike.{IsKept, IsSpanned, IsSpan, AgreeIn, IsOneMove, MovesAlike, IsRight, IsBase, AreFilled, IsFront, IsSpread, IsTop}
+use Rattle.psi_exact.specs.Alike.{IsSpan, AgreeIn, IsOneMove, MovesAlike, IsRight, IsBase, AreFilled, IsFront, IsSpread, IsTop}
 use Rattle.psi_exact.proofs.PlacesLemmas.{state_at-below, state_at-rank_of, rank_of-state_at, rank_of-small}
-use Rattle.psi_exact.proofs.DigitsLemmas.{size, number, size-all, rank-number, size-some, number-small, below-drop, size-drop, number-drop, number-add, number-set, size-steps, size-most, cut, length-cut, cut-first, cut-behind, IsParted, parted}
+use Rattle.psi_exact.proofs.DigitsLemmas.{size, number, size-all, rank-number, size-some, number-small, below-drop, size-drop, number-drop, number-add, number-set, size-steps, size-most, cut, length-cut, cut-first, cut-behind, parted}
 
 -- what a tight box has of an image: each state that the function makes of one of the old box is between its corners
 pub image-between : (f : List ℕ → List ℕ) (l h x low high : List ℕ) → IsTight (image f (box l h)) low high → IsBelow l x → IsBelow x h → IsBetween low high (f x)

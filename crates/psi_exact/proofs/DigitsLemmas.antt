@@ -1,10 +1,10 @@
 -- The rank of a state as a number whose digits are the state's numbers.
 use Rattle.std.specs.Prelude.{◌≡◌, ℕ, zero, suc, ◌+◌, ◌-◌, ◌*◌, ◌<◌, ◌≤◌, List, [], ◌∷◌, length, slice_index, slice_set, drop, refl}
-use Rattle.std.proofs.Common.{inl, inr, ap, sym, ◌∙◌, subst, arith}
+use Rattle.std.proofs.Common.{ap, sym, ◌∙◌, arith}
 use Rattle.std.proofs.Math.Nat.{suc-mul, zero-mul, mul_assoc, mul-le-mul_right}
 use Rattle.psi_state.specs.State.{IsBelow, zeros, all_states}
 use Rattle.psi_state.specs.Volume.{volume, place_in}
-use Rattle.psi_state.proofs.BoxesLemmas.{below-head, below-tail, below-itself, zeros-below}
+use Rattle.psi_state.proofs.BoxesLemmas.{below-head, below-tail, zeros-below}
 use Rattle.psi_state.proofs.VolumeLemmas.{length-box, slice_get-box}
 use Rattle.psi_exact.specs.Mapping.{rank_of}
 use Rattle.psi_exact.proofs.PlacesLemmas.{is_rank-from_get}

@@ -16,6 +16,33 @@ stretch-looked rows table start first from by source i is small same =
     let rank : source + i ≡ (first + (from + i) + by) % 65536 = omega arith in
     ap (λ k. slice_index table k) rank ∙ ap (λ k. slice_index table ((first + (from + i) + k) % 65536)) (sym same)
 
+stretch-at : (rows table : List ℕ) (start first by source j : ℕ) → source ≡ (first + by) % 65536 → source + j < 65536 → slice_index rows (start + j) ≡ by
+    → slice_index table (source + j) ≡ looked rows start table first j
+unfolding looked
+stretch-at rows table start first by source j is small same =
+    let rank : source + j ≡ (first + j + by) % 65536 = omega arith in
+    ap (λ k. slice_index table k) rank ∙ ap (λ k. slice_index table ((first + j + k) % 65536)) (sym same)
+
+-- a row of two shifts is looked up where each of its places is copied from the stretch of its own
+pub both-looked : (rows table next : List ℕ) (s : Shifts) (start width first source other j : ℕ) → s.count ≡ 2 → AreCovering rows start width s
+    → source ≡ (first + slice_index s.by 1) % 65536 → other ≡ (first + slice_index s.by 0) % 65536 → source + width ≤ length table → other + width ≤ length table → length table ≤ 65536
+    → (slice_index rows (start + j) ≡ slice_index s.by 1 → slice_index next (first + j) ≡ slice_index table (source + j))
+    → ((slice_index rows (start + j) ≡ slice_index s.by 1 → ⊥) → slice_index next (first + j) ≡ slice_index table (other + j)) → j < width
+    → slice_index next (first + j) ≡ looked rows start table first j
+both-looked rows table next s start width first source other j two covering is_source is_other inside outside few same apart small =
+    elim (cases_eq (slice_index rows (start + j)) (slice_index s.by 1)) [
+      | inl here ↦ same here ∙ stretch-at rows table start first (slice_index s.by 1) source j is_source (omega arith) here
+      | inr away ↦ (let covers = covering.each (omega arith) j small in
+          let shift = covers.is in
+          let within = covers.within in
+          elim (cases_eq covers.number 1) [
+            | inl second ↦ absurd (away (sym shift.same ∙ ap (λ k. slice_index s.by k) second))
+            | inr ne ↦ (let zeroth : covers.number ≡ 0 = omega arith in
+                let own : slice_index rows (start + j) ≡ slice_index s.by 0 = sym shift.same ∙ ap (λ k. slice_index s.by k) zeroth in
+                apart away ∙ stretch-at rows table start first (slice_index s.by 0) other j is_other (omega arith) own)
+          ])
+    ]
+
 -- a stretch that is copied at a place is looked up there
 pub stretch-copied : {source long : ℕ} (rows table next : List ℕ) (start first from by j : ℕ) → source ≡ (first + from + by) % 65536 → source + long ≤ length table → length table ≤ 65536
     → ((i : ℕ) → i < long → slice_index rows (start + from + i) ≡ by → slice_index next (first + from + i) ≡ slice_index table (source + i)) → from ≤ j → j < from + long

@@ -11,8 +11,8 @@ use psi_event::EventLaw;
 use psi_state::Bounds;
 use std::alloc::{AllocError, Global};
 
-// How many ranks are compared before it is asked whether all were the same.
-const STRETCH: usize = 512;
+/// How many ranks are compared before it is asked whether all were the same.
+pub(crate) const STRETCH: usize = 512;
 
 /// A list of so many zeros.
 pub(crate) fn zeroed(alloc: Global, count: u32) -> Result<Vec<u16>, AllocError>

@@ -1,11 +1,15 @@
 //! Rows of ranks: a row has the ranks of the images of states that come one after another, each less the
 //! state's own rank, modulo 2 to the power 16.
 
-ghost use Rattle.std.specs.Prelude.{◌≡◌, ℕ, ◌+◌, ◌*◌, ◌%◌, ◌<◌, ◌≤◌, length, slice_index, vec_capacity, IfSome, IsTrue};
+ghost use Rattle.std.specs.Prelude.{◌≡◌, ℕ, ◌+◌, ◌*◌, ◌%◌, ◌<◌, ◌≤◌, true, length, slice_index, vec_capacity, IfSome, IsTrue};
 ghost use Rattle.psi_exact.specs.ImagesKept.{IsPrefix, IsRow};
 ghost use Rattle.psi_exact.specs.Shifts.{AreCovering, AreCovered, looked};
 
+use crate::ranks::STRETCH;
 use crate::shifts::{Shifts, shift_row, shifts_of};
+
+// How many ranks are compared first: most rows that aren't alike differ there.
+const FIRST_STRETCH: usize = 8;
 
 /// The number of a row of these ranks: that of one that is there, if there is such a row, or of a new one
 /// behind all others, if there is room.
@@ -74,13 +78,40 @@ fn is_row(rows: &[u16], start: usize, images: &[u16], first: usize, width: usize
     requires few { length images.now ≤ 65536 }
     ensures { IsTrue result → IsRow rows.now images.now start first width }
 {
-    for place in 0..width {
-        let own = (first + place) as u16;
-        if own.wrapping_add(rows[start + place]) != images[first + place] {
+    let mut from = 0;
+    let mut long = FIRST_STRETCH;
+    while from < width {
+        let end = from + (width - from).min(long);
+        if !is_stretch(rows, start, images, first, from, end) {
             return false;
         }
+        from = end;
+        long = STRETCH;
     }
     true
+}
+
+// Whether it is at each place from `from` on and below `end`. None of them is left out, so that many are
+// compared at once.
+fn is_stretch(
+    rows: &[u16],
+    start: usize,
+    images: &[u16],
+    first: usize,
+    from: usize,
+    end: usize,
+) -> bool
+    requires row { start + end ≤ length rows.now }
+    requires within { first + end ≤ length images.now }
+    requires few { length images.now ≤ 65536 }
+    ensures { result ≡ true → (j : ℕ) → from ≤ j → j < end → slice_index images.now (first + j) ≡ (first + j + slice_index rows.now (start + j)) % 65536 }
+{
+    let mut same = true;
+    for place in from..end {
+        let own = (first + place) as u16;
+        same &= own.wrapping_add(rows[start + place]) == images[first + place];
+    }
+    same
 }
 
 // Puts a row of the ranks from `first` on behind the others.

@@ -91,6 +91,7 @@ pub(crate) fn shift_row(
     first: usize,
     next: &mut [u16],
 ) -> bool
+    requires some { 1 ≤ width }
     requires row { start + width ≤ length rows.now }
     requires within { first + width ≤ length next.old }
     requires few { length next.old ≤ 65536 }
@@ -99,12 +100,83 @@ pub(crate) fn shift_row(
     ensures each { IsTrue result → (j : ℕ) → j < width → slice_index next.new (first + j) ≡ looked rows.now start table.now first j }
     ensures before { (i : ℕ) → i < first → slice_index next.new i ≡ slice_index next.old i }
 {
+    if shift_both(rows, start, width, shifts, table, first, next) {
+        return true;
+    }
     for number in 0..shifts.count {
         if !shift_one(rows, start, width, shifts, number, table, first, next) {
             return false;
         }
     }
     shifts.count > 0
+}
+
+// Writes at the ranks from `first` on what a table has for those of a row in one pass, where it has two
+// shifts, the second goes over nearly all places, and both reach all of them within the table, and tells
+// whether it does. Where the second goes over few places, one pass for each is quicker.
+#[inline]
+fn shift_both(
+    rows: &[u16],
+    start: usize,
+    width: usize,
+    shifts: &Shifts,
+    table: &[u16],
+    first: usize,
+    next: &mut [u16],
+) -> bool
+    requires some { 1 ≤ width }
+    requires row { start + width ≤ length rows.now }
+    requires within { first + width ≤ length next.old }
+    requires few { length next.old ≤ 65536 }
+    requires table { length table.now ≤ 65536 }
+    requires covering { AreCovering rows.now start width shifts.now }
+    ensures each { IsTrue result → (j : ℕ) → j < width → slice_index next.new (first + j) ≡ looked rows.now start table.now first j }
+    ensures before { (i : ℕ) → i < first → slice_index next.new i ≡ slice_index next.old i }
+{
+    if shifts.count != 2 {
+        return false;
+    }
+    let edge = width / 8;
+    if shifts.first[1] as usize > edge || (shifts.end[1] as usize) < width - edge {
+        return false;
+    }
+    let by = shifts.by[1];
+    let other = (first as u16).wrapping_add(shifts.by[0]) as usize;
+    let source = (first as u16).wrapping_add(by) as usize;
+    if source.max(other) + width > table.len() {
+        return false;
+    }
+    choose_stretch(rows, start, by, table, source, other, next, first, width);
+    true
+}
+
+// Copies from two stretches of a table: from the first at the places at which the row from `row` on has
+// this difference, and from the other elsewhere.
+#[inline]
+fn choose_stretch(
+    rows: &[u16],
+    row: usize,
+    by: u16,
+    table: &[u16],
+    source: usize,
+    other: usize,
+    next: &mut [u16],
+    target: usize,
+    long: usize,
+)
+    requires row { row + long ≤ length rows.now }
+    requires source { source + long ≤ length table.now }
+    requires other { other + long ≤ length table.now }
+    requires target { target + long ≤ length next.old }
+    ensures same { (i : ℕ) → i < long → slice_index rows.now (row + i) ≡ by → slice_index next.new (target + i) ≡ slice_index table.now (source + i) }
+    ensures apart { (i : ℕ) → i < long → (slice_index rows.now (row + i) ≡ by → ⊥) → slice_index next.new (target + i) ≡ slice_index table.now (other + i) }
+    ensures before { (k : ℕ) → k < target → slice_index next.new k ≡ slice_index next.old k }
+{
+    for place in 0..long {
+        let there = table[source + place];
+        let elsewhere = table[other + place];
+        next[target + place] = chosen(rows[row + place], by, there, elsewhere);
+    }
 }
 
 // Writes at the ranks from `first` on what a table has for those of a row whose difference is that of one

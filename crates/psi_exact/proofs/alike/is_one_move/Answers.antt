@@ -1,6 +1,6 @@
 -- Answers in the proof of `is_one_move`.
-use Rattle.std.proofs.Common.{◌≡◌, ℕ, List, length, ap, sym, ◌∙◌, subst, arith}
-use Rattle.psi_state.specs.State.{Corners, IsBelow, box}
+use Rattle.std.proofs.Common.{ℕ, List, sym, subst}
+use Rattle.psi_state.specs.State.{Corners, IsBelow}
 use Rattle.psi_exact.specs.Alike.{IsTop}
 use Rattle.psi_exact.proofs.AlikeLemmas.{top-above, top-below, one-move, one-length}
 use Rattle.psi_exact.proofs.alike.is_one_move.Goals as goal

@@ -1,5 +1,5 @@
 -- Answers in the proof of `span_of`.
-use Rattle.std.proofs.Common.{◌≡◌, ℕ, List, length, slice_index, inl, inr, ap, sym, ◌∙◌, subst, arith, length-set}
+use Rattle.std.proofs.Common.{ℕ, List, length, slice_index, inl, inr, ap, sym, ◌∙◌, subst, arith, length-set}
 use Rattle.psi_exact.specs.Alike.{IsSpanned}
 use Rattle.psi_exact.proofs.AlikeLemmas.{set-next}
 use Rattle.psi_exact.proofs.alike.span_of.Goals as goal

@@ -1,5 +1,5 @@
 -- Answers in the proof of `spanned`.
-use Rattle.std.proofs.Common.{◌≡◌, ◌<◌, ℕ, List, slice_index, inl, inr, refl, ap, sym, ◌∙◌, arith, rules}
+use Rattle.std.proofs.Common.{◌≡◌, ℕ, List, slice_index, inl, inr, refl, ap, sym, ◌∙◌, arith, rules}
 use Rattle.std.proofs.lemmas.Bool.{cases_lt}
 use Rattle.psi_exact.proofs.alike.spanned.Goals as goal
 

@@ -1,7 +1,7 @@
 -- Answers in the proof of `stays`.
-use Rattle.std.proofs.Common.{◌≡◌, ℕ, List, length, slice_set, refl, ap, sym, ◌∙◌, subst, arith}
-use Rattle.psi_state.specs.State.{Corners, IsBelow, zeros}
-use Rattle.psi_exact.proofs.AlikeLemmas.{with_number, whole-with_number, with_number-below, with_number-length, stays-each}
+use Rattle.std.proofs.Common.{slice_set, refl, sym, subst, arith}
+use Rattle.psi_state.specs.State.{Corners, IsBelow}
+use Rattle.psi_exact.proofs.AlikeLemmas.{whole-with_number, with_number-below, with_number-length, stays-each}
 use Rattle.psi_exact.proofs.alike.stays.Goals as goal
 
 pub set-requires-clause-place : goal.set-requires-clause-place

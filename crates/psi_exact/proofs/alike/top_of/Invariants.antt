@@ -1,5 +1,5 @@
 -- Invariants of the loops of `top_of`.
-use Rattle.std.proofs.Common.{◌≡◌, ℕ, ◌<◌, ◌≤◌, length, slice_index}
+use Rattle.std.proofs.Common.{◌≡◌, ℕ, ◌<◌, length, slice_index}
 use Rattle.psi_exact.proofs.alike.top_of.Given as goal
 
 abbrev pub invariant-loop-place : goal.invariant-loop-place

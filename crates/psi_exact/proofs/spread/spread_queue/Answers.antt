@@ -1,8 +1,7 @@
 -- Answers in the proof of `spread_queue`.
-use Rattle.std.proofs.Common.{◌≡◌, ◌+◌, ◌*◌, ◌≤◌, ℕ, suc, List, length, slice_index, drop, inl, inr, refl, ap, sym, ◌∙◌, subst, arith}
-use Rattle.psi_state.specs.State.{Corners, IsBelow, box, all_states}
-use Rattle.psi_exact.specs.Mapping.{rank_of}
-use Rattle.psi_exact.specs.Alike.{IsRight, IsBase, AreFilled}
+use Rattle.std.proofs.Common.{◌≡◌, ◌+◌, ℕ, suc, List, length, slice_index, drop, inl, inr, refl, ap, ◌∙◌, subst, arith}
+use Rattle.psi_state.specs.State.{Corners, box, all_states}
+use Rattle.psi_exact.specs.Alike.{AreFilled}
 use Rattle.psi_exact.proofs.DigitsLemmas.{cut}
 use Rattle.psi_exact.proofs.WalkLemmas.{In-whole, rank-whole}
 use Rattle.psi_exact.proofs.VisitsLemmas.{visits-begin, visits-first, visits-next, visits-end}

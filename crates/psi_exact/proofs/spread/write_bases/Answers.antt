@@ -1,5 +1,5 @@
 -- Answers in the proof of `write_bases`.
-use Rattle.std.proofs.Common.{◌≡◌, ◌<◌, ℕ, List, length, slice_set, inl, inr, refl, ap, sym, ◌∙◌, arith}
+use Rattle.std.proofs.Common.{◌≡◌, ◌<◌, ℕ, List, length, slice_set, inl, inr, refl, ap, ◌∙◌, arith}
 use Rattle.psi_state.specs.State.{Corners, box}
 use Rattle.psi_exact.specs.Mapping.{rank_of}
 use Rattle.psi_exact.specs.Alike.{IsRight}
