@@ -7,6 +7,7 @@ pub mod MovesLemmas
 pub mod DigitsLemmas
 pub mod VisitsLemmas
 pub mod AlikeLemmas
+pub mod SpreadLemmas
 pub mod ShiftsLemmas
 pub mod SizesLemmas
 pub mod SurveysLemmas

@@ -2,7 +2,7 @@
 use Rattle.std.proofs.Common.{◌≡◌, ◌+◌, ◌-◌, ℕ, List, length, slice_index, drop, ap, sym, ◌∙◌, subst, arith}
 use Rattle.psi_state.specs.State.{all_states}
 use Rattle.psi_exact.specs.Alike.{AreFilled}
-use Rattle.psi_exact.proofs.AlikeLemmas.{front-whole, front-less, stride-first, stride-next, stride-most}
+use Rattle.psi_exact.proofs.SpreadLemmas.{front-whole, front-less, stride-first, stride-next, stride-most}
 use Rattle.psi_exact.proofs.spread.spread_all.Goals as goal
 
 pub loop-place-init : goal.loop-place-init

@@ -1,6 +1,6 @@
 -- Answers in the proof of `spread_block`.
 use Rattle.std.proofs.Common.{◌≡◌, ◌+◌, ◌*◌, suc, ap, suc-mul, arith}
-use Rattle.psi_exact.proofs.AlikeLemmas.{stride-within, spread-next}
+use Rattle.psi_exact.proofs.SpreadLemmas.{stride-within, spread-next}
 use Rattle.psi_exact.proofs.spread.spread_block.Goals as goal
 
 pub raise_stretch-requires-clause-apart : goal.raise_stretch-requires-clause-apart

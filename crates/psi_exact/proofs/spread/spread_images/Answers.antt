@@ -1,6 +1,6 @@
 -- Answers in the proof of `spread_images`.
 use Rattle.std.proofs.Common.{◌∙◌}
-use Rattle.psi_exact.proofs.AlikeLemmas.{filled-all}
+use Rattle.psi_exact.proofs.SpreadLemmas.{filled-all}
 use Rattle.psi_exact.proofs.spread.spread_images.Goals as goal
 
 pub returns : goal.returns

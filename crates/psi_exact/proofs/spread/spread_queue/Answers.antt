@@ -5,7 +5,7 @@ use Rattle.psi_exact.specs.Alike.{AreFilled}
 use Rattle.psi_exact.proofs.DigitsLemmas.{cut}
 use Rattle.psi_exact.proofs.WalkLemmas.{In-whole, rank-whole}
 use Rattle.psi_exact.proofs.VisitsLemmas.{visits-begin, visits-first, visits-next, visits-end}
-use Rattle.psi_exact.proofs.AlikeLemmas.{HasRight, front-below, front-none, stride-some, block-fits, filled-within, cut-below, IsSpreading, spread-right}
+use Rattle.psi_exact.proofs.SpreadLemmas.{HasRight, front-below, front-none, stride-some, block-fits, filled-within, cut-below, IsSpreading, spread-right}
 use Rattle.psi_exact.proofs.spread.spread_queue.Goals as goal
 
 pub returns-then-get-gt0 : goal.returns-then-get-gt0

@@ -1,7 +1,7 @@
 -- Invariants of the loops of `spread_queue`.
 use Rattle.std.proofs.Common.{ℕ, ◌+◌, List}
 use Rattle.psi_exact.specs.Alike.{AreFilled}
-use Rattle.psi_exact.proofs.AlikeLemmas.{HasRight}
+use Rattle.psi_exact.proofs.SpreadLemmas.{HasRight}
 use Rattle.psi_exact.proofs.VisitsLemmas.{AreVisited}
 use Rattle.psi_exact.proofs.spread.spread_queue.Given as goal
 

@@ -5,7 +5,8 @@ use Rattle.psi_exact.specs.Mapping.{rank_of}
 use Rattle.psi_exact.specs.Alike.{IsRight}
 use Rattle.psi_exact.proofs.WalkLemmas.{In-whole, rank-whole}
 use Rattle.psi_exact.proofs.VisitsLemmas.{visits-begin, visits-first, visits-next, visits-end}
-use Rattle.psi_exact.proofs.AlikeLemmas.{below-span, base-below, right-set}
+use Rattle.psi_exact.proofs.AlikeLemmas.{below-span}
+use Rattle.psi_exact.proofs.SpreadLemmas.{base-below, right-set}
 use Rattle.psi_exact.proofs.spread.write_bases.Goals as goal
 
 pub loop-state-init : goal.loop-state-init
