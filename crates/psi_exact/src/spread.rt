@@ -9,7 +9,7 @@ use crate::alike::{moves_alike, span_of};
 use psi_event::EventLaw;
 use psi_state::{Bounds, State};
 
-// So many times as many states as there are in an event's span, or more, are worth to be written by it.
+// An event is applied to the states of its span alone where all are at least so many times as many.
 const LEAST_SAVED: u32 = 8;
 
 /// Writes at the rank of each state the rank of what the event makes of it, where it changes few queues
