@@ -121,24 +121,16 @@ file-missed told c name ending may = may-go_on (λ e. merge_reply name (merged c
 told-missed : (shelf : ShelfSeen) (name : List ℕ) (ending : Ending) → IsTold ending → IsMissed shelf name ending
 told-missed shelf name (Merged text) told = told
 told-missed shelf name Usage told = told
-told-missed shelf name (Refused line) told = tt
-told-missed shelf name (OtherNetwork line) told = tt
-told-missed shelf name (TooLarge line) told = tt
 told-missed shelf name (Unread line) told = absurd told
-told-missed shelf name OutOfMemory told = tt
+told-missed shelf name ending told = tt
 
 pub told-found : (shelf : ShelfSeen) (name : List ℕ) (found : Option (Result Contents Reply)) (ending : Ending) → IfSome found (MayBe (Err ending)) → IsTold ending
     → IsFound shelf name found (Err ending)
 told-found shelf name found ending answer told = record { answer = answer; cause = told-missed shelf name ending told }
 
 pub told-read : (ending : Ending) → IsTold ending → HasRead ending
-told-read (Merged text) told = tt
-told-read Usage told = tt
-told-read (Refused line) told = tt
-told-read (OtherNetwork line) told = tt
-told-read (TooLarge line) told = tt
 told-read (Unread line) told = told
-told-read OutOfMemory told = tt
+told-read ending told = tt
 
 -- ---- all files
 
@@ -197,13 +189,17 @@ module _ {S : Type 0} (view : S → List ℕ) (told : List ℕ → Option (List 
       (may-go_on (λ d. with_files told d (map view (drop (i + 1) names))) (with_file told whole (view x)) ending may))
 
   -- it comes to be next
-  abbrev pub next-at : IsNext (with_files told first) (map view names) (view x)
+  abbrev next-at : IsNext (with_files told first) (map view names) (view x)
   next-at = record {
     before = map view (take i names);
     behind = map view (drop (i + 1) names);
     place = split-at;
     merged = has-ok (with_files told first (map view (take i names))) whole has;
   }
+
+  -- so it is given, where each file that is needed is and the shelf gives what it did
+  pub given-at : (gives gives_on : List ℕ → Type 0) → ((other : List ℕ) → gives other → gives_on other) → AreNextGiven gives (with_files told first) (map view names) → gives_on (view x)
+  given-at gives gives_on on given = on (view x) (given (view x) next-at)
 
 pub has-all : {S : Type 0} (view : S → List ℕ) (told : List ℕ → Option (List ℕ)) (first : Contents) (names : List S) (whole : Contents) (i : ℕ) → length names ≤ i
     → HasReport (with_files told first) (map view (take i names)) whole → IfSome (with_files told first (map view names)) (MayBe (Ok whole))
@@ -382,21 +378,7 @@ all-read shelf (word ∷ words) are asked merged =
       all = refl;
     }
 
--- the words are files, each of which is given where it is needed
-pub given-words : (gives : List ℕ → Type 0) (told : List ℕ → Option (List ℕ)) (words : List (List ℕ)) → are_files words ≡ true → AreGiven gives told words
-    → AreNextGiven gives (whole_of told) words
-given-words gives told words are given name next = given name (record { files = are; next = next })
-
 -- ---- how the work ends
-
-pub files-none : (words : List (List ℕ)) → length words ≡ 0 → are_files words ≡ false
-unfolding are_files
-files-none [] none = refl
-files-none (word ∷ words) none = absurd (omega arith)
-
-pub files-all : (word : List ℕ) (words : List (List ℕ)) → are_files (word ∷ words) ≡ list_all is_file (word ∷ words)
-unfolding are_files
-files-all word words = refl
 
 pub ended-usage : (shelf : ShelfSeen) (words : List (List ℕ)) → are_files words ≡ false → shelf.asked_after ≡ shelf.asked_before → IsEnding shelf words (ending_of Usage)
 unfolding reply_to
@@ -484,27 +466,3 @@ ended-missed shelf words ending are found = record {
   cause = missed-cause shelf words ending are found.cause;
   asked = inr (record { files = are; last = found.cause.last; all = λ e. absurd (not-done shelf found.cause.last.name ending found.cause.cause e) });
 }
-
--- ---- the words, one after another
-
-module _ {S : Type 0} (view : S → List ℕ) (names : List S) (i : ℕ) (x : S) (small : i < length names) (is : x ≡ get_or names i x) where
-  pub files-more : is_file (view x) ≡ true → list_all is_file (map view (drop (i + 1) names)) ≡ list_all is_file (map view (drop i names))
-  files-more file = rw (drop_more names i x small, ← is, file) refl
-
-  pub files-refused : is_file (view x) ≡ false → list_all is_file (map view (drop i names)) ≡ false
-  files-refused other = rw (drop_more names i x small, ← is, other) refl
-
-pub files-end : {S : Type 0} (view : S → List ℕ) (names : List S) (i : ℕ) → length names ≤ i → list_all is_file (map view (drop i names)) ≡ true
-files-end view names i past = rw (drop_all i names past) refl
-
--- the first word and those behind it are all
-pub split-words : {S : Type 0} (view : S → List ℕ) (names : List S) (x : S) (word : List ℕ) → 1 ≤ length names → x ≡ get_or names 0 x → word ≡ view x
-    → word ∷ map view (take (length names - 1) (drop 1 names)) ≡ map view names
-split-words view [] x word some is same = absurd (omega arith)
-split-words view (y ∷ ys) x word some is same =
-    let rest : take (length (y ∷ ys) - 1) ys ≡ ys = take_all (length (y ∷ ys) - 1) ys (omega arith) in
-    ap (λ w. w ∷ map view (take (length (y ∷ ys) - 1) ys)) (same ∙ ap view is) ∙ ap (λ (zs : List _). view y ∷ map view zs) rest
-
-pub files-split : (word : List ℕ) (rest words : List (List ℕ)) → word ∷ rest ≡ words → are_files words ≡ list_all is_file words
-unfolding are_files
-files-split word rest words is = rw (← is) refl

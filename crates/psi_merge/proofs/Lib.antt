@@ -1,4 +1,5 @@
 -- The lemmas of this crate.
 pub mod FindingLemmas
+pub mod WordsLemmas
 pub mod RunningLemmas
 pub mod HeadingLemmas

@@ -11,7 +11,7 @@ ghost use Rattle.psi_merge.specs.Ended.{ending_of, MayEnd, IsUnreadOf, IsTold, I
 ghost use Rattle.psi_merge.specs.Spared.{AreNextGiven, AreGiven, HasRead};
 
 use crate::ending::Ending;
-use crate::lines::{large_line, other_line, refused_line, unread_line};
+use crate::lines::{refused_line, unmerged_line, unread_line};
 use crate::reports::{Cause, MOST_BYTES, ReportError, report_in};
 use psi_io::{Shelf, ShelfFault};
 use psi_report::Report;
@@ -29,18 +29,24 @@ fn refused(alloc: Global, name: &str, line: u64, cause: Cause) -> Ending
     }
 }
 
+// What the lines on reports that aren't merged begin with.
+const OTHER: &[u8] = b"psi_merge: other network line ";
+
+const TOO_LARGE: &[u8] = b"psi_merge: too large line ";
+
 // The ending on a report that isn't merged.
+#[tactic(auto, unfolding(crate::specs::Reply::other_line, crate::specs::Reply::large_line))]
 fn unmerged(alloc: Global, name: &str, error: MergeError) -> Ending
     ensures ending { IfSome (merge_reply name.now (Err error)) (MayEnd result) }
     ensures told { IsTold result }
     ensures memory { error ≡ MergeError.OutOfMemory → result ≡ Ending.OutOfMemory }
 {
     match error {
-        MergeError::OtherNetwork { line } => match other_line(alloc, name, line) {
+        MergeError::OtherNetwork { line } => match unmerged_line(alloc, OTHER, line, name) {
             Ok(text) => Ending::OtherNetwork(text),
             Err(_) => Ending::OutOfMemory,
         },
-        MergeError::TooLarge { line } => match large_line(alloc, name, line) {
+        MergeError::TooLarge { line } => match unmerged_line(alloc, TOO_LARGE, line, name) {
             Ok(text) => Ending::TooLarge(text),
             Err(_) => Ending::OutOfMemory,
         },

@@ -1,7 +1,8 @@
 //! The lines of err on files.
 
-ghost use Rattle.std.specs.Prelude.{◌≡◌, ◌++◌, OnOk, IfOk};
-ghost use Rattle.psi_merge.specs.Reply.{cause_text, refused_line, other_line, large_line, unread_line};
+ghost use Rattle.std.specs.Prelude.{◌≡◌, ◌++◌, codes, OnOk, IfOk};
+ghost use Rattle.std.specs.Fmt.{decimal};
+ghost use Rattle.psi_merge.specs.Reply.{cause_text, refused_line, unread_line};
 
 use crate::reports::Cause;
 use itoa::Buffer;
@@ -26,6 +27,17 @@ fn push(line: &mut Vec<u8>, piece: &[u8]) -> Result<(), AllocError>
     line.extend_from_slice(piece)
 }
 
+// Appends the number of a line and the name of its file.
+fn push_place(text: &mut Vec<u8>, line: u64, name: &str) -> Result<(), AllocError>
+    ensures { OnOk result (text.new.items ≡ text.old.items ++ (decimal line ++ codes " " ++ name.now ++ codes "\n")) }
+{
+    let mut digits = Buffer::new();
+    push(text, digits.format(line).as_bytes())?;
+    push(text, b" ")?;
+    push(text, name.as_bytes())?;
+    push(text, b"\n")
+}
+
 /// The line on a file that is no report.
 #[tactic(auto, unfolding(crate::specs::Reply::refused_line))]
 pub(crate) fn refused_line(
@@ -36,45 +48,26 @@ pub(crate) fn refused_line(
 ) -> Result<Vec<u8>, AllocError>
     ensures { IfOk result (λ text. text.items ≡ refused_line name.now (record { line = line; cause = cause })) }
 {
-    let mut digits = Buffer::new();
     let mut text = Vec::new(alloc);
     push(&mut text, b"psi_merge: refused ")?;
     push(&mut text, cause_text(cause))?;
     push(&mut text, b" line ")?;
-    push(&mut text, digits.format(line).as_bytes())?;
-    push(&mut text, b" ")?;
-    push(&mut text, name.as_bytes())?;
-    push(&mut text, b"\n")?;
+    push_place(&mut text, line, name)?;
     Ok(text)
 }
 
-/// The line on a report of another network.
-#[tactic(auto, unfolding(crate::specs::Reply::other_line))]
-pub(crate) fn other_line(alloc: Global, name: &str, line: u64) -> Result<Vec<u8>, AllocError>
-    ensures { IfOk result (λ text. text.items ≡ other_line name.now line) }
+/// A line on a report that isn't merged: what of it, in which line, and its name.
+pub(crate) fn unmerged_line(
+    alloc: Global,
+    what: &[u8],
+    line: u64,
+    name: &str,
+) -> Result<Vec<u8>, AllocError>
+    ensures { IfOk result (λ text. text.items ≡ what.now ++ decimal line ++ codes " " ++ name.now ++ codes "\n") }
 {
-    let mut digits = Buffer::new();
     let mut text = Vec::new(alloc);
-    push(&mut text, b"psi_merge: other network line ")?;
-    push(&mut text, digits.format(line).as_bytes())?;
-    push(&mut text, b" ")?;
-    push(&mut text, name.as_bytes())?;
-    push(&mut text, b"\n")?;
-    Ok(text)
-}
-
-/// The line on a report with which a number would be too large.
-#[tactic(auto, unfolding(crate::specs::Reply::large_line))]
-pub(crate) fn large_line(alloc: Global, name: &str, line: u64) -> Result<Vec<u8>, AllocError>
-    ensures { IfOk result (λ text. text.items ≡ large_line name.now line) }
-{
-    let mut digits = Buffer::new();
-    let mut text = Vec::new(alloc);
-    push(&mut text, b"psi_merge: too large line ")?;
-    push(&mut text, digits.format(line).as_bytes())?;
-    push(&mut text, b" ")?;
-    push(&mut text, name.as_bytes())?;
-    push(&mut text, b"\n")?;
+    push(&mut text, what)?;
+    push_place(&mut text, line, name)?;
     Ok(text)
 }
 

@@ -1,7 +1,7 @@
 -- Answers in the proof of `all_files`.
 use Rattle.std.specs.Prelude.{string_bytes}
 use Rattle.std.proofs.Common.{sym, ◌∙◌}
-use Rattle.psi_merge.proofs.FindingLemmas.{files-more, files-refused, files-end}
+use Rattle.psi_merge.proofs.WordsLemmas.{files-more, files-refused, files-end}
 use Rattle.psi_merge.proofs.files.all_files.Goals as goal
 
 pub loop-word-preserved : goal.loop-word-preserved

@@ -2,7 +2,7 @@
 use Rattle.std.specs.Prelude.{string_bytes}
 use Rattle.std.proofs.Common.{◌∙◌, refl, sym, arith}
 use Rattle.std.proofs.lemmas.List.{append-nil}
-use Rattle.psi_merge.proofs.FindingLemmas.{has-none, has-more, all-missed, next-at, has-all, asked-next, asked-all, missed-at}
+use Rattle.psi_merge.proofs.FindingLemmas.{has-none, has-more, all-missed, given-at, has-all, asked-next, asked-all, missed-at}
 use Rattle.psi_merge.proofs.files.with_files.Goals as goal
 
 pub loop-name-init : goal.loop-name-init
@@ -27,8 +27,8 @@ loop-name-preserved g c =
       asked = asked-next string_bytes c.args.names.now c.loop-name.name-index c.name-item.result c.loop-name-test.true c.name-item.is (g.F.Shelf.asked c.args.shelf.now)
           (g.F.Shelf.asked c.loop-name.shelf) (g.F.Shelf.asked c.with_file.new.shelf) c.loop-name.invariant.asked asked;
       gives = λ other given. c.in-Ok.ensures.gives other (c.loop-name.invariant.gives other given);
-      spared = λ given. spared (c.loop-name.invariant.gives (string_bytes c.name-item.result) (given (string_bytes c.name-item.result)
-          (next-at string_bytes told c.args.first c.args.names.now c.loop-name.whole c.loop-name.name-index c.name-item.result c.loop-name-test.true c.name-item.is c.loop-name.invariant.has)))
+      spared = λ given. spared (given-at string_bytes told c.args.first c.args.names.now c.loop-name.whole c.loop-name.name-index c.name-item.result c.loop-name-test.true c.name-item.is
+          c.loop-name.invariant.has (g.F.Shelf.gives c.args.shelf.now) (g.F.Shelf.gives c.loop-name.shelf) c.loop-name.invariant.gives given)
           ∙ c.loop-name.invariant.spared given;
       has = has-more string_bytes told c.args.first c.args.names.now c.loop-name.whole c.loop-name.name-index c.name-item.result c.loop-name-test.true c.name-item.is
           c.loop-name.invariant.has c.in-Ok.both there;
@@ -53,16 +53,14 @@ returns-in-Err-clause-found g c =
 pub returns-in-Err-clause-read : goal.returns-in-Err-clause-read
 returns-in-Err-clause-read g c given =
     let read = rw c.as_str.ensures.value at c.in-Err.ensures.read in
-    read (c.loop-name.invariant.gives (string_bytes c.name-item.result) (given (string_bytes c.name-item.result)
-    (next-at string_bytes (g.F.Shelf.told c.args.shelf.now) c.args.first c.args.names.now c.loop-name.whole c.loop-name.name-index c.name-item.result c.loop-name-test.true c.name-item.is
-    c.loop-name.invariant.has)))
+    read (given-at string_bytes (g.F.Shelf.told c.args.shelf.now) c.args.first c.args.names.now c.loop-name.whole c.loop-name.name-index c.name-item.result c.loop-name-test.true c.name-item.is
+    c.loop-name.invariant.has (g.F.Shelf.gives c.args.shelf.now) (g.F.Shelf.gives c.loop-name.shelf) c.loop-name.invariant.gives given)
 
 pub returns-in-Err-clause-spared : goal.returns-in-Err-clause-spared
 returns-in-Err-clause-spared g c given =
     let spared = rw c.as_str.ensures.value at c.in-Err.ensures.spared in
-    spared (c.loop-name.invariant.gives (string_bytes c.name-item.result) (given (string_bytes c.name-item.result)
-    (next-at string_bytes (g.F.Shelf.told c.args.shelf.now) c.args.first c.args.names.now c.loop-name.whole c.loop-name.name-index c.name-item.result c.loop-name-test.true c.name-item.is
-    c.loop-name.invariant.has)))
+    spared (given-at string_bytes (g.F.Shelf.told c.args.shelf.now) c.args.first c.args.names.now c.loop-name.whole c.loop-name.name-index c.name-item.result c.loop-name-test.true c.name-item.is
+    c.loop-name.invariant.has (g.F.Shelf.gives c.args.shelf.now) (g.F.Shelf.gives c.loop-name.shelf) c.loop-name.invariant.gives given)
     ∙ c.loop-name.invariant.spared given
 
 pub returns-clause-found : goal.returns-clause-found

@@ -4,8 +4,8 @@ use Rattle.std.proofs.Common.{◌≡◌, length, ◌∙◌, sym, subst, refl, ar
 use Rattle.std.proofs.lemmas.List.{length-map}
 use Rattle.psi_merge.specs.Reply.{whole_of}
 use Rattle.psi_merge.specs.Ended.{AreFound}
-use Rattle.psi_merge.specs.Spared.{AreNextGiven}
-use Rattle.psi_merge.proofs.FindingLemmas.{files-none, files-split, split-words, ended-usage, ended-memory, ended-merged, ended-missed, given-words}
+use Rattle.psi_merge.proofs.FindingLemmas.{ended-usage, ended-memory, ended-merged, ended-missed}
+use Rattle.psi_merge.proofs.WordsLemmas.{files-none, files-split, split-words, given-split}
 use Rattle.psi_merge.proofs.files.work.Goals as goal
 
 pub returns-in_default-clause-ending : goal.returns-in_default-clause-ending
@@ -41,28 +41,20 @@ returns-clause-ending g c =
 
 pub returns-in-Ok-text-clause-spared : goal.returns-in-Ok-text-clause-spared
 returns-in-Ok-text-clause-spared g c given =
-    let split = split-words string_bytes c.args.words.now c.first-item.result c.as_str.result.now c.in-len1-up.len_at_least c.first-item.is c.as_str.ensures.value in
-    let files = files-split _ _ (map string_bytes c.args.words.now) split ∙ sym c.all_files.ensures ∙ c.if-not-all_files.false in
-    c.in-Ok.ensures.spared (subst (AreNextGiven (g.F.Shelf.gives c.args.shelf.now) (whole_of (g.F.Shelf.told c.args.shelf.now))) (sym split)
-    (given-words (g.F.Shelf.gives c.args.shelf.now) (g.F.Shelf.told c.args.shelf.now) (map string_bytes c.args.words.now) files given))
+    c.in-Ok.ensures.spared (given-split string_bytes (g.F.Shelf.gives c.args.shelf.now) (g.F.Shelf.told c.args.shelf.now) c.args.words.now c.first-item.result c.as_str.result.now
+    c.in-len1-up.len_at_least c.first-item.is c.as_str.ensures.value (sym c.all_files.ensures ∙ c.if-not-all_files.false) given)
 
 pub returns-in-Ok-clause-spared : goal.returns-in-Ok-clause-spared
 returns-in-Ok-clause-spared g c given =
-    let split = split-words string_bytes c.args.words.now c.first-item.result c.as_str.result.now c.in-len1-up.len_at_least c.first-item.is c.as_str.ensures.value in
-    let files = files-split _ _ (map string_bytes c.args.words.now) split ∙ sym c.all_files.ensures ∙ c.if-not-all_files.false in
-    c.in-Ok.ensures.spared (subst (AreNextGiven (g.F.Shelf.gives c.args.shelf.now) (whole_of (g.F.Shelf.told c.args.shelf.now))) (sym split)
-    (given-words (g.F.Shelf.gives c.args.shelf.now) (g.F.Shelf.told c.args.shelf.now) (map string_bytes c.args.words.now) files given))
+    c.in-Ok.ensures.spared (given-split string_bytes (g.F.Shelf.gives c.args.shelf.now) (g.F.Shelf.told c.args.shelf.now) c.args.words.now c.first-item.result c.as_str.result.now
+    c.in-len1-up.len_at_least c.first-item.is c.as_str.ensures.value (sym c.all_files.ensures ∙ c.if-not-all_files.false) given)
 
 pub returns-clause-read : goal.returns-clause-read
 returns-clause-read g c given =
-    let split = split-words string_bytes c.args.words.now c.first-item.result c.as_str.result.now c.in-len1-up.len_at_least c.first-item.is c.as_str.ensures.value in
-    let files = files-split _ _ (map string_bytes c.args.words.now) split ∙ sym c.all_files.ensures ∙ c.if-not-all_files.false in
-    c.in-Err.ensures.read (subst (AreNextGiven (g.F.Shelf.gives c.args.shelf.now) (whole_of (g.F.Shelf.told c.args.shelf.now))) (sym split)
-    (given-words (g.F.Shelf.gives c.args.shelf.now) (g.F.Shelf.told c.args.shelf.now) (map string_bytes c.args.words.now) files given))
+    c.in-Err.ensures.read (given-split string_bytes (g.F.Shelf.gives c.args.shelf.now) (g.F.Shelf.told c.args.shelf.now) c.args.words.now c.first-item.result c.as_str.result.now
+    c.in-len1-up.len_at_least c.first-item.is c.as_str.ensures.value (sym c.all_files.ensures ∙ c.if-not-all_files.false) given)
 
 pub returns-clause-spared : goal.returns-clause-spared
 returns-clause-spared g c given =
-    let split = split-words string_bytes c.args.words.now c.first-item.result c.as_str.result.now c.in-len1-up.len_at_least c.first-item.is c.as_str.ensures.value in
-    let files = files-split _ _ (map string_bytes c.args.words.now) split ∙ sym c.all_files.ensures ∙ c.if-not-all_files.false in
-    c.in-Err.ensures.spared (subst (AreNextGiven (g.F.Shelf.gives c.args.shelf.now) (whole_of (g.F.Shelf.told c.args.shelf.now))) (sym split)
-    (given-words (g.F.Shelf.gives c.args.shelf.now) (g.F.Shelf.told c.args.shelf.now) (map string_bytes c.args.words.now) files given))
+    c.in-Err.ensures.spared (given-split string_bytes (g.F.Shelf.gives c.args.shelf.now) (g.F.Shelf.told c.args.shelf.now) c.args.words.now c.first-item.result c.as_str.result.now
+    c.in-len1-up.len_at_least c.first-item.is c.as_str.ensures.value (sym c.all_files.ensures ∙ c.if-not-all_files.false) given)
