@@ -1,9 +1,8 @@
 -- What is found of files.
 use Rattle.std.specs.Prelude.{◌≡◌, Vec, ℕ, ◌+◌, ◌-◌, ◌<◌, ◌≤◌, List, [], ◌∷◌, ◌++◌, take, length, map, drop, Option, Some, None, option_and_then, Result, Ok, Err, IsOk, IfSome, IfOk, IfErr, true, false, refl}
-use Rattle.std.specs.List.{list_all}
 use Rattle.std.proofs.Common.{get_or, ap, sym, ◌∙◌, subst, append_assoc, inl, inr, arith}
 use Rattle.std.proofs.lemmas.Bool.{cases_order, lt-leb}
-use Rattle.std.proofs.lemmas.List.{take_all, length-take-le, take-append-drop, drop_more, drop_all, map_more, map-append, append-nil}
+use Rattle.std.proofs.lemmas.List.{take_all, length-take-le, take-append-drop, drop_more, map_more, map-append, append-nil}
 use Rattle.std.specs.declared.alloc.Global.{Global}
 use Rattle.psi_io.specs.Shelf.{Read}
 use Rattle.psi_io.proofs.CountsLemmas.{rose-over}
@@ -18,13 +17,13 @@ use Rattle.psi_reports.specs.declared.error.MergeError.TheVariants as merge
 use Rattle.psi_merge.specs.declared.ending.Ending.{Ending}
 use Rattle.psi_merge.specs.declared.ending.Ending.TheVariants.{Merged, Usage, Refused, OtherNetwork, TooLarge, Unread, OutOfMemory}
 use Rattle.psi_merge.specs.Reports.{report_in}
-use Rattle.psi_merge.specs.Reply.{Reply, report_reply, report_at, merge_reply, go_on, with_file, with_files, whole_of, is_file, are_files, whole_reply, reply_to, text_reply}
+use Rattle.psi_merge.specs.Reply.{Reply, report_reply, report_at, merge_reply, go_on, with_file, with_files, whole_of, are_files, whole_reply, reply_to, text_reply}
 use Rattle.psi_merge.specs.declared.status.Status.{Status}
 use Rattle.psi_merge.specs.declared.status.Status.TheVariants as status
 use Rattle.psi_merge.specs.Status.{IsReplied}
 use Rattle.psi_merge.specs.Seen.{read_of, IsNext}
 use Rattle.psi_merge.specs.Ended.{ending_of, ending_reply, MayEnd, MayBe, IsUnreadOf, IsTold, IsMissed, AreMissed, AreRead, IsFound, AreFound, IsReplyTo, IsCaused, IsEnding}
-use Rattle.psi_merge.specs.Spared.{AreNextGiven, AreGiven, HasRead}
+use Rattle.psi_merge.specs.Spared.{AreNextGiven, HasRead}
 
 -- the front of a file is judged as the file
 report_in-take : (bytes : List ℕ) → report_in (take 1048577 bytes) ≡ report_in bytes
