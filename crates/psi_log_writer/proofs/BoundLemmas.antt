@@ -124,39 +124,35 @@ module _ (split : ℕ) (f : ℕ → List ℕ → List ℕ) (caps : List ℕ) (ev
         let fewer : length b.states * (6 * length caps + 1) ≤ k * (6 * length caps + 1) = mul-le-mul_right (6 * length caps + 1) own in
         omega arith
 
-    -- the lines of more steps
-    pub front-short : (h : Header) (k done more : ℕ) → h.version ≡ 2 → h.horizon ≡ horizon → HasFew k (region_after split f caps horizon done)
-        → length (front_text split f caps events h (more + done)) ≤ length (front_text split f caps events h done) + more * (22 + k * (6 * length caps + 1))
-    front-short h k done zero version same few =
-        let e : done ≡ 0 + done = omega arith in
-        let same : length (front_text split f caps events h done) ≡ length (front_text split f caps events h (0 + done)) = ap (λ n. length (front_text split f caps events h n)) e in
-        omega arith
-    front-short h k done (suc more) version same few =
-        let width = 22 + k * (6 * length caps + 1) in
-        let before : length (front_text split f caps events h (more + done)) ≤ length (front_text split f caps events h done) + more * width = front-short h k done more version same few in
-        let e : suc more + done ≡ suc (more + done) = omega arith in
-        let there = subst (λ n. HasFew k (region_after split f caps horizon n)) e (few-after k done (suc more) few) in
-        let line : length (step_line split f caps events horizon (more + done)) ≤ width = line-short k (more + done) there in
-        let last : length (front_text split f caps events h (suc more + done)) ≡ length (front_text split f caps events h (suc (more + done))) = ap (λ n. length (front_text split f caps events h n)) e in
-        let count : length (front_text split f caps events h (suc (more + done))) ≡ length (front_text split f caps events h (more + done)) + length (step_line split f caps events h.horizon (more + done)) =
-        ap (λ (t : List ℕ). length t) (front_text-more split f caps events h (more + done) version) ∙ length-append (front_text split f caps events h (more + done)) (step_line split f caps events h.horizon (more + done)) in
-        let at : length (step_line split f caps events h.horizon (more + done)) ≡ length (step_line split f caps events horizon (more + done)) = ap (λ t. length (step_line split f caps events t (more + done))) same in
-        let all : suc more * width ≡ width + more * width = times-more more width in
-        omega arith
+-- the text up to a later step, and the whole of it, where each line from a step on has at most so many bytes
+module _ (split : ℕ) (f : ℕ → List ℕ → List ℕ) (caps : List ℕ) (events : ℕ → ℕ) (h : Header) (version : h.version ≡ 2) (done width : ℕ)
+    (each : (more : ℕ) → length (step_line split f caps events h.horizon (more + done)) ≤ width) where
+  front-grows : (more : ℕ) → length (front_text split f caps events h (more + done)) ≤ length (front_text split f caps events h done) + more * width
+  front-grows zero =
+      let e : done ≡ 0 + done = omega arith in
+      let same : length (front_text split f caps events h done) ≡ length (front_text split f caps events h (0 + done)) = ap (λ n. length (front_text split f caps events h n)) e in
+      omega arith
+  front-grows (suc more) =
+      let before = front-grows more in
+      let e : suc more + done ≡ suc (more + done) = omega arith in
+      let line = each more in
+      let last : length (front_text split f caps events h (suc more + done)) ≡ length (front_text split f caps events h (suc (more + done))) = ap (λ n. length (front_text split f caps events h n)) e in
+      let count : length (front_text split f caps events h (suc (more + done))) ≡ length (front_text split f caps events h (more + done)) + length (step_line split f caps events h.horizon (more + done)) =
+      ap (λ (t : List ℕ). length t) (front_text-more split f caps events h (more + done) version) ∙ length-append (front_text split f caps events h (more + done)) (step_line split f caps events h.horizon (more + done)) in
+      let all : suc more * width ≡ width + more * width = times-more more width in
+      omega arith
 
-    -- the text of the whole log
-    log-short : (h : Header) (state : List ℕ) (k done room : ℕ) → h.version ≡ 2 → h.horizon ≡ horizon → done ≤ horizon → IsVector state → HasFew k (region_after split f caps horizon done)
-        → (horizon - done) * (22 + k * (6 * length caps + 1)) + 200 ≤ room
-        → length (log_text (recorded split f caps events h state)) ≤ length (front_text split f caps events h done) + room
-    log-short h state k done room version same order vector few ample =
-        let e : (horizon - done) + done ≡ horizon = omega arith in
-        let left = front-short h k done (horizon - done) version same few in
-        let all : length (front_text split f caps events h h.horizon) ≡ length (front_text split f caps events h ((horizon - done) + done)) =
-        ap (λ n. length (front_text split f caps events h n)) (same ∙ sym e) in
-        let end = end-short state vector in
-        let count : length (log_text (recorded split f caps events h state)) ≡ length (front_text split f caps events h h.horizon) + length (end_text state) =
-        ap (λ (t : List ℕ). length t) (log_text-recorded split f caps events h state) ∙ length-append (front_text split f caps events h h.horizon) (end_text state) in
-        omega arith
+  pub log-from : (state : List ℕ) (room : ℕ) → done ≤ h.horizon → IsVector state → (h.horizon - done) * width + 200 ≤ room
+      → length (log_text (recorded split f caps events h state)) ≤ length (front_text split f caps events h done) + room
+  log-from state room order vector enough =
+      let e : (h.horizon - done) + done ≡ h.horizon = omega arith in
+      let left = front-grows (h.horizon - done) in
+      let all : length (front_text split f caps events h h.horizon) ≡ length (front_text split f caps events h ((h.horizon - done) + done)) =
+      ap (λ n. length (front_text split f caps events h n)) (sym e) in
+      let end = end-short state vector in
+      let count : length (log_text (recorded split f caps events h state)) ≡ length (front_text split f caps events h h.horizon) + length (end_text state) =
+      ap (λ (t : List ℕ). length t) (log_text-recorded split f caps events h state) ∙ length-append (front_text split f caps events h h.horizon) (end_text state) in
+      omega arith
 
 -- the text of the whole log, as far as a set leaves it room
 pub log-ample : (split : ℕ) (f : ℕ → List ℕ → List ℕ) (caps : List ℕ) (events : ℕ → ℕ) (h : Header) (state : List ℕ) (done room : ℕ) → AreCapacities caps → AreClosed caps f
@@ -165,4 +161,10 @@ pub log-ample : (split : ℕ) (f : ℕ → List ℕ → List ℕ) (caps : List �
     → length (log_text (recorded split f caps events h state)) ≤ length (front_text split f caps events h done) + room
 log-ample split f caps events h state done room valid closed most named version order vector ample =
     let k = length (region_after split f caps h.horizon done).states in
-    log-short split f caps events h.horizon valid closed most named h state k done room version refl order vector (record { set = ample.split; few = omega arith }) ample.enough
+    log-from split f caps events h version done (22 + k * (6 * length caps + 1))
+    (λ more.
+    let e : suc more + done ≡ suc (more + done) = omega arith in
+    line-short split f caps events h.horizon valid closed most named k (more + done)
+    (subst (λ n. HasFew split f caps events h.horizon k (region_after split f caps h.horizon n)) e
+    (few-after split f caps events h.horizon k done (suc more) (record { set = ample.split; few = omega arith }))))
+    state room order vector ample.enough

@@ -1,5 +1,5 @@
 -- How long the lines of a run are at most, by the digits of the capacities, the number of the queues and the split number.
-use Rattle.std.proofs.Common.{◌≡◌, ◌⊎◌, ℕ, zero, suc, ◌+◌, ◌-◌, ◌*◌, ◌<◌, ◌≤◌, ◌^◌, List, [], ◌∷◌, ◌++◌, length, map, codes, Bool, false, slice_index, inl, inr, refl, sym, ◌∙◌, ap, subst, arith, length-append}
+use Rattle.std.proofs.Common.{◌≡◌, ◌⊎◌, ℕ, zero, suc, ◌+◌, ◌-◌, ◌*◌, ◌<◌, ◌≤◌, ◌^◌, List, [], ◌∷◌, ◌++◌, length, map, codes, Bool, false, slice_index, inl, inr, refl, sym, ◌∙◌, ap, subst, arith, length-append, ⊎_elim}
 use Rattle.std.specs.Prelude.{cond}
 use Rattle.std.specs.Fmt.{decimal}
 use Rattle.std.specs.List.{filter}
@@ -29,12 +29,12 @@ use Rattle.psi_log_text.specs.Room.{spaced_words, picked}
 use Rattle.psi_log_text.proofs.JoinedLemmas.{spaced-append, one_word, picked-append, moved}
 use Rattle.psi_replay.specs.Verdict.{event_numbers}
 use Rattle.psi_log_writer.specs.Recorded.{region_of, recorded, log_of}
-use Rattle.psi_log_writer.specs.Walking.{step_line, front_text, text_in, IsRoomy}
+use Rattle.psi_log_writer.specs.Walking.{step_line, front_text, text_in, IsRoomy, IsAmpleAfter}
 use Rattle.psi_log_writer.proofs.WalkingLemmas.{next-set}
 use Rattle.psi_log_writer.proofs.TextLemmas.{front_text-more, log_text-recorded, text_before-front}
 use Rattle.psi_log_writer.proofs.AcceptedLemmas.{events-few}
 use Rattle.psi_log_writer.proofs.RegionLemmas.{IsKept, kept-after, state-below, region_of-plain}
-use Rattle.psi_log_writer.proofs.BoundLemmas.{HasFew, few-next, step-short, end-short, times-more}
+use Rattle.psi_log_writer.proofs.BoundLemmas.{HasFew, few-next, step-short, times-more, log-from, log-ample}
 
 -- each number of a list has at most so many digits
 abbrev pub AreShort : ℕ → List ℕ → Type 0
@@ -193,38 +193,14 @@ module _ (split : ℕ) (f : ℕ → List ℕ → List ℕ) (caps : List ℕ) (ev
             omega arith)
       ]
 
-  -- the lines of more steps
-  front-wide : (h : Header) (done more : ℕ) → h.version ≡ 2 → h.horizon ≡ horizon
-      → length (front_text split f caps events h (more + done)) ≤ length (front_text split f caps events h done) + more * width
-  front-wide h done zero version same =
-      let e : done ≡ 0 + done = omega arith in
-      let same : length (front_text split f caps events h done) ≡ length (front_text split f caps events h (0 + done)) = ap (λ n. length (front_text split f caps events h n)) e in
-      omega arith
-  front-wide h done (suc more) version same =
-      let before : length (front_text split f caps events h (more + done)) ≤ length (front_text split f caps events h done) + more * width = front-wide h done more version same in
-      let e : suc more + done ≡ suc (more + done) = omega arith in
-      let line : length (step_line split f caps events horizon (more + done)) ≤ width = line-wide (more + done) in
-      let last : length (front_text split f caps events h (suc more + done)) ≡ length (front_text split f caps events h (suc (more + done))) = ap (λ n. length (front_text split f caps events h n)) e in
-      let count : length (front_text split f caps events h (suc (more + done))) ≡ length (front_text split f caps events h (more + done)) + length (step_line split f caps events h.horizon (more + done)) =
-      ap (λ (t : List ℕ). length t) (front_text-more split f caps events h (more + done) version) ∙ length-append (front_text split f caps events h (more + done)) (step_line split f caps events h.horizon (more + done)) in
-      let at : length (step_line split f caps events h.horizon (more + done)) ≡ length (step_line split f caps events horizon (more + done)) = ap (λ t. length (step_line split f caps events t (more + done))) same in
-      let all : suc more * width ≡ width + more * width = times-more more width in
-      omega arith
-
 -- the text of the whole log
-pub log-wide : (split : ℕ) (f : ℕ → List ℕ → List ℕ) (caps : List ℕ) (events : ℕ → ℕ) (h : Header) (state : List ℕ) (done room : ℕ) → AreCapacities caps → AreClosed caps f
+log-wide : (split : ℕ) (f : ℕ → List ℕ → List ℕ) (caps : List ℕ) (events : ℕ → ℕ) (h : Header) (state : List ℕ) (done room : ℕ) → AreCapacities caps → AreClosed caps f
     → h.horizon < 10 ^ 7 → ((t : ℕ) → events t < 10 ^ 4) → h.version ≡ 2 → done ≤ h.horizon → IsVector state → IsRoomy caps split (h.horizon - done) room
     → length (log_text (recorded split f caps events h state)) ≤ length (front_text split f caps events h done) + room
 log-wide split f caps events h state done room valid closed most named version order vector roomy =
-    let enough = roomy.enough in
-    let e : (h.horizon - done) + done ≡ h.horizon = omega arith in
-    let left = front-wide split f caps events h.horizon valid closed most named roomy.digits roomy.width roomy.some roomy.numbers roomy.boxes roomy.sets h done (h.horizon - done) version refl in
-    let all : length (front_text split f caps events h h.horizon) ≡ length (front_text split f caps events h ((h.horizon - done) + done)) =
-    ap (λ n. length (front_text split f caps events h n)) (sym e) in
-    let end = end-short state vector in
-    let count : length (log_text (recorded split f caps events h state)) ≡ length (front_text split f caps events h h.horizon) + length (end_text state) =
-    ap (λ (t : List ℕ). length t) (log_text-recorded split f caps events h state) ∙ length-append (front_text split f caps events h h.horizon) (end_text state) in
-    omega arith
+    log-from split f caps events h version done roomy.width
+    (λ more. line-wide split f caps events h.horizon valid closed most named roomy.digits roomy.width roomy.some roomy.numbers roomy.boxes roomy.sets (more + done))
+    state room order vector roomy.enough
 
 -- what both ways to know that the lines that are left fit ask of a network's run
 pub record IsShort {E : Type 0} (function : E → List ℕ → List ℕ) (system : Parts E) (words : ℕ → ℕ) (horizon : ℕ) : Type 0 where
@@ -232,7 +208,7 @@ pub record IsShort {E : Type 0} (function : E → List ℕ → List ℕ) (system
   pub most : horizon < 10 ^ 7
   pub named : (t : ℕ) → event_numbers system words t < 10 ^ 4
 
-pub run-short : {E : Type 0} (capacities : E → List ℕ) (function : E → List ℕ → List ℕ) (system : Parts E) (words : ℕ → ℕ) (horizon : ℕ)
+run-short : {E : Type 0} (capacities : E → List ℕ) (function : E → List ℕ → List ℕ) (system : Parts E) (words : ℕ → ℕ) (horizon : ℕ)
     → ((event : E) → IsClosed (capacities event) (function event)) → IsSystem capacities system → horizon ≤ 2 ^ system.limit → IsShort function system words horizon
 run-short capacities function system words horizon law fit most =
     let powered : 2 ^ system.limit ≤ 2 ^ 22 = pow-order system.limit 22 fit.most_limit in
@@ -243,7 +219,7 @@ run-short capacities function system words horizon law fit most =
     }
 
 -- what is left of the whole text from the place of a step or of the end on
-pub whole-fits : {E : Type 0} (function : E → List ℕ → List ℕ) (system : Parts E) (words : ℕ → ℕ) (h : Header) (state : List ℕ) (place room : ℕ) → 2 ≤ place → place ≤ h.horizon + 2
+whole-fits : {E : Type 0} (function : E → List ℕ → List ℕ) (system : Parts E) (words : ℕ → ℕ) (h : Header) (state : List ℕ) (place room : ℕ) → 2 ≤ place → place ≤ h.horizon + 2
     → h.version ≡ 2
     → length (log_text (log_of function system words h state))
     ≤ length (front_text system.split (system_functions function system words) system.caps (event_numbers system words) h (place - 2)) + room
@@ -253,3 +229,18 @@ whole-fits function system words h state place room low high version fits =
     let front = ap (λ (t : List ℕ). length t) (ap (λ n. text_in function system words h state n) e
     ∙ text_before-front system.split (system_functions function system words) system.caps (event_numbers system words) h state (place - 2) version (omega arith)) in
     omega arith
+
+-- the lines that are left fit by one of the two ways
+pub left-fits : {E : Type 0} (capacities : E → List ℕ) (function : E → List ℕ → List ℕ) (system : Parts E) (words : ℕ → ℕ) (h : Header) (state : List ℕ) (place room : ℕ)
+    → ((event : E) → IsClosed (capacities event) (function event)) → IsSystem capacities system → h.horizon ≤ 2 ^ system.limit → 2 ≤ place → place ≤ h.horizon + 2
+    → h.version ≡ 2 → IsVector state
+    → IsRoomy system.caps system.split (h.horizon - (place - 2)) room ⊎ IsAmpleAfter function system words (h.horizon - (place - 2)) room h.horizon (place - 2)
+    → length (log_text (log_of function system words h state)) ≤ length (text_in function system words h state place) + room
+left-fits capacities function system words h state place room law fit most low high version vector known =
+    let short = run-short capacities function system words h.horizon law fit most in
+    let f = system_functions function system words in
+    let events = event_numbers system words in
+    whole-fits function system words h state place room low high version (⊎_elim
+    (log-wide system.split f system.caps events h state (place - 2) room fit.valid short.closed short.most short.named version (omega arith) vector)
+    (log-ample system.split f system.caps events h state (place - 2) room fit.valid short.closed short.most short.named version (omega arith) vector)
+    known)
