@@ -37,17 +37,17 @@ returns-in_err-pass_on-clause-sent g c =
 
 pub loop-place-preserved : goal.loop-place-preserved
 loop-place-preserved g c =
-    let system = c.args.plan.now.system in
-    let words = g.P.Past.words c.args.plan.now.past in
-    let h = c.args.header.now in
-    let state = c.args.state.now in
-    let place = c.loop-place.place in
     let kept = c.loop-place.invariant in
-    let first : SinkState = record { held = g.O.Sink.held c.args.out.now; faults = g.O.Sink.faults c.args.out.now; takes = g.O.Sink.takes c.args.out.now } in
-    let out = c.pass_on.new.out in
-    let last : SinkState = record { held = g.O.Sink.held out; faults = g.O.Sink.faults out; takes = g.O.Sink.takes out } in
     let held = c.pass_on.new.line in
     let block = c.pass_on.new.block in
+    let out = c.pass_on.new.out in
+    let first : SinkState = record { held = g.O.Sink.held c.args.out.now; faults = g.O.Sink.faults c.args.out.now; takes = g.O.Sink.takes c.args.out.now } in
+    let last : SinkState = record { held = g.O.Sink.held out; faults = g.O.Sink.faults out; takes = g.O.Sink.takes out } in
+    let place = c.loop-place.place in
+    let h = c.args.header.now in
+    let state = c.args.state.now in
+    let system = c.args.plan.now.system in
+    let words = g.P.Past.words c.args.plan.now.past in
     let text = text_in g.E.EventLaw.function system words h state place in
     let line = line-same g.E.EventLaw.function _ system _ words h state place held c.next_line.new.line kept.system kept.words c.next_line.ensures.line in
     record {
