@@ -145,9 +145,12 @@ fn keep_places<P: Past>(
     ensures words { P.words past.new ≡ P.words past.old }
 {
     let mut place = reached;
+    // Made once: all places of the two arrays are written for that.
+    let mut words = [0; WINDOW as usize];
+    let mut numbers = [0; WINDOW as usize];
     while place < end {
         let next = place + (end - place).min(WINDOW);
-        keep_window(wheel, past, list, place, next);
+        keep_window(wheel, past, list, &mut words, &mut numbers, place, next);
         place = next;
     }
 }
@@ -161,20 +164,23 @@ fn count_places<P: Past>(wheel: &Wheel, past: &mut P, before: usize, first: u32,
 {
     let mut count = before;
     let mut place = first;
+    let mut words = [0; WINDOW as usize];
     let mut numbers = [0; WINDOW as usize];
     while place < end {
         let next = place + (end - place).min(WINDOW);
-        count += pick_window(wheel, past, place, next, &mut numbers);
+        count += pick_window(wheel, past, &mut words, &mut numbers, place, next);
         place = next;
     }
     count
 }
 
-// Keeps the numbers of the places of a window too.
+// Keeps the numbers of the places of a window too. What stands in the two arrays doesn't matter.
 fn keep_window<P: Past>(
     wheel: &Wheel,
     past: &mut P,
     list: &mut Vec<u16, LocalHeap>,
+    words: &mut [u32; 256],
+    numbers: &mut [u16; 256],
     first: u32,
     end: u32,
 )
@@ -186,8 +192,7 @@ fn keep_window<P: Past>(
     ensures capacity { vec_capacity list.old ≤ vec_capacity list.new }
     ensures words { P.words past.new ≡ P.words past.old }
 {
-    let mut numbers = [0; WINDOW as usize];
-    let count = pick_window(wheel, past, first, end, &mut numbers);
+    let count = pick_window(wheel, past, words, numbers, first, end);
     // There is room for them.
     let _kept = list.extend_from_slice(&numbers[..count]);
 }
@@ -196,9 +201,10 @@ fn keep_window<P: Past>(
 fn pick_window<P: Past>(
     wheel: &Wheel,
     past: &mut P,
+    words: &mut [u32; 256],
+    numbers: &mut [u16; 256],
     first: u32,
     end: u32,
-    numbers: &mut [u16; 256],
 ) -> usize
     requires longer { first ≤ end }
     requires window { end ≤ first + 256 }
@@ -206,8 +212,7 @@ fn pick_window<P: Past>(
     ensures numbers { numbers_below wheel.now (P.words past.old) first ++ take result numbers.new ≡ numbers_below wheel.now (P.words past.old) end }
     ensures words { P.words past.new ≡ P.words past.old }
 {
-    let mut window = [0; WINDOW as usize];
-    let words = &mut window[..(end - first) as usize];
-    past.fill(first, words);
-    wheel.pick_all(words, numbers)
+    let drawn = &mut words[..(end - first) as usize];
+    past.fill(first, drawn);
+    wheel.pick_all(drawn, numbers)
 }
