@@ -179,8 +179,6 @@ impl<'n, E: EventLaw, P: Past + Drop, F: Follower + Drop> Plan<'n, E, P, F> {
         ensures words { P.words self.new.past ≡ P.words self.old.past }
         ensures run { self.new.run ≡ None }
     {
-        // Called for its clause: the events fit the capacities.
-        let _caps = self.system.caps();
         self.run = None;
         ending(
             &self.system,

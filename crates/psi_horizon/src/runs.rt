@@ -3,6 +3,7 @@
 ghost use Rattle.std.specs.Prelude.{◌≡◌, ◌^◌, ◌≤◌, length, map};
 ghost use Rattle.psi_rate.specs.Rates.{event_of};
 ghost use Rattle.psi_rate.specs.Composition.{picked, system_functions};
+ghost use Rattle.psi_rate.specs.System.{IsSystem};
 ghost use Rattle.psi_rate.specs.Keeping.{KeepsNumbers};
 ghost use Rattle.psi_region.specs.Region.{step, IsArea};
 ghost use Rattle.psi_horizon.specs.Runs.{ending_at};
@@ -30,6 +31,7 @@ pub(crate) fn ending<E: EventLaw, P: Past, F: Follower>(
     ensures kept { KeepsNumbers system.now.rates (P.words past.old) (2 ^ system.now.limit) numbers.new }
     ensures follower { F.stands_for follower.new ≡ F.stands_for follower.old }
     ensures words { P.words past.new ≡ P.words past.old }
+    ensures fit { IsSystem E.capacities system.now }
 {
     // Called for its clause: the events fit the capacities.
     let _caps = system.caps();
