@@ -123,7 +123,10 @@ impl<'n, E: EventLaw, P: Past + Drop, F: Follower + Drop> Plan<'n, E, P, F> {
     /// Where every event is monotone, and also where there are at most `split` states, it is met exactly
     /// where all states have met at one of these horizons, and at the least of them. Under monotone events
     /// all states have met exactly where the least and the greatest state have.
-    /// Afterwards no run is begun.
+    ///
+    /// A plan that has drawn a sample that is met begins the next one with half its horizon, where most
+    /// samples take fewer steps: a run that ends with one state does so at each longer horizon, so the
+    /// least one may be looked for from any. Afterwards no run is begun.
     pub fn sample(&mut self) -> Outcome
         ensures outcome { let f = system_functions E.function self.old.system (P.words self.old.past) in
             result ≡ outcome_within (ending_at self.old.system.split f self.old.system.caps) self.old.system.limit }
@@ -150,8 +153,9 @@ impl<'n, E: EventLaw, P: Past + Drop, F: Follower + Drop> Plan<'n, E, P, F> {
         self.guess
     }
 
-    // The next sample begins with half the horizon of this one, where it is met: most have this horizon, or the one above
-    // or below. Below 64 steps it begins with one step: as many words are drawn at once.
+    // The next sample begins with half the horizon of this one, where it is met: most have this
+    // horizon, or the one above or below. Below 64 steps it begins with one step: the words of so
+    // few places are drawn at once, and drawn again where they are counted in between.
     fn guess_by(&mut self, outcome: &Outcome)
         ensures { self.new ≡ self.old }
     {
