@@ -1,6 +1,6 @@
 -- The composed map of all states of a network.
 use Rattle.std.specs.Prelude.{◌≡◌, ℕ, zero, suc, ◌^◌, ◌<◌, ◌≤◌, List, [], ◌∷◌, map, length, All, Option, refl}
-use Rattle.std.proofs.Common.{ap, sym, ◌∙◌, subst, arith, inl, inr}
+use Rattle.std.proofs.Common.{ap, sym, ◌∙◌, subst, inl, inr}
 use Rattle.std.proofs.lemmas.Bool.{cases_lt, le-leb, lt-leb}
 use Rattle.psi_io.specs.Sink.{appended}
 use Rattle.psi_state.specs.State.{IsBelow, all_states, numbers_from}
@@ -31,7 +31,7 @@ use Rattle.psi_model.specs.Valid.{IsNetwork}
 use Rattle.psi_command.specs.declared.status.Status.{Status}
 use Rattle.psi_command.specs.declared.status.Status.TheVariants.{TooManyStates}
 use Rattle.psi_answers.specs.Lines.{too_many_line}
-use Rattle.psi_answers.specs.Surveys.{survey_text, HasExponent}
+use Rattle.psi_answers.specs.Surveys.{survey_text}
 use Rattle.psi_reply.specs.Sample.{functions_by_time}
 use Rattle.psi_reply.specs.Networks.{IsSystemOf}
 use Rattle.psi_reply.specs.Couple.{endings}
