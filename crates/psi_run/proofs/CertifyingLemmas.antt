@@ -1,12 +1,11 @@
 -- How the log of a sample is written.
 use Rattle.std.specs.Prelude.{◌≡◌, ℕ, ◌≤◌, List, length, refl}
-use Rattle.std.proofs.Common.{inl, inr, sym, ◌∙◌, arith}
-use Rattle.std.proofs.lemmas.Bool.{cases_lt, le-leb, lt-leb}
+use Rattle.std.proofs.Common.{inl, sym, ◌∙◌}
+use Rattle.std.proofs.lemmas.Bool.{le-leb}
 use Rattle.psi_io.proofs.SinkLemmas.{appended-nothing}
 use Rattle.psi_command.specs.declared.status.Status.{Status}
 use Rattle.psi_command.specs.declared.status.Status.TheVariants as status
-use Rattle.psi_answers.specs.Lines.{too_long_line}
-use Rattle.psi_program.specs.Reply.{text_reply, line_reply}
+use Rattle.psi_program.specs.Reply.{text_reply}
 use Rattle.psi_reply.specs.Reply.{log_reply}
 use Rattle.psi_program.specs.Seen.{SinkSeen, Grew, GrewByPart, HasFailed}
 use Rattle.psi_program.specs.Ending.{replied}
