@@ -58,10 +58,6 @@ total-hull caps k = record {
       }));
 }
 
--- its states are of the total
-pub hull-each : (caps : List ℕ) (k : ℕ) (xs : List (List ℕ)) (x : List ℕ) → IsHull caps k xs → In x xs → IsOfTotal caps k x
-hull-each caps k xs x is member = hull-of caps k xs x (subst (λ (ys : List (List ℕ)). In x ys) (sym is.own) member)
-
 pub hull-rising : (caps : List ℕ) (k : ℕ) (xs : List (List ℕ)) → IsHull caps k xs → IsRising xs
 hull-rising caps k xs is = subst (λ (ys : List (List ℕ)). IsRising ys) is.own (held-rising caps k (all_arcs xs))
 

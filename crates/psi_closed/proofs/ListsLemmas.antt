@@ -41,12 +41,6 @@ filter-agree p q (x ∷ xs) each =
     ap (λ b. cond b (x ∷ filter p xs) (filter p xs)) (each x (inl refl))
     ∙ ap (λ ys. cond (q x) (x ∷ ys) ys) (filter-agree p q xs (λ y member. each y (inr member)))
 
--- a test that all pass leaves all
-pub filter-all : {A : Type 0} (p : A → Bool) (xs : List A) → ((x : A) → In x xs → p x ≡ true) → filter p xs ≡ xs
-filter-all p [] each = refl
-filter-all p (x ∷ xs) each =
-    ap (λ b. cond b (x ∷ filter p xs) (filter p xs)) (each x (inl refl)) ∙ ap (λ ys. x ∷ ys) (filter-all p xs (λ y member. each y (inr member)))
-
 rising-cond : (b : Bool) (x : List ℕ) (rest : List (List ℕ)) → ((z : List ℕ) → In z rest → state_cmp x z ≡ Less) → IsRising rest
     → IsRising (cond b (x ∷ rest) rest)
 rising-cond true x rest below rising = (below, rising)

@@ -27,13 +27,6 @@ agree-closed caps f g agree closed = record {
 pub agree-back : (caps : List ℕ) (f g : List ℕ → List ℕ) → Agree caps f g → Agree caps g f
 agree-back caps f g agree = record { each = λ x within. sym (agree.each x within) }
 
-pub alike-back : (caps : List ℕ) (fs gs : List (List ℕ → List ℕ)) → AreAlike caps fs gs → AreAlike caps gs fs
-alike-back caps fs gs alike = record {
-  same_length = sym alike.same_length;
-  each = λ k small. (let same = alike.same_length in
-      agree-back caps (slice_index_or fs k (λ x. x)) (slice_index_or gs k (λ x. x)) (alike.each k (omega arith)));
-}
-
 -- the events of one word agree
 pub picked-agree : (caps : List ℕ) (fs gs : List (List ℕ → List ℕ)) (rates : List ℕ) (word : ℕ) → AreAlike caps fs gs
     → Agree caps (picked fs rates word) (picked gs rates word)

@@ -16,18 +16,6 @@ use Rattle.psi_horizon.specs.Runs.{follow, region_at, ending_at, region_after}
 use Rattle.psi_horizon.proofs.RunsLemmas.{region_after-area}
 use Rattle.psi_horizon.proofs.SampleLemmas.{single-within}
 
--- a step takes the oldest function off the run
-pub follow-step : (split : ℕ) (f : ℕ → List ℕ → List ℕ) (t : ℕ) (a b end : Area) → 1 ≤ t → follow split f t a ≡ end → b ≡ step split (f t) a → follow split f (t - 1) b ≡ end
-follow-step split f zero a b end some is stepped = absurd (omega arith)
-follow-step split f (suc t) a b end some is stepped =
-    let e : suc t - 1 ≡ t = omega arith in ap (λ n. follow split f n b) e ∙ (ap (λ (c : Area). follow split f t c) stepped ∙ is)
-
--- with no step left, the region is the one with which the run ends
-pub follow-ends : (split : ℕ) (f : ℕ → List ℕ → List ℕ) (caps : List ℕ) (t horizon : ℕ) (a : Area) (o : Option (List ℕ)) → t ≡ 0
-    → follow split f t a ≡ region_at split f caps horizon → o ≡ single a.states → o ≡ ending_at split f caps horizon
-follow-ends split f caps t horizon a o none is one =
-    one ∙ ap (λ (b : Area). single b.states) (ap (λ n. follow split f n a) (sym none) ∙ is)
-
 -- what holds of a run that was begun
 pub if_some-map : {A : Type 0} (P Q : A → Type 0) (o : Option A) → ((a : A) → P a → Q a) → IfSome o P → IfSome o Q
 if_some-map P Q None each is = tt

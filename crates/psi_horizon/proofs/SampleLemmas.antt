@@ -45,13 +45,3 @@ sample-is caps functions rates limit split words o closed least =
       monotone = λ monotone. outcome-monotone split caps f limit o closed (function_at-monotone caps functions rates words monotone) least;
       small = λ few. outcome-exact split caps f limit o few least;
     }
-
--- a sample of functions is one of other functions that agree with them
-pub sample-agree : (caps : List ℕ) (fs gs : List (List ℕ → List ℕ)) (rates : List ℕ) (limit split : ℕ) (words : ℕ → ℕ) (o : Outcome)
-    → AreClosed caps (function_at fs rates words) → AreAlike caps fs gs → IsSample caps fs rates limit split words o → IsSample caps gs rates limit split words o
-sample-agree caps fs gs rates limit split words o closed alike sample =
-    let f = function_at fs rates words in
-    let g = function_at gs rates words in
-    sample-is caps gs rates limit split words o (alike-closed_at caps fs gs rates words closed alike)
-    (outcome-agree (ending_at split f caps) (ending_at split g caps) limit o
-    (λ t some. ending_at-agree split caps f g closed (function_at-agree caps fs gs rates words alike) t) sample.least)

@@ -17,12 +17,6 @@ dial-least rates totals shown sum modulus dial is =
     subst (λ (xs : List ℕ). IsLeastPower (total xs) modulus) is
     (subst (λ m. IsLeastPower (total rates) m) (sym dial.power) (least_power-is (total rates)))
 
-pub dial-some : (rates totals : List ℕ) (sum modulus : ℕ) → IsDial rates totals sum modulus → 1 ≤ modulus
-dial-some rates totals sum modulus dial =
-    let least = dial-least rates totals rates sum modulus dial refl in
-    let positive = pow_pos least.exponent in
-    let is = least.power in omega arith
-
 pub dial-below : (rates totals : List ℕ) (sum modulus : ℕ) → IsDial rates totals sum modulus → sum ≤ modulus
 dial-below rates totals sum modulus dial =
     let least = dial-least rates totals rates sum modulus dial refl in

@@ -84,11 +84,3 @@ is_least-agree run other most t a agree is = record {
   answer = sym (agree t is.some) ∙ is.answer;
   earlier = has_none_below-agree run other t agree is.earlier;
 }
-
--- it isn't above the first power of two that has an answer
-pub least-below_first : {A : Type 0} (run : ℕ → Option A) (most limit t p : ℕ) (a b : A) → IsLeast run most t a → IsFirst run limit p b → t ≤ p
-least-below_first run most limit t p a b least first = elim (cases_lt p t) [
-  | inl less ↦ (let positive = below-pow first.exponent in let power = first.power in
-      let none : run p ≡ None = least.earlier.each p (omega arith) less in let found = first.answer in absurd cc)
-  | inr more ↦ more
-]

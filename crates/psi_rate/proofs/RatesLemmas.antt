@@ -13,21 +13,6 @@ event_at-below (rate ∷ rates) r =
           let rest = event_at-below rates (r - rate) in omega arith)
     ]
 
-pub event_at-has_number : (rates : List ℕ) (r : ℕ) → HasNumber rates r (event_at rates r)
-event_at-has_number [] r = record { place = omega arith; before = omega arith; own = λ small. absurd (omega arith) }
-event_at-has_number (rate ∷ rates) r =
-    elim (cases_lt r rate) [
-      | inl less ↦ (let e : 0 ≡ event_at (rate ∷ rates) r = rw (lt-ltb r rate less) refl in
-          subst (λ (n : ℕ). HasNumber (rate ∷ rates) r n) e (record { place = omega arith; before = omega arith; own = λ small. omega arith }))
-      | inr more ↦ (let e : suc (event_at rates (r - rate)) ≡ event_at (rate ∷ rates) r = rw (le-ltb r rate more) refl in
-          let rest = event_at-has_number rates (r - rate) in
-          subst (λ (n : ℕ). HasNumber (rate ∷ rates) r n) e (record {
-            place = (let p = rest.place in omega arith);
-            before = (let b : total (take (event_at rates (r - rate)) rates) ≤ r - rate = rest.before in omega arith);
-            own = λ small. (let o : r - rate < total (take (suc (event_at rates (r - rate))) rates) = rest.own (omega arith) in omega arith);
-          }))
-    ]
-
 -- the numbers of two events are apart, so a number has one event
 pub has_number-event_at : (rates : List ℕ) (r e : ℕ) → HasNumber rates r e → e ≡ event_at rates r
 has_number-event_at [] r e has = (let p = has.place in omega arith)
