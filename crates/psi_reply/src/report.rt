@@ -13,10 +13,9 @@ ghost use Rattle.psi_reply.specs.Ending.{EndsWith};
 ghost use Rattle.psi_reply.specs.Ended.{ending_of};
 
 use crate::ending::Ending;
+use crate::planning::{NetPlan, plan_for};
 use psi_command::Status;
 use psi_event::EventLaw;
-use psi_follow::{Way, plan_of};
-use psi_horizon::Plan;
 use psi_kinds::Event;
 use psi_model::Net;
 use psi_past::SeedPast;
@@ -25,12 +24,7 @@ use psi_state::Outcome;
 use std::alloc::Global;
 
 // The sample of a stream, by the plan for the network.
-fn next_sample<'n>(
-    plan: &mut Plan<'n, Event, SeedPast, Way<'n, Event>>,
-    net: &Net,
-    seed: u64,
-    stream: u64,
-) -> Outcome
+fn next_sample<'n>(plan: &mut NetPlan<'n>, net: &Net, seed: u64, stream: u64) -> Outcome
     requires { IsSystemOf ⟦<Event as EventLaw>⟧.function net.now plan.old.system }
     ensures value { result ≡ sampled net.now seed stream }
     ensures sample { IsSampleOf net.now result }
@@ -50,7 +44,7 @@ fn tally_of(alloc: Global, net: &Net, seed: u64, first: u64, count: u32) -> Opti
     ensures { IfSome result (λ tally. StandsFor tally net.now (samples_of net.now seed first count)) }
 {
     let mut tally = Tally::new(alloc, net).ok()?;
-    let mut plan = plan_of(alloc, net.system(), SeedPast::new(seed, first)).ok()?;
+    let mut plan = plan_for(alloc, net, seed, first).ok()?;
     for i in 0..count {
         let outcome = next_sample(&mut plan, net, seed, first + i as u64);
         tally.add(net, &outcome);
