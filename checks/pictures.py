@@ -42,7 +42,8 @@ def main():
         room_of(program.resolve(), room)
         for block in BLOCK.findall(text):
             if "tools/psi-plot" in block:
-                wrong += subprocess.run(["sh", "-c", block], cwd=room).returncode != 0
+                env = {**os.environ, "PATH": f"{room}:{os.environ['PATH']}"}
+                wrong += subprocess.run(["sh", "-c", block], cwd=room, env=env).returncode != 0
         drawn = sorted(room.glob("*.svg"))
         for picture in drawn:
             if os.path.getsize(picture) > MOST_BYTES:

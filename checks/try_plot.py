@@ -399,8 +399,11 @@ def try_words(tried, room):
     first = (room / "drawn.svg").read_bytes()
     answer(["coupling", "small.log", "-t", "A title with $ and _", "-o", "drawn.svg"], room)
     tried.hold((room / "drawn.svg").read_bytes() == first, "the same log is another picture")
+    names = re.findall(rb'<clipPath id="([^"]*)"', first)
+    numbered = [b"clip%d" % number for number in range(len(names))]
+    tried.hold(names and sorted(names) == sorted(numbered), f"clip paths are called {names}")
     status, _, told = answer(["report", "small.csv", "-o", "absent/drawn.svg"], room)
-    tried.hold(status == 1 and told.count("\n") == 1, f"an absent folder: {status} {told}")
+    tried.hold(status == 7 and told.count("\n") == 1, f"an absent folder: {status} {told}")
     status, said, told = answer(["-h"], room)
     tried.hold(status == 0 and "psi-plot coupling" in said and not told, "the words aren't told")
 

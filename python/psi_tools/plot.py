@@ -10,9 +10,9 @@ from psi_tools.plotting.read_log import names_of, read_log
 from psi_tools.plotting.read_report import Report, Spread, read_report
 from psi_tools.plotting.refused import Refused, need
 from psi_tools.told import Told
-from psi_tools.words import Words, look_at, run, tell
+from psi_tools.words import Words, look_at, run, write
 
-COMMAND, UNDRAWN = "psi-plot", 1
+COMMAND = "psi-plot"
 # The most bytes that are read of a file: one more than a log may have.
 LONGEST, MOST_REPORTS, FORMATS = 33_554_433, 8, ("svg", "png", "pdf")
 ABOUT = """Draws what psi prints, and forward runs, as pictures for a lecture or a page.
@@ -29,7 +29,8 @@ psi-plot forward NET [STEPS..] -o FILE a network of one queue: where forward run
                                        they aren't given
 
 The exit status is 0 where the picture is drawn; 2 where a word or an input isn't what it should be,
-as one line on standard error tells; 1 where the picture can't be drawn or written."""
+as one line on standard error tells; 7 where the picture can't be written; 1 where it can't be
+drawn."""
 
 
 def reader():
@@ -60,10 +61,7 @@ def words_of(arguments):
     need(words.what in DRAWN, f"the first word is one of {', '.join(DRAWN)}")
     need(words.files, f"{words.what} is told no file")
     need(words.out.rpartition(".")[2].lower() in FORMATS, "-o names no .svg, .png or .pdf")
-    try:
-        look_at(words.out)
-    except Told as told:
-        raise Told(str(told), UNDRAWN) from None
+    look_at(words.out)
     return words
 
 
@@ -147,14 +145,7 @@ def draw(words):
 
 def work(arguments):
     words = words_of(arguments)
-    picture = draw(words)
-    try:
-        with open(words.out, "wb") as file:
-            file.write(picture)
-    except OSError as fault:
-        tell(COMMAND, f"the picture can't be written: {fault.strerror or fault}")
-        return UNDRAWN
-    return 0
+    write(words.out, draw(words))
 
 
 def main(arguments):

@@ -4,6 +4,7 @@ import io
 import logging
 import math
 import pathlib
+import re
 import textwrap
 import warnings
 
@@ -30,6 +31,8 @@ SMALLEST, MEASURE = 4.5, matplotlib.textpath.text_to_path
 SUPERSCRIPT = str.maketrans("0123456789", "⁰¹²³⁴⁵⁶⁷⁸⁹")
 # Whole numbers are at steps of 1, 2 or 5, times a power of ten.
 STEPS = [1, 2, 5, 10]
+# Where a clip path of an SVG is named.
+CLIP = re.compile(rb'(<clipPath id="|url\(#)(p[0-9a-f]{10})(?=["\)])')
 STYLE = {
     "font.family": "DejaVu Sans",
     "font.size": 8,
@@ -88,7 +91,18 @@ def saved(figure, form):
     undated = {"svg": {"Date": None}, "pdf": {"CreationDate": None}, "png": {}}[form]
     room = io.BytesIO()
     figure.savefig(room, format=form, metadata=undated)
-    return room.getvalue()
+    return clips_numbered(room.getvalue()) if form == "svg" else room.getvalue()
+
+
+def clips_numbered(drawn):
+    """The same SVG, its clip paths numbered as they come: some of the names that matplotlib gives
+    them are made of places in memory."""
+    names = {}
+
+    def named(found):
+        return found[1] + names.setdefault(found[2], b"clip%d" % len(names))
+
+    return CLIP.sub(named, drawn)
 
 
 def printable(text, most=60):
