@@ -27,6 +27,8 @@ pub enum GuardRefusal {
 pub struct Guarded {
     pub(crate) caps: State,
     pub(crate) parts: Parts,
+    // Where the part of each queue is looked for first: the place of the part that names the queue.
+    pub(crate) places: [u8; 32],
     ghost valid: { AreCapacities caps },
     ghost guards: { AreGuards caps parts },
 }
@@ -67,8 +69,25 @@ impl Guarded {
         ensures function { ⟦<Guarded as EventLaw>⟧.function result ≡ guarded parts }
         ensures upset_pair { ⟦<Guarded as EventLaw>⟧.upset_pair result ≡ upset_of caps parts }
     {
-        Guarded { caps, parts }
+        let places = places_of(&parts);
+        Guarded {
+            caps,
+            parts,
+            places,
+        }
     }
+}
+
+// For each queue that a part names the place of such a part.
+fn places_of(parts: &Parts) -> [u8; 32] {
+    let mut places = [0; 32];
+    for place in 0..parts.len() {
+        let queue = parts.get(place).queue as usize;
+        if queue < places.len() {
+            places[queue] = place;
+        }
+    }
+    places
 }
 
 // Why a part can't follow the earlier ones, if it can't.

@@ -1,6 +1,6 @@
 //! The four tests that tell whether a guarded event keeps the order of states, and the pair that they show.
 
-ghost use Rattle.std.specs.Prelude.{◌≡◌, ℕ, ◌<◌, ◌≤◌, List, Option, IsTrue, length, slice_index, unsigned_abs};
+ghost use Rattle.std.specs.Prelude.{◌≡◌, ℕ, ◌<◌, ◌≤◌, List, Option, IsTrue, IfSome, length, slice_index, unsigned_abs};
 ghost use Rattle.psi_guard.specs.Guarding.{AnswersAs, around_least, around_most, exceeds, fall, leap, leasts, over_pairs, over_queues, part_of, plunge, rise};
 ghost use Rattle.psi_guard.specs.Rule.{FitsGuard};
 
@@ -177,6 +177,9 @@ impl Guarded {
         ensures fits { FitsGuard (slice_index self.now.caps queue) result }
         ensures shift { unsigned_abs result.shift ≤ 65535 }
     {
+        if let Some(part) = self.part_there(queue, self.places[queue as usize]) {
+            return part;
+        }
         for i in 0..self.count() {
             let part = self.part(i);
             if part.queue == queue {
@@ -192,5 +195,19 @@ impl Guarded {
             floor: 0,
             ceiling: cap,
         }
+    }
+
+    // The part at a place, if there is one there and it names the queue.
+    fn part_there(&self, queue: u8, place: u8) -> Option<Part>
+        requires { queue < length self.now.caps }
+        ensures value { IfSome result (λ part. part ≡ part_of self.now.caps self.now.parts queue) }
+        ensures fits { IfSome result (λ part. FitsGuard (slice_index self.now.caps queue) part) }
+        ensures shift { IfSome result (λ part. unsigned_abs part.shift ≤ 65535) }
+    {
+        if place >= self.count() {
+            return None;
+        }
+        let part = self.part(place);
+        if part.queue == queue { Some(part) } else { None }
     }
 }
