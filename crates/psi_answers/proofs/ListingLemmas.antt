@@ -1,8 +1,9 @@
 -- The numbers of a state, joined by commas.
-use Rattle.std.specs.Prelude.{◌≡◌, ℕ, ◌+◌, ◌<◌, ◌≤◌, List, [], ◌∷◌, ◌++◌, length, map, take, slice_index, refl}
+use Rattle.std.specs.Prelude.{◌≡◌, ℕ, ◌+◌, ◌/◌, ◌%◌, ◌<◌, ◌≤◌, List, [], ◌∷◌, ◌++◌, length, map, take, slice_index, refl}
 use Rattle.std.specs.List.{join_with_byte}
 use Rattle.std.specs.Fmt.{decimal}
 use Rattle.std.proofs.Common.{ap, sym, ◌∙◌, append_assoc, arith}
+use Rattle.std.proofs.lemmas.Fmt.{decimal_digit, decimal_step}
 use Rattle.std.proofs.lemmas.List.{take_more, length-take-le, map-append}
 use Rattle.psi_answers.specs.Texts.{state_text}
 
@@ -41,3 +42,11 @@ pub state_text_first : (state : List ℕ) → 1 ≤ length state → state_text 
 unfolding state_text
 state_text_first [] some = absurd (omega arith)
 state_text_first (x ∷ xs) some = refl
+
+-- a number below 10 is one digit
+pub decimal_one : (n : ℕ) → n < 10 → decimal n ≡ (48 + n) ∷ []
+decimal_one n small = decimal_digit n small
+
+-- and one below 100 is two
+pub decimal_two : (n : ℕ) → 10 ≤ n → n < 100 → decimal n ≡ (48 + n / 10) ∷ (48 + n % 10) ∷ []
+decimal_two n some small = decimal_step n some (omega arith) ∙ ap (λ (front : List ℕ). front ++ (48 + n % 10) ∷ []) (decimal_digit (n / 10) (omega arith))

@@ -1,4 +1,5 @@
 -- The lemmas of this crate.
+mod FallsLemmas
 mod JoiningLemmas
 mod RisingLemmas
 mod WidthsLemmas

@@ -1,6 +1,7 @@
 -- The ends of a stretch of values that rise.
 use Rattle.std.proofs.Common.{◌≡◌, ℕ, zero, suc, ◌+◌, ◌-◌, ◌<◌, ◌≤◌, List, [], ◌∷◌, length, slice_index, slice_range, inl, inr, ap, refl, arith}
 use Rattle.std.proofs.lemmas.Bool.{cases_lt}
+use Rattle.psi_index.specs.BoundsKept.{ArePeaks, AreTroughs}
 use Rattle.psi_index.specs.Extremes.{IsLeast, IsRising, greatest_of}
 use Rattle.psi_index.proofs.JoiningLemmas.{length-slice_range, slice_index-slice_range}
 
@@ -51,3 +52,10 @@ rising-greatest values first last rising order within =
     (let at = slice_index-slice_range values first (last + 1) k (omega arith) in
     let most = rising-order values (first + k) last rising (omega arith) within in omega arith)) in
     omega arith
+
+-- values that rise bound one another
+pub rising-peaks : (values : List ℕ) → IsRising values → ArePeaks values values
+rising-peaks values rising = record { count = refl; above = λ i k order small. rising-order values k i rising order small }
+
+pub rising-troughs : (values : List ℕ) → IsRising values → AreTroughs values values
+rising-troughs values rising = record { count = refl; below = λ i k order small. rising-order values i k rising order small }

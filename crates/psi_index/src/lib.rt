@@ -8,6 +8,9 @@
 //! each time.
 #![tactic(auto)]
 
+mod falls;
+mod hulls;
+mod kept;
 mod level;
 mod minima;
 mod search;

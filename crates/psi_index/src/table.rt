@@ -1,26 +1,23 @@
 //! The table of values.
 
-ghost use Rattle.std.specs.Prelude.{◌≡◌, ℕ, ◌<◌, ◌≤◌, ◌↔◌, IsTrue, IfOk, length, map, slice_index};
-ghost use Rattle.psi_index.specs.Extremes.{IsRising, IsValueList, complement, greatest_of, least_of, stretch};
+ghost use Rattle.std.specs.Prelude.{◌≡◌, ℕ, ◌<◌, ◌≤◌, ◌↔◌, IsTrue, IfOk, length, slice_index};
+ghost use Rattle.psi_index.specs.Extremes.{IsRising, IsValueList, greatest_of, least_of, stretch};
 
 use crate::OutOfMemory;
-use crate::level::{Level, levels_of};
-use crate::minima::least_within;
-use std::alloc::{AllocError, Global};
+use crate::kept::Kept;
+use std::alloc::Global;
 use std::marker::Model;
+use std::rc::Rc;
 
 /// A list of 1 to 65,535 values of 32 bits, by their places from 0 on.
 ///
 /// It is seen as the list of the values. Where they don't rise, it keeps beside them their complements, what is left
-/// of the greatest number of 32 bits, and the least value and complement of each stretch whose length is a power of
-/// two of at least 2: for 65,535 values fewer than 2 million numbers of 4 bytes in all.
+/// of the greatest number of 32 bits, the least value and complement of each stretch whose length is a power of two of
+/// at least 2, and the greatest value up to each place and the least from it on: for 65,535 values some 2.1 million
+/// numbers of 4 bytes in all. What it keeps may be shared with other tables ([`IndexTable::share`]).
 #[derive(Drop, Debug)]
 pub struct IndexTable {
-    values: Vec<u32>,
-    low: Vec<Level>,
-    complements: Vec<u32>,
-    high: Vec<Level>,
-    rises: bool,
+    kept: Rc<Kept>,
 }
 
 impl Model for IndexTable {
@@ -28,11 +25,7 @@ impl Model for IndexTable {
 
     ghost Value = { List ℕ };
 
-    ghost use Rattle.psi_index.specs.LevelsKept.{IsTable};
-
-    ghost view = { λ table. table.values.items };
-
-    ghost invariant = { λ table. IsTable table.values.items table.low.items table.complements.items table.high.items table.rises };
+    ghost view = { λ table. table.kept.value };
 }
 
 impl IndexTable {
@@ -45,44 +38,36 @@ impl IndexTable {
         requires few { length values.items ≤ 65535 }
         ensures { IfOk result (λ table. table ≡ values.items) }
     {
-        if is_rising(&values) {
-            Ok(IndexTable::rising(alloc, values))
-        } else {
-            IndexTable::sparse(alloc, values)
-        }
+        let kept = Kept::of(alloc, values)?;
+        let kept = Rc::new(alloc, kept)?;
+        Ok(IndexTable { kept })
     }
 
-    // The table of values that rise.
-    fn rising(alloc: Global, values: Vec<u32>) -> IndexTable
-        requires valid { IsValueList values.items }
-        requires rises { IsRising values.items }
-        ensures { result ≡ values.items }
+    /// The same table once more: it shares all that this one keeps, so it takes no memory.
+    ///
+    /// # Errors
+    ///
+    /// [`OutOfMemory`] where too many tables share it to be counted.
+    pub fn share(&self) -> Result<IndexTable, OutOfMemory>
+        ensures { IfOk result (λ table. table ≡ self.now) }
     {
-        IndexTable {
-            values,
-            low: Vec::new(alloc),
-            complements: Vec::new(alloc),
-            high: Vec::new(alloc),
-            rises: true,
-        }
+        let kept = self.kept.clone()?;
+        Ok(IndexTable { kept })
     }
 
-    // The table of values that don't.
-    fn sparse(alloc: Global, values: Vec<u32>) -> Result<IndexTable, OutOfMemory>
-        requires valid { IsValueList values.items }
-        requires falls { ¬ IsRising values.items }
-        ensures { IfOk result (λ table. table ≡ values.items) }
+    /// The values in the order of their places.
+    pub fn values(&self) -> &[u32]
+        ensures { result.now ≡ self.now }
     {
-        let low = levels_of(alloc, &values)?;
-        let complements = complements(alloc, &values)?;
-        let high = levels_of(alloc, &complements)?;
-        Ok(IndexTable {
-            values,
-            low,
-            complements,
-            high,
-            rises: false,
-        })
+        self.kept().values()
+    }
+
+    // What the table keeps.
+    #[inline]
+    pub(crate) fn kept(&self) -> &Kept
+        ensures { result.now ≡ self.now }
+    {
+        self.kept.as_ref()
     }
 
     /// The number of values, 1 to 65,535.
@@ -93,7 +78,7 @@ impl IndexTable {
         ensures value { result ≡ length self.now }
         ensures valid { IsValueList self.now }
     {
-        self.values.len() as u16
+        self.kept().len()
     }
 
     /// The value at place `i`; places are counted from 0.
@@ -102,7 +87,7 @@ impl IndexTable {
         requires { i < length self.now }
         ensures { result ≡ slice_index self.now i }
     {
-        self.values[i as usize]
+        self.kept().at(i)
     }
 
     /// The least of the values at the places from `from` to `to`, both included.
@@ -113,10 +98,7 @@ impl IndexTable {
         ensures below { (k : ℕ) → from ≤ k → k ≤ to → result ≤ slice_index self.now k }
         ensures reached { (k : ℕ) × (from ≤ k) × (k ≤ to) × (slice_index self.now k ≡ result) }
     {
-        if self.rises {
-            return self.at(from);
-        }
-        least_within(&self.values, &self.low, from, to)
+        self.kept().least(from, to)
     }
 
     /// The greatest of the values at the places from `from` to `to`, both included.
@@ -127,35 +109,13 @@ impl IndexTable {
         ensures above { (k : ℕ) → from ≤ k → k ≤ to → slice_index self.now k ≤ result }
         ensures reached { (k : ℕ) × (from ≤ k) × (k ≤ to) × (slice_index self.now k ≡ result) }
     {
-        if self.rises {
-            return self.at(to);
-        }
-        u32::MAX - least_within(&self.complements, &self.high, from, to)
+        self.kept().greatest(from, to)
     }
 
     /// Whether no value is below the one before it.
     pub fn rises(&self) -> bool
         ensures { IsTrue result ↔ IsRising self.now }
     {
-        self.rises
+        self.kept().rises()
     }
-}
-
-// The complement of each value.
-fn complements(alloc: Global, values: &[u32]) -> Result<Vec<u32>, AllocError>
-    ensures { IfOk result (λ made. made.items ≡ map complement values.now) }
-{
-    values.iter().map(|value| u32::MAX - *value).collect(alloc)
-}
-
-// Whether no value is below the one before it.
-fn is_rising(values: &[u32]) -> bool
-    ensures { IsTrue result ↔ IsRising values.now }
-{
-    for i in 1..values.len() {
-        if values[i] < values[i - 1] {
-            return false;
-        }
-    }
-    true
 }

@@ -1,6 +1,6 @@
 //! Numbers by which most texts are told apart at once.
 
-ghost use Rattle.std.specs.Prelude.{◌+◌, ◌≤◌, length};
+ghost use Rattle.std.specs.Prelude.{◌+◌, ◌<◌, ◌≤◌, length};
 
 use indexmap::IndexSet;
 use psi_name::Name;
@@ -12,6 +12,23 @@ pub(crate) fn fingerprints(names: &IndexSet<Name>) -> [u64; 32] {
         all[place] = fingerprint(name.bytes());
     }
     all
+}
+
+// For each slot the number of a name whose fingerprint has it, and 0 where there is none.
+pub(crate) fn slots_of(fingerprints: &[u64; 32]) -> [u8; 256] {
+    let mut slots = [0; 256];
+    for number in 0..32 {
+        slots[slot(fingerprints[number as usize])] = number;
+    }
+    slots
+}
+
+// The slot of a fingerprint, from 0 to 255: the first eight bits of its product with a fixed odd number
+// (Fibonacci hashing, Knuth 1973).
+pub(crate) fn slot(fingerprint: u64) -> usize
+    ensures { result < 256 }
+{
+    (fingerprint.wrapping_mul(0x9E37_79B9_7F4A_7C15) >> 56) as usize
 }
 
 // A number made of a text's first eight bytes and its last eight; of all its bytes where it has no eight.

@@ -2,7 +2,7 @@
 
 ghost use Rattle.std.specs.Prelude.{◌≡◌, ◌≤◌, length};
 
-use crate::digests::fingerprints;
+use crate::digests::{fingerprints, slots_of};
 use indexmap::IndexSet;
 use psi_name::Name;
 
@@ -13,6 +13,8 @@ pub struct KnownNames {
     pub list: IndexSet<Name>,
     // The fingerprints of the names: a look-up by them is faster.
     pub(crate) fingerprints: [u64; 32],
+    // Which name is looked at first, by the slot of a text's fingerprint.
+    pub(crate) slots: [u8; 256],
     ghost few: { length list.keys ≤ 32 },
 }
 
@@ -23,6 +25,11 @@ impl KnownNames {
         ensures { result.list ≡ list }
     {
         let fingerprints = fingerprints(&list);
-        KnownNames { list, fingerprints }
+        let slots = slots_of(&fingerprints);
+        KnownNames {
+            list,
+            fingerprints,
+            slots,
+        }
     }
 }

@@ -1,6 +1,6 @@
 //! References to queues: by one name, or by a list of names.
 
-ghost use Rattle.std.specs.Prelude.{◌≡◌, ◌<◌, ℕ, [], length, map, Some, IfSome, IfOk, OnOk};
+ghost use Rattle.std.specs.Prelude.{◌≡◌, ◌<◌, ℕ, [], length, map, Some, IfSome, IfOk, IsTrue, OnOk};
 ghost use Rattle.toml.specs.View.{view};
 ghost use Rattle.psi_name.specs.Name.{name_of};
 ghost use Rattle.psi_net_document.specs.Refusal.{Gives};
@@ -8,7 +8,7 @@ ghost use Rattle.psi_net_document.specs.Values.{seen, required, each};
 ghost use Rattle.psi_net_document.specs.References.{number_of, queue_in, target_in, target_step, targets_in, some_targets_in};
 ghost use Rattle.psi_net_document.specs.Targets.{AreTargets};
 
-use crate::digests::fingerprint;
+use crate::digests::{fingerprint, slot};
 use crate::keys::{array_in, present, text_in};
 use crate::known_names::KnownNames;
 use crate::read;
@@ -17,14 +17,30 @@ use psi_name::name_of;
 use psi_state::Queues;
 use toml::Value;
 
-// The number of the queue whose fingerprint the text has and which it names, if there is one.
+// Whether queue `number` has the fingerprint that the text has, and is named by it.
+fn is_named(known: &KnownNames, number: usize, wanted: u64, text: &str) -> bool
+    ensures { IsTrue result → number_of known.now.list.keys (name_of text.now) ≡ Some number }
+{
+    let names = known.list.as_slice();
+    if number < names.len() && known.fingerprints[number] == wanted {
+        names[number].bytes() == text.as_bytes()
+    } else {
+        false
+    }
+}
+
+// The number of the queue whose fingerprint the text has and which it names, if there is one: first the queue of the
+// fingerprint's slot is looked at, which few texts miss, then each one.
 fn number_by_fingerprint(known: &KnownNames, text: &str) -> Option<usize>
     ensures { IfSome result (λ number. number_of known.now.list.keys (name_of text.now) ≡ Some number) }
 {
-    let names = known.list.as_slice();
     let wanted = fingerprint(text.as_bytes());
-    for number in 0..names.len() {
-        if known.fingerprints[number] == wanted && names[number].bytes() == text.as_bytes() {
+    let first = known.slots[slot(wanted)] as usize;
+    if is_named(known, first, wanted, text) {
+        return Some(first);
+    }
+    for number in 0..known.list.len() {
+        if is_named(known, number, wanted, text) {
             return Some(number);
         }
     }

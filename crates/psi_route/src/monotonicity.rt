@@ -73,12 +73,10 @@ impl Route {
         requires tables { 0 < length self.now.tables.items }
         ensures { result ≡ pair_between (shape_of self.now) a b }
     {
-        if self.lie_apart(a, b) {
-            return None;
-        }
+        let clear = self.clear(a, b);
         let mut found = None;
         let mut near = 0;
-        for w in 0..self.cap(b) {
+        for w in clear..self.cap(b) {
             let past = self.past(a, b, w, found);
             let (fall, first) = self.first_fall(a, b, w, near, past);
             found = self.earlier(a, b, w, past, fall, found);
@@ -90,18 +88,25 @@ impl Route {
         }
     }
 
-    // Whether the values of places `a` and `b` lie wholly beside one another: then no key falls past another.
-    fn lie_apart(&self, a: u8, b: u8) -> bool
+    // How many numbers of customers at place `b` at least have keys past which no key of place `a` falls: all where the
+    // values of the two places lie wholly beside one another.
+    fn clear(&self, a: u8, b: u8) -> u16
         requires first { a < length self.now.targets }
         requires second { b < length self.now.targets }
         requires tables { 0 < length self.now.tables.items }
-        ensures { IsTrue result → NoFalls (shape_of self.now) a b (slice_index self.now.caps (slice_index self.now.targets b)) }
+        ensures none { NoFalls (shape_of self.now) a b result }
+        ensures within { result ≤ slice_index self.now.caps (slice_index self.now.targets b) }
     {
+        if a == b {
+            return self.cap(b);
+        }
         let own = &self.tables[a as usize];
         let other = &self.tables[b as usize];
-        let last = own.len() - 1;
-        let end = other.len() - 1;
-        own.greatest(0, last) < other.least(0, end) || other.greatest(0, end) < own.least(0, last)
+        let (last, end) = (own.len() - 1, other.len() - 1);
+        if own.greatest(0, last) < other.least(0, end) || other.greatest(0, end) < own.least(0, last) {
+            return self.cap(b);
+        }
+        own.first_passed(other, (a < b) as u32)
     }
 
     // How many numbers of customers at place `a` may have a fall that is less than the found one.

@@ -4,11 +4,6 @@ use Rattle.psi_route.specs.Route.{shape_of}
 use Rattle.psi_route.proofs.FallingLemmas.{between-none, between-some, found-none, found-some}
 use Rattle.psi_route.proofs.route.Route.pair_between.Goals as goal
 
-pub returns-then-lie_apart : goal.returns-then-lie_apart
-returns-then-lie_apart c =
-    between-none (shape_of c.args.self.now) c.args.a c.args.b (slice_index c.args.self.now.caps (slice_index c.args.self.now.targets c.args.b))
-    (c.lie_apart.ensures c.if-lie_apart.true) (omega arith)
-
 pub returns-in-None : goal.returns-in-None
 returns-in-None c =
     between-none (shape_of c.args.self.now) c.args.a c.args.b c.loop-w.w
