@@ -208,6 +208,10 @@ impl Guarded {
             return None;
         }
         let part = self.part(place);
-        if part.queue == queue { Some(part) } else { None }
+        if part.queue == queue {
+            Some(part)
+        } else {
+            None
+        }
     }
 }

@@ -2,6 +2,7 @@
 pub mod Kinds
 pub mod Moves
 pub mod Refusals
+pub mod Rows
 pub mod Forms
 pub mod Events
 pub mod EventsLaws

@@ -13,6 +13,7 @@ mod lowering;
 mod moves;
 mod parting;
 mod refusals;
+mod rows;
 mod tables;
 
 pub use event::Event;

@@ -133,10 +133,10 @@ fn index_tables(alloc: Global, tables: &Tables) -> Result<Vec<IndexTable>, OutOf
     requires few { (i : ℕ) → i < length tables.now → length (slice_index_or tables.now i []) ≤ 65535 }
     ensures { IfOk result (λ list. list.items ≡ tables.now) }
 {
-    let mut list = Vec::new(alloc);
+    let mut list = Vec::with_capacity(alloc, tables.len())?;
     for i in 0..tables.len() {
-        let values = Vec::from_slice(alloc, tables.row(i))?;
-        list.push(IndexTable::new(alloc, values)?)?;
+        let table = tables.index(alloc, i)?;
+        list.push(table)?;
     }
     Ok(list)
 }

@@ -1,8 +1,10 @@
 //! The tables of an index event.
 
-ghost use Rattle.std.specs.Prelude.{◌≡◌, ◌<◌, ◌∷◌, [], ◌++◌, length, slice_index_or, OnOk, OnErr};
+ghost use Rattle.std.specs.Prelude.{◌≡◌, ◌<◌, ◌≤◌, ◌∷◌, [], ◌++◌, length, slice_index_or, IfOk, OnOk, OnErr};
 
 use crate::OutOfMemory;
+use crate::rows::Row;
+use psi_index::IndexTable;
 use std::alloc::Global;
 use std::marker::Model;
 
@@ -11,7 +13,7 @@ use std::marker::Model;
 /// It is seen as the list of these lists of numbers of 32 bits.
 #[derive(Drop, Debug)]
 pub struct Tables {
-    rows: Vec<Vec<u32>>,
+    rows: Vec<Row>,
 }
 
 impl Model for Tables {
@@ -19,10 +21,14 @@ impl Model for Tables {
 
     ghost Value = { List (List ℕ) };
 
-    ghost view = { λ t. map (λ row. row.items) t.rows.items };
+    ghost use Rattle.psi_kinds.specs.Rows.{row_of};
+
+    ghost view = { λ t. map row_of t.rows.items };
 }
 
 impl Tables {
+    ghost use Rattle.psi_kinds.specs.Rows.{row_of};
+
     /// No table.
     pub fn new(alloc: Global) -> Tables
         ensures { result ≡ [] }
@@ -32,7 +38,7 @@ impl Tables {
         }
     }
 
-    /// Puts a table at the end of the list.
+    /// Puts a table at the end of the list, with its least and greatest values at hand where it has 1 to 65,535 values.
     ///
     /// # Errors
     ///
@@ -40,6 +46,15 @@ impl Tables {
     /// table is dropped.
     pub fn push(&mut self, row: Vec<u32>) -> Result<(), OutOfMemory>
         ensures pushed { OnOk result (self.new ≡ self.old ++ row.items ∷ []) }
+        ensures refused { OnErr result (self.new ≡ self.old) }
+    {
+        let row = Row::of(*self.rows.allocator(), row)?;
+        self.push_row(row)
+    }
+
+    // The same of a row.
+    fn push_row(&mut self, row: Row) -> Result<(), OutOfMemory>
+        ensures pushed { OnOk result (self.new ≡ self.old ++ row_of row ∷ []) }
         ensures refused { OnErr result (self.new ≡ self.old) }
     {
         self.rows.push(row)?;
@@ -58,6 +73,42 @@ impl Tables {
         requires { i < length self.now }
         ensures { result.now ≡ slice_index_or self.now i [] }
     {
-        self.rows[i].as_slice()
+        self.at(i).values()
+    }
+
+    /// The same tables once more. Those of 1 to 65,535 values are shared, so they take no memory of their own.
+    ///
+    /// # Errors
+    ///
+    /// [`OutOfMemory`] where there is no memory for the list.
+    pub fn share(&self, alloc: Global) -> Result<Tables, OutOfMemory>
+        ensures { IfOk result (λ tables. tables ≡ self.now) }
+    {
+        let mut copy = Tables {
+            rows: Vec::with_capacity(alloc, self.rows.len())?,
+        };
+        for i in 0..self.len() {
+            let row = self.at(i).share(alloc)?;
+            copy.push_row(row)?;
+        }
+        Ok(copy)
+    }
+
+    // The values of table `i` as an index table; tables are counted from 0.
+    pub(crate) fn index(&self, alloc: Global, i: usize) -> Result<IndexTable, OutOfMemory>
+        requires within { i < length self.now }
+        requires some { 1 ≤ length (slice_index_or self.now i []) }
+        requires few { length (slice_index_or self.now i []) ≤ 65535 }
+        ensures { IfOk result (λ table. table ≡ slice_index_or self.now i []) }
+    {
+        self.at(i).index(alloc)
+    }
+
+    // Table `i`; tables are counted from 0.
+    fn at(&self, i: usize) -> &Row
+        requires { i < length self.now }
+        ensures { row_of result.now ≡ slice_index_or self.now i [] }
+    {
+        &self.rows[i]
     }
 }

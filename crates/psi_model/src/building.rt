@@ -62,7 +62,11 @@ pub(crate) fn all_lowered(
 pub(crate) fn rates(alloc: Global, events: &[NamedEvent]) -> Result<Vec<u32>, AllocError>
     ensures { IfOk result (λ rates. rates.items ≡ map (λ e. e.rate) events.now) }
 {
-    events.iter().map(|event| event.rate).collect(alloc)
+    let mut rates = Vec::with_capacity(alloc, events.len())?;
+    for event in events {
+        rates.push(event.rate)?;
+    }
+    Ok(rates)
 }
 
 // The wheel of rates that make one.

@@ -55,19 +55,6 @@ fn with_server(k: u16, source: Option<Source>) -> Option<Source>
     }
 }
 
-// A copy of the tables.
-#[tactic(auto, using(crate::proofs::ServersLemmas::rows_more, crate::proofs::ServersLemmas::rows_all))]
-fn copied_tables(alloc: Global, tables: &Tables) -> Result<Tables, OutOfMemory>
-    ensures { IfOk result (λ copy. copy ≡ tables.now) }
-{
-    let mut copy = Tables::new(alloc);
-    for place in 0..tables.len() {
-        let row = Vec::from_slice(alloc, tables.row(place))?;
-        copy.push(row)?;
-    }
-    Ok(copy)
-}
-
 // The kind with another server of its source.
 fn at_server(alloc: Global, k: u16, kind: &Kind) -> Result<Kind, OutOfMemory>
     ensures { IfOk result (λ copy. copy ≡ at_server k kind.now) }
@@ -87,7 +74,7 @@ fn at_server(alloc: Global, k: u16, kind: &Kind) -> Result<Kind, OutOfMemory>
         } => Kind::Index {
             from: with_server(k, from),
             to,
-            table: copied_tables(alloc, table)?,
+            table: table.share(alloc)?,
             full,
             size,
         },

@@ -6,4 +6,5 @@ pub mod FoundLemmas
 pub mod PigeonLemmas
 pub mod TargetLemmas
 mod ListsLemmas
+mod MarksLemmas
 mod UnknownKeysLemmas

@@ -5,8 +5,9 @@ ghost use Rattle.toml.specs.View.{view};
 ghost use Rattle.psi_name.specs.Name.{name_of};
 ghost use Rattle.psi_net_document.specs.Refusal.{Gives};
 ghost use Rattle.psi_net_document.specs.Values.{seen, required, each};
-ghost use Rattle.psi_net_document.specs.References.{number_of, queue_in, target_in, target_step, targets_in, some_targets_in};
+ghost use Rattle.psi_net_document.specs.References.{number_of, is_in, queue_in, target_in, target_step, targets_in, some_targets_in};
 ghost use Rattle.psi_net_document.specs.Targets.{AreTargets};
+ghost use Rattle.psi_net_document.specs.MarksKept.{AreMarked};
 
 use crate::digests::{fingerprint, slot};
 use crate::keys::{array_in, present, text_in};
@@ -140,8 +141,17 @@ pub fn required_target(
     target_in(place, key, known, sources, value)
 }
 
+// Whether the queues that a list names so far have this one among them.
+fn is_marked(marks: &[u8; 32], queue: u8, earlier: &Queues) -> bool
+    requires marked { AreMarked earlier.now marks.now }
+    requires few { queue < 32 }
+    ensures { result ≡ is_in queue earlier.now }
+{
+    marks[queue as usize] != 0
+}
+
 // One element of a list: the name of a queue that the list doesn't name before it, and that is none of the
-// event's sources.
+// event's sources. Each queue that the list names is marked.
 #[tactic(auto, using(crate::proofs::PigeonLemmas::room_for_more, crate::proofs::PigeonLemmas::targets_more), unfolding(crate::specs::References::target_step))]
 fn push_target(
     place: Place,
@@ -149,20 +159,24 @@ fn push_target(
     known: &KnownNames,
     sources: &Queues,
     earlier: &mut Queues,
+    marks: &mut [u8; 32],
     value: &Value,
 ) -> Result<(), NetRefusal>
-    requires { AreTargets (length known.now.list.keys) sources.now earlier.old }
+    requires valid { AreTargets (length known.now.list.keys) sources.now earlier.old }
+    requires marked { AreMarked earlier.old marks.old }
+    ensures marked { OnOk result (AreMarked earlier.new marks.new) }
     ensures value { (n : ℕ) → Gives (λ _. earlier.new) result (target_step place key.now known.now.list.keys sources.now n earlier.old (view value.now)) }
     ensures valid { OnOk result (AreTargets (length known.now.list.keys) sources.now earlier.new) }
 {
     let queue = read!(queue_in(place, key, known, value));
-    if earlier.contains(queue) {
+    if is_marked(marks, queue, earlier) {
         return Err(Cause::RepeatedTarget.at_key(place, key));
     }
     if sources.contains(queue) {
         return Err(Cause::SelfTarget.at_key(place, key));
     }
     earlier.push(queue);
+    marks[queue as usize] = 1;
     Ok(())
 }
 
@@ -179,8 +193,9 @@ fn all_targets(
     ensures valid { IfOk result (AreTargets (length known.now.list.keys) sources.now) }
 {
     let mut queues = Queues::empty();
+    let mut marks = [0; 32];
     for value in values {
-        read!(push_target(place, key, known, sources, &mut queues, value));
+        read!(push_target(place, key, known, sources, &mut queues, &mut marks, value));
     }
     Ok(queues)
 }

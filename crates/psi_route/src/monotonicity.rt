@@ -103,7 +103,9 @@ impl Route {
         let own = &self.tables[a as usize];
         let other = &self.tables[b as usize];
         let (last, end) = (own.len() - 1, other.len() - 1);
-        if own.greatest(0, last) < other.least(0, end) || other.greatest(0, end) < own.least(0, last) {
+        if own.greatest(0, last) < other.least(0, end)
+            || other.greatest(0, end) < own.least(0, last)
+        {
             return self.cap(b);
         }
         own.first_passed(other, (a < b) as u32)
