@@ -57,12 +57,13 @@ fn call_table(table: &IndexTable)
 {
     let _value = table.at(3);
     let _ends = (table.least(1, 6), table.greatest(1, 6));
-    let _marks = (table.len(), table.rises());
+    let _marks = (table.len(), table.rises(), table.values().len());
     let _above = (
         table.first_at_least_near(2, 6),
         table.first_at_least_between(1, 6, 6),
     );
     let _below = (table.past_last_below(1, 6, 4), table.first_below(1, 6, 4));
+    let _passed = (table.first_passed(table, 1), table.share().is_ok());
 }
 
 // An empty set with room for eight states, and a region that is split where it has as few.
