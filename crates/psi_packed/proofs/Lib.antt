@@ -11,5 +11,9 @@ mod PairingLemmas
 mod WidthsLemmas
 pub mod FollowingLemmas
 mod SteppingLemmas
-mod DescendingLemmas
+pub mod DescendingLemmas
 mod FillingLemmas
+mod UnitRulesLemmas
+mod BitsLemmas
+mod UnitFieldsLemmas
+mod UnitWordsLemmas

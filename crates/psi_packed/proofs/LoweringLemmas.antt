@@ -12,7 +12,7 @@ use Rattle.psi_packed.proofs.DigitsLemmas.{digits-and, digits-same}
 use Rattle.psi_packed.proofs.WordsLemmas.{fields_of, Fit, AreDigits-fields, packed-at, packed-lt}
 use Rattle.psi_packed.proofs.TestingLemmas.{mark_of-lt, mapped-past, sided-at, sided-fit}
 
-and-same : (w : ℕ) → bit_and w w ≡ w
+pub and-same : (w : ℕ) → bit_and w w ≡ w
 and-same w =
     let none : bit_or 0 w ≡ w = or_disjoint 0 w (and_zero_l w) ∙ omega arith in
     ap (λ v. bit_and v w) (sym none) ∙ and_or_self w 0

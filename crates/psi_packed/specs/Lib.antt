@@ -5,3 +5,5 @@ pub mod Programs
 pub mod Boxes
 pub mod Views
 pub mod FillingKept
+pub mod UnitEvents
+pub mod BitsKept

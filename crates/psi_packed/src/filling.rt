@@ -58,7 +58,7 @@ impl<const K: usize> Program<K> {
 impl<const K: usize> Packed<K> {
     // The sums of the words, modulo 2^64.
     #[inline]
-    fn plus(&self, other: &Packed<K>) -> Packed<K>
+    pub(crate) fn plus(&self, other: &Packed<K>) -> Packed<K>
         ensures { AreSums K self.now.words other.now.words result.words }
     {
         let mut words = [0; K];

@@ -3,16 +3,20 @@
 //! `PackedCorners` follows the least and the greatest state of a monotone network so.
 #![tactic(auto)]
 
+mod bits;
 mod boxes;
 mod corners;
+mod enclosing;
 mod filling;
 mod layout;
 mod moves;
 mod pairs;
 mod program;
+mod unit_events;
 
 pub use corners::PackedCorners;
 pub use layout::{Layout, Packed};
 pub use moves::{Masks, PackedEvent};
 pub use pairs::{PackedPair, Pair};
 pub use program::Program;
+pub use unit_events::UnitEvent;

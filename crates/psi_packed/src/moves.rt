@@ -204,8 +204,9 @@ impl<const K: usize> PackedEvent<K> {
 }
 
 // What comes less what leaves, or offsets less guards, word by word.
-fn difference<const K: usize>(ups: &Packed<K>, downs: &Packed<K>) -> Packed<K>
-    ensures { (at : ℕ) → at < K → slice_index result.words at ≡ (slice_index ups.now.words at + (2 ^ 64 - slice_index downs.now.words at)) % 2 ^ 64 }
+pub(crate) fn difference<const K: usize>(ups: &Packed<K>, downs: &Packed<K>) -> Packed<K>
+    ensures long { length result.words ≡ K }
+    ensures each { (at : ℕ) → at < K → slice_index result.words at ≡ (slice_index ups.now.words at + (2 ^ 64 - slice_index downs.now.words at)) % 2 ^ 64 }
 {
     let mut words = [0; K];
     for at in 0..K {

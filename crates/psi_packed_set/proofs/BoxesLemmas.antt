@@ -1,22 +1,26 @@
 -- A box of many states that is followed by its corners is the region of the run.
-use Rattle.std.specs.Prelude.{◌≡◌, ℕ, zero, suc, ◌-◌, ◌+◌, ◌<◌, ◌≤◌, List, [], length, slice_index, slice_index_or, Bool}
+use Rattle.std.specs.Prelude.{◌≡◌, ℕ, zero, suc, ◌-◌, ◌+◌, ◌<◌, ◌≤◌, List, [], length, slice_index, slice_index_or, replicate, Bool, refl}
 use Rattle.std.proofs.Common.{ap, ap₂, sym, ◌∙◌, subst, take, drop, arith}
 use Rattle.std.proofs.Math.Seq.{take-length, drop-length}
-use Rattle.psi_state.specs.State.{Corners, IsBelow, box}
+use Rattle.std.proofs.lemmas.List.{take-take, length-take-le}
+use Rattle.psi_state.specs.State.{Corners, IsBelow, box, zeros}
 use Rattle.psi_state.specs.Sets.{image}
 use Rattle.psi_state.specs.Hull.{corners}
-use Rattle.psi_state.proofs.BoxesLemmas.{below-through}
+use Rattle.psi_state.proofs.BoxesLemmas.{below-itself}
+use Rattle.psi_state.proofs.StatesLemmas.{zeros-caps}
 use Rattle.psi_event.specs.Law.{Function, IsMonotone}
 use Rattle.psi_event.proofs.LawLemmas.{monotone-corners}
 use Rattle.psi_region.specs.Region.{Area, step}
-use Rattle.psi_event.specs.Numbers.{follow_numbers}
-use Rattle.psi_event.proofs.NumbersLemmas.{follow_numbers-drop}
+use Rattle.psi_event.specs.Numbers.{follow_numbers, AreEvents}
+use Rattle.psi_event.proofs.NumbersLemmas.{follow_numbers-drop, events-left}
 use Rattle.psi_packed.specs.Packed.{packed}
 use Rattle.psi_packed.specs.Programs.{Prepared, Prepares}
+use Rattle.psi_packed.specs.Packed.{Packing}
 use Rattle.psi_packed.specs.Boxes.{AreCorners, AreMonotoneUnhalted, AreFollowed, FollowsBox}
+use Rattle.psi_packed.specs.UnitEvents.{Encloses}
 use Rattle.psi_region.specs.Followed.{follow_areas, unsplit}
 use Rattle.psi_region.proofs.FollowedLemmas.{follow_areas-take}
-use Rattle.psi_packed_set.specs.Sets.{IsCornersRun}
+use Rattle.psi_packed_set.specs.Sets.{IsPackedBox, IsCornersRun, RunsCorners}
 use Rattle.psi_packed_set.proofs.SetsLemmas.{step-unsplit}
 
 module _ (count : ℕ) (p : Prepared) (caps : List ℕ) (functions : List Function) (numbers : List ℕ) (halts : List Bool) (split : ℕ) (lo hi low high : List ℕ) (place : ℕ)
@@ -84,32 +88,88 @@ module _ (count : ℕ) (p : Prepared) (caps : List ℕ) (functions : List Functi
   pub followed-same : place ≤ length numbers → IsBelow lo hi → IsBelow hi caps → IsSameAt place
   followed-same few ordered within = same-down (length numbers - place) place (omega arith) (omega arith) ordered within
 
--- where the words of corners were followed, the states that are packed in the words after it are the corners of such a box
+-- where the words of corners were followed, they are those of such a box
 pub boxes-run : (count : ℕ) (p : Prepared) (caps : List ℕ) (functions : List Function) (numbers : List ℕ) (halts : List Bool) (split : ℕ)
-    (lo hi low high low_after high_after x y : List ℕ) (place : ℕ) → Prepares count caps functions p → AreMonotoneUnhalted caps functions halts
-    → ((i : ℕ) → i < length numbers → slice_index numbers i < length functions) → IsBelow lo hi → IsBelow hi caps
-    → low ≡ packed count p.packing lo → high ≡ packed count p.packing hi → place ≤ length numbers
+    (low high low_after high_after : List ℕ) (place : ℕ) → Prepares count caps functions p → AreMonotoneUnhalted caps functions halts
+    → ((i : ℕ) → i < length numbers → slice_index numbers i < length functions) → place ≤ length numbers
     → FollowsBox count p numbers halts split low high low_after high_after place
-    → ((s : List ℕ) → IsBelow s p.packing.caps → low_after ≡ packed count p.packing s → x ≡ s)
-    → ((s : List ℕ) → IsBelow s p.packing.caps → high_after ≡ packed count p.packing s → y ≡ s)
-    → IsCornersRun caps functions numbers split (record { lo = lo; hi = hi }) (record { lo = x; hi = y }) place
-boxes-run count p caps functions numbers halts split lo hi low high low_after high_after x y place prepared monotone known ordered within packs_low packs_high few follows is_low is_high =
-    let begins : AreCorners count p.packing low high lo hi = record {
-      ordered = ordered;
-      within = subst (λ (cs : List ℕ). IsBelow hi cs) (sym prepared.same_caps) within;
-      low = packs_low;
-      high = packs_high;
-    } in
-    let followed = (follows caps functions lo hi prepared monotone begins).0 in
-    let is = followed-same count p caps functions numbers halts split lo hi low_after high_after place prepared monotone known followed few ordered within in
-    let u = follow_numbers functions (drop place numbers) lo in
-    let w = follow_numbers functions (drop place numbers) hi in
-    let last = followed.corners in
-    let first_is : x ≡ u = is_low u (below-through u w p.packing.caps last.ordered last.within) last.low in
-    let second_is : y ≡ w = is_high w last.within last.high in
+    → RunsCorners count p.packing functions numbers split low high low_after high_after place
+boxes-run count p caps functions numbers halts split low high low_after high_after place prepared monotone known few follows = λ lo hi begun.
+    let followed = (follows caps functions lo hi prepared monotone begun).0 in
+    let within : IsBelow hi caps = subst (λ (cs : List ℕ). IsBelow hi cs) prepared.same_caps begun.within in
+    let is = followed-same count p caps functions numbers halts split lo hi low_after high_after place prepared monotone known followed few begun.ordered within in
     record {
+      to = record { lo = follow_numbers functions (drop place numbers) lo; hi = follow_numbers functions (drop place numbers) hi };
+      corners = followed.corners;
       left = few;
-      ordered = subst (λ (a : List ℕ). IsBelow a y) (sym first_is) (subst (λ (b : List ℕ). IsBelow u b) (sym second_is) is.ordered);
-      within = subst (λ (b : List ℕ). IsBelow b caps) (sym second_is) is.within;
-      same = ap₂ (λ (a b : List ℕ). follow_areas split functions (take place numbers) (unsplit (record { lo = a; hi = b }))) first_is second_is ∙ is.same;
+      same = is.same;
+    }
+
+-- a run through the numbers that were left is one through all
+pub runs-through : (count : ℕ) (p : Packing) (functions : List Function) (numbers : List ℕ) (split : ℕ) (from : Corners) (low high low_after high_after : List ℕ) (left place : ℕ)
+    → IsCornersRun count p functions numbers split from low high left → RunsCorners count p functions (take left numbers) split low high low_after high_after place
+    → IsCornersRun count p functions numbers split from low_after high_after place
+runs-through count p functions numbers split from low high low_after high_after left place before run =
+    let more = run before.to.lo before.to.hi before.corners in
+    let long : length (take left numbers) ≡ left = length-take-le left numbers before.left in
+    let few : place ≤ left = omega (arith, more.left, long) in
+    record {
+      to = more.to;
+      corners = more.corners;
+      left = omega (arith, few, before.left);
+      same = ap (λ (ns : List ℕ). follow_areas split functions ns (unsplit more.to)) (sym (take-take place left numbers few)) ∙ more.same ∙ before.same;
+    }
+
+-- one number more, whose event makes of a box of many states a tight box
+pub runs-over : (count : ℕ) (p : Packing) (functions : List Function) (numbers : List ℕ) (split : ℕ) (from : Corners) (low high low_after high_after : List ℕ) (left : ℕ) → 1 ≤ left
+    → (before : IsCornersRun count p functions numbers split from low high left) → split < length (box before.to.lo before.to.hi)
+    → Encloses count p (slice_index_or functions (slice_index numbers (left - 1)) (λ x. x)) low high low_after high_after
+    → IsCornersRun count p functions numbers split from low_after high_after (left - 1)
+runs-over count p functions numbers split from low high low_after high_after left some before many encloses =
+    let f : Function = slice_index_or functions (slice_index numbers (left - 1)) (λ x. x) in
+    let made = corners (image f (box before.to.lo before.to.hi)) in
+    record {
+      to = made;
+      corners = encloses before.to.lo before.to.hi before.corners;
+      left = omega (arith, before.left);
+      same = follow_areas-take split functions numbers left (unsplit before.to) (unsplit made) (follow_areas split functions numbers (unsplit from)) some before.left
+          (step-unsplit split f before.to made many refl) before.same;
+    }
+
+-- a run through the first numbers is one of their events
+pub left-run : (count : ℕ) (p : Prepared) (caps : List ℕ) (functions : List Function) (numbers : List ℕ) (halts : List Bool) (split most : ℕ) (low high low_after high_after : List ℕ)
+    (left place : ℕ) → Prepares count caps functions p → AreMonotoneUnhalted caps functions halts → AreEvents (length functions) numbers → left ≤ length numbers → most ≡ split
+    → place ≤ length (take left numbers) → FollowsBox count p (take left numbers) halts most low high low_after high_after place
+    → RunsCorners count p.packing functions (take left numbers) split low high low_after high_after place
+left-run count p caps functions numbers halts split most low high low_after high_after left place prepared monotone events few same within follows =
+    boxes-run count p caps functions (take left numbers) halts split low high low_after high_after place prepared monotone
+    (events-left (length functions) (length functions) left numbers events few refl) within
+    (subst (λ n. FollowsBox count p (take left numbers) halts n low high low_after high_after place) same follows)
+
+-- and leads to a box
+pub run-box : (count : ℕ) (p : Packing) (functions : List Function) (numbers : List ℕ) (split : ℕ) (low high low_after high_after : List ℕ) (place : ℕ)
+    → RunsCorners count p functions numbers split low high low_after high_after place → IsPackedBox count p low high → IsPackedBox count p low_after high_after
+run-box count p functions numbers split low high low_after high_after place run b =
+    let end = run b.of.lo b.of.hi b.corners in
+    record { of = end.to; corners = end.corners }
+
+-- a run begins before its first event
+pub run-none : (count : ℕ) (p : Packing) (functions : List Function) (numbers : List ℕ) (split : ℕ) (low high : List ℕ) → RunsCorners count p functions numbers split low high low high (length numbers)
+run-none count p functions numbers split low high = λ lo hi begun. record {
+  to = record { lo = lo; hi = hi };
+  corners = begun;
+  left = omega arith;
+  same = ap (λ (ns : List ℕ). follow_areas split functions ns (unsplit (record { lo = lo; hi = hi }))) (take-length numbers);
+}
+
+-- the corners of all states
+pub whole-corners : (count : ℕ) (p : Packing) (caps made least low high : List ℕ) (n : ℕ) → p.caps ≡ caps → made ≡ caps → n ≡ length made → least ≡ replicate n 0
+    → low ≡ packed count p least → high ≡ packed count p made → AreCorners count p low high (zeros caps) caps
+whole-corners count p caps made least low high n own same long none is_low is_high =
+    let first : least ≡ zeros caps = none ∙ ap (λ k. replicate k 0) (long ∙ ap (λ (l : List ℕ). length l) same) in
+    record {
+      ordered = zeros-caps caps;
+      within = subst (λ (cs : List ℕ). IsBelow caps cs) (sym own) (below-itself caps);
+      low = is_low ∙ ap (packed count p) first;
+      high = is_high ∙ ap (packed count p) same;
     }

@@ -1,6 +1,6 @@
 -- A region whose states are few ends with the image of its states.
-use Rattle.std.specs.Prelude.{◌≡◌, ℕ, ◌<◌, ◌≤◌, List, [], ◌∷◌, length, slice_index_or, true, Option, Some, refl}
-use Rattle.std.proofs.Common.{ap, sym, ◌∙◌, subst, take}
+use Rattle.std.specs.Prelude.{◌≡◌, ℕ, ◌<◌, ◌≤◌, List, [], ◌∷◌, length, slice_index_or, true, Option, Some, None, refl}
+use Rattle.std.proofs.Common.{ap, sym, ◌∙◌, subst, take, arith}
 use Rattle.std.specs.Option.{MatchOption}
 use Rattle.std.proofs.lemmas.Bool.{le-leb, lt-leb}
 use Rattle.psi_state.specs.State.{Corners, box, zeros}
@@ -64,3 +64,16 @@ few-ending split functions numbers left b whole caps o begun few same one =
     let image = follow_areas-image split functions (take left numbers) (unsplit b) (le-leb (length (box b.lo b.hi)) split few) (box-rising b.lo b.hi) in
     one ∙ ap (λ (xs : List (List ℕ)). single xs) (sym image.states)
     ∙ ap (λ (a : Area). single a.states) (same ∙ ap (λ (c : Corners). follow_areas split functions numbers (unsplit c)) begun)
+
+-- where the box that is left has many states, so does the region with which the run ends
+pub many-ending : (split : ℕ) (functions : List Function) (numbers : List ℕ) (left : ℕ) (b : Corners) (caps : List ℕ) → 1 ≤ split → left ≡ 0 → split < length (box b.lo b.hi)
+    → follow_areas split functions (take left numbers) (unsplit b) ≡ follow_areas split functions numbers (unsplit (record { lo = zeros caps; hi = caps }))
+    → None ≡ single (follow_areas split functions numbers (start caps)).states
+many-ending split functions numbers left b caps some none many same =
+    let last : unsplit b ≡ follow_areas split functions numbers (start caps) = ap (λ n. follow_areas split functions (take n numbers) (unsplit b)) (sym none) ∙ same in
+    sym (ap (λ (a : Area). single a.states) (sym last) ∙ single-many (box b.lo b.hi) (omega (arith, some, many)))
+  where
+    single-many : (xs : List (List ℕ)) → 1 < length xs → single xs ≡ None
+    single-many [] many = absurd (omega arith)
+    single-many (x ∷ []) many = absurd (omega arith)
+    single-many (x ∷ y ∷ xs) many = refl

@@ -3,4 +3,5 @@ pub mod HalvesKept
 pub mod Room
 pub mod HoldingKept
 pub mod Sets
+pub mod UnitsKept
 pub mod MachinesKept

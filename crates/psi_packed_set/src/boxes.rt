@@ -1,16 +1,19 @@
-//! Boxes that are followed by their packed corners as long as they have many states (Bušić, Gaujal and Vincent 2008).
+//! Boxes that are followed by their packed corners (Bušić, Gaujal and Vincent 2008): which events aren't monotone, and how
+//! a box goes past one of these.
 
-ghost use Rattle.std.specs.Prelude.{◌≡◌, length, map, IfOk};
-ghost use Rattle.psi_state.specs.State.{IsBelow};
-ghost use Rattle.psi_event.specs.Numbers.{AreEvents};
-ghost use Rattle.psi_packed.specs.Boxes.{AreMonotoneUnhalted};
-ghost use Rattle.psi_packed.specs.Programs.{Prepares};
-ghost use Rattle.psi_packed_set.specs.Sets.{IsCornersRun};
+ghost use Rattle.std.specs.Prelude.{◌≡◌, ℕ, List, length, map, IfOk};
+ghost use Rattle.psi_event.specs.Law.{Function};
+ghost use Rattle.psi_packed.specs.Boxes.{AreMonotoneUnhalted, AreCorners};
+ghost use Rattle.psi_packed.specs.Views.{low_words, high_words};
+ghost use Rattle.psi_packed.specs.UnitEvents.{Encloses};
+ghost use Rattle.psi_packed_set.specs.Sets.{IsPackedBox};
+ghost use Rattle.psi_packed_set.specs.UnitsKept.{AreUnitEvents};
 
 use psi_event::EventLaw;
-use psi_packed::Program;
+use psi_packed::{PackedPair, Program, UnitEvent};
+use psi_piecewise::PiecewiseLaw;
 use psi_region::Course;
-use psi_state::{Bounds, State};
+use psi_state::Bounds;
 use std::alloc::{AllocError, Global};
 
 // Which events aren't monotone, by their numbers: there a run by corners halts.
@@ -29,45 +32,44 @@ pub(crate) fn halts_of<E: EventLaw>(
     Ok(halts)
 }
 
-// Follows a box by its packed corners through the events of the numbers, the last first, as long as it has many states
-// and no event halts, and tells how many numbers are left then.
-pub(crate) fn follow_corners<const K: usize, E: EventLaw>(
+// The events of single customers, by their numbers.
+pub(crate) fn units_of<const K: usize, E: PiecewiseLaw>(
+    alloc: Global,
     program: &Program<K>,
-    halts: &[bool],
     course: &Course<'_, E>,
-    numbers: &[u16],
-    bounds: &mut Bounds,
-) -> usize
-    requires program { Prepares K course.now.caps (map E.function course.now.events) program.now }
-    requires halts { length halts.now ≡ length (map E.function course.now.events) }
-    requires monotone { AreMonotoneUnhalted course.now.caps (map E.function course.now.events) halts.now }
-    requires numbers { AreEvents (length (map E.function course.now.events)) numbers.now }
-    requires within { IsBelow bounds.old.hi course.now.caps }
-    ensures { IsCornersRun course.now.caps (map E.function course.now.events) numbers.now course.now.split bounds.old bounds.new result }
+) -> Result<Vec<Option<UnitEvent<K>>>, AllocError>
+    requires { course.now.caps ≡ program.now.packing.caps }
+    ensures count { IfOk result (λ units. length units.items ≡ length (map E.function course.now.events)) }
+    ensures units { IfOk result (λ units. AreUnitEvents program.now.packing (map E.function course.now.events) units.items) }
 {
-    let (lo, hi, left) = corners_after(program, halts, course, numbers, bounds);
-    *bounds = Bounds::new(lo, hi);
-    left
+    let events = course.events();
+    let mut units = Vec::with_capacity(alloc, events.len())?;
+    for number in 0..events.len() {
+        units.push_reserved(program.unit_event(&events[number]));
+    }
+    Ok(units)
 }
 
-// The corners of that box, and how many numbers are left.
-fn corners_after<const K: usize, E: EventLaw>(
+// Puts the corners of the event's envelope of a box in the place of the box's corners.
+pub(crate) fn enclose_by<const K: usize, E: EventLaw>(
     program: &Program<K>,
-    halts: &[bool],
-    course: &Course<'_, E>,
-    numbers: &[u16],
-    bounds: &Bounds,
-) -> (State, State, usize)
-    requires program { Prepares K course.now.caps (map E.function course.now.events) program.now }
-    requires halts { length halts.now ≡ length (map E.function course.now.events) }
-    requires monotone { AreMonotoneUnhalted course.now.caps (map E.function course.now.events) halts.now }
-    requires numbers { AreEvents (length (map E.function course.now.events)) numbers.now }
-    requires within { IsBelow bounds.now.hi course.now.caps }
-    ensures { IsCornersRun course.now.caps (map E.function course.now.events) numbers.now course.now.split bounds.now (record { lo = result.0; hi = result.1 }) result.2 }
+    event: &E,
+    x: &mut PackedPair<K>,
+)
+    requires caps { E.capacities event.now ≡ program.now.packing.caps }
+    requires corners { IsPackedBox K program.now.packing (low_words x.old) (high_words x.old) }
+    ensures { Encloses K program.now.packing (E.function event.now) (low_words x.old) (high_words x.old) (low_words x.new) (high_words x.new) }
 {
-    let mut corners = program.pack(&bounds.lo(), &bounds.hi());
-    let split = u32::from(course.split());
-    let left = program.follow_while_many(numbers, halts, split, &mut corners);
-    let (lo, hi) = program.unpack(&corners);
-    (lo, hi, left)
+    let mut bounds = bounds_of(program, x);
+    event.envelope(&mut bounds);
+    *x = program.pack(&bounds.lo(), &bounds.hi());
+}
+
+// The box between two packed corners.
+pub(crate) fn bounds_of<const K: usize>(program: &Program<K>, x: &PackedPair<K>) -> Bounds
+    requires { IsPackedBox K program.now.packing (low_words x.now) (high_words x.now) }
+    ensures { (lo hi : List ℕ) → AreCorners K program.now.packing (low_words x.now) (high_words x.now) lo hi → result ≡ record { lo = lo; hi = hi } }
+{
+    let (lo, hi) = program.unpack(x);
+    Bounds::new(lo, hi)
 }

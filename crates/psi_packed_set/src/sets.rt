@@ -1,19 +1,22 @@
 //! Runs of networks that aren't monotone, on packed states once their regions have few.
 
-ghost use Rattle.std.specs.Prelude.{◌≡◌, ◌-◌, ◌<◌, ◌≤◌, map, length, take, false, IfOk, IfSome};
-ghost use Rattle.psi_state.specs.State.{IsBelow, box};
+ghost use Rattle.std.specs.Prelude.{◌≡◌, ◌<◌, ℕ, List, map, length, slice_index_or, IfOk, IfSome};
+ghost use Rattle.psi_state.specs.State.{box};
 ghost use Rattle.psi_event.specs.Numbers.{AreEvents};
-ghost use Rattle.psi_packed.specs.Programs.{Prepares};
-ghost use Rattle.psi_region.specs.Followed.{followed, follow_areas, unsplit, ending_of};
+ghost use Rattle.psi_packed.specs.Boxes.{AreCorners};
+ghost use Rattle.psi_packed.specs.Views.{low_words, high_words};
+ghost use Rattle.psi_packed.specs.UnitEvents.{Encloses};
+ghost use Rattle.psi_region.specs.Followed.{followed, ending_of};
+ghost use Rattle.psi_packed_set.specs.Sets.{IsPackedBox, RunsCorners};
 ghost use Rattle.psi_packed_set.specs.MachinesKept.{IsMachine};
 
-use crate::boxes::{follow_corners, halts_of};
+use crate::boxes::{bounds_of, enclose_by, halts_of, units_of};
 use crate::packed_set::PackedSet;
 use psi_event::EventLaw;
-use psi_packed::{Layout, Program};
+use psi_packed::{Layout, PackedPair, Program, UnitEvent};
 use psi_piecewise::PiecewiseLaw;
 use psi_region::{Course, Follower};
-use psi_state::{Bounds, State};
+use psi_state::State;
 use std::alloc::{AllocError, Global};
 use std::marker::Model;
 
@@ -22,6 +25,8 @@ struct Machine<const K: usize> {
     program: Program<K>,
     // Which events aren't monotone.
     halts: Vec<bool>,
+    // Those of single customers.
+    units: Vec<Option<UnitEvent<K>>>,
     set: PackedSet<K>,
 }
 
@@ -31,6 +36,7 @@ impl<const K: usize> Drop for Machine<K> {
         let Machine {
             program: _,
             halts: _,
+            units: _,
             set: _,
         } = self;
     }
@@ -115,10 +121,12 @@ fn machine_of<const K: usize, E: PiecewiseLaw>(
         return Ok(None);
     };
     let halts = halts_of(alloc, course)?;
+    let units = units_of(alloc, &program, course)?;
     let set = PackedSet::reserve(alloc, course.split())?;
     Ok(Some(Machine {
         program,
         halts,
+        units,
         set,
     }))
 }
@@ -136,56 +144,63 @@ fn packed_ending<const K: usize, E: EventLaw>(
     ensures machine { IsMachine K course.now.caps (map E.function course.now.events) course.now.split machine.new }
 {
     let split = u32::from(course.split());
-    let mut bounds = Bounds::whole(&course.caps());
-    let left = shrink(machine, course, numbers, split, &mut bounds);
-    bounds.volume_at_most(split)?;
+    let caps = course.caps();
+    let mut corners = machine.program.pack(&State::zero(caps.len()), &caps);
+    let left = shrink(machine, course, numbers, split, &mut corners);
+    if !machine.program.box_has_at_most(&corners, split) {
+        return None;
+    }
+    let bounds = bounds_of(&machine.program, &corners);
     machine
         .set
         .meeting(&machine.program, &numbers[..left], &bounds)
 }
 
-// Follows a box through the events of the numbers, the last first, until it has few states, and tells how many numbers are
-// left then. It goes by its corners from one event that isn't monotone to the next.
+// Follows the packed corners of a box through the events of the numbers, the last first, until the box has few states, and
+// tells how many numbers are left then. They go from one event that isn't monotone to the next.
 fn shrink<const K: usize, E: EventLaw>(
     machine: &Machine<K>,
     course: &Course<'_, E>,
     numbers: &[u16],
     split: u32,
-    bounds: &mut Bounds,
+    x: &mut PackedPair<K>,
 ) -> usize
     requires machine { IsMachine K course.now.caps (map E.function course.now.events) course.now.split machine.now }
     requires split { split ≡ course.now.split }
     requires numbers { AreEvents (length (map E.function course.now.events)) numbers.now }
-    requires within { IsBelow bounds.old.hi course.now.caps }
-    ensures left { result ≤ length numbers.now }
-    ensures all { split < length (box bounds.new.lo bounds.new.hi) → result ≡ 0 }
-    ensures within { IsBelow bounds.new.hi course.now.caps }
-    ensures same { let functions = map E.function course.now.events in
-        follow_areas course.now.split functions (take result numbers.now) (unsplit bounds.new) ≡ follow_areas course.now.split functions numbers.now (unsplit bounds.old) }
+    requires corners { IsPackedBox K machine.now.program.packing (low_words x.old) (high_words x.old) }
+    ensures run { RunsCorners K machine.now.program.packing (map E.function course.now.events) numbers.now course.now.split (low_words x.old) (high_words x.old) (low_words x.new) (high_words x.new) result }
+    ensures all { (lo hi : List ℕ) → AreCorners K machine.now.program.packing (low_words x.new) (high_words x.new) lo hi → split < length (box lo hi) → result ≡ 0 }
 {
     let halts = machine.halts.as_slice();
     let mut left = numbers.len();
     while left > 0 {
-        left = follow_corners(&machine.program, halts, course, &numbers[..left], bounds);
-        if left == 0 || bounds.volume_at_most(split).is_some() {
+        left = machine
+            .program
+            .follow_while_many(&numbers[..left], halts, split, x);
+        if left == 0 || machine.program.box_has_at_most(x, split) {
             return left;
         }
-        step_over(course, numbers, left, bounds);
         left -= 1;
+        step_over(machine, course, numbers[left], x);
     }
     0
 }
 
-// Follows a box of many states through the event of the last of the numbers that are left.
-fn step_over<E: EventLaw>(course: &Course<'_, E>, numbers: &[u16], left: usize, bounds: &mut Bounds)
-    requires numbers { AreEvents (length (map E.function course.now.events)) numbers.now }
-    requires some { 1 ≤ left }
-    requires left { left ≤ length numbers.now }
-    requires many { course.now.split < length (box bounds.old.lo bounds.old.hi) }
-    requires within { IsBelow bounds.old.hi course.now.caps }
-    ensures within { IsBelow bounds.new.hi course.now.caps }
-    ensures same { let functions = map E.function course.now.events in
-        follow_areas course.now.split functions (take (left - 1) numbers.now) (unsplit bounds.new) ≡ follow_areas course.now.split functions (take left numbers.now) (unsplit bounds.old) }
+// Puts the corners of the tight box around what the event of this number makes of a box in the place of the box's corners.
+fn step_over<const K: usize, E: EventLaw>(
+    machine: &Machine<K>,
+    course: &Course<'_, E>,
+    number: u16,
+    x: &mut PackedPair<K>,
+)
+    requires machine { IsMachine K course.now.caps (map E.function course.now.events) course.now.split machine.now }
+    requires number { number < length (map E.function course.now.events) }
+    requires corners { IsPackedBox K machine.now.program.packing (low_words x.old) (high_words x.old) }
+    ensures { Encloses K machine.now.program.packing (slice_index_or (map E.function course.now.events) number (λ x. x)) (low_words x.old) (high_words x.old) (low_words x.new) (high_words x.new) }
 {
-    course.event(numbers[left - 1]).envelope(bounds);
+    match &machine.units.as_slice()[number as usize] {
+        Some(unit) => unit.enclose(x),
+        None => enclose_by(&machine.program, course.event(number), x),
+    }
 }

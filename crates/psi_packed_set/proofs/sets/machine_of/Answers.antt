@@ -12,5 +12,7 @@ returns g c =
           (subst (λ found. IfSome found (λ p. Prepares g.row.K c.args.layout.caps (map g.E.EventLaw.function c.events.result.now) p)) c.in-Some.is c.in_ok-program.ensures));
       halts = c.in_ok-halts.ensures.count;
       monotone = c.in_ok-halts.ensures.monotone;
+      many_units = c.in_ok-units.ensures.count;
+      units = c.in_ok-units.ensures.units;
       room = c.in_ok-set.ensures ∙ c.split.ensures.value;
     }

@@ -1,16 +1,15 @@
 -- Invariants of the loops of `shrink`.
-use Rattle.std.proofs.Common.{◌≡◌, ◌≤◌, map, take, length}
-use Rattle.psi_state.specs.State.{IsBelow}
-use Rattle.psi_region.specs.Followed.{follow_areas, unsplit}
+use Rattle.std.proofs.Common.{◌≤◌, map, length}
+use Rattle.psi_packed.specs.Views.{low_words, high_words}
+use Rattle.psi_packed_set.specs.Sets.{IsPackedBox, RunsCorners}
 use Rattle.psi_packed_set.proofs.sets.shrink.Given as goal
 
 -- the numbers that are left make of the box what all numbers make of the first one
 abbrev pub invariant-loop-left : goal.invariant-loop-left
 invariant-loop-left g l = record {
   few : l.left ≤ length l.numbers;
-  within : IsBelow l.bounds.hi l.course.caps;
-  same : follow_areas l.course.split (map g.E.EventLaw.function l.course.events) (take l.left l.numbers) (unsplit l.bounds)
-      ≡ follow_areas l.course.split (map g.E.EventLaw.function l.course.events) l.numbers (unsplit l.fn.bounds);
+  corners : IsPackedBox g.row.K l.machine.program.packing (low_words l.x) (high_words l.x);
+  run : RunsCorners g.row.K l.machine.program.packing (map g.E.EventLaw.function l.course.events) l.numbers l.course.split (low_words l.fn.x) (high_words l.fn.x) (low_words l.x) (high_words l.x) l.left;
 }
 
 -- fewer numbers are left

@@ -1,22 +1,12 @@
 -- Answers in the proof of `step_over`.
-use Rattle.std.specs.Prelude.{refl}
-use Rattle.std.proofs.Common.{ℕ, List, map, take, ap, sym, ◌∙◌}
-use Rattle.psi_region.specs.Region.{step}
-use Rattle.psi_region.specs.Followed.{follow_areas, unsplit}
-use Rattle.psi_region.proofs.FollowedLemmas.{follow_areas-take}
-use Rattle.psi_packed_set.proofs.SetsLemmas.{step-unsplit}
+use Rattle.std.proofs.Common.{map, slice_index_or, arith}
+use Rattle.psi_packed_set.proofs.HaltsLemmas.{unit-read}
 use Rattle.psi_packed_set.proofs.sets.step_over.Goals as goal
 
-pub returns-clause-same : goal.returns-clause-same
-returns-clause-same g c =
-    let course = c.args.course.now in
-    let functions = map g.E.EventLaw.function course.events in
-    let numbers = c.args.numbers.now in
-    let left = c.args.left in
-    let old = c.args.bounds.now in
-    let event = c.event.result.now in
-    follow_areas-take course.split functions numbers left (unsplit old) (unsplit c.envelope.new.b) (follow_areas course.split functions (take left numbers) (unsplit old))
-    c.requires.some c.requires.left
-    (step-unsplit course.split (g.E.EventLaw.function event) old c.envelope.new.b c.requires.many c.envelope.ensures.hull
-    ∙ ap (λ (f : List ℕ → List ℕ). step course.split f (unsplit old)) (sym c.event.ensures.function))
-    refl
+pub returns-in-Some : goal.returns-in-Some
+returns-in-Some g c =
+    let p = c.args.machine.now.program.packing in
+    let f = slice_index_or (map g.E.EventLaw.function c.args.course.now.events) c.args.number (λ x. x) in
+    c.enclose.ensures p f
+    (unit-read p f c.args.machine.now.units.items c.as_slice.result.now c.args.number c.index-as_slice-number.result c.in-Some.unit c.as_slice.ensures.value c.index-as_slice-number.is c.in-Some.is
+    (omega (arith, c.requires.machine.many_units, c.requires.number)) (c.requires.machine.units c.args.number c.requires.number))

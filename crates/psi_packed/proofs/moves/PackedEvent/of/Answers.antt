@@ -7,5 +7,5 @@ returns-clause-lowered g c =
     let wanted = c.of.ensures.masks.wanted in
     lowered-is g.row.K c.args.layout.now c.args.pieces.now.first.sides _ c.wanted-wanted.ensures.valid c.of.ensures.masks.guards wanted
     (λ w small.
-    ap (λ (l : List ℕ). slice_index l w) c.twice-2.ensures.low ∙ c.difference.ensures w small
+    ap (λ (l : List ℕ). slice_index l w) c.twice-2.ensures.low ∙ c.difference.ensures.each w small
     ∙ ap₂ (λ (a b : List ℕ). (slice_index a w + (2 ^ 64 - slice_index b w)) % 2 ^ 64) (sym c.twice.ensures.low) (c.wanted-wanted.ensures.words ∙ sym wanted))
