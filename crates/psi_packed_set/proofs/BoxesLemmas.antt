@@ -137,14 +137,13 @@ runs-over count p functions numbers split from low high low_after high_after lef
     }
 
 -- a run through the first numbers is one of their events
-pub left-run : (count : ℕ) (p : Prepared) (caps : List ℕ) (functions : List Function) (numbers : List ℕ) (halts : List Bool) (split most : ℕ) (low high low_after high_after : List ℕ)
-    (left place : ℕ) → Prepares count caps functions p → AreMonotoneUnhalted caps functions halts → AreEvents (length functions) numbers → left ≤ length numbers → most ≡ split
-    → place ≤ length (take left numbers) → FollowsBox count p (take left numbers) halts most low high low_after high_after place
+pub left-run : (count : ℕ) (p : Prepared) (caps : List ℕ) (functions : List Function) (numbers : List ℕ) (halts : List Bool) (split : ℕ) (low high low_after high_after : List ℕ)
+    (left place : ℕ) → Prepares count caps functions p → AreMonotoneUnhalted caps functions halts → AreEvents (length functions) numbers → left ≤ length numbers
+    → place ≤ length (take left numbers) → FollowsBox count p (take left numbers) halts split low high low_after high_after place
     → RunsCorners count p.packing functions (take left numbers) split low high low_after high_after place
-left-run count p caps functions numbers halts split most low high low_after high_after left place prepared monotone events few same within follows =
+left-run count p caps functions numbers halts split low high low_after high_after left place prepared monotone events few within follows =
     boxes-run count p caps functions (take left numbers) halts split low high low_after high_after place prepared monotone
-    (events-left (length functions) (length functions) left numbers events few refl) within
-    (subst (λ n. FollowsBox count p (take left numbers) halts n low high low_after high_after place) same follows)
+    (events-left (length functions) (length functions) left numbers events few refl) within follows
 
 -- and leads to a box
 pub run-box : (count : ℕ) (p : Packing) (functions : List Function) (numbers : List ℕ) (split : ℕ) (low high low_after high_after : List ℕ) (place : ℕ)

@@ -5,3 +5,4 @@ mod HaltsLemmas
 mod RoomLemmas
 mod SetsLemmas
 mod BoxesLemmas
+mod MeetingLemmas

@@ -37,7 +37,7 @@ pub record IsImage (most : ℕ) (functions : List Function) (numbers : List ℕ)
   pub split : splits most (follow_areas most functions numbers a) ≡ true
   pub states : (follow_areas most functions numbers a).states ≡ image (follow_numbers functions numbers) a.states
 
-follow_areas-image : (split : ℕ) (functions : List Function) (numbers : List ℕ) (a : Area) → splits split a ≡ true → IsRising a.states
+pub follow_areas-image : (split : ℕ) (functions : List Function) (numbers : List ℕ) (a : Area) → splits split a ≡ true → IsRising a.states
     → IsImage split functions numbers a
 follow_areas-image split functions [] a few rising = record {
   split = few;

@@ -1,7 +1,9 @@
 -- Runs by boxes that are followed by their packed corners.
-use Rattle.std.specs.Prelude.{◌≡◌, ℕ, ◌≤◌, List, length, take}
-use Rattle.psi_state.specs.State.{Corners}
+use Rattle.std.specs.Prelude.{◌≡◌, ℕ, ◌≤◌, List, length, take, Some}
+use Rattle.psi_state.specs.State.{Corners, box}
+use Rattle.psi_state.specs.Sets.{image, single}
 use Rattle.psi_event.specs.Law.{Function}
+use Rattle.psi_event.specs.Numbers.{follow_numbers}
 use Rattle.psi_region.specs.Followed.{follow_areas, unsplit}
 use Rattle.psi_packed.specs.Packed.{Packing}
 use Rattle.psi_packed.specs.Boxes.{AreCorners}
@@ -23,3 +25,8 @@ abbrev pub RunsCorners : ℕ → Packing → List Function → List ℕ → ℕ 
 RunsCorners count p functions numbers split low high low_after high_after place =
     (lo hi : List ℕ) → AreCorners count p low high lo hi
     → IsCornersRun count p functions numbers split (record { lo = lo; hi = hi }) low_after high_after place
+
+-- the functions of the numbers make one state of all states of the box with these packed corners
+abbrev pub MeetsAt : ℕ → Packing → List Function → List ℕ → List ℕ → List ℕ → List ℕ → Type 0
+MeetsAt count p functions numbers low high s =
+    (lo hi : List ℕ) → AreCorners count p low high lo hi → single (image (follow_numbers functions numbers) (box lo hi)) ≡ Some s

@@ -1,13 +1,14 @@
 //! Runs of networks that aren't monotone, on packed states once their regions have few.
 
-ghost use Rattle.std.specs.Prelude.{◌≡◌, ◌<◌, ℕ, List, map, length, slice_index_or, IfOk, IfSome};
+ghost use Rattle.std.specs.Prelude.{◌≡◌, ◌<◌, ◌≤◌, ℕ, List, None, map, length, slice_index_or, IfOk, IfSome};
 ghost use Rattle.psi_state.specs.State.{box};
-ghost use Rattle.psi_event.specs.Numbers.{AreEvents};
+ghost use Rattle.psi_state.specs.Sets.{image, single};
+ghost use Rattle.psi_event.specs.Numbers.{AreEvents, follow_numbers};
 ghost use Rattle.psi_packed.specs.Boxes.{AreCorners};
 ghost use Rattle.psi_packed.specs.Views.{low_words, high_words};
 ghost use Rattle.psi_packed.specs.UnitEvents.{Encloses};
 ghost use Rattle.psi_region.specs.Followed.{followed, ending_of};
-ghost use Rattle.psi_packed_set.specs.Sets.{IsPackedBox, RunsCorners};
+ghost use Rattle.psi_packed_set.specs.Sets.{IsPackedBox, RunsCorners, MeetsAt};
 ghost use Rattle.psi_packed_set.specs.MachinesKept.{IsMachine};
 
 use crate::boxes::{bounds_of, enclose_by, halts_of, units_of};
@@ -147,17 +148,61 @@ fn packed_ending<const K: usize, E: EventLaw>(
     let caps = course.caps();
     let mut corners = machine.program.pack(&State::zero(caps.len()), &caps);
     let left = shrink(machine, course, numbers, split, &mut corners);
-    if !machine.program.box_has_at_most(&corners, split) {
-        return None;
-    }
-    let bounds = bounds_of(&machine.program, &corners);
-    machine
-        .set
-        .meeting(&machine.program, &numbers[..left], &bounds)
+    few_meeting(machine, course, &numbers[..left], &corners)
 }
 
-// Follows the packed corners of a box through the events of the numbers, the last first, until the box has few states, and
-// tells how many numbers are left then. They go from one event that isn't monotone to the next.
+// The one state that the events of the numbers make of all states of a box, the last first, if they make one of them and they
+// are few: the box is followed first, and where that tells nothing each of its states.
+fn few_meeting<const K: usize, E: EventLaw>(
+    machine: &mut Machine<K>,
+    course: &Course<'_, E>,
+    numbers: &[u16],
+    x: &PackedPair<K>,
+) -> Option<State>
+    requires machine { IsMachine K course.now.caps (map E.function course.now.events) course.now.split machine.old }
+    requires numbers { AreEvents (length (map E.function course.now.events)) numbers.now }
+    requires corners { IsPackedBox K machine.old.program.packing (low_words x.now) (high_words x.now) }
+    ensures few { (lo hi : List ℕ) → AreCorners K machine.old.program.packing (low_words x.now) (high_words x.now) lo hi → length (box lo hi) ≤ course.now.split
+        → result ≡ single (image (follow_numbers (map E.function course.now.events) numbers.now) (box lo hi)) }
+    ensures many { (lo hi : List ℕ) → AreCorners K machine.old.program.packing (low_words x.now) (high_words x.now) lo hi → course.now.split < length (box lo hi) → result ≡ None }
+    ensures machine { IsMachine K course.now.caps (map E.function course.now.events) course.now.split machine.new }
+{
+    let bounds = bounds_of(&machine.program, x);
+    let count = bounds.volume_at_most(u32::from(course.split()))?;
+    if let Some(state) = meeting_of_box(machine, course, numbers, count, x) {
+        return Some(state);
+    }
+    machine.set.meeting(&machine.program, numbers, &bounds)
+}
+
+// The one state that the events of the numbers make of all states of a box, where its tight boxes come to a single state within
+// so many numbers, the last first. `None` tells nothing: its states may meet all the same.
+fn meeting_of_box<const K: usize, E: EventLaw>(
+    machine: &Machine<K>,
+    course: &Course<'_, E>,
+    numbers: &[u16],
+    tries: u32,
+    x: &PackedPair<K>,
+) -> Option<State>
+    requires machine { IsMachine K course.now.caps (map E.function course.now.events) course.now.split machine.now }
+    requires numbers { AreEvents (length (map E.function course.now.events)) numbers.now }
+    requires corners { IsPackedBox K machine.now.program.packing (low_words x.now) (high_words x.now) }
+    ensures { IfSome result (λ s. MeetsAt K machine.now.program.packing (map E.function course.now.events) numbers.now (low_words x.now) (high_words x.now) s) }
+{
+    // Called for its clause: each event makes states of states.
+    let _caps = course.caps();
+    let mut own = *x;
+    let stop = numbers.len().saturating_sub(tries as usize);
+    let left = stop + shrink(machine, course, &numbers[stop..], 1, &mut own);
+    if !machine.program.box_has_at_most(&own, 1) {
+        return None;
+    }
+    machine.program.follow(&numbers[..left], &mut own);
+    Some(machine.program.unpack_one(&own.low()))
+}
+
+// Follows the packed corners of a box through the events of the numbers, the last first, until the box has at most `split`
+// states, and tells how many numbers are left then. They go from one event that isn't monotone to the next.
 fn shrink<const K: usize, E: EventLaw>(
     machine: &Machine<K>,
     course: &Course<'_, E>,
@@ -166,10 +211,9 @@ fn shrink<const K: usize, E: EventLaw>(
     x: &mut PackedPair<K>,
 ) -> usize
     requires machine { IsMachine K course.now.caps (map E.function course.now.events) course.now.split machine.now }
-    requires split { split ≡ course.now.split }
     requires numbers { AreEvents (length (map E.function course.now.events)) numbers.now }
     requires corners { IsPackedBox K machine.now.program.packing (low_words x.old) (high_words x.old) }
-    ensures run { RunsCorners K machine.now.program.packing (map E.function course.now.events) numbers.now course.now.split (low_words x.old) (high_words x.old) (low_words x.new) (high_words x.new) result }
+    ensures run { RunsCorners K machine.now.program.packing (map E.function course.now.events) numbers.now split (low_words x.old) (high_words x.old) (low_words x.new) (high_words x.new) result }
     ensures all { (lo hi : List ℕ) → AreCorners K machine.now.program.packing (low_words x.new) (high_words x.new) lo hi → split < length (box lo hi) → result ≡ 0 }
 {
     let halts = machine.halts.as_slice();

@@ -69,14 +69,14 @@ follow_numbers-closed caps functions (n ∷ numbers) x closed within =
     (number-closed caps functions n closed).each (follow_numbers functions numbers x) (follow_numbers-closed caps functions numbers x closed within)
 
 -- a region stays one, and has what the events make of each of its states
-follow_areas-area : (split : ℕ) (caps : List ℕ) (functions : List Function) (numbers : List ℕ) (a : Area) → All (λ f. IsClosed caps f) functions → IsArea caps a
+pub follow_areas-area : (split : ℕ) (caps : List ℕ) (functions : List Function) (numbers : List ℕ) (a : Area) → All (λ f. IsClosed caps f) functions → IsArea caps a
     → IsArea caps (follow_areas split functions numbers a)
 follow_areas-area split caps functions [] a closed is = is
 follow_areas-area split caps functions (n ∷ numbers) a closed is =
     step-area split caps (slice_index_or functions n (λ x. x)) (follow_areas split functions numbers a) (number-closed caps functions n closed)
     (follow_areas-area split caps functions numbers a closed is)
 
-follow_areas-has : (split : ℕ) (caps : List ℕ) (functions : List Function) (numbers : List ℕ) (a : Area) (x : List ℕ) → All (λ f. IsClosed caps f) functions → IsArea caps a
+pub follow_areas-has : (split : ℕ) (caps : List ℕ) (functions : List Function) (numbers : List ℕ) (a : Area) (x : List ℕ) → All (λ f. IsClosed caps f) functions → IsArea caps a
     → In x a.states → In (follow_numbers functions numbers x) (follow_areas split functions numbers a).states
 follow_areas-has split caps functions [] a x closed is member = member
 follow_areas-has split caps functions (n ∷ numbers) a x closed is member =

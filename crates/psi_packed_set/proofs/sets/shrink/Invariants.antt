@@ -9,7 +9,7 @@ abbrev pub invariant-loop-left : goal.invariant-loop-left
 invariant-loop-left g l = record {
   few : l.left ≤ length l.numbers;
   corners : IsPackedBox g.row.K l.machine.program.packing (low_words l.x) (high_words l.x);
-  run : RunsCorners g.row.K l.machine.program.packing (map g.E.EventLaw.function l.course.events) l.numbers l.course.split (low_words l.fn.x) (high_words l.fn.x) (low_words l.x) (high_words l.x) l.left;
+  run : RunsCorners g.row.K l.machine.program.packing (map g.E.EventLaw.function l.course.events) l.numbers l.split (low_words l.fn.x) (high_words l.fn.x) (low_words l.x) (high_words l.x) l.left;
 }
 
 -- fewer numbers are left
