@@ -1,13 +1,13 @@
 -- A box whose tight boxes come to a single state meets in what becomes of that state.
-use Rattle.std.specs.Prelude.{◌≡◌, ℕ, zero, suc, ◌+◌, ◌-◌, ◌<◌, ◌≤◌, List, [], ◌∷◌, ◌++◌, length, take, drop, All, Option, Some, None, refl}
+use Rattle.std.specs.Prelude.{◌≡◌, ℕ, zero, suc, ◌+◌, ◌-◌, ◌<◌, ◌≤◌, List, [], ◌∷◌, ◌++◌, length, take, drop, All, Bool, true, false, not, Option, Some, None, refl}
 use Rattle.std.proofs.Common.{inl, inr, ap, sym, ◌∙◌, subst, arith, take-append-drop, length-drop}
 use Rattle.std.proofs.Math.Seq.{take-length}
-use Rattle.std.proofs.lemmas.Bool.{cases_lt, le-leb}
+use Rattle.std.proofs.lemmas.Bool.{cases_lt, le-leb, true≢false}
 use Rattle.psi_state.specs.State.{Corners, IsBelow, box, zeros}
 use Rattle.psi_state.specs.Members.{In}
 use Rattle.psi_state.specs.Sets.{image, single}
-use Rattle.psi_state.proofs.BoxesLemmas.{In-low, In-of_box, below-through}
-use Rattle.psi_state.proofs.SetsLemmas.{In-of_image, single-image}
+use Rattle.psi_state.proofs.BoxesLemmas.{In-low, In-high, In-of_box, below-through}
+use Rattle.psi_state.proofs.SetsLemmas.{In-image, In-of_image, single-image, single-apart}
 use Rattle.psi_state.proofs.AscendingLemmas.{box-rising}
 use Rattle.psi_event.specs.Law.{Function, IsClosed}
 use Rattle.psi_event.specs.Numbers.{follow_numbers}
@@ -16,6 +16,7 @@ use Rattle.psi_region.specs.Region.{Area, IsArea, start}
 use Rattle.psi_region.specs.Followed.{follow_areas, unsplit}
 use Rattle.psi_region.proofs.FollowedLemmas.{follow_areas-has}
 use Rattle.psi_packed.specs.Packed.{packed}
+use Rattle.psi_packed.specs.Boxes.{AreCorners}
 use Rattle.psi_packed.specs.Programs.{Prepared, Prepares, Follows}
 use Rattle.psi_packed.proofs.FollowingLemmas.{follow_numbers-within}
 use Rattle.psi_packed_set.specs.Sets.{IsCornersRun}
@@ -105,3 +106,22 @@ told-ending split functions numbers left b caps o some all same told = elim (cas
   | inl many ↦ told.many many ∙ many-ending split functions numbers left b caps some (all many) many same
   | inr few ↦ few-ending split functions numbers left b (record { lo = zeros caps; hi = caps }) caps o refl few same (told.few few)
 ]
+
+-- where the words of what the numbers make of two states differ, the states do
+pub words-part : (count : ℕ) (p : Prepared) (caps : List ℕ) (functions : List Function) (numbers low high low_after high_after lo hi : List ℕ) → Prepares count caps functions p
+    → AreCorners count p.packing low high lo hi → Follows count p numbers low low_after → Follows count p numbers high high_after → (low_after ≡ high_after → ⊥)
+    → follow_numbers functions numbers lo ≡ follow_numbers functions numbers hi → ⊥
+words-part count p caps functions numbers low high low_after high_after lo hi prepared begun first second apart same =
+    let within : (x : List ℕ) → IsBelow x p.packing.caps → IsBelow x caps = λ x below. subst (λ (cs : List ℕ). IsBelow x cs) prepared.same_caps below in
+    apart (first caps functions lo prepared (within lo (below-through lo hi p.packing.caps begun.ordered begun.within)) begun.low
+    ∙ ap (packed count p.packing) same ∙ sym (second caps functions hi prepared (within hi begun.within) begun.high))
+
+-- where the corners of a box part, its states don't meet
+pub part-none : (f : Function) (lo hi : List ℕ) → IsBelow lo hi → (f lo ≡ f hi → ⊥) → single (image f (box lo hi)) ≡ None
+part-none f lo hi ordered apart =
+    single-apart (image f (box lo hi)) (f lo) (f hi) (In-image f lo (box lo hi) (In-low lo hi ordered)) (In-image f hi (box lo hi) (In-high lo hi ordered)) apart
+
+-- what isn't so, isn't
+pub not-both : (told : Bool) → not told ≡ true → told ≡ true → ⊥
+not-both true other is = absurd (true≢false (sym other))
+not-both false other is = absurd (true≢false (sym is))

@@ -1,9 +1,11 @@
 //! Runs of networks that aren't monotone, on packed states once their regions have few.
 
-ghost use Rattle.std.specs.Prelude.{◌≡◌, ◌<◌, ◌≤◌, ℕ, List, None, map, length, slice_index_or, IfOk, IfSome};
+ghost use Rattle.std.specs.Prelude.{◌≡◌, ◌<◌, ◌≤◌, ℕ, List, None, map, length, slice_index, slice_index_or, EachIndex, IsTrue, IfOk, IfSome};
 ghost use Rattle.psi_state.specs.State.{box};
 ghost use Rattle.psi_state.specs.Sets.{image, single};
 ghost use Rattle.psi_event.specs.Numbers.{AreEvents, follow_numbers};
+ghost use Rattle.psi_event.specs.Law.{Function};
+ghost use Rattle.psi_packed.specs.Programs.{Prepares};
 ghost use Rattle.psi_packed.specs.Boxes.{AreCorners};
 ghost use Rattle.psi_packed.specs.Views.{low_words, high_words};
 ghost use Rattle.psi_packed.specs.UnitEvents.{Encloses};
@@ -152,7 +154,7 @@ fn packed_ending<const K: usize, E: EventLaw>(
 }
 
 // The one state that the events of the numbers make of all states of a box, the last first, if they make one of them and they
-// are few: the box is followed first, and where that tells nothing each of its states.
+// are few: they don't where the two corners don't; else the box is followed, and where that tells nothing each of its states.
 fn few_meeting<const K: usize, E: EventLaw>(
     machine: &mut Machine<K>,
     course: &Course<'_, E>,
@@ -169,10 +171,24 @@ fn few_meeting<const K: usize, E: EventLaw>(
 {
     let bounds = bounds_of(&machine.program, x);
     let count = bounds.volume_at_most(u32::from(course.split()))?;
+    if corners_part(&machine.program, numbers, x) {
+        return None;
+    }
     if let Some(state) = meeting_of_box(machine, course, numbers, count, x) {
         return Some(state);
     }
     machine.set.meeting(&machine.program, numbers, &bounds)
+}
+
+// Whether the events of the numbers, the last first, are seen to make different states of the two corners of a box.
+fn corners_part<const K: usize>(program: &Program<K>, numbers: &[u16], x: &PackedPair<K>) -> bool
+    requires numbers { EachIndex numbers.now (λ i. slice_index numbers.now i < length program.now.moves) }
+    ensures { (caps : List ℕ) (functions : List Function) (lo hi : List ℕ) → Prepares K caps functions program.now → AreCorners K program.now.packing (low_words x.now) (high_words x.now) lo hi
+        → IsTrue result → follow_numbers functions numbers.now lo ≡ follow_numbers functions numbers.now hi → ⊥ }
+{
+    let mut own = *x;
+    program.follow(numbers, &mut own);
+    !own.low().is(&own.high())
 }
 
 // The one state that the events of the numbers make of all states of a box, where its tight boxes come to a single state within

@@ -1,9 +1,10 @@
 -- Answers in the proof of `few_meeting`.
-use Rattle.std.proofs.Common.{◌≡◌, ◌<◌, ◌≤◌, ap, ◌∙◌, map, length, arith}
+use Rattle.std.proofs.Common.{◌≡◌, ◌<◌, ◌≤◌, ap, sym, ◌∙◌, map, length, arith}
 use Rattle.psi_state.specs.State.{Corners, box}
 use Rattle.psi_state.specs.Sets.{image, single}
 use Rattle.psi_event.specs.Numbers.{follow_numbers}
 use Rattle.psi_packed_set.proofs.SetsLemmas.{some-left}
+use Rattle.psi_packed_set.proofs.MeetingLemmas.{part-none}
 use Rattle.psi_packed_set.proofs.sets.few_meeting.Goals as goal
 
 pub returns-in-Some-clause-many : goal.returns-in-Some-clause-many
@@ -19,3 +20,9 @@ returns-clause-few g c = λ lo hi begun few.
     let functions = map g.E.EventLaw.function c.args.course.now.events in
     c.meeting.ensures.meeting c.args.course.now.caps functions c.requires.machine.program
     ∙ ap (λ (b : Corners). single (image (follow_numbers functions c.args.numbers.now) (box b.lo b.hi))) (c.bounds_of-bounds.ensures lo hi begun)
+
+pub returns-then-corners_part-clause-few : goal.returns-then-corners_part-clause-few
+returns-then-corners_part-clause-few g c = λ lo hi begun few.
+    let functions = map g.E.EventLaw.function c.args.course.now.events in
+    sym (part-none (follow_numbers functions c.args.numbers.now) lo hi begun.ordered
+    (c.corners_part.ensures c.args.course.now.caps functions lo hi c.requires.machine.program begun c.if-corners_part.true))
