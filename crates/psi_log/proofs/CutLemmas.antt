@@ -1,37 +1,17 @@
 -- Of the words of a line the first 4,101 are enough: a line of more than 4,100 is refused for its shape.
-use Rattle.std.specs.Prelude.{◌≡◌, ℕ, zero, suc, ◌+◌, ◌<◌, ◌≤◌, List, [], ◌∷◌, ◌++◌, length, map, take, codes, Bool, true, false, ◌&&◌, nat_le, Option, Some, None, Result, Ok, Err, refl, cond}
+use Rattle.std.specs.Prelude.{◌≡◌, ℕ, ◌+◌, ◌<◌, List, [], ◌∷◌, length, take, codes, Bool, true, false, ◌&&◌, nat_le, Option, Some, None, Result, Ok, Err, refl, cond}
 use Rattle.std.specs.List.{list_all}
 use Rattle.std.specs.Str.{bytes_eq}
-use Rattle.std.proofs.Common.{ap, sym, ◌∙◌, arith, inl, inr, length-append}
+use Rattle.std.proofs.Common.{ap, sym, ◌∙◌, arith, inl, inr}
 use Rattle.std.proofs.lemmas.Bool.{lt-leb, cases_lt}
-use Rattle.std.proofs.lemmas.List.{take_all, take-append-le, length-take-le, length-map, map-append}
+use Rattle.std.proofs.lemmas.List.{take_all, length-take-le}
 use Rattle.psi_state.specs.State.{Corners}
 use Rattle.psi_log_text.specs.declared.header.Header.{Header}
-use Rattle.psi_log.specs.Refusal.{Refusal, refused, ◌>>=◌, holds_or}
-use Rattle.psi_log.specs.Words.{has_pieces, read_named}
+use Rattle.psi_log_words.specs.Refusal.{Refusal, refused, ◌>>=◌, holds_or}
+use Rattle.psi_log_words.specs.Words.{has_pieces, read_named}
+use Rattle.psi_log_words.specs.declared.refusals.Cause.TheVariants.{Shape}
 use Rattle.psi_log.specs.Regions.{Given, box_form, set_form, move_form, form_of}
 use Rattle.psi_log.specs.Reading.{read_begin, read_end, read_step}
-use Rattle.psi_log.specs.declared.refusals.Cause.TheVariants.{Shape}
-
--- the front of a list stays when its own front is taken first
-pub take_onto : {X : Type 0} (n : ℕ) (xs ys : List X) → take n (take n xs ++ ys) ≡ take n (xs ++ ys)
-take_onto zero xs ys = refl
-take_onto (suc n) [] ys = refl
-take_onto {X} (suc n) (x ∷ xs) ys = ap (λ (zs : List X). x ∷ zs) (take_onto n xs ys)
-
--- a word that is put behind fewer, and one that isn't
-pub front_more : {V : Type 0} (view : V → List ℕ) (n : ℕ) (vs more : List V) (v : V) → more ≡ vs ++ v ∷ [] → length vs < n → map view more ≡ take n (map view vs ++ view v ∷ [])
-front_more view n vs more v is few =
-    let whole : map view more ≡ map view vs ++ view v ∷ [] = ap (map view) is ∙ map-append view vs (v ∷ []) in
-    let long : length (map view vs ++ view v ∷ []) ≤ n = omega (arith, length-append (map view vs) (view v ∷ []), length-map vs view) in
-    whole ∙ sym (take_all n (map view vs ++ view v ∷ []) long)
-
-pub front_full : {V : Type 0} (view : V → List ℕ) (n : ℕ) (vs : List V) (v : V) → length vs ≡ n → map view vs ≡ take n (map view vs ++ view v ∷ [])
-front_full view n vs v is =
-    let same : length (map view vs) ≡ n = length-map vs view ∙ is in
-    let few : n ≤ length (map view vs) = omega arith in
-    let many : length (map view vs) ≤ n = omega arith in
-    sym (take-append-le n (map view vs) (view v ∷ []) few ∙ take_all n (map view vs) many)
 
 -- what is refused where there are too many words is read alike of the first of them
 cut : {A : Type 0} (most : ℕ) (reading : List (List ℕ) → Result A Refusal) (refusal : Refusal)

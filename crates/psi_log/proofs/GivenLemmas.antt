@@ -8,12 +8,12 @@ use Rattle.std.proofs.lemmas.List.{length-map}
 use Rattle.psi_state.specs.State.{Corners}
 use Rattle.psi_log_text.specs.Log.{LogRegion, in_box, in_set, IsBox, IsSet, IsRegion}
 use Rattle.psi_log_text.specs.Text.{numbers_text, region_words, Change, changes, change_text, move_words}
-use Rattle.psi_log.specs.Refusal.{refused, ◌>>=◌, holds_or, each}
-use Rattle.psi_log.specs.Words.{pieces_of, has_pieces}
+use Rattle.psi_log_words.specs.Refusal.{refused, ◌>>=◌, holds_or, each}
+use Rattle.psi_log_words.specs.Words.{pieces_of, has_pieces}
+use Rattle.psi_log_words.specs.declared.refusals.Cause.TheVariants.{Shape}
+use Rattle.psi_log_words.proofs.WordLemmas.{bind_ok, ok_same, held, lacks}
+use Rattle.psi_log_words.proofs.NumberLemmas.{each_found, each_again}
 use Rattle.psi_log.specs.Regions.{Given, given_box, given_set, given_move, box_form, set_form, move_form, form_of, read_state, read_change, ascends, queues_ascend, is_change, changed, read_given}
-use Rattle.psi_log.specs.declared.refusals.Cause.TheVariants.{Shape}
-use Rattle.psi_log.proofs.WordLemmas.{bind_ok, ok_same, held, lacks}
-use Rattle.psi_log.proofs.NumberLemmas.{each_found, each_again}
 use Rattle.psi_log.proofs.StateLemmas.{state_found, state_again, state_shaped, state_lacks, states_found, states_again, states_shaped, states_lack, below_found, below_again, rising_found, rising_again}
 use Rattle.psi_log.proofs.MoveLemmas.{changes_found, changes_again, changes_ascend, changes_are, changes_count}
 use Rattle.psi_log.proofs.ChangedLemmas.{changed_box, changes_ordered}

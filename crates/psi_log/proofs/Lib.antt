@@ -1,6 +1,4 @@
 -- The lemmas of this crate.
-pub mod WordLemmas
-pub mod NumberLemmas
 pub mod StateLemmas
 pub mod MoveLemmas
 pub mod RegionLemmas
@@ -9,12 +7,8 @@ pub mod GivenLemmas
 pub mod LineLemmas
 pub mod HeaderLemmas
 pub mod ReadLemmas
-mod ValueLemmas
-mod NumeralLemmas
-mod PieceLemmas
 mod PieceTurnsLemmas
 mod CutLemmas
-mod LineWordsLemmas
 mod MovedLemmas
 pub mod ToldLemmas
 pub mod StepLemmas

@@ -9,13 +9,13 @@ use Rattle.psi_state.specs.Members.{In}
 use Rattle.psi_log_text.specs.declared.header.Header.{Header}
 use Rattle.psi_log_text.specs.Log.{LogRegion, in_box, in_set, Entry, greatest_horizon, IsHeader, IsRegion, IsEntry}
 use Rattle.psi_log_text.specs.Text.{line_text, number_words, next_words, step_text, entries_text}
-use Rattle.psi_log.specs.Refusal.{refused, ◌>>=◌, holds_or}
-use Rattle.psi_log.specs.Words.{line_of, words_of, number_in, read_named}
+use Rattle.psi_log_words.specs.Refusal.{refused, ◌>>=◌, holds_or}
+use Rattle.psi_log_words.specs.Words.{line_of, words_of, number_in, read_named}
+use Rattle.psi_log_words.specs.declared.refusals.Cause.TheVariants.{Shape}
+use Rattle.psi_log_words.proofs.WordLemmas.{bind_ok, ok_same, held, same_word, own_word, lacks, split-join, join-split, lacks-join, line_found, line_again}
+use Rattle.psi_log_words.proofs.NumberLemmas.{number_found, number_again, decimal_lacks}
 use Rattle.psi_log.specs.Regions.{Given, form_of, read_given}
 use Rattle.psi_log.specs.Reading.{named_line, box_before, read_step, read_steps}
-use Rattle.psi_log.specs.declared.refusals.Cause.TheVariants.{Shape}
-use Rattle.psi_log.proofs.WordLemmas.{bind_ok, ok_same, held, same_word, own_word, lacks, split-join, join-split, lacks-join, line_found, line_again}
-use Rattle.psi_log.proofs.NumberLemmas.{number_found, number_again, decimal_lacks}
 use Rattle.psi_log.proofs.RegionLemmas.{words_after, IsBefore}
 use Rattle.psi_log.proofs.GivenLemmas.{region_found, region_again, words_lack}
 

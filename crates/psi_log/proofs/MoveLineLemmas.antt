@@ -14,13 +14,13 @@ use Rattle.psi_log_text.specs.Text.{numbers_text, Change, change_text, step_text
 use Rattle.psi_log_text.specs.Room.{spaced_words}
 use Rattle.psi_log_text.proofs.JoinedLemmas.{then, then_words, one_word, three_pieces}
 use Rattle.psi_log_text.proofs.LinePiecesLemmas.{step_pieces}
-use Rattle.psi_log.specs.Refusal.{each}
-use Rattle.psi_log.specs.Words.{number_in, pieces_of}
+use Rattle.psi_log_words.specs.Refusal.{each}
+use Rattle.psi_log_words.specs.Words.{number_in, pieces_of}
+use Rattle.psi_log_words.proofs.WordLemmas.{lacks}
+use Rattle.psi_log_words.proofs.NumberLemmas.{number_again, decimal_lacks, each_again}
 use Rattle.psi_log.specs.Regions.{form_of, move_form, queues_ascend, is_change, changed, read_change, read_given}
 use Rattle.psi_log.specs.Reading.{read_step}
 use Rattle.psi_log.specs.Scanned.{Stands, AreChanged, next_step}
-use Rattle.psi_log.proofs.WordLemmas.{lacks}
-use Rattle.psi_log.proofs.NumberLemmas.{number_again, decimal_lacks, each_again}
 use Rattle.psi_log.proofs.RegionLemmas.{IsChange, change_again, changes_shaped, changes_lack}
 use Rattle.psi_log.proofs.MovedLemmas.{behind_last, IsMoved, moved_none, moved_more}
 use Rattle.psi_log.proofs.ScanLemmas.{in_push}

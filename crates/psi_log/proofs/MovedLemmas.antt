@@ -8,11 +8,11 @@ use Rattle.std.proofs.lemmas.List.Folds.{list_all-append}
 use Rattle.psi_state.specs.State.{Corners}
 use Rattle.psi_log_text.specs.Log.{in_box}
 use Rattle.psi_log_text.specs.Text.{Change}
-use Rattle.psi_log.specs.Refusal.{Refusal, refused, each, IsLogError}
-use Rattle.psi_log.specs.Words.{pieces_of}
+use Rattle.psi_log_words.specs.Refusal.{Refusal, refused, each, IsLogError}
+use Rattle.psi_log_words.specs.Words.{pieces_of}
+use Rattle.psi_log_words.specs.declared.refusals.LogError.{LogError}
+use Rattle.psi_log_words.specs.declared.refusals.Cause.TheVariants.{Shape}
 use Rattle.psi_log.specs.Regions.{read_change, queues_ascend, is_change, changed, read_given, given_move}
-use Rattle.psi_log.specs.declared.refusals.LogError.{LogError}
-use Rattle.psi_log.specs.declared.refusals.Cause.TheVariants.{Shape}
 use Rattle.psi_log.proofs.TurnLemmas.{onto, onto_none, turn, turn_ends}
 use Rattle.psi_log.proofs.PieceTurnsLemmas.{bind_refused}
 

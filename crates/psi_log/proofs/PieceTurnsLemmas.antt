@@ -4,13 +4,13 @@ use Rattle.std.specs.List.{before_first, after_first}
 use Rattle.std.proofs.Common.{set, ap, sym, ◌∙◌, subst, arith}
 use Rattle.std.proofs.lemmas.List.{drop-drop, drop_all, take_all, take_more_set, append-nil, length-drop}
 use Rattle.psi_log_text.specs.Text.{Change}
-use Rattle.psi_log.specs.Refusal.{Refusal, ◌>>=◌, each, IsLogError}
-use Rattle.psi_log.specs.Words.{is_comma, pieces_of, has_pieces, number_in}
+use Rattle.psi_log_words.specs.Refusal.{Refusal, ◌>>=◌, each, IsLogError}
+use Rattle.psi_log_words.specs.Words.{is_comma, pieces_of, has_pieces, number_in}
+use Rattle.psi_log_words.specs.declared.refusals.LogError.{LogError}
+use Rattle.psi_log_words.specs.declared.refusals.LogError.TheVariants.{Refused, OutOfMemory}
+use Rattle.psi_log_words.proofs.PieceLemmas.{first_and_rest, rest_pieces}
 use Rattle.psi_log.specs.Regions.{read_change}
-use Rattle.psi_log.specs.declared.refusals.LogError.{LogError}
-use Rattle.psi_log.specs.declared.refusals.LogError.TheVariants.{Refused, OutOfMemory}
 use Rattle.psi_log.proofs.TurnLemmas.{onto, onto_more, pieces_long}
-use Rattle.psi_log.proofs.PieceLemmas.{first_and_rest, rest_pieces}
 
 -- a reading that is refused refuses what goes on from it
 pub bind_refused : {A B : Type 0} (error : LogError) (r : Result A Refusal) (f : A → Result B Refusal) → IsLogError error r → IsLogError error (r >>= f)

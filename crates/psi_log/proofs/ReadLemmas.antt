@@ -6,13 +6,13 @@ use Rattle.std.proofs.lemmas.List.{append-nil, nil_from_length}
 use Rattle.psi_log_text.specs.declared.header.Header.{Header}
 use Rattle.psi_log_text.specs.Log.{LogRegion, Entry, Certificate, IsHeader, IsLog}
 use Rattle.psi_log_text.specs.Text.{line_text, numbers_text, region_words, header_text, begin_text, entries_text, end_text, log_text, IsLogOf}
-use Rattle.psi_log.specs.Refusal.{refused, ◌>>=◌, holds_or, Gives}
-use Rattle.psi_log.specs.declared.refusals.LogError.{LogError}
-use Rattle.psi_log.specs.declared.refusals.LogError.TheVariants.{Refused, OutOfMemory}
-use Rattle.psi_log.specs.Words.{line_of, words_of}
+use Rattle.psi_log_words.specs.Refusal.{refused, ◌>>=◌, holds_or, Gives}
+use Rattle.psi_log_words.specs.declared.refusals.LogError.{LogError}
+use Rattle.psi_log_words.specs.declared.refusals.LogError.TheVariants.{Refused, OutOfMemory}
+use Rattle.psi_log_words.specs.Words.{line_of, words_of}
+use Rattle.psi_log_words.specs.declared.refusals.Cause.TheVariants.{TrailingText, TooLong}
+use Rattle.psi_log_words.proofs.WordLemmas.{bind_ok, ok_same, held}
 use Rattle.psi_log.specs.Reading.{read_header, read_begin, box_before, read_steps, read_end, after_header, read}
-use Rattle.psi_log.specs.declared.refusals.Cause.TheVariants.{TrailingText, TooLong}
-use Rattle.psi_log.proofs.WordLemmas.{bind_ok, ok_same, held}
 use Rattle.psi_log.proofs.LineLemmas.{words_found, line_of_words, words_line, words_again, steps_found, steps_again}
 use Rattle.psi_log.proofs.HeaderLemmas.{header_found, header_again, begin_found, begin_again, begin_lacks, end_found, end_again, end_lacks}
 

@@ -9,12 +9,12 @@ use Rattle.psi_state.specs.State.{Corners}
 use Rattle.psi_state.specs.Members.{In}
 use Rattle.psi_log_text.specs.Log.{LogRegion, in_box, in_set, IsBox}
 use Rattle.psi_log_text.specs.Text.{region_words, Change, changes, change_text, move_words}
-use Rattle.psi_log.specs.Refusal.{Refusal, refused, ◌>>=◌, holds_or}
-use Rattle.psi_log.specs.Words.{pieces_of, has_pieces, number_in}
+use Rattle.psi_log_words.specs.Refusal.{Refusal, refused, ◌>>=◌, holds_or}
+use Rattle.psi_log_words.specs.Words.{pieces_of, has_pieces, number_in}
+use Rattle.psi_log_words.specs.declared.refusals.Cause.TheVariants.{Shape}
+use Rattle.psi_log_words.proofs.WordLemmas.{bind_ok, ok_same, held, same_word, lacks}
+use Rattle.psi_log_words.proofs.NumberLemmas.{number_found, number_again}
 use Rattle.psi_log.specs.Regions.{Given, given_box, given_set, given_move, box_form, set_form, move_form, form_of, read_change}
-use Rattle.psi_log.specs.declared.refusals.Cause.TheVariants.{Shape}
-use Rattle.psi_log.proofs.WordLemmas.{bind_ok, ok_same, held, same_word, lacks}
-use Rattle.psi_log.proofs.NumberLemmas.{number_found, number_again}
 use Rattle.psi_log.proofs.StateLemmas.{numbers_pieces, numbers_from_pieces, numbers_text_lacks}
 use Rattle.psi_log.proofs.MoveLemmas.{changes_in}
 

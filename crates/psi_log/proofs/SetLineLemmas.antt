@@ -14,12 +14,12 @@ use Rattle.psi_log_text.specs.Text.{numbers_text, region_words, step_text}
 use Rattle.psi_log_text.specs.Room.{spaced_words}
 use Rattle.psi_log_text.proofs.JoinedLemmas.{then, then_words, one_word}
 use Rattle.psi_log_text.proofs.LinePiecesLemmas.{step_pieces}
-use Rattle.psi_log.specs.Words.{number_in}
+use Rattle.psi_log_words.specs.Words.{number_in}
+use Rattle.psi_log_words.proofs.WordLemmas.{lacks}
+use Rattle.psi_log_words.proofs.NumberLemmas.{number_again, decimal_lacks}
 use Rattle.psi_log.specs.Regions.{form_of, ascends}
 use Rattle.psi_log.specs.Reading.{read_step}
 use Rattle.psi_log.specs.Scanned.{Stands, AreScanned, TellsSet, next_step}
-use Rattle.psi_log.proofs.WordLemmas.{lacks}
-use Rattle.psi_log.proofs.NumberLemmas.{number_again, decimal_lacks}
 use Rattle.psi_log.proofs.StateLemmas.{rising_found}
 use Rattle.psi_log.proofs.RegionLemmas.{words_after}
 use Rattle.psi_log.proofs.GivenLemmas.{set_again, region_lacks}

@@ -16,12 +16,12 @@ use Rattle.psi_state.specs.Ascending.{IsRising}
 use Rattle.psi_state.proofs.AscendingLemmas.{cmp-through}
 use Rattle.psi_log_text.specs.Log.{IsState}
 use Rattle.psi_log_text.specs.Text.{numbers_text}
-use Rattle.psi_log.specs.Refusal.{Refusal, each}
-use Rattle.psi_log.specs.Words.{pieces_of, has_pieces, number_in}
+use Rattle.psi_log_words.specs.Refusal.{Refusal, each}
+use Rattle.psi_log_words.specs.Words.{pieces_of, has_pieces, number_in}
+use Rattle.psi_log_words.specs.Refusal.{◌>>=◌}
+use Rattle.psi_log_words.proofs.WordLemmas.{bind_ok, ok_same, lacks, split-join, join-split, lacks-join}
+use Rattle.psi_log_words.proofs.NumberLemmas.{number_found, number_again, decimal_lacks, each_found, each_again}
 use Rattle.psi_log.specs.Regions.{read_state, ascends}
-use Rattle.psi_log.specs.Refusal.{◌>>=◌}
-use Rattle.psi_log.proofs.WordLemmas.{bind_ok, ok_same, lacks, split-join, join-split, lacks-join}
-use Rattle.psi_log.proofs.NumberLemmas.{number_found, number_again, decimal_lacks, each_found, each_again}
 
 -- what holds of each member holds at each place, and the other way round
 pub below_places : (k : ℕ) (x : List ℕ) → 0 < k → ((v : ℕ) → In v x → v < k) → (i : ℕ) → slice_index x i < k

@@ -7,8 +7,11 @@ use Rattle.std.proofs.lemmas.List.Elements.{All-head, All-tail, All-weaker}
 use Rattle.psi_state.specs.State.{Corners}
 use Rattle.psi_log_text.specs.declared.header.Header.{Header}
 use Rattle.psi_log_text.specs.Log.{LogRegion, in_set, Entry}
-use Rattle.psi_log.specs.Refusal.{Refusal, ◌>>=◌, IsLogError}
-use Rattle.psi_log.specs.Words.{line_of, words_of}
+use Rattle.psi_log_words.specs.Refusal.{Refusal, ◌>>=◌, IsLogError}
+use Rattle.psi_log_words.specs.Words.{line_of, words_of}
+use Rattle.psi_log_words.specs.declared.refusals.LogError.{LogError}
+use Rattle.psi_log_words.specs.declared.refusals.LogError.TheVariants.{Refused, OutOfMemory}
+use Rattle.psi_log_words.proofs.WordLemmas.{bind_ok, ok_same}
 use Rattle.psi_log.specs.Reading.{box_before, read_step, read_steps}
 use Rattle.psi_log.specs.RegionsViews.{region_of, IsThere}
 use Rattle.psi_log.specs.LinesViews.{entry_of, HasRegion, IsLast}
@@ -17,9 +20,6 @@ use Rattle.psi_log.specs.Scanned.{TellsSet, next_step}
 use Rattle.psi_state_list.specs.declared.line_list.ListedRegion.{ListedRegion}
 use Rattle.psi_state_list.specs.declared.line_list.ListedRegion.TheVariants.{Box, Set}
 use Rattle.psi_state_list.specs.declared.line_list.Line.{Line}
-use Rattle.psi_log.specs.declared.refusals.LogError.{LogError}
-use Rattle.psi_log.specs.declared.refusals.LogError.TheVariants.{Refused, OutOfMemory}
-use Rattle.psi_log.proofs.WordLemmas.{bind_ok, ok_same}
 
 -- a region stays what it is while states are put behind its own
 front_of : {X : Type 0} (old new : List X) (first count : ℕ) → take (length old) new ≡ old → first + count ≤ length old → take count (drop first new) ≡ take count (drop first old)

@@ -3,13 +3,13 @@ use Rattle.std.specs.Prelude.{◌≡◌, ℕ, zero, suc, ◌+◌, ◌<◌, ◌�
 use Rattle.std.specs.List.{list_all}
 use Rattle.std.proofs.Common.{get_or, ap, sym, ◌∙◌, append_assoc, arith}
 use Rattle.std.proofs.lemmas.List.{drop_more, append-nil, drop-append-le, take-append-le, take_all, length-drop}
-use Rattle.psi_log.proofs.WordLemmas.{bind_ok, ok_same}
+use Rattle.psi_log_words.proofs.WordLemmas.{bind_ok, ok_same}
 use Rattle.std.proofs.lemmas.Bool.{eqb-true, and_parts}
 use Rattle.std.proofs.Math.ListN.{drop_of_length-le}
-use Rattle.psi_log.specs.Refusal.{Refusal, ◌>>=◌, each, IsLogError}
-use Rattle.psi_log.specs.Words.{has_pieces, pieces_of}
-use Rattle.psi_log.specs.declared.refusals.LogError.{LogError}
-use Rattle.psi_log.specs.declared.refusals.LogError.TheVariants.{Refused, OutOfMemory}
+use Rattle.psi_log_words.specs.Refusal.{Refusal, ◌>>=◌, each, IsLogError}
+use Rattle.psi_log_words.specs.Words.{has_pieces, pieces_of}
+use Rattle.psi_log_words.specs.declared.refusals.LogError.{LogError}
+use Rattle.psi_log_words.specs.declared.refusals.LogError.TheVariants.{Refused, OutOfMemory}
 
 -- a test of words: one that passes it takes the loop one step on, another ends it, and behind the last word none fails
 pub shaped_turn : {V : Type 0} (view : V → List ℕ) (count i : ℕ) (vs : List V) (v : V) → i < length vs → v ≡ get_or vs i v → has_pieces count (view v) ≡ true

@@ -1,8 +1,8 @@
 -- Texts worked by hand, and what is read of them.
 use Rattle.std.specs.Prelude.{◌≡◌, codes, true, Err, refl}
 use Rattle.std.specs.Result.{is_ok}
-use Rattle.psi_log.specs.Refusal.{each}
-use Rattle.psi_log.specs.Words.{line_of, number_in, read_version, read_named}
+use Rattle.psi_log_words.specs.Refusal.{each}
+use Rattle.psi_log_words.specs.Words.{line_of, number_in, read_version, read_named}
 use Rattle.psi_log.specs.Regions.{box_form, set_form, move_form, form_of, read_state, read_change, read_given}
 use Rattle.psi_log.specs.Reading.{read, after_header, read_header, named_line, read_begin, read_step, read_steps, read_end}
 

@@ -1,7 +1,7 @@
 -- What the types of the code are seen as.
 use Rattle.std.specs.Prelude.{◌≡◌, ℕ, ◌≤◌, map, length, true}
 use Rattle.std.specs.List.{list_all}
-use Rattle.psi_log.specs.Words.{has_pieces}
+use Rattle.psi_log_words.specs.Words.{has_pieces}
 use Rattle.psi_log.specs.Regions.{Given, given_box, given_set, given_move}
 use Rattle.psi_log.specs.declared.forms.Given.{Given as Words}
 use Rattle.psi_log.specs.declared.forms.Given.TheVariants.{Box, Set, Move}

@@ -1,6 +1,4 @@
 -- The definitions of this crate.
-pub mod Refusal
-pub mod Words
 pub mod Regions
 pub mod Reading
 pub mod FormsViews

@@ -4,10 +4,10 @@ use Rattle.std.specs.Str.{bytes_eq}
 use Rattle.psi_state.specs.State.{Corners}
 use Rattle.psi_log_text.specs.declared.header.Header.{Header}
 use Rattle.psi_log_text.specs.Log.{LogRegion, in_box, in_set, Entry, Certificate, greatest_horizon}
-use Rattle.psi_log.specs.Refusal.{Refusal, refused, ◌>>=◌, holds_or}
-use Rattle.psi_log.specs.Words.{line_of, words_of, has_pieces, number_in, read_version, read_named}
+use Rattle.psi_log_words.specs.Refusal.{Refusal, refused, ◌>>=◌, holds_or}
+use Rattle.psi_log_words.specs.Words.{line_of, words_of, has_pieces, number_in, read_version, read_named}
+use Rattle.psi_log_words.specs.declared.refusals.Cause.TheVariants.{Shape, TrailingText, TooLong}
 use Rattle.psi_log.specs.Regions.{form_of, read_state, read_given}
-use Rattle.psi_log.specs.declared.refusals.Cause.TheVariants.{Shape, TrailingText, TooLong}
 
 -- the line n of a name and a number, which begins the text, and what follows it
 unfoldable pub named_line : ℕ → List ℕ → ℕ → ℕ → List ℕ → Result (ℕ × List ℕ) Refusal

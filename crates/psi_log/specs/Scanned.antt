@@ -8,8 +8,8 @@ use Rattle.psi_log_text.specs.declared.header.Header.{Header}
 use Rattle.psi_log_text.specs.Log.{Entry, in_set, IsState, IsSet}
 use Rattle.psi_log_text.specs.Text.{numbers_text, region_words, Change, change_text}
 use Rattle.psi_log_text.specs.Room.{Puts, spaced_words}
-use Rattle.psi_log.specs.Refusal.{Refusal, ◌>>=◌}
-use Rattle.psi_log.specs.Words.{line_of, words_of}
+use Rattle.psi_log_words.specs.Refusal.{Refusal, ◌>>=◌}
+use Rattle.psi_log_words.specs.Words.{line_of, words_of}
 use Rattle.psi_log.specs.Regions.{queues_ascend, is_change, changed}
 use Rattle.psi_log.specs.Reading.{read_step}
 

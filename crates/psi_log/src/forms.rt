@@ -2,13 +2,12 @@
 
 ghost use Rattle.std.specs.Prelude.{◌≡◌, ◌≤◌, map, length, true, IfOk, IfSome, option_copied};
 ghost use Rattle.std.specs.List.{list_all};
-ghost use Rattle.psi_log.specs.Refusal.{Gives};
-ghost use Rattle.psi_log.specs.Words.{has_pieces};
+ghost use Rattle.psi_log_words.specs.Refusal.{Gives};
+ghost use Rattle.psi_log_words.specs.Words.{has_pieces};
 ghost use Rattle.psi_log.specs.Regions.{box_form, set_form, move_form, form_of};
 ghost use Rattle.psi_log.specs.FormsViews.{given, HasForm};
 
-use crate::refusals::{Cause, LogError};
-use crate::words::has_pieces;
+use psi_log_words::{Cause, LogError, has_pieces};
 use psi_state::{Bounds, MOST_SPLIT};
 
 /// The words of a region in their form.

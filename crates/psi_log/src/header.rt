@@ -2,12 +2,11 @@
 
 ghost use Rattle.std.specs.Prelude.{◌≡◌, ◌-◌, ◌<◌, ◌≤◌, ◌^◌, codes, IfOk};
 ghost use Rattle.psi_log_text.specs.Log.{greatest_horizon};
-ghost use Rattle.psi_log.specs.Refusal.{Gives};
+ghost use Rattle.psi_log_words.specs.Refusal.{Gives};
 ghost use Rattle.psi_log.specs.Reading.{named_line, read_header};
 
-use crate::refusals::LogError;
-use crate::words::{line_of, read_named, read_version, read_words};
 use psi_log_text::Header;
+use psi_log_words::{LogError, line_of, read_named, read_version, read_words};
 use psi_state::MOST_QUEUES;
 
 /// The greatest horizon of a version, which is also the greatest number of a step.

@@ -8,17 +8,14 @@ mod header;
 mod log;
 mod move_line;
 mod moves;
-mod numbers;
 mod parts;
-mod refusals;
 mod regions;
 mod scan;
 mod set_line;
 mod steps;
-mod words;
 
 pub use form::{BorrowedRegion, Form};
 pub use log::{Log, read_log};
 pub use psi_log_text::{Header, LineBuf};
+pub use psi_log_words::{Cause, LogError};
 pub use psi_state_list::Rows;
-pub use refusals::{Cause, LogError};

@@ -4,18 +4,18 @@ ghost use Rattle.std.specs.Prelude.{◌≡◌, ◌⊎◌, ◌+◌, ◌<◌, ◌�
 ghost use Rattle.psi_state.specs.State.{IsBelow};
 ghost use Rattle.psi_log_text.specs.Log.{Certificate, IsLog};
 ghost use Rattle.psi_log_text.specs.Text.{IsLogOf};
-ghost use Rattle.psi_log.specs.Refusal.{Gives};
+ghost use Rattle.psi_log_words.specs.Refusal.{Gives};
+ghost use Rattle.psi_log_words.specs.declared.refusals.LogError.TheVariants.{OutOfMemory};
 ghost use Rattle.psi_log.specs.Reading.{read};
 ghost use Rattle.psi_state_list.specs.LinesKept.{owned};
 ghost use Rattle.psi_log.specs.RegionsViews.{region_of, IsThere};
 ghost use Rattle.psi_log.specs.PartsViews.{certificate_of, IsWhole};
 ghost use Rattle.psi_log.specs.Told.{region_at, form, shown, step_at, HasState, state_in};
-ghost use Rattle.psi_log.specs.declared.refusals.LogError.TheVariants.{OutOfMemory};
 
 use crate::form::{BorrowedRegion, Form};
 use crate::parts::{Parts, read_parts};
-use crate::refusals::LogError;
 use psi_log_text::Header;
+use psi_log_words::LogError;
 use psi_state::{State, Step};
 use psi_state_list::Borrowed;
 use std::alloc::Global;

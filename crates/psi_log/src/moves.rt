@@ -3,13 +3,12 @@
 ghost use Rattle.std.specs.Prelude.{◌≡◌, ◌<◌, ◌≤◌, length, map, true, IfOk};
 ghost use Rattle.std.specs.List.{list_all};
 ghost use Rattle.psi_log_text.specs.Log.{in_box};
-ghost use Rattle.psi_log.specs.Refusal.{Gives};
-ghost use Rattle.psi_log.specs.Words.{pieces_of, has_pieces};
+ghost use Rattle.psi_log_words.specs.Refusal.{Gives};
+ghost use Rattle.psi_log_words.specs.Words.{pieces_of, has_pieces};
 ghost use Rattle.psi_log.specs.Regions.{read_change, is_change, read_given, given_move};
 ghost use Rattle.psi_log.specs.ChangesViews.{change};
 
-use crate::numbers::piece_in;
-use crate::refusals::{Cause, LogError};
+use psi_log_words::{Cause, LogError, piece_in};
 use psi_state::Bounds;
 
 /// A queue, with the least and the greatest number of customers that it holds from now on.

@@ -2,8 +2,8 @@
 
 ghost use Rattle.std.specs.Prelude.{◌≡◌, ◌&&◌, ℕ, List, IfSome, ◌+◌, ◌-◌, ◌<◌, ◌≤◌, ◌++◌, length, map, take, drop, true, Ok, IfOk, IfErr, OnOk};
 ghost use Rattle.std.specs.List.{list_all};
-ghost use Rattle.psi_log.specs.Refusal.{Gives, IsLogError, each};
-ghost use Rattle.psi_log.specs.Words.{has_pieces, number_in};
+ghost use Rattle.psi_log_words.specs.Refusal.{Gives, IsLogError, each};
+ghost use Rattle.psi_log_words.specs.Words.{has_pieces, number_in};
 ghost use Rattle.psi_log.specs.Regions.{given_box, given_set, read_state, ascends, read_given};
 ghost use Rattle.psi_log.specs.FormsViews.{given as given_of, HasForm};
 ghost use Rattle.psi_log.specs.RegionsViews.{region_of, IsThere};
@@ -12,8 +12,7 @@ ghost use Rattle.psi_log_text.specs.Log.{in_box};
 
 use crate::forms::Given;
 use crate::moves::read_move;
-use crate::numbers::piece_in;
-use crate::refusals::{Cause, LogError};
+use psi_log_words::{Cause, LogError, piece_in};
 use psi_state::{Bounds, State};
 use psi_state_list::{ListedRegion, StateList};
 

@@ -2,7 +2,7 @@
 
 ghost use Rattle.std.specs.Prelude.{◌≡◌, ◌+◌, ◌-◌, ◌≤◌, length, map, take, Ok, IfOk, IfErr, IfSome, OnOk, option_copied};
 ghost use Rattle.std.specs.List.{All};
-ghost use Rattle.psi_log.specs.Refusal.{IsLogError};
+ghost use Rattle.psi_log_words.specs.Refusal.{IsLogError};
 ghost use Rattle.psi_log.specs.Reading.{read_step, read_steps};
 ghost use Rattle.psi_log.specs.LinesViews.{entry_of, HasRegion, IsLast};
 ghost use Rattle.psi_log.specs.Scanned.{next_step};
@@ -10,12 +10,10 @@ ghost use Rattle.psi_log.specs.Scanned.{next_step};
 use crate::forms::form_of;
 use crate::header::greatest_horizon;
 use crate::move_line::read_move_line;
-use crate::numbers::number_in;
-use crate::refusals::{Cause, LogError};
 use crate::regions::{box_before, read_given};
 use crate::set_line::{LastSet, read_set_line};
-use crate::words::read_words;
 use psi_log_text::Header;
+use psi_log_words::{Cause, LogError, number_in, read_words};
 use psi_state::{Bounds, MOST_EVENTS, Step};
 use psi_state_list::{Line, LineList, StateList};
 use std::alloc::Global;

@@ -8,8 +8,8 @@ use Rattle.psi_event.specs.Idle.{unchanged}
 use Rattle.psi_rate.specs.Rates.{event_of}
 use Rattle.psi_rate.specs.Composition.{Functions, picked}
 use Rattle.psi_log_text.specs.Log.{LogRegion, Entry, Certificate, IsLog}
-use Rattle.psi_log.specs.Refusal.{Refusal, holds_or}
-use Rattle.psi_log.proofs.WordLemmas.{held}
+use Rattle.psi_log_words.specs.Refusal.{Refusal, holds_or}
+use Rattle.psi_log_words.proofs.WordLemmas.{held}
 use Rattle.psi_log.specs.Told.{step_at}
 use Rattle.psi_replay.specs.Verdict.{rejected, covers, is_within, is_small, judge_step, judge_steps}
 use Rattle.psi_replay.specs.Judging.{Gives}

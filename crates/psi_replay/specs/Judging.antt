@@ -1,6 +1,6 @@
 -- What a function that judges lines may answer.
 use Rattle.std.specs.Prelude.{◌≡◌, Result, Ok, Err}
-use Rattle.psi_log.specs.Refusal.{Refusal}
+use Rattle.psi_log_words.specs.Refusal.{Refusal}
 use Rattle.psi_replay.specs.Verdict.{rejected}
 use Rattle.psi_replay.specs.declared.causes.Rejection.{Rejection}
 

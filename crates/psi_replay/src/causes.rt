@@ -1,7 +1,7 @@
 //! Why a log is rejected.
 
 ghost use Rattle.std.specs.Prelude.{◌≡◌};
-ghost use Rattle.psi_log.specs.Refusal.{holds_or};
+ghost use Rattle.psi_log_words.specs.Refusal.{holds_or};
 ghost use Rattle.psi_replay.specs.Verdict.{code_of, rejected};
 ghost use Rattle.psi_replay.specs.Judging.{Gives};
 

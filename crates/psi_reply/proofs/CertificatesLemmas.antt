@@ -15,7 +15,7 @@ use Rattle.psi_horizon.proofs.AgreeingLemmas.{step-agree}
 use Rattle.psi_log_text.specs.declared.header.Header.{Header}
 use Rattle.psi_log_text.specs.Log.{Entry, Certificate, IsLog}
 use Rattle.psi_log_text.specs.Text.{IsLogOf}
-use Rattle.psi_log.specs.Refusal.{Refusal}
+use Rattle.psi_log_words.specs.Refusal.{Refusal}
 use Rattle.psi_log.proofs.ReadLemmas.{read_again}
 use Rattle.psi_log_writer.specs.Recorded.{region_of, entry_after, recorded, header_of, log_of}
 use Rattle.psi_log_writer.proofs.AcceptedLemmas.{recorded-log, recorded-judged}

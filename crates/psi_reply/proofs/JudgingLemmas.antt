@@ -8,7 +8,7 @@ use Rattle.psi_rate.specs.Rates.{event_of}
 use Rattle.psi_rate.specs.Composition.{Parts, Functions, function_at, system_functions}
 use Rattle.psi_horizon.specs.Agreeing.{Agree}
 use Rattle.psi_log_text.specs.Log.{LogRegion, Entry, Certificate, IsLog}
-use Rattle.psi_log.specs.Refusal.{Refusal, ◌>>=◌, holds_or}
+use Rattle.psi_log_words.specs.Refusal.{Refusal, ◌>>=◌, holds_or}
 use Rattle.psi_model.specs.Network.{Network, caps_of, rates_of}
 use Rattle.psi_model.specs.Valid.{IsNetwork}
 use Rattle.psi_replay.specs.declared.answers.Verdict.{Verdict}

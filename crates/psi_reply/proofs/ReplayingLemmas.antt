@@ -4,7 +4,7 @@ use Rattle.std.proofs.Common.{inl, inr, sym, ◌∙◌, subst}
 use Rattle.psi_io.specs.Sink.{appended}
 use Rattle.psi_io.proofs.SinkLemmas.{appended-nothing}
 use Rattle.psi_log_text.specs.Log.{Certificate}
-use Rattle.psi_log.specs.Refusal.{Refusal}
+use Rattle.psi_log_words.specs.Refusal.{Refusal}
 use Rattle.psi_log.specs.Reading.{read}
 use Rattle.psi_log.proofs.ReadLemmas.{read_found}
 use Rattle.psi_replay.specs.Verdict.{verdict_of}

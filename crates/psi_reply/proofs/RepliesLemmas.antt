@@ -15,7 +15,7 @@ use Rattle.psi_command.specs.declared.status.Status.TheVariants as status
 use Rattle.psi_state.specs.declared.Outcome.TheVariants.{Met, NotMet}
 use Rattle.psi_log_text.specs.Log.{Certificate}
 use Rattle.psi_log_text.specs.Text.{log_text}
-use Rattle.psi_log.specs.Refusal.{Refusal}
+use Rattle.psi_log_words.specs.Refusal.{Refusal}
 use Rattle.psi_replay.specs.declared.answers.Verdict.{Verdict}
 use Rattle.psi_replay.specs.declared.answers.Verdict.TheVariants.{Accepted, Rejected}
 use Rattle.psi_replay.specs.Verdict.{verdict_of}

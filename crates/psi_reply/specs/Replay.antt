@@ -7,7 +7,7 @@ use Rattle.psi_rate.specs.Rates.{event_of}
 use Rattle.psi_rate.specs.Composition.{IsReached}
 use Rattle.psi_log_text.specs.Log.{Certificate}
 use Rattle.psi_log_text.specs.Text.{IsLogOf}
-use Rattle.psi_log.specs.Refusal.{Refusal}
+use Rattle.psi_log_words.specs.Refusal.{Refusal}
 use Rattle.psi_log.specs.Reading.{read}
 use Rattle.psi_replay.specs.Verdict.{judged}
 use Rattle.psi_model.specs.Network.{Network, caps_of, rates_of}

@@ -1,7 +1,7 @@
 -- Invariants of the loops of `forms::are_shaped`.
 use Rattle.std.specs.Prelude.{◌≡◌, map, drop}
 use Rattle.std.specs.List.{list_all}
-use Rattle.psi_log.specs.Words.{has_pieces}
+use Rattle.psi_log_words.specs.Words.{has_pieces}
 use Rattle.psi_log.proofs.forms.are_shaped.Given as goal
 
 abbrev pub invariant-loop-word : goal.invariant-loop-word

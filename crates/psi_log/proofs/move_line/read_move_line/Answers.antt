@@ -1,7 +1,7 @@
 -- Answers in the proof of `move_line::read_move_line`.
 use Rattle.std.proofs.Common.{ℕ, List, Ok, ◌+◌, ◌∙◌, ap, sym, refl}
 use Rattle.psi_log_text.specs.Log.{in_box}
-use Rattle.psi_log.proofs.LineWordsLemmas.{rest_of}
+use Rattle.psi_log_words.proofs.LineWordsLemmas.{rest_of}
 use Rattle.psi_log.proofs.MoveLineLemmas.{move_line}
 use Rattle.psi_log.proofs.move_line.read_move_line.Goals as goal
 

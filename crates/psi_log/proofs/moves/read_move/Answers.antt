@@ -3,7 +3,7 @@ use Rattle.std.proofs.Common.{◌∙◌, ◌++◌, [], ◌∷◌, ℕ, List, ap,
 use Rattle.std.proofs.lemmas.Grind.{common_steps}
 use Rattle.std.proofs.lemmas.List.{length-set}
 use Rattle.psi_state.specs.State.{Corners}
-use Rattle.psi_log.specs.Words.{pieces_of}
+use Rattle.psi_log_words.specs.Words.{pieces_of}
 use Rattle.psi_log.specs.Regions.{read_change}
 use Rattle.psi_log.specs.ChangesViews.{change}
 use Rattle.psi_log.proofs.TurnLemmas.{shaped_rest, turn_refused}

@@ -1,7 +1,7 @@
 -- Invariants of the loops of `moves::read_move`.
 use Rattle.std.specs.Prelude.{◌≡◌, length, map, drop, true}
 use Rattle.std.specs.List.{list_all}
-use Rattle.psi_log.specs.Words.{has_pieces}
+use Rattle.psi_log_words.specs.Words.{has_pieces}
 use Rattle.psi_log.proofs.MovedLemmas.{AreRead}
 use Rattle.psi_log.proofs.moves.read_move.Given as goal
 

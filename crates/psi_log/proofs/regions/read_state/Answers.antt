@@ -2,7 +2,7 @@
 use Rattle.std.proofs.Common.{◌≡◌, ◌∙◌, ap, length, refl, arith}
 use Rattle.std.proofs.lemmas.Grind.{common_steps}
 use Rattle.std.proofs.lemmas.List.{length-set, length-replicate}
-use Rattle.psi_log.specs.Words.{number_in, pieces_of}
+use Rattle.psi_log_words.specs.Words.{number_in, pieces_of}
 use Rattle.psi_log.specs.Regions.{read_state}
 use Rattle.psi_log.proofs.TurnLemmas.{onto_none, pieces_long}
 use Rattle.psi_log.proofs.PieceTurnsLemmas.{rest_turn, piece_turn, piece_refused, pieces_end}

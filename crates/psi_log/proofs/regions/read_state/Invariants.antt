@@ -1,7 +1,7 @@
 -- Invariants of the loops of `regions::read_state`.
 use Rattle.std.specs.Prelude.{◌≡◌, length, take, drop}
-use Rattle.psi_log.specs.Refusal.{each}
-use Rattle.psi_log.specs.Words.{pieces_of, number_in}
+use Rattle.psi_log_words.specs.Refusal.{each}
+use Rattle.psi_log_words.specs.Words.{pieces_of, number_in}
 use Rattle.psi_log.proofs.TurnLemmas.{onto}
 use Rattle.psi_log.proofs.PieceTurnsLemmas.{IsRest}
 use Rattle.psi_log.proofs.regions.read_state.Given as goal

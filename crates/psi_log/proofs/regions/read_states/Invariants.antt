@@ -1,8 +1,8 @@
 -- Invariants of the loops of `regions::read_states`.
 use Rattle.std.specs.Prelude.{◌≡◌, ◌≤◌, length, map, take, drop, true}
 use Rattle.std.specs.List.{list_all}
-use Rattle.psi_log.specs.Refusal.{each}
-use Rattle.psi_log.specs.Words.{has_pieces}
+use Rattle.psi_log_words.specs.Refusal.{each}
+use Rattle.psi_log_words.specs.Words.{has_pieces}
 use Rattle.psi_log.specs.Regions.{read_state}
 use Rattle.psi_log.proofs.TurnLemmas.{onto}
 use Rattle.psi_log.proofs.regions.read_states.Given as goal

@@ -1,6 +1,6 @@
 -- Answers in the proof of `scan::has_word`.
 use Rattle.std.proofs.Common.{◌∙◌, sym, arith}
-use Rattle.psi_log.proofs.WordLemmas.{same_word}
+use Rattle.psi_log_words.proofs.WordLemmas.{same_word}
 use Rattle.psi_log.proofs.ScanLemmas.{word_stands}
 use Rattle.psi_log.proofs.scan.has_word.Goals as goal
 

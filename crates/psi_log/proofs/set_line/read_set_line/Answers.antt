@@ -2,10 +2,10 @@
 use Rattle.std.proofs.Common.{List, ℕ, Ok, length, take, drop, ◌+◌, ◌∙◌, ap, sym, subst}
 use Rattle.std.specs.Prelude.{Option, IfSome}
 use Rattle.psi_log_text.specs.Log.{in_set}
+use Rattle.psi_log_words.proofs.LineWordsLemmas.{rest_of}
 use Rattle.psi_log.specs.LinesViews.{IsLast}
 use Rattle.psi_log.specs.Scanned.{Stands}
 use Rattle.psi_log.specs.declared.set_line.LastSet.{LastSet}
-use Rattle.psi_log.proofs.LineWordsLemmas.{rest_of}
 use Rattle.psi_log.proofs.SetLineLemmas.{set_line}
 use Rattle.psi_log.proofs.set_line.read_set_line.Goals as goal
 

@@ -4,7 +4,7 @@ use Rattle.std.specs.Prelude.{Option}
 use Rattle.std.specs.List.{All}
 use Rattle.std.proofs.lemmas.List.Elements.{All-push}
 use Rattle.psi_state.specs.State.{Corners}
-use Rattle.psi_log.specs.Refusal.{IsLogError}
+use Rattle.psi_log_words.specs.Refusal.{IsLogError}
 use Rattle.psi_log.specs.LinesViews.{entry_of, HasRegion}
 use Rattle.psi_log.specs.Scanned.{next_step}
 use Rattle.psi_state_list.specs.declared.line_list.Line.{Line}
