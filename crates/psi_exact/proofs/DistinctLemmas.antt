@@ -9,9 +9,10 @@ use Rattle.psi_state.specs.Sets.{ascending, insert_state}
 use Rattle.psi_state.proofs.SetsLemmas.{In-insert_state, In-of_insert_state, In-ascending, In-of_ascending}
 use Rattle.psi_state.specs.Ascending.{IsRising}
 use Rattle.psi_state.proofs.AscendingLemmas.{ascending-rising, insert_state-rising, rising-same, length-insert_state}
-use Rattle.psi_exact.specs.TableKept.{state_at, AreRanks}
+use Rattle.psi_ranks.specs.Ranks.{state_at}
+use Rattle.psi_ranks.proofs.PlacesLemmas.{In-place, state_at-apart}
+use Rattle.psi_exact.specs.TableKept.{AreRanks}
 use Rattle.psi_exact.specs.Distinct.{stands, distinct_count}
-use Rattle.psi_exact.proofs.PlacesLemmas.{In-place, state_at-apart}
 
 -- a state that is there is none more
 insert_state-there : (x : List ℕ) (ys : List (List ℕ)) → IsRising ys → In x ys → insert_state x ys ≡ ys

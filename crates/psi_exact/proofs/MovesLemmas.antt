@@ -8,12 +8,13 @@ use Rattle.std.proofs.lemmas.Option.{get_or_from_slice_get, slice_get-map}
 use Rattle.std.proofs.lemmas.List.{get_or_append_left, get_or_push, length_push}
 use Rattle.psi_state.specs.State.{IsBelow, all_states}
 use Rattle.psi_event.specs.Law.{IsClosed}
+use Rattle.psi_ranks.specs.Ranks.{rank_of, state_at, AreRanksOf}
+use Rattle.psi_ranks.proofs.PlacesLemmas.{rank_of-small, state_at-below}
 use Rattle.psi_exact.specs.declared.moves.ImageRows.{ImageRows}
-use Rattle.psi_exact.specs.Mapping.{map_of, rank_of, sends}
-use Rattle.psi_exact.specs.TableKept.{state_at, table_of, AreRanks, AreRanksOf}
+use Rattle.psi_exact.specs.Mapping.{map_of, sends}
+use Rattle.psi_exact.specs.TableKept.{table_of, AreRanks}
 use Rattle.psi_exact.specs.Shifts.{looked}
 use Rattle.psi_exact.specs.ImagesKept.{start_at, IsRow, ArePlaced, IsPrefix, IsLonger, AreImageRows, HasImages, AreImageRowsOf, AreLearned, moved}
-use Rattle.psi_exact.proofs.PlacesLemmas.{rank_of-small, state_at-below}
 use Rattle.psi_exact.proofs.TablesLemmas.{table_of-map_of, sends-table_of}
 
 -- a block is within all of them

@@ -4,8 +4,9 @@ use Rattle.psi_rate.specs.Rates.{least_power, event_of}
 use Rattle.psi_rate.specs.Composition.{function_at, compose}
 use Rattle.psi_rate.specs.Least.{least_answer}
 use Rattle.psi_rate.specs.Outcomes.{meeting_at}
+use Rattle.psi_ranks.specs.Ranks.{rank_of}
 use Rattle.psi_exact.specs.declared.answers.Meeting.TheVariants.{Constant, NotConstant}
-use Rattle.psi_exact.specs.Mapping.{Mapped, map_of, rank_of, sends}
+use Rattle.psi_exact.specs.Mapping.{Mapped, map_of, sends}
 use Rattle.psi_exact.specs.Distinct.{distinct_count}
 use Rattle.psi_exact.specs.Sizes.{image_sizes}
 use Rattle.psi_exact.specs.Surveys.{meeting_within}
@@ -51,11 +52,7 @@ map_of_three : map_of caps (compose f 3) ≡ images_of ((1 ∷ []) ∷ (1 ∷ []
 unfolding event_of least_power
 map_of_three = refl
 
--- the state of one customer is the second, and is sent to one customer by two steps
-rank_of_one : rank_of caps (1 ∷ []) ≡ 1
-unfolding rank_of
-rank_of_one = refl
-
+-- one customer is sent to one customer by two steps
 sent_to_one : sends (map_of caps (compose f 2)) (1 ∷ []) ≡ 1 ∷ []
 unfolding sends rank_of event_of least_power
 sent_to_one = refl

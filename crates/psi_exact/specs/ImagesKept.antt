@@ -2,10 +2,9 @@
 -- each less the state's own rank, and rows that are alike are kept once.
 use Rattle.std.specs.Prelude.{◌≡◌, ℕ, ◌+◌, ◌*◌, ◌/◌, ◌%◌, ◌<◌, ◌≤◌, List, length, slice_index, slice_index_or, vec_capacity}
 use Rattle.psi_event.specs.Law.{IsClosed}
+use Rattle.psi_ranks.specs.Ranks.{rank_of, state_at}
 use Rattle.psi_exact.specs.declared.moves.ImageRows.{ImageRows}
-use Rattle.psi_exact.specs.Mapping.{rank_of}
 use Rattle.psi_exact.specs.Shifts.{AreCovered}
-use Rattle.psi_exact.specs.TableKept.{state_at}
 
 -- the row from a start on is that of the ranks from the first on, modulo 2^16
 pub record IsRow (rows images : List ℕ) (start first width : ℕ) : Type 0 where

@@ -6,6 +6,5 @@ pub mod Shifts
 pub mod ImagesKept
 pub mod Refusal
 pub mod ArraysKept
-pub mod Alike
 pub mod Sizes
 pub mod Surveys

@@ -1,8 +1,7 @@
 -- Maps of the states of given capacities.
 use Rattle.std.specs.Prelude.{◌≡◌, ℕ, List, [], map, slice_index_or}
-use Rattle.std.specs.List.{position_or_len}
-use Rattle.std.specs.Str.{bytes_eq}
 use Rattle.psi_state.specs.State.{IsBelow, all_states}
+use Rattle.psi_ranks.specs.Ranks.{rank_of}
 
 -- a map of the states within these capacities: the states that they are sent to, in the order of the list of all states
 pub record Mapped : Type 0 where
@@ -12,10 +11,6 @@ pub record Mapped : Type 0 where
 -- the map of a function on states
 abbrev pub map_of : List ℕ → (List ℕ → List ℕ) → Mapped
 map_of caps f = record { caps = caps; images = map f (all_states caps) }
-
--- the rank of a state: its place in the list of all states
-unfoldable pub rank_of : List ℕ → List ℕ → ℕ
-rank_of caps x = position_or_len (bytes_eq x) (all_states caps)
 
 -- the state that a state is sent to
 unfoldable pub sends : Mapped → List ℕ → List ℕ

@@ -1,11 +1,8 @@
 -- A map of states kept as a table of ranks.
-use Rattle.std.specs.Prelude.{◌≡◌, ℕ, ◌<◌, ◌≤◌, List, [], length, map, slice_index, slice_index_or}
+use Rattle.std.specs.Prelude.{◌≡◌, ℕ, ◌<◌, ◌≤◌, List, length, map, slice_index}
 use Rattle.psi_state.specs.State.{all_states}
-use Rattle.psi_exact.specs.Mapping.{Mapped, rank_of}
-
--- the state of a rank
-unfoldable pub state_at : List ℕ → ℕ → List ℕ
-state_at caps r = slice_index_or (all_states caps) r []
+use Rattle.psi_ranks.specs.Ranks.{state_at}
+use Rattle.psi_exact.specs.Mapping.{Mapped}
 
 -- the map of a table, which has for the rank of each state the rank of the state that it is sent to
 abbrev pub table_of : List ℕ → List ℕ → Mapped
@@ -15,11 +12,6 @@ table_of caps ranks = record { caps = caps; images = map (state_at caps) ranks }
 pub record AreRanks (caps ranks : List ℕ) : Type 0 where
   pub whole : length ranks ≡ length (all_states caps)
   pub each : (r : ℕ) → r < length (all_states caps) → slice_index ranks r < length (all_states caps)
-
--- the list has for the rank of each state the rank of what the function makes of it
-pub record AreRanksOf (caps : List ℕ) (f : List ℕ → List ℕ) (ranks : List ℕ) : Type 0 where
-  pub whole : length ranks ≡ length (all_states caps)
-  pub each : (r : ℕ) → r < length (all_states caps) → slice_index ranks r ≡ rank_of caps (f (state_at caps r))
 
 -- what every table keeps: its ranks fit 16 bits, and there is room to make the next ones
 pub record IsTable (caps ranks spare : List ℕ) : Type 0 where

@@ -2,7 +2,6 @@
 //! Wilson 1996) followed exactly, state by state, so that it can be told what boxes of states lose.
 #![tactic(auto)]
 
-mod alike;
 mod answers;
 mod following;
 mod map_table;
@@ -11,7 +10,6 @@ mod ranks;
 mod rows;
 mod shifts;
 mod sizes;
-mod spread;
 mod table;
 
 pub use answers::{Meeting, Survey};

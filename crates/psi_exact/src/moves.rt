@@ -5,10 +5,11 @@ ghost use Rattle.psi_state.specs.State.{all_states};
 ghost use Rattle.psi_exact.specs.Shifts.{AreCovered};
 ghost use Rattle.psi_exact.specs.ImagesKept.{AreImageRows, HasRows, AreImageRowsOf, ArePlaced, IsLonger, IsPrefix, moved};
 
-use crate::ranks::{write_images, zeroed};
+use crate::ranks::zeroed;
 use crate::rows::{follow_row, place_row};
 use crate::shifts::Shifts;
 use psi_event::EventLaw;
+use psi_ranks::write_images;
 use psi_state::{MOST_EVENTS, State};
 use std::alloc::{AllocError, Global};
 

@@ -3,12 +3,11 @@
 ghost use Rattle.std.specs.Prelude.{◌≡◌, ℕ, ◌<◌, ◌≤◌, true, false, List, length, slice_index, MatchOption, IfOk};
 ghost use Rattle.psi_state.specs.State.{all_states};
 ghost use Rattle.psi_exact.specs.Mapping.{map_of, sends};
-ghost use Rattle.psi_exact.specs.TableKept.{table_of, AreRanks, AreRanksOf};
+ghost use Rattle.psi_exact.specs.TableKept.{table_of, AreRanks};
 ghost use Rattle.psi_exact.specs.Distinct.{distinct_count, AreAll, AreMixed};
 
-use crate::spread::spread_images;
 use psi_event::EventLaw;
-use psi_state::Bounds;
+use psi_ranks::write_images;
 use std::alloc::{AllocError, Global};
 
 /// How many ranks are compared before it is asked whether all were the same.
@@ -32,33 +31,6 @@ pub(crate) fn number(ranks: &mut [u16])
 {
     for rank in 0..ranks.len() {
         ranks[rank] = rank as u16;
-    }
-}
-
-/// Writes at the rank of each state the rank of what the event makes of it.
-pub(crate) fn write_images<E: EventLaw>(e: &E, ranks: &mut [u16])
-    requires few { length (all_states (E.capacities e.now)) ≤ 65536 }
-    requires room { length ranks.old ≡ length (all_states (E.capacities e.now)) }
-    ensures { AreRanksOf (E.capacities e.now) (E.function e.now) ranks.new }
-{
-    if !spread_images(e, ranks) {
-        write_each(e, ranks);
-    }
-}
-
-// Applies the event to each state, as they come one after another.
-fn write_each<E: EventLaw>(e: &E, ranks: &mut [u16])
-    requires few { length (all_states (E.capacities e.now)) ≤ 65536 }
-    requires room { length ranks.old ≡ length (all_states (E.capacities e.now)) }
-    ensures { AreRanksOf (E.capacities e.now) (E.function e.now) ranks.new }
-{
-    let bounds = Bounds::whole(&e.caps());
-    let mut rank = 0;
-    for state in bounds.states() {
-        let mut image = state;
-        e.apply(&mut image);
-        ranks[rank] = bounds.rank(&image) as u16;
-        rank += 1;
     }
 }
 

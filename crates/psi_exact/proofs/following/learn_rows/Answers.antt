@@ -1,8 +1,8 @@
 -- Answers in the proof of `learn_rows`.
 use Rattle.std.proofs.Common.{◌≡◌, ◌+◌, ◌*◌, ◌/◌, ◌≤◌, ℕ, List, length, map, refl, ap, sym, ◌∙◌, subst, arith}
 use Rattle.psi_state.specs.State.{all_states}
+use Rattle.psi_ranks.proofs.PlacesLemmas.{some-state}
 use Rattle.psi_exact.specs.ImagesKept.{AreImageRows, AreImageRowsOf}
-use Rattle.psi_exact.proofs.PlacesLemmas.{some-state}
 use Rattle.psi_exact.proofs.MovesLemmas.{learned-longer, learned-next}
 use Rattle.psi_exact.proofs.SurveysLemmas.{event-caps}
 use Rattle.psi_exact.proofs.following.learn_rows.Goals as goal

@@ -1,7 +1,7 @@
 -- Answers in the proof of `MapTable::reserve`.
 use Rattle.std.proofs.Common.{◌≡◌, length, ap, ◌∙◌, arith}
 use Rattle.psi_state.specs.State.{Corners, box, all_states}
-use Rattle.psi_exact.proofs.PlacesLemmas.{some-state}
+use Rattle.psi_ranks.proofs.PlacesLemmas.{some-state}
 use Rattle.psi_exact.proofs.TablesLemmas.{every-map_of}
 use Rattle.psi_exact.proofs.map_table.MapTable.reserve.Goals as goal
 
