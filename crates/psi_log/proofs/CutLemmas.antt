@@ -10,7 +10,7 @@ use Rattle.psi_log_text.specs.declared.header.Header.{Header}
 use Rattle.psi_log_words.specs.Refusal.{Refusal, refused, ◌>>=◌, holds_or}
 use Rattle.psi_log_words.specs.Words.{has_pieces, read_named}
 use Rattle.psi_log_words.specs.declared.refusals.Cause.TheVariants.{Shape}
-use Rattle.psi_log.specs.Regions.{Given, box_form, set_form, move_form, form_of}
+use Rattle.psi_log_words.specs.Regions.{Given, box_form, set_form, move_form, form_of}
 use Rattle.psi_log.specs.Reading.{read_begin, read_end, read_step}
 
 -- what is refused where there are too many words is read alike of the first of them

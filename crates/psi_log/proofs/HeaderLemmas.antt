@@ -14,10 +14,10 @@ use Rattle.psi_log_words.specs.Refusal.{Refusal, refused, ◌>>=◌, holds_or}
 use Rattle.psi_log_words.specs.Words.{line_of, has_pieces, read_version}
 use Rattle.psi_log_words.specs.declared.refusals.Cause.TheVariants.{NotLog, Version, Shape}
 use Rattle.psi_log_words.proofs.WordLemmas.{bind_ok, ok_same, held, same_word, lacks, line_found, line_again}
-use Rattle.psi_log.specs.Regions.{Given, form_of, read_state, read_given}
+use Rattle.psi_log_words.specs.Regions.{Given, form_of, read_state, read_given}
+use Rattle.psi_log_words.proofs.StateLemmas.{state_found, state_again, state_shaped, state_lacks}
+use Rattle.psi_log_words.proofs.GivenLemmas.{region_found, region_again, words_lack}
 use Rattle.psi_log.specs.Reading.{named_line, read_header, read_begin, read_end}
-use Rattle.psi_log.proofs.StateLemmas.{state_found, state_again, state_shaped, state_lacks}
-use Rattle.psi_log.proofs.GivenLemmas.{region_found, region_again, words_lack}
 use Rattle.psi_log.proofs.LineLemmas.{named_line_found, named_line_again, horizon_small}
 
 -- the first line

@@ -14,10 +14,10 @@ use Rattle.psi_log_words.specs.Words.{line_of, words_of, number_in, read_named}
 use Rattle.psi_log_words.specs.declared.refusals.Cause.TheVariants.{Shape}
 use Rattle.psi_log_words.proofs.WordLemmas.{bind_ok, ok_same, held, same_word, own_word, lacks, split-join, join-split, lacks-join, line_found, line_again}
 use Rattle.psi_log_words.proofs.NumberLemmas.{number_found, number_again, decimal_lacks}
-use Rattle.psi_log.specs.Regions.{Given, form_of, read_given}
-use Rattle.psi_log.specs.Reading.{named_line, box_before, read_step, read_steps}
-use Rattle.psi_log.proofs.RegionLemmas.{words_after, IsBefore}
-use Rattle.psi_log.proofs.GivenLemmas.{region_found, region_again, words_lack}
+use Rattle.psi_log_words.specs.Regions.{Given, form_of, read_given, box_before}
+use Rattle.psi_log_words.proofs.RegionLemmas.{words_after, IsBefore}
+use Rattle.psi_log_words.proofs.GivenLemmas.{region_found, region_again, words_lack}
+use Rattle.psi_log.specs.Reading.{named_line, read_step, read_steps}
 
 -- a line that was cut from a text, by its words
 pub words_found : (n : ℕ) (text : List ℕ) (line : List ℕ × List ℕ) (words : List (List ℕ)) → line_of n text ≡ Ok line → words_of line.0 ≡ words → text ≡ line_text words ++ line.1

@@ -18,11 +18,11 @@ use Rattle.psi_log_words.specs.Refusal.{each}
 use Rattle.psi_log_words.specs.Words.{number_in, pieces_of}
 use Rattle.psi_log_words.proofs.WordLemmas.{lacks}
 use Rattle.psi_log_words.proofs.NumberLemmas.{number_again, decimal_lacks, each_again}
-use Rattle.psi_log.specs.Regions.{form_of, move_form, queues_ascend, is_change, changed, read_change, read_given}
+use Rattle.psi_log_words.specs.Regions.{form_of, move_form, queues_ascend, is_change, changed, read_change, read_given}
+use Rattle.psi_log_words.proofs.RegionLemmas.{IsChange, change_again, changes_shaped, changes_lack}
+use Rattle.psi_log_words.proofs.MovedLemmas.{behind_last, IsMoved, moved_none, moved_more}
 use Rattle.psi_log.specs.Reading.{read_step}
 use Rattle.psi_log.specs.Scanned.{Stands, AreChanged, next_step}
-use Rattle.psi_log.proofs.RegionLemmas.{IsChange, change_again, changes_shaped, changes_lack}
-use Rattle.psi_log.proofs.MovedLemmas.{behind_last, IsMoved, moved_none, moved_more}
 use Rattle.psi_log.proofs.ScanLemmas.{in_push}
 use Rattle.psi_log.proofs.LineLemmas.{words_line, words_again, horizon_small}
 

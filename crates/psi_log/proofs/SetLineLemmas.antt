@@ -17,12 +17,12 @@ use Rattle.psi_log_text.proofs.LinePiecesLemmas.{step_pieces}
 use Rattle.psi_log_words.specs.Words.{number_in}
 use Rattle.psi_log_words.proofs.WordLemmas.{lacks}
 use Rattle.psi_log_words.proofs.NumberLemmas.{number_again, decimal_lacks}
-use Rattle.psi_log.specs.Regions.{form_of, ascends}
+use Rattle.psi_log_words.specs.Regions.{form_of, ascends}
+use Rattle.psi_log_words.proofs.StateLemmas.{rising_found}
+use Rattle.psi_log_words.proofs.RegionLemmas.{words_after}
+use Rattle.psi_log_words.proofs.GivenLemmas.{set_again, region_lacks}
 use Rattle.psi_log.specs.Reading.{read_step}
 use Rattle.psi_log.specs.Scanned.{Stands, AreScanned, TellsSet, next_step}
-use Rattle.psi_log.proofs.StateLemmas.{rising_found}
-use Rattle.psi_log.proofs.RegionLemmas.{words_after}
-use Rattle.psi_log.proofs.GivenLemmas.{set_again, region_lacks}
 use Rattle.psi_log.proofs.LineLemmas.{words_line, words_again, horizon_small}
 
 -- the beginning of a step's line

@@ -12,8 +12,9 @@ use Rattle.psi_log_words.specs.Words.{line_of, words_of}
 use Rattle.psi_log_words.specs.declared.refusals.LogError.{LogError}
 use Rattle.psi_log_words.specs.declared.refusals.LogError.TheVariants.{Refused, OutOfMemory}
 use Rattle.psi_log_words.proofs.WordLemmas.{bind_ok, ok_same}
-use Rattle.psi_log.specs.Reading.{box_before, read_step, read_steps}
-use Rattle.psi_log.specs.RegionsViews.{region_of, IsThere}
+use Rattle.psi_log_words.specs.Regions.{box_before}
+use Rattle.psi_log_words.specs.RegionsViews.{region_of, IsThere}
+use Rattle.psi_log.specs.Reading.{read_step, read_steps}
 use Rattle.psi_log.specs.LinesViews.{entry_of, HasRegion, IsLast}
 use Rattle.psi_log.specs.declared.set_line.LastSet.{LastSet}
 use Rattle.psi_log.specs.Scanned.{TellsSet, next_step}

@@ -1,9 +1,6 @@
 -- The definitions of this crate.
-pub mod Regions
 pub mod Reading
-pub mod FormsViews
-pub mod ChangesViews
-pub mod RegionsViews
+pub mod RowsViews
 pub mod LinesViews
 pub mod PartsViews
 pub mod Told

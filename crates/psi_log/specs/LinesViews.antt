@@ -2,7 +2,7 @@
 use Rattle.std.specs.Prelude.{ℕ, ◌+◌, ◌≤◌, List, length, take, drop}
 use Rattle.psi_log_text.specs.Log.{Entry}
 use Rattle.psi_state_list.specs.declared.line_list.Line.{Line}
-use Rattle.psi_log.specs.RegionsViews.{region_of, IsThere}
+use Rattle.psi_log_words.specs.RegionsViews.{region_of, IsThere}
 use Rattle.psi_log.specs.Scanned.{TellsSet}
 use Rattle.psi_log.specs.declared.set_line.LastSet.{LastSet}
 

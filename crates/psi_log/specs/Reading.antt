@@ -1,13 +1,13 @@
 -- The reading of a text as a log, line by line: the log, or the first line that is refused with its first cause.
-use Rattle.std.specs.Prelude.{ℕ, zero, suc, ◌&&◌, ◌+◌, ◌-◌, ◌^◌, List, [], ◌∷◌, length, codes, ◌==◌, nat_le, Option, Some, None, Result, Ok, Err, if◌then◌else◌}
+use Rattle.std.specs.Prelude.{ℕ, zero, suc, ◌&&◌, ◌+◌, ◌-◌, ◌^◌, List, [], ◌∷◌, length, codes, ◌==◌, nat_le, Option, None, Result, Ok, Err}
 use Rattle.std.specs.Str.{bytes_eq}
 use Rattle.psi_state.specs.State.{Corners}
 use Rattle.psi_log_text.specs.declared.header.Header.{Header}
-use Rattle.psi_log_text.specs.Log.{LogRegion, in_box, in_set, Entry, Certificate, greatest_horizon}
+use Rattle.psi_log_text.specs.Log.{LogRegion, Entry, Certificate, greatest_horizon}
 use Rattle.psi_log_words.specs.Refusal.{Refusal, refused, ◌>>=◌, holds_or}
 use Rattle.psi_log_words.specs.Words.{line_of, words_of, has_pieces, number_in, read_version, read_named}
 use Rattle.psi_log_words.specs.declared.refusals.Cause.TheVariants.{Shape, TrailingText, TooLong}
-use Rattle.psi_log.specs.Regions.{form_of, read_state, read_given}
+use Rattle.psi_log_words.specs.Regions.{form_of, read_state, box_before, read_given}
 
 -- the line n of a name and a number, which begins the text, and what follows it
 unfoldable pub named_line : ℕ → List ℕ → ℕ → ℕ → List ℕ → Result (ℕ × List ℕ) Refusal
@@ -34,11 +34,6 @@ read_begin queues (first ∷ region) = do
   named ← holds_or (refused 6 Shape) (bytes_eq first (codes "begin"))
   form ← form_of 6 queues None region
   read_given 6 queues form
-
--- the box from which a box has to be written by what changed: in version 2, the box before
-abbrev pub box_before : ℕ → LogRegion → Option Corners
-box_before version (in_box bounds) = if version == 2 then Some bounds else None
-box_before version (in_set states) = None
 
 -- the words of the state at time zero, on line n
 unfoldable pub read_end : ℕ → ℕ → List (List ℕ) → Result (List ℕ) Refusal

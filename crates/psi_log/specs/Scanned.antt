@@ -10,7 +10,7 @@ use Rattle.psi_log_text.specs.Text.{numbers_text, region_words, Change, change_t
 use Rattle.psi_log_text.specs.Room.{Puts, spaced_words}
 use Rattle.psi_log_words.specs.Refusal.{Refusal, ◌>>=◌}
 use Rattle.psi_log_words.specs.Words.{line_of, words_of}
-use Rattle.psi_log.specs.Regions.{queues_ascend, is_change, changed}
+use Rattle.psi_log_words.specs.Regions.{queues_ascend, is_change, changed}
 use Rattle.psi_log.specs.Reading.{read_step}
 
 -- the words stand in the text from one place to another

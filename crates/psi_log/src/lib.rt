@@ -3,13 +3,11 @@
 #![tactic(auto)]
 
 mod form;
-mod forms;
 mod header;
 mod log;
 mod move_line;
-mod moves;
 mod parts;
-mod regions;
+mod rows;
 mod scan;
 mod set_line;
 mod steps;

@@ -6,9 +6,9 @@ ghost use Rattle.psi_log_text.specs.Log.{Certificate, IsLog};
 ghost use Rattle.psi_log_text.specs.Text.{IsLogOf};
 ghost use Rattle.psi_log_words.specs.Refusal.{Gives};
 ghost use Rattle.psi_log_words.specs.declared.refusals.LogError.TheVariants.{OutOfMemory};
+ghost use Rattle.psi_log_words.specs.RegionsViews.{region_of, IsThere};
 ghost use Rattle.psi_log.specs.Reading.{read};
 ghost use Rattle.psi_state_list.specs.LinesKept.{owned};
-ghost use Rattle.psi_log.specs.RegionsViews.{region_of, IsThere};
 ghost use Rattle.psi_log.specs.PartsViews.{certificate_of, IsWhole};
 ghost use Rattle.psi_log.specs.Told.{region_at, form, shown, step_at, HasState, state_in};
 

@@ -2,14 +2,14 @@
 
 ghost use Rattle.std.specs.Prelude.{◌≡◌, ℕ, List, ◌<◌, ◌≤◌, ◌^◌, length, Some, Ok, IfSome};
 ghost use Rattle.psi_log_text.specs.Text.{change_text};
-ghost use Rattle.psi_log.specs.ChangesViews.{change};
+ghost use Rattle.psi_log_words.specs.ChangesViews.{change};
 ghost use Rattle.psi_log.specs.LinesViews.{entry_of, HasRegion};
 ghost use Rattle.psi_log.specs.Scanned.{Stands, AreChanged, next_step};
 
-use crate::moves::{Change, is_change};
-use crate::scan::{has_byte, has_word, small_at};
+use crate::scan::{has_byte, has_short, small_at};
 use crate::set_line::step_at;
 use psi_log_text::Header;
+use psi_log_words::{Change, is_change};
 use psi_state::Bounds;
 use psi_state_list::{Line, ListedRegion};
 
@@ -81,7 +81,7 @@ pub(crate) fn read_move_line<'t>(
     ensures there { IfSome result (λ read. (states : List (List ℕ)) → HasRegion header.now.queues states read.0) }
 {
     let (step, at) = step_at(header.version, text)?;
-    if !has_word(text, at, b" move") {
+    if !has_short(text, at, b" move") {
         return None;
     }
     let (to, end) = read_changes(text, at + 5, header.queues, from)?;

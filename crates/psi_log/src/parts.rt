@@ -2,16 +2,16 @@
 
 ghost use Rattle.std.specs.Prelude.{◌≡◌, ◌+◌, ◌≤◌, length, map, take, Ok, None, IfOk, IfErr, OnOk};
 ghost use Rattle.psi_log_words.specs.Refusal.{Gives, IsLogError};
+ghost use Rattle.psi_log_words.specs.RegionsViews.{region_of, IsThere};
 ghost use Rattle.psi_log.specs.Reading.{read_begin, read_end, after_header, read};
-ghost use Rattle.psi_log.specs.RegionsViews.{region_of, IsThere};
 ghost use Rattle.psi_log.specs.PartsViews.{certificate_of, IsWhole};
 
-use crate::forms::form_of;
 use crate::header::read_header;
-use crate::regions::{box_before, read_given, read_state};
 use crate::steps::read_steps;
 use psi_log_text::{Header, MOST_LOG_BYTES};
-use psi_log_words::{Cause, LogError, has_pieces, read_words};
+use psi_log_words::{
+    Cause, LogError, box_before, form_of, has_pieces, read_given, read_state, read_words,
+};
 use psi_state::State;
 use psi_state_list::{LineList, ListedRegion, StateList};
 use std::alloc::Global;

@@ -1,9 +1,9 @@
 //! Bytes, numbers and states that stand in a text at a place. Where one isn't found, nothing is said of the text:
 //! its line is then read word by word.
 
-ghost use Rattle.std.specs.Prelude.{◌≡◌, ◌∷◌, [], ◌+◌, ◌<◌, ◌≤◌, length, decimal, IsTrue, IfSome};
+ghost use Rattle.std.specs.Prelude.{◌≡◌, ℕ, ◌∷◌, [], ◌+◌, ◌<◌, ◌≤◌, length, take, decimal, IsTrue, IfSome};
 ghost use Rattle.psi_log_text.specs.Text.{numbers_text};
-ghost use Rattle.psi_log.specs.Scanned.{Stands, with_comma};
+ghost use Rattle.psi_log.specs.Scanned.{Stands, with_comma, with_commas};
 
 /// Whether a byte stands at a place.
 #[inline]
@@ -25,6 +25,23 @@ pub(crate) fn has_word(text: &[u8], at: usize, word: &[u8]) -> bool
     }
     let part = &text[at..at + word.len()];
     part == word
+}
+
+/// The same, byte by byte, which is quicker where the word is short.
+#[inline]
+pub(crate) fn has_short(text: &[u8], at: usize, word: &[u8]) -> bool
+    ensures within { IsTrue result → at + length word.now ≤ length text.now }
+    ensures there { IsTrue result → Stands text.now at (at + length word.now) word.now }
+{
+    if at > text.len() || text.len() - at < word.len() {
+        return false;
+    }
+    for place in 0..word.len() {
+        if text[at + place] != word[place] {
+            return false;
+        }
+    }
+    true
 }
 
 // The digit that a byte is.
@@ -144,15 +161,16 @@ fn small_with_comma(text: &[u8], at: usize, last: usize) -> Option<(u16, usize)>
     any_with_comma(text, at)
 }
 
-/// Reads the numbers that stand at a place, joined by commas, as many as the row has, and answers the place behind
-/// them. Where nothing is given, nothing is said of the row.
+/// Reads the numbers of a row from a queue on that stand at a place, joined by commas, and answers the place behind
+/// them; those before this queue stay. Where nothing is given, nothing is said of the row.
 #[inline(never)]
-pub(crate) fn read_row_at(text: &[u8], at: usize, row: &mut [u16]) -> Option<usize>
-    requires some { 1 ≤ length row.old }
+pub(crate) fn read_row_from(text: &[u8], at: usize, from: usize, row: &mut [u16]) -> Option<usize>
+    requires some { from < length row.old }
     requires within { at ≤ length text.now }
     ensures count { length row.new ≡ length row.old }
+    ensures same { take from row.new ≡ take from row.old }
     ensures within { IfSome result (λ end. end ≤ length text.now) }
-    ensures there { IfSome result (λ end. Stands text.now at end (numbers_text row.new)) }
+    ensures there { IfSome result (λ end. (begin : ℕ) → Stands text.now begin at (with_commas (take from row.old)) → Stands text.now begin end (numbers_text row.new)) }
 {
     if text.len() < 3 {
         return None;
@@ -160,7 +178,7 @@ pub(crate) fn read_row_at(text: &[u8], at: usize, row: &mut [u16]) -> Option<usi
     let last = text.len() - 3;
     let most = row.len() - 1;
     let mut end = at;
-    for queue in 0..most {
+    for queue in from..most {
         let Some((number, next)) = small_with_comma(text, end, last) else {
             return None;
         };

@@ -8,8 +8,8 @@ ghost use Rattle.psi_log.specs.LinesViews.{entry_of, HasRegion, IsLast};
 ghost use Rattle.psi_log.specs.Scanned.{Stands, AreScanned, next_step};
 
 use crate::header::greatest_horizon;
-use crate::regions::ascends;
-use crate::scan::{has_byte, has_word, number_at, read_row_at};
+use crate::rows::read_rows;
+use crate::scan::{has_byte, has_short, has_word, number_at, small_at};
 use psi_log_text::Header;
 use psi_state::{MOST_EVENTS, MOST_SPLIT, Step};
 use psi_state_list::{Line, ListedRegion, StateList};
@@ -23,62 +23,18 @@ pub(crate) fn step_at(version: u8, text: &[u8]) -> Option<(Step, usize)>
     ensures event { IfSome result (λ read. read.0.event ≤ 1024) }
     ensures there { IfSome result (λ read. Stands text.now 0 read.1 (codes "step" ++ spaced_words (decimal read.0.number ∷ decimal read.0.event ∷ []))) }
 {
-    if !has_word(text, 0, b"step ") {
+    if !has_short(text, 0, b"step ") {
         return None;
     }
     let (number, end) = number_at(text, 5)?;
     if number < 1 || number > greatest_horizon(version) || !has_byte(text, end, b' ') {
         return None;
     }
-    let (event, end) = number_at(text, end + 1)?;
-    if event > MOST_EVENTS {
+    let (event, end) = small_at(text, end + 1)?;
+    if event as u32 > MOST_EVENTS {
         return None;
     }
-    let event = event as u16;
     Some((Step { number, event }, end))
-}
-
-// Does nothing; its clause is the range of the numbers.
-#[inline]
-fn keep_range(row: &[u16])
-    ensures { (i : ℕ) → slice_index row.now i < 2 ^ 16 }
-{
-    let _row = row;
-}
-
-// Puts the states that stand in a text from a place on, each behind a space, behind those of the list, and gives
-// the place behind them: at most 4,096 states.
-fn read_rows(
-    text: &[u8],
-    at: usize,
-    queues: u8,
-    states: &mut StateList,
-) -> Result<Option<usize>, AllocError>
-    requires some { 1 ≤ queues }
-    requires few { queues ≤ 32 }
-    requires queues { states.old.queues ≡ queues }
-    requires within { at ≤ length text.now }
-    ensures queues { states.new.queues ≡ queues }
-    ensures kept { OnOk result (take (length states.old.states) states.new.states ≡ states.old.states) }
-    ensures more { OnOk result (length states.old.states ≤ length states.new.states) }
-    ensures rows { IfOk result (λ read. IfSome read (λ end. AreScanned queues text.now at end states.old.states states.new.states)) }
-{
-    let mut numbers = [0; 32];
-    let row = &mut numbers[..queues as usize];
-    let mut end = at;
-    for _ in 0..MOST_SPLIT {
-        if !has_byte(text, end, b' ') {
-            return Ok(Some(end));
-        }
-        let Some(next) = read_row_at(text, end + 1, row) else {
-            return Ok(None);
-        };
-        // Called for its clause: the range of the numbers.
-        keep_range(row);
-        states.push_row(row)?;
-        end = next;
-    }
-    Ok(Some(end))
 }
 
 /// The end of a set's line, from behind its event on, and the place of its states in a list of states.
@@ -107,7 +63,7 @@ fn read_new_set<'t>(
     ensures there { IfOk result (λ read. IfSome read (λ set. Stands text.now at (at + length set.text.now) set.text.now)) }
     ensures within { IfOk result (λ read. IfSome read (λ set. at + length set.text.now ≤ length text.now)) }
 {
-    if !has_word(text, at, b" set") {
+    if !has_short(text, at, b" set") {
         return Ok(None);
     }
     let first = states.len();
@@ -115,11 +71,7 @@ fn read_new_set<'t>(
         return Ok(None);
     };
     let count = states.len() - first;
-    if count == 0
-        || count > MOST_SPLIT as usize
-        || !has_byte(text, end, b'\n')
-        || !ascends(states, first)
-    {
+    if count == 0 || count > MOST_SPLIT as usize || !has_byte(text, end, b'\n') {
         return Ok(None);
     }
     let count = count as u16;

@@ -7,13 +7,11 @@ ghost use Rattle.psi_log.specs.Reading.{read_step, read_steps};
 ghost use Rattle.psi_log.specs.LinesViews.{entry_of, HasRegion, IsLast};
 ghost use Rattle.psi_log.specs.Scanned.{next_step};
 
-use crate::forms::form_of;
 use crate::header::greatest_horizon;
 use crate::move_line::read_move_line;
-use crate::regions::{box_before, read_given};
 use crate::set_line::{LastSet, read_set_line};
 use psi_log_text::Header;
-use psi_log_words::{Cause, LogError, number_in, read_words};
+use psi_log_words::{Cause, LogError, box_before, form_of, number_in, read_given, read_words};
 use psi_state::{Bounds, MOST_EVENTS, Step};
 use psi_state_list::{Line, LineList, StateList};
 use std::alloc::Global;

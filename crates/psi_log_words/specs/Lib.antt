@@ -1,3 +1,7 @@
 -- The definitions of this crate.
 pub mod Refusal
 pub mod Words
+pub mod Regions
+pub mod FormsViews
+pub mod ChangesViews
+pub mod RegionsViews

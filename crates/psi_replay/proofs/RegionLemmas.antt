@@ -11,7 +11,7 @@ use Rattle.psi_state.proofs.BoxesLemmas.{In-low, In-high, In-of_box, below-throu
 use Rattle.psi_region.specs.Covering.{Covers}
 use Rattle.psi_event.specs.Idle.{unchanged}
 use Rattle.psi_log_text.specs.Log.{LogRegion, in_box, in_set, Entry, Certificate, IsRegion, IsEntry, IsLog, IsSet}
-use Rattle.psi_log.proofs.StateLemmas.{below_found, below_again}
+use Rattle.psi_log_words.proofs.StateLemmas.{below_found, below_again}
 use Rattle.psi_replay.specs.Verdict.{states_of, has, covers, is_within}
 use Rattle.psi_replay.specs.Numbered.{nth_region}
 use Rattle.psi_replay.proofs.ListLemmas.{same_test, all_more, all_fails, all_each, all_from, has-In, has-from_In, In-slice_get}

@@ -1,3 +1,3 @@
 -- The lemmas of this crate.
-mod RowsLemmas
+pub mod RowsLemmas
 mod PlacedLemmas

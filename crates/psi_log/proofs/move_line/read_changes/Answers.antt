@@ -2,7 +2,7 @@
 use Rattle.std.proofs.Common.{◌∙◌, ◌+◌, ◌<◌, ◌^◌, ap, length, refl, sym}
 use Rattle.std.proofs.lemmas.List.{length-set}
 use Rattle.psi_state.specs.State.{Corners}
-use Rattle.psi_log.specs.ChangesViews.{change}
+use Rattle.psi_log_words.specs.ChangesViews.{change}
 use Rattle.psi_log.proofs.MoveLineLemmas.{moved_so_none, moved_so_more, moved_so_all}
 use Rattle.psi_log.proofs.move_line.read_changes.Goals as goal
 

@@ -3,8 +3,8 @@ use Rattle.std.specs.Prelude.{◌≡◌, ◌+◌, ◌≤◌, ◌↔◌, IsTrue, 
 use Rattle.std.proofs.Common.{◌∙◌, ap, sym, subst}
 use Rattle.psi_state.specs.State.{IsBelow}
 use Rattle.psi_log_text.specs.Log.{in_set, Certificate}
+use Rattle.psi_log_words.specs.RegionsViews.{region_of, IsThere}
 use Rattle.psi_log.specs.Told.{region_at}
-use Rattle.psi_log.specs.RegionsViews.{region_of, IsThere}
 use Rattle.psi_state_list.specs.declared.line_list.Borrowed.{Borrowed}
 use Rattle.psi_state_list.specs.LinesKept.{owned}
 use Rattle.psi_log.proofs.ToldLemmas.{set_leq}
