@@ -9,4 +9,7 @@ mod ScanLemmas
 mod RowsLemmas
 mod SetLineLemmas
 mod MoveLineLemmas
+mod SpotLemmas
+mod ReaderLemmas
+pub mod PassLemmas
 mod Worked

@@ -100,7 +100,7 @@ next_after version (in_box from) (in_set states) = elim (cases_Bool (version == 
 pub horizon_small : (version : ℕ) → greatest_horizon version ≤ 4194304
 horizon_small version = elim (cases_Bool (version == 1)) [ inl holds ↦ rw holds (omega arith) | inr other ↦ rw other (omega arith) ]
 
-step_found : (h : Header) (n : ℕ) (before : LogRegion) (words : List (List ℕ)) (e : Entry) → IsHeader h → IsRegion h.queues before → read_step h n (box_before h.version before) words ≡ Ok e
+pub step_found : (h : Header) (n : ℕ) (before : LogRegion) (words : List (List ℕ)) (e : Entry) → IsHeader h → IsRegion h.queues before → read_step h n (box_before h.version before) words ≡ Ok e
     → (words ≡ codes "step" ∷ decimal e.step.number ∷ decimal e.step.event ∷ next_words h.version before e.region) × IsEntry h e
 unfolding read_step
 step_found h n before [] e is region r = absurd cc

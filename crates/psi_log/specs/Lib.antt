@@ -5,3 +5,6 @@ pub mod LinesViews
 pub mod PartsViews
 pub mod Told
 pub mod Scanned
+pub mod Cursor
+pub mod SpotsViews
+pub mod ReaderViews

@@ -7,9 +7,11 @@ mod header;
 mod log;
 mod move_line;
 mod parts;
+mod reader;
 mod rows;
 mod scan;
 mod set_line;
+mod spot;
 mod steps;
 
 pub use form::{BorrowedRegion, Form};
@@ -17,3 +19,4 @@ pub use log::{Log, read_log};
 pub use psi_log_text::{Header, LineBuf};
 pub use psi_log_words::{Cause, LogError};
 pub use psi_state_list::Rows;
+pub use reader::LogReader;

@@ -40,9 +40,14 @@ fn change_at(text: &[u8], at: usize, queues: u8) -> Option<(Change, usize)>
     ))
 }
 
-// The box that the changes make of another which stand in a text from a place on, each behind a space, and the place
-// behind them.
-fn read_changes(text: &[u8], at: usize, queues: u8, from: &Bounds) -> Option<(Bounds, usize)>
+/// The box that the changes make of another which stand in a text from a place on, each behind a space, and the place
+/// behind them.
+pub(crate) fn read_changes(
+    text: &[u8],
+    at: usize,
+    queues: u8,
+    from: &Bounds,
+) -> Option<(Bounds, usize)>
     requires few { queues ≤ 32 }
     requires same { length from.now.lo ≡ queues }
     requires within { at ≤ length text.now }

@@ -26,9 +26,17 @@ pub(crate) struct Parts {
     pub(crate) states: StateList,
 }
 
-// The words of the region at which the run begins; the states of a set are put behind those of the list.
+/// The region at which the run begins, of the words of its line; the states of a set are put behind those of the list.
+///
+/// # Errors
+///
+/// The line's first refusal; `OutOfMemory`.
 #[tactic(auto, unfolding(crate::specs::Reading::read_begin))]
-fn read_begin(queues: u8, words: &[&[u8]], states: &mut StateList) -> Result<ListedRegion, LogError>
+pub(crate) fn read_begin(
+    queues: u8,
+    words: &[&[u8]],
+    states: &mut StateList,
+) -> Result<ListedRegion, LogError>
     requires some { 1 ≤ queues }
     requires few { queues ≤ 32 }
     requires queues { states.old.queues ≡ queues }
@@ -49,9 +57,13 @@ fn read_begin(queues: u8, words: &[&[u8]], states: &mut StateList) -> Result<Lis
     }
 }
 
-// The words of the state at time zero.
+/// The state at time zero, of the words of its line.
+///
+/// # Errors
+///
+/// The line's first refusal.
 #[tactic(auto, unfolding(crate::specs::Reading::read_end))]
-fn read_end(line: u32, queues: u8, words: &[&[u8]]) -> Result<State, LogError>
+pub(crate) fn read_end(line: u32, queues: u8, words: &[&[u8]]) -> Result<State, LogError>
     requires some { 1 ≤ queues }
     requires few { queues ≤ 32 }
     ensures { Gives (λ x. x) result (read_end line queues (map (λ word. word.now) words.now)) }

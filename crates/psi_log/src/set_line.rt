@@ -40,14 +40,14 @@ pub(crate) fn step_at(version: u8, text: &[u8]) -> Option<(Step, usize)>
 /// The end of a set's line, from behind its event on, and the place of its states in a list of states.
 #[derive(Clone, Copy, Debug)]
 pub(crate) struct LastSet<'t> {
-    text: &'t [u8],
-    first: usize,
-    count: u16,
+    pub(crate) text: &'t [u8],
+    pub(crate) first: usize,
+    pub(crate) count: u16,
 }
 
-// The set whose words stand in a text behind an event, as they are to be; its states are put behind those of the list.
-// Where nothing is given, nothing is said of the line.
-fn read_new_set<'t>(
+/// The set whose words stand in a text behind an event, as they are to be; its states are put behind those of the
+/// list. Where nothing is given, nothing is said of the line.
+pub(crate) fn read_new_set<'t>(
     queues: u8,
     text: &'t [u8],
     at: usize,

@@ -56,9 +56,13 @@ fn read_step(
     })
 }
 
-// The step whose line begins a text, word by word, and what follows the line. The vector holds its words.
+/// The step whose line begins a text, word by word, and what follows the line. The vector holds its words.
+///
+/// # Errors
+///
+/// The line's first refusal; `OutOfMemory`.
 #[tactic(auto, using(crate::proofs::StepLemmas::next_ok, crate::proofs::StepLemmas::next_line_refused, crate::proofs::StepLemmas::next_step_refused))]
-fn read_by_words<'t>(
+pub(crate) fn read_by_words<'t>(
     header: &Header,
     line: u32,
     before: Option<&Bounds>,

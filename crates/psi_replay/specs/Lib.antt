@@ -3,3 +3,4 @@ pub mod Verdict
 pub mod Numbered
 pub mod RegionsViews
 pub mod Judging
+pub mod Passes

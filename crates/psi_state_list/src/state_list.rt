@@ -78,6 +78,14 @@ impl StateList {
         self.count
     }
 
+    /// Takes all states out of the list. Its memory stays, for those that are put into it next.
+    pub fn clear(&mut self)
+        ensures { self.new ≡ record { queues = self.old.queues; states = [] } }
+    {
+        self.count = 0;
+        self.numbers.clear();
+    }
+
     /// Puts a state of the list's number of queues behind the others. The vector grows where it has no room left, so
     /// that a state takes time for its queues alone, over many states.
     ///

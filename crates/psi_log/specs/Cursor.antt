@@ -1,0 +1,63 @@
+-- The reading of a log in one pass: what stands before its steps, step by step, and its end.
+use Rattle.std.specs.Prelude.{◌≡◌, ◌==◌, ℕ, ◌+◌, ◌≤◌, List, length, nat_le, Result, Ok}
+use Rattle.psi_log_text.specs.declared.header.Header.{Header}
+use Rattle.psi_log_text.specs.Log.{LogRegion, Entry, Certificate, IsHeader, IsRegion}
+use Rattle.psi_log_words.specs.Refusal.{Refusal, refused, ◌>>=◌, holds_or}
+use Rattle.psi_log_words.specs.Words.{line_of, words_of}
+use Rattle.psi_log_words.specs.declared.refusals.Cause.TheVariants.{TrailingText, TooLong}
+use Rattle.psi_log.specs.Reading.{read_header, read_begin, box_before, read_steps, read_end}
+use Rattle.psi_log.specs.Scanned.{next_step}
+
+-- how far a log is read: its header, how many steps are read, the regions before and after the last one of them, and the text behind it; where
+-- no step is read, both are the region at which the run begins
+pub record Cursor : Type 0 where
+  pub header : Header
+  pub done : ℕ
+  pub before : LogRegion
+  pub region : LogRegion
+  pub rest : List ℕ
+
+-- the region at which the run begins, on the line that begins the text, and what follows it
+unfoldable pub begin_line : ℕ → List ℕ → Result (LogRegion × List ℕ) Refusal
+begin_line queues text = do
+  line ← line_of 6 text
+  begin ← read_begin queues (words_of line.0)
+  Ok (begin, line.1)
+
+-- a text read up to its first step
+unfoldable pub begun : List ℕ → Result Cursor Refusal
+begun text = do
+  few ← holds_or (refused 0 TooLong) (nat_le (length text) 33554432)
+  header ← read_header text
+  begin ← begin_line header.0.queues header.1
+  Ok (record { header = header.0; done = 0; before = begin.0; region = begin.0; rest = begin.1 })
+
+-- the next step, and the text behind it
+abbrev pub next_of : Cursor → Result (Entry × List ℕ) Refusal
+next_of c = next_step c.header (7 + c.done) (box_before c.header.version c.region) c.rest
+
+-- the state at time zero, where its line is all of the text that is left behind the steps
+unfoldable pub ended : Header → List ℕ → Result (List ℕ) Refusal
+ended h text = do
+  line ← line_of (7 + h.horizon) text
+  final ← read_end (7 + h.horizon) h.queues (words_of line.0)
+  over ← holds_or (refused (8 + h.horizon) TrailingText) (length line.1 == 0)
+  Ok final
+
+-- the log of what was read before its steps, of these, and of the state at time zero
+abbrev pub log_of : Cursor → List Entry → List ℕ → Certificate
+log_of c entries final = record { header = c.header; begin = c.region; entries = entries; final = final }
+
+-- the log that a text is which is read up to its first step
+unfoldable pub left_of : Cursor → Result Certificate Refusal
+left_of c = do
+  steps ← read_steps c.header c.header.horizon 7 (box_before c.header.version c.region) c.rest
+  final ← ended c.header steps.1
+  Ok (log_of c steps.0 final)
+
+-- what each cursor meets: its header and its region are in their ranges, and no more steps are read than the horizon has
+pub record IsCursor (c : Cursor) : Type 0 where
+  pub header : IsHeader c.header
+  pub before : IsRegion c.header.queues c.before
+  pub region : IsRegion c.header.queues c.region
+  pub done : c.done ≤ c.header.horizon

@@ -1,0 +1,44 @@
+-- What the fields of a reader of logs are seen as.
+use Rattle.std.specs.Prelude.{◌≡◌, ℕ, ◌≤◌, ◌++◌, ◌∷◌, [], List, codes, drop, Ok, Option, IfSome, Bool, true, false}
+use Rattle.std.specs.Fmt.{decimal}
+use Rattle.psi_state.specs.State.{Corners}
+use Rattle.psi_state.specs.declared.outcome.Step.{Step}
+use Rattle.psi_log_text.specs.declared.header.Header.{Header}
+use Rattle.psi_log_text.specs.Log.{LogRegion, greatest_horizon}
+use Rattle.psi_log_text.specs.Room.{spaced_words}
+use Rattle.psi_log.specs.RegionsViews.{region_of, IsThere}
+use Rattle.psi_log.specs.LinesViews.{IsLast}
+use Rattle.psi_log.specs.Scanned.{Stands, next_step}
+use Rattle.psi_log.specs.declared.spot.Spot.{Spot}
+use Rattle.psi_state_list.specs.declared.line_list.ListedRegion.TheVariants.{Set}
+
+-- the region that stands in a spot
+abbrev pub region_in : Spot → LogRegion
+region_in s = region_of s.states.states s.region
+
+-- of two spots, the one that is meant
+abbrev pub either : {A : Type 0} → Bool → A → A → A
+either true first second = first
+either false first second = second
+
+-- states of so many queues can be put into a spot
+abbrev pub HasQueues : ℕ → Spot → Type 0
+HasQueues queues s = s.states.queues ≡ queues
+
+-- a region of so many queues stands in a spot; where the end of a set's line is kept, that set is the region
+pub record IsFilled (queues : ℕ) (s : Spot) : Type 0 where
+  pub states : HasQueues queues s
+  pub there : IsThere queues s.states.states s.region
+  pub last : IfSome s.last (λ set. (s.region ≡ Set set.first set.count) × IsLast queues s.states.states set)
+
+-- the words of a step begin a text, up to a place
+pub record BeginsWith (version : ℕ) (text : List ℕ) (at : ℕ) (s : Step) : Type 0 where
+  pub least : 1 ≤ s.number
+  pub most : s.number ≤ greatest_horizon version
+  pub event : s.event ≤ 1024
+  pub there : Stands text 0 at (codes "step" ++ spaced_words (decimal s.number ∷ decimal s.event ∷ []))
+
+-- behind the words of a step, which end at a place, its line goes on up to another with this region
+abbrev pub GoesOn : ℕ → Option Corners → List ℕ → ℕ → ℕ → LogRegion → Type 0
+GoesOn queues before text at end region =
+    (h : Header) (n : ℕ) (s : Step) → h.queues ≡ queues → BeginsWith h.version text at s → next_step h n before text ≡ Ok (record { step = s; region = region }, drop end text)

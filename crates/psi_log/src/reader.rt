@@ -1,0 +1,285 @@
+//! A log that is read in one pass, step by step.
+
+ghost use Rattle.std.specs.Prelude.{◌≡◌, ◌+◌, ◌<◌, ◌≤◌, length, false, not, Ok, IfOk, IfErr, OnOk, OnErr, IsTrue};
+ghost use Rattle.psi_log_words.specs.Refusal.{Gives, IsLogError};
+ghost use Rattle.psi_log.specs.Reading.{box_before};
+ghost use Rattle.psi_log.specs.Scanned.{next_step};
+ghost use Rattle.psi_log.specs.SpotsViews.{region_in, either, HasQueues, IsFilled};
+ghost use Rattle.psi_log.specs.ReaderViews.{spot_of, other_of};
+ghost use Rattle.psi_log.specs.Told.{shown};
+ghost use Rattle.psi_log.specs.Cursor.{begin_line, begun, next_of, ended, IsCursor};
+
+use crate::form::BorrowedRegion;
+use crate::header::read_header;
+use crate::parts::{read_begin, read_end};
+use crate::spot::{ReadLine, Spot, read_onto};
+use psi_log_text::{Header, MOST_LOG_BYTES};
+use psi_log_words::{Cause, LogError, read_words};
+use psi_state::{State, Step};
+use psi_state_list::{ListedRegion, StateList};
+use std::alloc::Global;
+use std::marker::Model;
+
+/// A log that is read in one pass. It is seen as its header, the number of steps that are read, the regions before and
+/// after the last one of them, and the text behind it; where no step is read yet, both are the region at which the
+/// run begins. It holds these two regions and the words of one line, however many lines the text has.
+#[derive(Drop)]
+pub struct LogReader<'t> {
+    header: Header,
+    done: u32,
+    even: Spot<'t>,
+    odd: Spot<'t>,
+    is_odd: bool,
+    stays: bool,
+    rest: &'t [u8],
+    words: Vec<&'t [u8]>,
+}
+
+impl<'t> Model for LogReader<'t> {
+    ghost use Rattle.psi_log.specs.Cursor.{Cursor};
+    ghost use Rattle.psi_log.specs.ReaderViews.{cursor_of, IsKept};
+
+    ghost Value = { Cursor };
+
+    ghost view = { λ r. cursor_of r.header r.done r.even r.odd r.is_odd r.stays r.rest.now };
+
+    ghost invariant = { λ r. IsKept r.header r.done r.even r.odd r.is_odd r.stays r.rest.now };
+}
+
+// The region at which the run begins, on a spot, of the line that begins a text, and what follows it. The vector holds
+// the line's words.
+#[tactic(auto, unfolding(crate::specs::Cursor::begin_line), using(crate::proofs::CutLemmas::begin_cut))]
+fn begin_line<'t>(
+    alloc: Global,
+    queues: u8,
+    text: &'t [u8],
+    words: &mut Vec<&'t [u8]>,
+) -> Result<(Spot<'t>, &'t [u8]), LogError>
+    requires some { 1 ≤ queues }
+    requires few { queues ≤ 32 }
+    ensures value { Gives (λ read. (region_in read.0, read.1.now)) result (begin_line queues text.now) }
+    ensures filled { IfOk result (λ read. IsFilled queues read.0) }
+{
+    let mut states = StateList::new(alloc, queues);
+    let rest = read_words(6, text, words)?;
+    let region = read_begin(queues, words, &mut states)?;
+    let last = None;
+    let spot = Spot {
+        region,
+        states,
+        last,
+    };
+    Ok((spot, rest))
+}
+
+// What stands before the steps of a text: its header, and the region at which the run begins, on a spot; and what follows
+// its line. The vector holds the words of one line after another.
+#[tactic(auto, unfolding(crate::specs::Cursor::begun))]
+fn begin_of<'t>(
+    alloc: Global,
+    text: &'t [u8],
+    words: &mut Vec<&'t [u8]>,
+) -> Result<(Header, Spot<'t>, &'t [u8]), LogError>
+    ensures value { Gives (λ read. record { header = read.0; done = 0; before = region_in read.1; region = region_in read.1; rest = read.2.now }) result (begun text.now) }
+    ensures filled { IfOk result (λ read. IsFilled read.0.queues read.1) }
+    ensures some { IfOk result (λ read. 1 ≤ read.0.queues) }
+    ensures few { IfOk result (λ read. read.0.queues ≤ 32) }
+{
+    if text.len() > MOST_LOG_BYTES as usize {
+        return Err(Cause::TooLong.at(0));
+    }
+    let (header, rest) = read_header(text, words)?;
+    match begin_line(alloc, header.queues, rest, words) {
+        Ok((spot, rest)) => Ok((header, spot, rest)),
+        Err(error) => Err(error),
+    }
+}
+
+// A spot on which no region stands yet.
+fn spare_spot<'t>(alloc: Global, queues: u8) -> Spot<'t>
+    requires some { 1 ≤ queues }
+    requires few { queues ≤ 32 }
+    ensures { HasQueues queues result }
+{
+    Spot {
+        region: ListedRegion::Set { first: 0, count: 0 },
+        states: StateList::new(alloc, queues),
+        last: None,
+    }
+}
+
+// The state at time zero, of the last line, where nothing follows it. The vector holds its words.
+#[tactic(auto, unfolding(crate::specs::Cursor::ended), using(crate::proofs::CutLemmas::end_cut))]
+fn end_of<'t>(header: &Header, text: &'t [u8], words: &mut Vec<&'t [u8]>) -> Result<State, LogError>
+    requires some { 1 ≤ header.now.queues }
+    requires few { header.now.queues ≤ 32 }
+    requires horizon { header.now.horizon ≤ 4194304 }
+    ensures { Gives (λ x. x) result (ended header.now text.now) }
+{
+    let line = 7 + header.horizon;
+    let rest = read_words(line, text, words)?;
+    let end = read_end(line, header.queues, words)?;
+    if !rest.is_empty() {
+        return Err(Cause::TrailingText.at(line + 1));
+    }
+    Ok(end)
+}
+
+// The step whose line begins a text, with the region before it in one of two spots. The region after it is read onto
+// the other one, unless it stays. The vector holds the words of a line that isn't written as it is to be.
+fn read_beside<'t>(
+    header: &Header,
+    line: u32,
+    is_odd: bool,
+    even: &mut Spot<'t>,
+    odd: &mut Spot<'t>,
+    text: &'t [u8],
+    words: &mut Vec<&'t [u8]>,
+) -> Result<ReadLine<'t>, LogError>
+    requires some { 1 ≤ header.now.queues }
+    requires few { header.now.queues ≤ 32 }
+    requires region { IsFilled header.now.queues (spot_of is_odd even.old odd.old) }
+    requires even { HasQueues header.now.queues even.old }
+    requires odd { HasQueues header.now.queues odd.old }
+    ensures even { HasQueues header.now.queues even.new }
+    ensures odd { HasQueues header.now.queues odd.new }
+    ensures same { spot_of is_odd even.new odd.new ≡ spot_of is_odd even.old odd.old }
+    ensures filled { IfOk result (λ read. read.stays ≡ false → IsFilled header.now.queues (other_of is_odd even.new odd.new)) }
+    ensures value { IfOk result (λ read. next_step header.now line (box_before header.now.version (region_in (spot_of is_odd even.old odd.old))) text.now
+        ≡ Ok (record { step = read.step; region = either read.stays (region_in (spot_of is_odd even.old odd.old)) (region_in (other_of is_odd even.new odd.new)) }, read.rest.now)) }
+    ensures refused { IfErr result (λ error. IsLogError error (next_step header.now line (box_before header.now.version (region_in (spot_of is_odd even.old odd.old))) text.now)) }
+{
+    if is_odd {
+        return read_onto(header, line, odd, even, text, words);
+    }
+    read_onto(header, line, even, odd, text, words)
+}
+
+// Whether the region stands in the odd spot behind a step.
+fn side_of(is_odd: bool, stays: bool) -> bool
+    ensures { result ≡ either stays is_odd (not is_odd) }
+{
+    if stays { is_odd } else { !is_odd }
+}
+
+impl<'t> LogReader<'t> {
+    /// Begins to read a text as a log: its header, and the region at which the run begins.
+    ///
+    /// # Errors
+    ///
+    /// The first refusal of the text up to there, as [`crate::read_log`] has it; `OutOfMemory`.
+    #[tactic(auto, using(crate::proofs::ReaderLemmas::begun_found, crate::proofs::ReaderLemmas::begins_kept))]
+    pub fn open(alloc: Global, text: &'t [u8]) -> Result<LogReader<'t>, LogError>
+        ensures value { Gives (λ reader. reader) result (begun text.now) }
+        ensures cursor { IfOk result (λ reader. IsCursor reader) }
+    {
+        let mut words = Vec::new(alloc);
+        let (header, even, rest) = match begin_of(alloc, text, &mut words) {
+            Ok(read) => read,
+            Err(error) => return Err(error),
+        };
+        let odd = spare_spot(alloc, header.queues);
+        Ok(LogReader {
+            header,
+            done: 0,
+            even,
+            odd,
+            is_odd: false,
+            stays: true,
+            rest,
+            words,
+        })
+    }
+
+    /// The header. Its second clause is how a caller learns what every reader keeps.
+    pub fn header(&self) -> Header
+        ensures value { result ≡ self.now.header }
+        ensures cursor { IsCursor self.now }
+    {
+        self.header
+    }
+
+    /// The next step.
+    ///
+    /// # Errors
+    ///
+    /// The first refusal of its line, or `OutOfMemory`; the reader then stands where it stood, and has no region
+    /// before that one any more.
+    pub fn next(&mut self) -> Result<Step, LogError>
+        requires { self.old.done < self.old.header.horizon }
+        ensures value { IfOk result (λ step. next_of self.old ≡ Ok (record { step = step; region = self.new.region }, self.new.rest)) }
+        ensures refused { IfErr result (λ error. IsLogError error (next_of self.old)) }
+        ensures cursor { IsCursor self.new }
+        ensures header { self.new.header ≡ self.old.header }
+        ensures done { OnOk result (self.new.done ≡ self.old.done + 1) }
+        ensures before { OnOk result (self.new.before ≡ self.old.region) }
+        ensures kept { OnErr result (self.new ≡ record { header = self.old.header; done = self.old.done; before = self.old.region; region = self.old.region; rest = self.old.rest }) }
+    {
+        self.stays = true;
+        let read = match read_beside(
+            &self.header,
+            7 + self.done,
+            self.is_odd,
+            &mut self.even,
+            &mut self.odd,
+            self.rest,
+            &mut self.words,
+        ) {
+            Ok(read) => read,
+            Err(error) => return Err(error),
+        };
+        self.done += 1;
+        self.rest = read.rest;
+        self.stays = read.stays;
+        self.is_odd = side_of(self.is_odd, read.stays);
+        Ok(read.step)
+    }
+
+    /// The region before the last step that was read, borrowed. Nothing is copied.
+    pub fn before(&self) -> BorrowedRegion<'_>
+        ensures { shown result ≡ self.entry.now.before }
+    {
+        if self.stays {
+            return self.region();
+        }
+        if self.is_odd {
+            self.even.look(self.header.queues)
+        } else {
+            self.odd.look(self.header.queues)
+        }
+    }
+
+    /// The region after the last step that was read, borrowed. Nothing is copied.
+    pub fn region(&self) -> BorrowedRegion<'_>
+        ensures { shown result ≡ self.entry.now.region }
+    {
+        if self.is_odd {
+            self.odd.look(self.header.queues)
+        } else {
+            self.even.look(self.header.queues)
+        }
+    }
+
+    /// Whether the last step that was read left the region in its place. It may be false where both regions are the
+    /// same.
+    pub fn stays(&self) -> bool
+        ensures { IsTrue result → self.now.before ≡ self.now.region }
+    {
+        self.stays
+    }
+
+    /// The state at time zero, once all steps are read.
+    ///
+    /// # Errors
+    ///
+    /// The first refusal of its line; `TrailingText` where text follows it; `OutOfMemory`.
+    #[tactic(auto, using(crate::proofs::ReaderLemmas::ended_count))]
+    pub fn end(&mut self) -> Result<State, LogError>
+        requires { self.old.done ≡ self.old.header.horizon }
+        ensures value { Gives (λ x. x) result (ended self.old.header self.old.rest) }
+        ensures count { IfOk result (λ x. length x ≡ self.old.header.queues) }
+        ensures same { self.new ≡ self.old }
+    {
+        end_of(&self.header, self.rest, &mut self.words)
+    }
+}

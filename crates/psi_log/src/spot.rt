@@ -1,0 +1,253 @@
+//! A place for one region, onto which that of a step's line is read.
+
+ghost use Rattle.std.specs.Prelude.{◌≡◌, ℕ, Option, Some, ◌≤◌, length, option_copied, false, Ok, IfOk, IfErr, IfSome};
+ghost use Rattle.psi_state.specs.State.{Corners};
+ghost use Rattle.psi_log_text.specs.Log.{in_box};
+ghost use Rattle.psi_log_words.specs.Refusal.{IsLogError};
+ghost use Rattle.psi_log.specs.Reading.{box_before};
+ghost use Rattle.psi_log.specs.Scanned.{next_step};
+ghost use Rattle.psi_log.specs.Told.{shown};
+ghost use Rattle.psi_log.specs.SpotsViews.{region_in, either, HasQueues, IsFilled, GoesOn};
+
+use crate::form::BorrowedRegion;
+use crate::move_line::read_changes;
+use crate::scan::{has_byte, has_word};
+use crate::set_line::{LastSet, read_new_set, step_at};
+use crate::steps::read_by_words;
+use psi_log_text::Header;
+use psi_log_words::LogError;
+use psi_state::{Bounds, Step};
+use psi_state_list::{ListedRegion, StateList};
+use std::alloc::AllocError;
+
+/// A place for one region.
+#[derive(Drop)]
+pub(crate) struct Spot<'t> {
+    /// The region. The states of a set stand in the list.
+    pub(crate) region: ListedRegion,
+    pub(crate) states: StateList,
+    /// The end of its line, where it is a set that was read in one pass.
+    pub(crate) last: Option<LastSet<'t>>,
+}
+
+/// A step's line that was read.
+#[derive(Clone, Copy, Debug)]
+pub(crate) struct ReadLine<'t> {
+    /// The step.
+    pub(crate) step: Step,
+    /// Whether the region after it is the one before, which then stands in its old place alone.
+    pub(crate) stays: bool,
+    /// What follows the line.
+    pub(crate) rest: &'t [u8],
+}
+
+impl Spot<'_> {
+    /// The region, borrowed.
+    pub(crate) fn look(&self, queues: u8) -> BorrowedRegion<'_>
+        requires { IsFilled queues self.now }
+        ensures { shown result ≡ region_in self.entry.now }
+    {
+        match &self.region {
+            ListedRegion::Box(bounds) => BorrowedRegion::Box(bounds),
+            ListedRegion::Set { first, count } => {
+                BorrowedRegion::Set(self.states.all().part(*first, *count as usize))
+            }
+        }
+    }
+
+    /// The box from which a box has to be written by what changed: in version 2, the region where it is one.
+    pub(crate) fn box_in(&self, version: u8) -> Option<&Bounds>
+        ensures { option_copied result ≡ box_before version (region_in self.entry.now) }
+    {
+        match &self.region {
+            ListedRegion::Box(bounds) => { if version == 2 { Some(bounds) } else { None } }
+            ListedRegion::Set { .. } => None,
+        }
+    }
+}
+
+// Reads onto a spot the box that stands behind an event, written by what changed from another box as it is to be:
+// whether it is that box, which then isn't put there, and the place behind its line.
+fn move_onto(
+    queues: u8,
+    from: &Bounds,
+    to: &mut Spot<'_>,
+    text: &[u8],
+    at: usize,
+) -> Option<(bool, usize)>
+    requires few { queues ≤ 32 }
+    requires same { length from.now.lo ≡ queues }
+    requires queues { HasQueues queues to.old }
+    ensures queues { HasQueues queues to.new }
+    ensures filled { IfSome result (λ read. read.0 ≡ false → IsFilled queues to.new) }
+    ensures within { IfSome result (λ read. read.1 ≤ length text.now) }
+    ensures line { IfSome result (λ read. GoesOn queues (Some from.now) text.now at read.1 (either read.0 (in_box from.now) (region_in to.new))) }
+{
+    if !has_word(text, at, b" move") {
+        return None;
+    }
+    if has_byte(text, at + 5, b'\n') {
+        return Some((true, at + 6));
+    }
+    let (bounds, end) = read_changes(text, at + 5, queues, from)?;
+    if !has_byte(text, end, b'\n') {
+        return None;
+    }
+    to.region = ListedRegion::Box(bounds);
+    to.last = None;
+    Some((false, end + 1))
+}
+
+// Reads onto a spot the set that stands behind an event as it is to be: whether it is the set of another spot, as its
+// line ends alike, which then isn't put there, and the place behind its line.
+fn set_onto<'t>(
+    queues: u8,
+    from: &Spot<'t>,
+    to: &mut Spot<'t>,
+    text: &'t [u8],
+    at: usize,
+) -> Result<Option<(bool, usize)>, AllocError>
+    requires some { 1 ≤ queues }
+    requires few { queues ≤ 32 }
+    requires from { IsFilled queues from.now }
+    requires queues { HasQueues queues to.old }
+    ensures queues { HasQueues queues to.new }
+    ensures filled { IfOk result (λ line. IfSome line (λ read. read.0 ≡ false → IsFilled queues to.new)) }
+    ensures within { IfOk result (λ line. IfSome line (λ read. read.1 ≤ length text.now)) }
+    ensures line { IfOk result (λ line. IfSome line (λ read. (before : Option Corners) → GoesOn queues before text.now at read.1 (either read.0 (region_in from.now) (region_in to.new)))) }
+{
+    if let Some(set) = from.last {
+        if has_word(text, at, set.text) {
+            return Ok(Some((true, at + set.text.len())));
+        }
+    }
+    to.states.clear();
+    let Some(set) = read_new_set(queues, text, at, &mut to.states)? else {
+        return Ok(None);
+    };
+    to.region = ListedRegion::Set {
+        first: set.first,
+        count: set.count,
+    };
+    to.last = Some(set);
+    Ok(Some((false, at + set.text.len())))
+}
+
+// Reads onto a spot the region that stands behind an event as it is to be: whether it is that of another spot, which
+// then isn't put there, and the place behind its line.
+fn region_onto<'t>(
+    header: &Header,
+    from: &Spot<'t>,
+    to: &mut Spot<'t>,
+    text: &'t [u8],
+    at: usize,
+) -> Result<Option<(bool, usize)>, AllocError>
+    requires some { 1 ≤ header.now.queues }
+    requires few { header.now.queues ≤ 32 }
+    requires from { IsFilled header.now.queues from.now }
+    requires queues { HasQueues header.now.queues to.old }
+    ensures queues { HasQueues header.now.queues to.new }
+    ensures filled { IfOk result (λ line. IfSome line (λ read. read.0 ≡ false → IsFilled header.now.queues to.new)) }
+    ensures within { IfOk result (λ line. IfSome line (λ read. read.1 ≤ length text.now)) }
+    ensures line { IfOk result (λ line. IfSome line (λ read. GoesOn header.now.queues (box_before header.now.version (region_in from.now)) text.now at read.1 (either read.0 (region_in from.now) (region_in to.new)))) }
+{
+    if let Some(bounds) = from.box_in(header.version) {
+        if let Some(read) = move_onto(header.queues, bounds, to, text, at) {
+            return Ok(Some(read));
+        }
+    }
+    set_onto(header.queues, from, to, text, at)
+}
+
+// The step whose line begins a text, in one pass, with the region before it in a spot, where the line is written as
+// it is to be. The region after it is read onto another spot, unless it is the one before. Where nothing is given,
+// nothing is said of the line.
+fn scan_onto<'t>(
+    header: &Header,
+    from: &Spot<'t>,
+    to: &mut Spot<'t>,
+    text: &'t [u8],
+) -> Result<Option<ReadLine<'t>>, AllocError>
+    requires some { 1 ≤ header.now.queues }
+    requires few { header.now.queues ≤ 32 }
+    requires from { IsFilled header.now.queues from.now }
+    requires queues { HasQueues header.now.queues to.old }
+    ensures queues { HasQueues header.now.queues to.new }
+    ensures filled { IfOk result (λ line. IfSome line (λ read. read.stays ≡ false → IsFilled header.now.queues to.new)) }
+    ensures value { IfOk result (λ line. IfSome line (λ read. (n : ℕ) → next_step header.now n (box_before header.now.version (region_in from.now)) text.now
+        ≡ Ok (record { step = read.step; region = either read.stays (region_in from.now) (region_in to.new) }, read.rest.now))) }
+{
+    let Some((step, at)) = step_at(header.version, text) else {
+        return Ok(None);
+    };
+    let Some((stays, end)) = region_onto(header, from, to, text, at)? else {
+        return Ok(None);
+    };
+    let rest = &text[end..];
+    Ok(Some(ReadLine { step, stays, rest }))
+}
+
+// The step whose line begins a text, word by word, with the region before it in a spot. The region after it is read
+// onto another spot. The vector holds the line's words.
+fn words_onto<'t>(
+    header: &Header,
+    line: u32,
+    from: &Spot<'t>,
+    to: &mut Spot<'t>,
+    text: &'t [u8],
+    words: &mut Vec<&'t [u8]>,
+) -> Result<ReadLine<'t>, LogError>
+    requires some { 1 ≤ header.now.queues }
+    requires few { header.now.queues ≤ 32 }
+    requires from { IsFilled header.now.queues from.now }
+    requires queues { HasQueues header.now.queues to.old }
+    ensures queues { HasQueues header.now.queues to.new }
+    ensures filled { IfOk result (λ read. read.stays ≡ false → IsFilled header.now.queues to.new) }
+    ensures value { IfOk result (λ read. next_step header.now line (box_before header.now.version (region_in from.now)) text.now
+        ≡ Ok (record { step = read.step; region = either read.stays (region_in from.now) (region_in to.new) }, read.rest.now)) }
+    ensures refused { IfErr result (λ error. IsLogError error (next_step header.now line (box_before header.now.version (region_in from.now)) text.now)) }
+{
+    let before = from.box_in(header.version);
+    let read = read_by_words(header, line, before, text, words, &mut to.states);
+    let (read, rest) = match read {
+        Ok(read) => read,
+        Err(error) => return Err(error),
+    };
+    to.region = read.region;
+    to.last = None;
+    let step = read.step;
+    let stays = false;
+    Ok(ReadLine { step, stays, rest })
+}
+
+/// The step whose line begins a text, with the region before it in a spot. The region after it is read onto another
+/// spot, unless it is the one before. The vector holds the words of a line that isn't written as it is to be.
+///
+/// # Errors
+///
+/// The line's first refusal; `OutOfMemory`.
+pub(crate) fn read_onto<'t>(
+    header: &Header,
+    line: u32,
+    from: &Spot<'t>,
+    to: &mut Spot<'t>,
+    text: &'t [u8],
+    words: &mut Vec<&'t [u8]>,
+) -> Result<ReadLine<'t>, LogError>
+    requires some { 1 ≤ header.now.queues }
+    requires few { header.now.queues ≤ 32 }
+    requires from { IsFilled header.now.queues from.now }
+    requires queues { HasQueues header.now.queues to.old }
+    ensures queues { HasQueues header.now.queues to.new }
+    ensures filled { IfOk result (λ read. read.stays ≡ false → IsFilled header.now.queues to.new) }
+    ensures value { IfOk result (λ read. next_step header.now line (box_before header.now.version (region_in from.now)) text.now
+        ≡ Ok (record { step = read.step; region = either read.stays (region_in from.now) (region_in to.new) }, read.rest.now)) }
+    ensures refused { IfErr result (λ error. IsLogError error (next_step header.now line (box_before header.now.version (region_in from.now)) text.now)) }
+{
+    match scan_onto(header, from, to, text) {
+        Ok(Some(read)) => return Ok(read),
+        Ok(None) => {}
+        Err(_) => return Err(LogError::OutOfMemory),
+    }
+    words_onto(header, line, from, to, text, words)
+}

@@ -1,0 +1,43 @@
+-- The reading and the judging of a log side by side, line by line.
+use Rattle.std.specs.Prelude.{ℕ, ◌^◌, List, length, ◌==◌, nat_le, Result, Ok, Err}
+use Rattle.psi_past.specs.SeedWord.{seed_word}
+use Rattle.psi_rate.specs.Composition.{Parts, Functions, system_functions}
+use Rattle.psi_log_text.specs.declared.header.Header.{Header as LogHeader}
+use Rattle.psi_log_text.specs.Log.{LogRegion, Entry, Certificate}
+use Rattle.psi_log_words.specs.Refusal.{Refusal, ◌>>=◌, holds_or}
+use Rattle.psi_log.specs.Reading.{box_before, read_steps, read}
+use Rattle.psi_replay.specs.Verdict.{rejected, is_within, holds_all, judge_steps, judged, event_numbers, verdict_of}
+use Rattle.psi_replay.specs.declared.answers.Verdict.{Verdict}
+use Rattle.psi_replay.specs.declared.causes.Rejection.{Rejection}
+use Rattle.psi_replay.specs.declared.causes.Cause.TheVariants.{Header, OutsideBox, NotCovered}
+
+-- what a judging that the code did is
+abbrev pub told : {X : Type 0} → Result X Rejection → Result (Unit {0}) Refusal
+told (Ok kept) = Ok tt
+told (Err rejection) = Err (rejected rejection.line rejection.cause)
+
+-- the rules of the lines before the steps
+unfoldable pub judge_begin : List ℕ → ℕ → LogHeader → LogRegion → Result (Unit {0}) Refusal
+judge_begin caps limit header begin = do
+  queues ← holds_or (rejected 2 Header) (header.queues == length caps)
+  horizon ← holds_or (rejected 5 Header) (nat_le header.horizon (2 ^ limit))
+  within ← holds_or (rejected 6 OutsideBox) (is_within caps begin)
+  holds_or (rejected 6 NotCovered) (holds_all caps begin)
+
+-- the rules of a network with these capacities and this limit, as in the verdict
+module _ (caps : List ℕ) (limit : ℕ) (events : ℕ → ℕ) (f : Functions) where
+  -- so many lines of steps from line n on, behind a region and a judging: the last region, or the first line that breaks a rule, and the text behind
+  -- them; but a line that is refused comes first, wherever it stands
+  unfoldable pub lines_left : LogHeader → ℕ → ℕ → LogRegion → List ℕ → Result (Unit {0}) Refusal → Result (Result LogRegion Refusal × List ℕ) Refusal
+  lines_left h count n region text before = do
+    steps ← read_steps h count n (box_before h.version region) text
+    Ok (before >>= (λ _. judge_steps caps limit events f n count region steps.0), steps.1)
+
+-- the rules of a system for a log, under the words of its seed and stream
+abbrev pub judged_under : {E : Type 0} → (E → List ℕ → List ℕ) → Parts E → Certificate → Result (Unit {0}) Refusal
+judged_under function system c =
+    judged system.caps system.limit (event_numbers system (seed_word c.header.seed c.header.stream)) (system_functions function system (seed_word c.header.seed c.header.stream)) c
+
+-- the verdict on the log that a text is, by these rules, or the refusal of the text
+abbrev pub replayed : (Certificate → Result (Unit {0}) Refusal) → List ℕ → Result Verdict Refusal
+replayed rules text = read text >>= (λ (c : Certificate). Ok (verdict_of c (rules c)))
