@@ -1,5 +1,5 @@
 -- Values that fall past none of the numbers between two bounds.
-use Rattle.std.proofs.Common.{◌≡◌, ℕ, ◌+◌, ◌-◌, ◌<◌, ◌≤◌, List, length, slice_index, inl, inr, arith}
+use Rattle.std.proofs.Common.{ℕ, ◌+◌, ◌-◌, ◌<◌, ◌≤◌, List, length, slice_index, inl, inr, arith}
 use Rattle.std.proofs.lemmas.Bool.{cases_lt}
 use Rattle.psi_index.specs.BoundsKept.{ArePeaks, AreTroughs}
 use Rattle.psi_index.specs.Falls.{NeverFalls}

@@ -48,9 +48,10 @@ fn joined(alloc: Global, halves: &[u32], half: usize) -> Result<Level, AllocErro
     ensures { IfOk result (λ level. IsJoined halves.now half level.least.items) }
 {
     let count = halves.len() - half;
-    let mut least = Vec::with_capacity(alloc, count)?;
+    let mut least = Vec::from_slice(alloc, &halves[..count])?;
+    let later = &halves[half..];
     for i in 0..count {
-        least.push_reserved(halves[i].min(halves[i + half]));
+        least[i] = least[i].min(later[i]);
     }
     Ok(Level { least })
 }

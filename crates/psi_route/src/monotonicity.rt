@@ -164,7 +164,7 @@ impl Route {
         ensures fall { MatchOption result.0 (NoFall (shape_of self.now) a b w past) (λ v. IsFall (shape_of self.now) a b w v) }
         ensures near { result.1 ≤ slice_index self.now.caps (slice_index self.now.targets a) }
     {
-        if a == b {
+        if a == b || past < 2 {
             return (None, near);
         }
         let table = &self.tables[a as usize];

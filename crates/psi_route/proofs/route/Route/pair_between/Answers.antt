@@ -1,5 +1,5 @@
 -- Answers in the proof of `Route::pair_between`.
-use Rattle.std.proofs.Common.{ℕ, List, Some, slice_index, ap, ◌∙◌, arith}
+use Rattle.std.proofs.Common.{ℕ, List, Some, ap, ◌∙◌, arith}
 use Rattle.psi_route.specs.Route.{shape_of}
 use Rattle.psi_route.proofs.FallingLemmas.{between-none, between-some, found-none, found-some}
 use Rattle.psi_route.proofs.route.Route.pair_between.Goals as goal
