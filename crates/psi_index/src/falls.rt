@@ -12,6 +12,8 @@ impl IndexTable {
     ///
     /// Two places of `other` at a time are passed over by the least value from them on and the greatest up to them; only
     /// where these don't tell, each is looked up.
+    // Out of line: where it is inlined, what its caller keeps takes the registers of the loop.
+    #[inline(never)]
     pub fn first_passed(&self, other: &IndexTable, more: u32) -> u16
         ensures within { result ≤ length other.now }
         ensures before { (w : ℕ) → w < result → NeverFalls self.now (slice_index other.now w + more) }
@@ -19,44 +21,65 @@ impl IndexTable {
     {
         let (peaks, troughs) = (self.kept().peaks(), self.kept().troughs());
         let (others_peaks, others_troughs) = (other.kept().peaks(), other.kept().troughs());
-        let count = other.len();
+        // Called for its clause: the number of values here fits 16 bits, too.
+        let _count = self.len();
+        let count = other.len() as usize;
         let mut near = 0;
         let mut place = 0;
         while place < count {
-            let past = place + 2.min(count - place);
-            let low = others_troughs[place as usize] as u64 + more as u64;
-            let high = others_peaks[past as usize - 1] as u64 + more as u64;
+            let past = count.min(place + 2);
+            let low = others_troughs[place] as u64 + more as u64;
+            let high = others_peaks[past - 1] as u64 + more as u64;
             near = past_lower(peaks, near, low);
             if !stays_above(troughs, near, high) {
-                if let Some(passed) = self.passed_between(other, place, past, more) {
+                let passed = self.passed_between(
+                    other,
+                    place as u16,
+                    past as u16,
+                    near as u16,
+                    more,
+                );
+                if let Some(passed) = passed {
                     return passed;
                 }
             }
             place = past;
         }
-        count
+        other.len()
     }
 
-    // The first place of `other` from `first` on and before `past` whose value, with `more` added, the values here fall past.
-    fn passed_between(&self, other: &IndexTable, first: u16, past: u16, more: u32) -> Option<u16>
-        requires { past ≤ length other.now }
+    // The first place of `other` from `first` on and before `past` whose value, with `more` added, the values here fall
+    // past; those that are as great are looked for near the place `near`.
+    #[inline(never)]
+    fn passed_between(
+        &self,
+        other: &IndexTable,
+        first: u16,
+        past: u16,
+        near: u16,
+        more: u32,
+    ) -> Option<u16>
+        requires others { past ≤ length other.now }
+        requires near { near ≤ length self.now }
         ensures { MatchOption result ((w : ℕ) → first ≤ w → w < past → NeverFalls self.now (slice_index other.now w + more))
             (λ p. (first ≤ p) × (p < past) × ((w : ℕ) → first ≤ w → w < p → NeverFalls self.now (slice_index other.now w + more)) × Falls self.now (slice_index other.now p + more)) }
     {
         for place in first..past {
-            if self.falls_past(other.at(place) as u64 + more as u64) {
+            if self.falls_past(near, other.at(place) as u64 + more as u64) {
                 return Some(place);
             }
         }
         None
     }
 
-    // Whether some value is at least the bound, and a later one is below it.
-    fn falls_past(&self, bound: u64) -> bool
+    // Whether some value is at least the bound, and a later one is below it; the first that is at least it is looked for
+    // near the place `near`.
+    fn falls_past(&self, near: u16, bound: u64) -> bool
+        requires { near ≤ length self.now }
         ensures { MatchBool result (Falls self.now bound) (NeverFalls self.now bound) }
     {
         let count = self.len();
-        let first = self.first_at_least_between(0, count, bound);
+        let first = self.first_at_least_near(near, bound);
         first < count && (self.least(first, count - 1) as u64) < bound
     }
 }

@@ -75,12 +75,10 @@ impl Route {
     {
         let clear = self.clear(a, b);
         let mut found = None;
-        let mut near = 0;
         for w in clear..self.cap(b) {
             let past = self.past(a, b, w, found);
-            let (fall, first) = self.first_fall(a, b, w, near, past);
+            let fall = self.first_fall(a, b, w, past);
             found = self.earlier(a, b, w, past, fall, found);
-            near = first;
         }
         match found {
             None => None,
@@ -152,32 +150,29 @@ impl Route {
     }
 
     // The least number of customers at place `a` at which one more takes its key from above that of place
-    // `b` with `w` to below it; and the least number whose key isn't below that of place `b`, which is looked
-    // for near `near`. The first `past` numbers are looked at.
-    fn first_fall(&self, a: u8, b: u8, w: u16, near: u16, past: u16) -> (Option<u16>, u16)
+    // `b` with `w` to below it. The first `past` numbers are looked at.
+    fn first_fall(&self, a: u8, b: u8, w: u16, past: u16) -> Option<u16>
         requires first { a < length self.now.targets }
         requires second { b < length self.now.targets }
         requires number { w < slice_index self.now.caps (slice_index self.now.targets b) }
         requires tables { 0 < length self.now.tables.items }
-        requires near { near ≤ slice_index self.now.caps (slice_index self.now.targets a) }
         requires past { past ≤ slice_index self.now.caps (slice_index self.now.targets a) }
-        ensures fall { MatchOption result.0 (NoFall (shape_of self.now) a b w past) (λ v. IsFall (shape_of self.now) a b w v) }
-        ensures near { result.1 ≤ slice_index self.now.caps (slice_index self.now.targets a) }
+        ensures { MatchOption result (NoFall (shape_of self.now) a b w past) (λ v. IsFall (shape_of self.now) a b w v) }
     {
         if a == b || past < 2 {
-            return (None, near);
+            return None;
         }
         let table = &self.tables[a as usize];
         let bound = self.weight(b, w) as u64 + (a < b) as u64;
-        let first = table.first_at_least_near(near, bound);
-        if first >= past {
-            return (None, first);
+        let first = table.first_at_least_between(0, past, bound);
+        if first == past {
+            return None;
         }
         let below = table.first_below(first, past, bound);
         if below == past {
-            return (None, first);
+            return None;
         }
-        (Some(below - 1), first)
+        Some(below - 1)
     }
 
     // The pair made of the two places and their numbers of customers.

@@ -5,8 +5,8 @@ use Rattle.psi_route.specs.Route.{shape_of}
 use Rattle.psi_route.proofs.FallingLemmas.{fall-found}
 use Rattle.psi_route.proofs.route.Route.first_fall.Goals as goal
 
-pub returns-clause-fall : goal.returns-clause-fall
-returns-clause-fall c =
+pub returns : goal.returns
+returns c =
     let s = shape_of c.args.self.now in
     let valid = c.args.self.now.valid in
     let count : length s.tables ≡ length s.targets = valid.tabled c.requires.tables in
@@ -17,7 +17,7 @@ returns-clause-fall c =
     ap (λ (t : List ℕ). length t) own ∙ valid.fitted c.args.a (omega (arith, c.requires.first)) in
     let less : c.first_below-below.result < c.args.past = grind arith in
     let within : c.first_below-below.result < length c.index-table.result.now = omega (arith, less, long, c.requires.past) in
-    fall-found s c.index-table.result.now c.args.a c.args.b c.args.w c.first_at_least_near-first.result c.first_below-below.result
+    fall-found s c.index-table.result.now c.args.a c.args.b c.args.w c.first_at_least_between-first.result c.first_below-below.result
     _ own c.requires.first c.requires.second valid.few c.if-a-b.false
-    (omega (arith, long, within)) c.requires.number (λ under. grind arith) (λ over. grind arith) c.first_below-below.ensures.from c.first_at_least_near-first.ensures.before
-    (c.first_at_least_near-first.ensures.found (omega (arith, within, c.first_below-below.ensures.from))) c.first_below-below.ensures.before (c.first_below-below.ensures.found less)
+    (omega (arith, long, within)) c.requires.number (λ under. grind arith) (λ over. grind arith) c.first_below-below.ensures.from (λ k. c.first_at_least_between-first.ensures.before k (omega arith))
+    (c.first_at_least_between-first.ensures.found (omega (arith, less, c.first_below-below.ensures.from))) c.first_below-below.ensures.before (c.first_below-below.ensures.found less)

@@ -7,11 +7,11 @@ use Rattle.psi_route.proofs.route.Route.pair_between.Goals as goal
 pub returns-in-None : goal.returns-in-None
 returns-in-None c =
     between-none (shape_of c.args.self.now) c.args.a c.args.b c.loop-w.w
-    (found-none (shape_of c.args.self.now) c.args.a c.args.b c.loop-w.w c.loop-w.found c.loop-w.invariant.falls c.in-None.is) (omega (arith, c.cap-w-end.ensures))
+    (found-none (shape_of c.args.self.now) c.args.a c.args.b c.loop-w.w c.loop-w.found c.loop-w.invariant c.in-None.is) (omega (arith, c.cap-w-end.ensures))
 
 pub returns-in-Some : goal.returns-in-Some
 returns-in-Some c =
     ap (λ (p : List ℕ × List ℕ). Some p) c.pair_of.ensures
     ∙ between-some (shape_of c.args.self.now) c.args.a c.args.b c.loop-w.w (c.in-Some.v, c.in-Some.w) c.requires.first c.requires.second
-    (found-some (shape_of c.args.self.now) c.args.a c.args.b c.loop-w.w c.loop-w.found (c.in-Some.v, c.in-Some.w) c.loop-w.invariant.falls c.in-Some.is)
+    (found-some (shape_of c.args.self.now) c.args.a c.args.b c.loop-w.w c.loop-w.found (c.in-Some.v, c.in-Some.w) c.loop-w.invariant c.in-Some.is)
     (omega (arith, c.cap-w-end.ensures))
