@@ -1,12 +1,9 @@
 -- Answers in the proof of `push_state`.
-use Rattle.std.specs.Prelude.{[], ◌∷◌, slice_index}
-use Rattle.std.specs.Fmt.{decimal}
-use Rattle.std.proofs.Common.{◌∙◌, append_assoc, arith}
+use Rattle.std.proofs.Common.{arith}
 use Rattle.psi_answers.proofs.ListingLemmas.{state_text_pushed}
 use Rattle.psi_answers.proofs.pieces.push_state.Goals as goal
 
 pub loop-queue-preserved : goal.loop-queue-preserved
 loop-queue-preserved c =
-    let pushed = rw (c.get-in-loop-queue.ensures, c.in_ok-push.ensures.items) at c.in_ok-push_customers-2.ensures in
-    state_text_pushed _ _ _ c.args.state.now c.loop-queue.queue (omega arith) (omega arith) c.loop-queue.invariant
-    (pushed ∙ append_assoc c.loop-queue.text.items (44 ∷ []) (decimal (slice_index c.args.state.now c.loop-queue.queue)))
+    let pushed = rw c.get-in-loop-queue.ensures at c.in_ok-push_further.ensures in
+    state_text_pushed _ _ _ c.args.state.now c.loop-queue.queue (omega arith) (omega arith) c.loop-queue.invariant pushed
