@@ -83,12 +83,6 @@ pub record AreTwo (n : ℕ) (t : ℕ → ℕ) : Type 0 where
   pub one : t first ≡ 1
   pub other : t second ≡ 1
 
-some-digits : (bits n : ℕ) (t : ℕ → ℕ) (j : ℕ) → 1 ≤ bits → AreUnits n t → j < n → t j ≡ 1 → 1 ≤ digits bits n t
-some-digits bits n t j some units small one = elim (cases_lt 0 (digits bits n t)) [
-  | inl more ↦ omega arith
-  | inr none ↦ absurd (let is = digits-none bits n t j (units-digits bits n t some units) (omega (arith, none)) small in omega (arith, is, one))
-]
-
 pub units-lone : (bits n : ℕ) (t : ℕ → ℕ) → 1 ≤ bits → AreUnits n t → (digits bits n t ≡ 0 → ⊥) → bit_and (digits bits n t) (digits bits n t - 1) ≡ 0 → IsLone n t
 units-lone bits zero t some units any lone = absurd (any refl)
 units-lone bits (suc n) t some units any lone =

@@ -100,9 +100,6 @@ module _ (count : ℕ) (p : Packing) (f : Function) (m : UnitMasks) (unit : IsUn
   two-most : 2 ≤ 2 ^ p.bits
   two-most = omega (arith, twice-guard p.bits some, pow_pos (p.bits - 1))
 
-  unit-lt : (t : ℕ → ℕ) → ((q : ℕ) → t q ≤ 1) → (w : ℕ) → digits p.bits p.fields (λ j. t (w * p.fields + j)) < 2 ^ 64
-  unit-lt t small w = fields-lt count p unit.packing t w (λ q. omega (arith, small q, two-most))
-
   -- ---- what is full, and what has a customer
 
   module _ (x : List ℕ) (below : IsBelow x p.caps) where
@@ -171,9 +168,6 @@ module _ (count : ℕ) (p : Packing) (f : Function) (m : UnitMasks) (unit : IsUn
 
     full-units : AreUnitFields p.caps (full x)
     full-units = record { small = λ q. omega (arith, one-most q); past = λ q past. omega (arith, past-up q past) }
-
-    busy-units : AreUnitFields p.caps (busy x)
-    busy-units = record { small = λ q. omega (arith, one-most q); past = λ q past. omega (arith, past-down q past) }
 
   -- ---- whether the event can happen
 

@@ -18,13 +18,6 @@ use Rattle.psi_region.specs.Followed.{follow_areas, unsplit}
 pub some-left : (o : Option ℕ) (n : ℕ) (P : Type 0) (Q : ℕ → Type 0) → o ≡ Some n → MatchOption o P Q → Q n
 some-left o n P Q some is = subst (λ (p : Option ℕ). MatchOption p P Q) some is
 
-abbrev whole_of : List ℕ → Corners
-whole_of caps = record { lo = zeros caps; hi = caps }
-
--- the corners of all states
-pub whole-is : (b : Corners) (made caps : List ℕ) → b ≡ record { lo = zeros made; hi = made } → made ≡ caps → b ≡ record { lo = zeros caps; hi = caps }
-whole-is b made caps is same = is ∙ ap whole_of same
-
 -- a box of many states becomes the tight box around its image
 pub step-unsplit : (split : ℕ) (f : Function) (b made : Corners) → split < length (box b.lo b.hi) → made ≡ corners (image f (box b.lo b.hi))
     → unsplit made ≡ step split f (unsplit b)
