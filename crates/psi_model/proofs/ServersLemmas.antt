@@ -11,9 +11,6 @@ servers_read queues i queue small is = ap (λ (q : Queue). q.servers) is ∙ sym
 pub rows_more : (tables : List (List ℕ)) (i : ℕ) (row : List ℕ) → i < length tables → row ≡ slice_index_or tables i [] → take i tables ++ row ∷ [] ≡ take (i + 1) tables
 rows_more tables i row small is = ap (λ (r : List ℕ). take i tables ++ r ∷ []) is ∙ sym (take_more tables i [] small)
 
-pub rows_all : (tables : List (List ℕ)) (i : ℕ) → length tables ≤ i → take i tables ≡ tables
-rows_all tables i past = take_all i tables past
-
 pub values_turn : (tables : List (List ℕ)) (i values : ℕ) (row : List ℕ) → i < length tables → row ≡ slice_index_or tables i [] → values ≡ total (map length (take i tables))
     → values + length row ≡ total (map length (take (i + 1) tables))
 values_turn tables i values row small is so =

@@ -1,5 +1,5 @@
 -- The marks of the queues that a list names so far.
-use Rattle.std.specs.Prelude.{◌≡◌, ℕ, ◌<◌, List, length, true, false, slice_index}
+use Rattle.std.specs.Prelude.{◌≡◌, ℕ, ◌<◌, List, true, false, slice_index}
 use Rattle.psi_net_document.specs.References.{is_in}
 
 -- of the queues below 32 just those in the list have a mark, a number above 0
