@@ -1,7 +1,7 @@
 //! Boxes that are followed by their packed corners (Bušić, Gaujal and Vincent 2008): which events aren't monotone, and how
 //! a box goes past one of these.
 
-ghost use Rattle.std.specs.Prelude.{◌≡◌, ℕ, List, length, map, IfOk};
+ghost use Rattle.std.specs.Prelude.{◌≡◌, ◌↔◌, ◌<◌, ℕ, List, length, map, slice_index_or, true, false, None, IsTrue, IfOk};
 ghost use Rattle.psi_event.specs.Law.{Function};
 ghost use Rattle.psi_packed.specs.Boxes.{AreMonotoneUnhalted, AreCorners};
 ghost use Rattle.psi_packed.specs.Views.{low_words, high_words};
@@ -48,6 +48,19 @@ pub(crate) fn units_of<const K: usize, E: PiecewiseLaw>(
         units.push_reserved(program.unit_event(&events[number]));
     }
     Ok(units)
+}
+
+// Whether each event that halts is one of single customers.
+pub(crate) fn are_units<const K: usize>(halts: &[bool], units: &[Option<UnitEvent<K>>]) -> bool
+    requires { length units.now ≡ length halts.now }
+    ensures { IsTrue result ↔ ((i : ℕ) → i < length halts.now → slice_index_or halts.now i false ≡ true → slice_index_or units.now i None ≡ None → ⊥) }
+{
+    for number in 0..halts.len() {
+        if halts[number] && units[number].is_none() {
+            return false;
+        }
+    }
+    true
 }
 
 // Puts the corners of the event's envelope of a box in the place of the box's corners.

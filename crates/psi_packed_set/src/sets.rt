@@ -13,7 +13,7 @@ ghost use Rattle.psi_region.specs.Followed.{followed, ending_of};
 ghost use Rattle.psi_packed_set.specs.Sets.{IsPackedBox, RunsCorners, MeetsAt};
 ghost use Rattle.psi_packed_set.specs.MachinesKept.{IsMachine};
 
-use crate::boxes::{bounds_of, enclose_by, halts_of, units_of};
+use crate::boxes::{are_units, bounds_of, enclose_by, halts_of, units_of};
 use crate::packed_set::PackedSet;
 use psi_event::EventLaw;
 use psi_packed::{Layout, PackedPair, Program, UnitEvent};
@@ -30,6 +30,8 @@ struct Machine<const K: usize> {
     halts: Vec<bool>,
     // Those of single customers.
     units: Vec<Option<UnitEvent<K>>>,
+    // Whether each event that isn't monotone is one of these: then a step of a box costs little.
+    all_units: bool,
     set: PackedSet<K>,
 }
 
@@ -40,6 +42,7 @@ impl<const K: usize> Drop for Machine<K> {
             program: _,
             halts: _,
             units: _,
+            all_units: _,
             set: _,
         } = self;
     }
@@ -125,11 +128,13 @@ fn machine_of<const K: usize, E: PiecewiseLaw>(
     };
     let halts = halts_of(alloc, course)?;
     let units = units_of(alloc, &program, course)?;
+    let all_units = are_units(halts.as_slice(), units.as_slice());
     let set = PackedSet::reserve(alloc, course.split())?;
     Ok(Some(Machine {
         program,
         halts,
         units,
+        all_units,
         set,
     }))
 }
@@ -171,21 +176,31 @@ fn few_meeting<const K: usize, E: EventLaw>(
 {
     let bounds = bounds_of(&machine.program, x);
     let count = bounds.volume_at_most(u32::from(course.split()))?;
-    if corners_part(&machine.program, numbers, x) {
+    if corners_part(&machine.program, numbers, count, x) {
         return None;
     }
-    if let Some(state) = meeting_of_box(machine, course, numbers, count, x) {
+    let tries = if machine.all_units { count } else { count / 16 };
+    if let Some(state) = meeting_of_box(machine, course, numbers, tries, x) {
         return Some(state);
     }
     machine.set.meeting(&machine.program, numbers, &bounds)
 }
 
-// Whether the events of the numbers, the last first, are seen to make different states of the two corners of a box.
-fn corners_part<const K: usize>(program: &Program<K>, numbers: &[u16], x: &PackedPair<K>) -> bool
+// Whether the events of the numbers, the last first, are seen to make different states of the two corners of a box of so many
+// states. It isn't looked at where the numbers are so many that its set may be followed for less.
+fn corners_part<const K: usize>(
+    program: &Program<K>,
+    numbers: &[u16],
+    count: u32,
+    x: &PackedPair<K>,
+) -> bool
     requires numbers { EachIndex numbers.now (λ i. slice_index numbers.now i < length program.now.moves) }
     ensures { (caps : List ℕ) (functions : List Function) (lo hi : List ℕ) → Prepares K caps functions program.now → AreCorners K program.now.packing (low_words x.now) (high_words x.now) lo hi
         → IsTrue result → follow_numbers functions numbers.now lo ≡ follow_numbers functions numbers.now hi → ⊥ }
 {
+    if numbers.len() / 4 > count as usize {
+        return false;
+    }
     let mut own = *x;
     program.follow(numbers, &mut own);
     !own.low().is(&own.high())
