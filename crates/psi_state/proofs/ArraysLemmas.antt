@@ -32,7 +32,7 @@ slice_set-small xs n v bound within fits each i =
     ]
 
 -- each place of the array holds the list's number, and 0 past the list's end
-slice_index-padded : (xs : List ℕ) (n i : ℕ) → n ≤ 32 → length xs ≡ 32 → drop n xs ≡ replicate (32 - n) 0 → slice_index xs i ≡ slice_index (take n xs) i
+pub slice_index-padded : (xs : List ℕ) (n i : ℕ) → n ≤ 32 → length xs ≡ 32 → drop n xs ≡ replicate (32 - n) 0 → slice_index xs i ≡ slice_index (take n xs) i
 slice_index-padded xs n i few full rest =
     elim (cases_lt i n) [
       | inl before ↦ sym (get_or-take n xs i 0 before)

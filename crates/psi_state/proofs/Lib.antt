@@ -1,6 +1,7 @@
 -- The lemmas of this crate.
 pub mod AscendingLemmas
 pub mod BoxesLemmas
+pub mod ComparingLemmas
 pub mod HullLemmas
 pub mod ListingLemmas
 pub mod MembersLemmas

@@ -1,7 +1,8 @@
 -- States of as many queues are one where their quads are.
 use Rattle.std.specs.Prelude.{◌≡◌, ℕ, zero, suc, ◌+◌, ◌*◌, ◌/◌, ◌%◌, ◌<◌, ◌≤◌, ◌↔◌, Bool, true, false, IsTrue, List, length, slice_index, nat_eq, refl}
 use Rattle.std.specs.Cmp.Lexicographic.{pointwise}
-use Rattle.std.proofs.Common.{ap, sym, subst, arith}
+use Rattle.std.proofs.Common.{inl, inr, ap, sym, subst, arith}
+use Rattle.std.proofs.lemmas.Bool.{cases_lt}
 use Rattle.std.proofs.lemmas.Grind.{same_number_lists}
 use Rattle.psi_state.specs.State.{IsVector}
 use Rattle.psi_state.specs.Hashing.{quad}
@@ -69,3 +70,16 @@ eq-from_quads x y quads told own others long few is = by told (pointwise nat_eq 
     by true false is_told apart = absurd (apart-from_eq x y (sym apart) (same-from_quads x y quads own others long few (is.0 (sym is_told))))
     by false true is_told same =
         (let tied : told ≡ true = is.1 (λ i small. ap (λ (z : List ℕ). quad z i) (same-from_eq x y (sym same))) in cc)
+
+-- a row is a state's own where its quads and the numbers behind them are
+pub row-from_quads : (row x : List ℕ) (quads first : ℕ) (told : Bool) → ((k : ℕ) → slice_index row k < 65536) → ((k : ℕ) → slice_index x k < 65536)
+    → length row ≡ length x → first ≡ 4 * quads → ((i : ℕ) → i < quads → quad row i ≡ quad x i)
+    → IsTrue told ↔ ((i : ℕ) → first ≤ i → i < length x → slice_index row i ≡ slice_index x i) → IsTrue told ↔ (row ≡ x)
+row-from_quads row x quads first told own others long begin front rest = (
+  λ yes. same_number_lists row x long (λ k within.
+      elim (cases_lt k first) [
+        | inl before ↦ each-from_quad row x (k / 4) own others (front (k / 4) (omega arith)) k (k % 4) (omega arith) (omega arith)
+        | inr behind ↦ rest.0 yes k behind (omega arith)
+      ]),
+  λ same. rest.1 (λ i behind within. ap (λ (z : List ℕ). slice_index z i) same),
+)

@@ -1,6 +1,6 @@
 //! A state: how many customers each queue holds.
 
-ghost use Rattle.std.specs.Prelude.{◌≡◌, ◌==◌, ℕ, ◌≤◌, ◌<◌, ◌↔◌, IsTrue, length, replicate, slice_index, slice_set};
+ghost use Rattle.std.specs.Prelude.{◌≡◌, ◌==◌, ℕ, ◌+◌, ◌*◌, ◌≤◌, ◌<◌, ◌↔◌, IsTrue, length, replicate, slice_index, slice_set};
 ghost use Rattle.std.proofs.Common.{rules};
 ghost use Rattle.std.specs.Cmp.{partial_order_from_own_ties};
 ghost use Rattle.std.specs.Cmp.Rules.{comparing};
@@ -41,6 +41,18 @@ impl Model for State {
     ghost use Rattle.psi_state.specs.ArraysKept.{padded};
 
     ghost inverse_ok = { λ a h. padded a.values a.len h.1 h.2 h.3 };
+}
+
+// The numbers of four places side by side, from place 4 i on.
+#[inline]
+fn quad_of(numbers: &[u16], i: u8) -> u64
+    requires { 4 * i + 3 < length numbers.now }
+    ensures { result ≡ quad numbers.now i }
+{
+    let first = 4 * i as usize;
+    let low = numbers[first] as u64 + 65_536 * numbers[first + 1] as u64;
+    let high = numbers[first + 2] as u64 + 65_536 * numbers[first + 3] as u64;
+    low + 4_294_967_296 * high
 }
 
 impl State {
@@ -89,10 +101,55 @@ impl State {
         requires { length self.now ≡ length other.now }
         ensures { IsTrue result ↔ IsBelow self.now other.now }
     {
-        self.as_slice()
-            .iter()
-            .zip(other.as_slice())
-            .all(|(own, most)| own <= most)
+        // Past the last queue both have zeros. All numbers are looked at, so that the compiler compares several at once.
+        let (own, most) = (self.values, other.values);
+        let mut above = 0;
+        for i in 0..32 {
+            above |= own[i].saturating_sub(most[i]);
+        }
+        above == 0
+    }
+
+    /// Whether these are its numbers, one for each queue.
+    #[inline]
+    pub fn is_row(&self, row: &[u16]) -> bool
+        ensures { IsTrue result ↔ (row.now ≡ self.now) }
+    {
+        let queues = self.len();
+        if row.len() != queues as usize {
+            return false;
+        }
+        let quads = queues / 4;
+        self.begins_as(row, quads) && self.ends_as(row, 4 * quads)
+    }
+
+    // Whether the first `quads` quads of a row are its own.
+    #[inline]
+    fn begins_as(&self, row: &[u16], quads: u8) -> bool
+        requires few { quads ≤ 8 }
+        requires row { 4 * quads ≤ length row.now }
+        ensures { IsTrue result ↔ ((i : ℕ) → i < quads → quad row.now i ≡ quad self.now i) }
+    {
+        for i in 0..quads {
+            if quad_of(row, i) != self.quad(i) {
+                return false;
+            }
+        }
+        true
+    }
+
+    // Whether the numbers of a row from a queue on are its own.
+    #[inline]
+    fn ends_as(&self, row: &[u16], first: u8) -> bool
+        requires { length row.now ≡ length self.now }
+        ensures { IsTrue result ↔ ((i : ℕ) → first ≤ i → i < length self.now → slice_index row.now i ≡ slice_index self.now i) }
+    {
+        for i in first..self.len {
+            if row[i as usize] != self.values[i as usize] {
+                return false;
+            }
+        }
+        true
     }
 
     /// A hash of 32 bits for tables of states: equal states have equal hashes. It is made by multiplication
@@ -139,10 +196,7 @@ impl State {
         requires { i < 8 }
         ensures { result ≡ quad self.now i }
     {
-        let first = 4 * i as usize;
-        let low = self.values[first] as u64 + 65_536 * self.values[first + 1] as u64;
-        let high = self.values[first + 2] as u64 + 65_536 * self.values[first + 3] as u64;
-        low + 4_294_967_296 * high
+        quad_of(&self.values, i)
     }
 
     // The numbers, one for each queue.

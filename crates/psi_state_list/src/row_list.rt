@@ -30,7 +30,8 @@ impl<'l> Model for Rows<'l> {
     ghost invariant = { λ s. (1 ≤ s.queues) × (s.queues ≤ 32) × (length s.numbers.now ≡ s.count * s.queues) };
 }
 
-// Whether the numbers of a state are each at most those of another.
+// Whether the numbers of a state are each at most those of another. All of them are looked at, so that the compiler
+// compares several at once.
 #[inline]
 fn is_below(row: &[u16], most: &State) -> bool
     ensures { IsTrue result ↔ IsBelow row.now most.now }
@@ -38,12 +39,11 @@ fn is_below(row: &[u16], most: &State) -> bool
     if row.len() != most.len() as usize {
         return false;
     }
+    let mut above = 0;
     for queue in 0..most.len() {
-        if row[queue as usize] > most.get(queue) {
-            return false;
-        }
+        above |= row[queue as usize].saturating_sub(most.get(queue));
     }
-    true
+    above == 0
 }
 
 // The greatest of numbers, 0 where there is none. The compiler looks at several of them at once.
@@ -56,22 +56,6 @@ fn greatest_of(numbers: &[u16]) -> u16
         greatest = greatest.max(*number);
     }
     greatest
-}
-
-// Whether the numbers are those of a state.
-#[inline]
-fn is_same(row: &[u16], x: &State) -> bool
-    ensures { IsTrue result ↔ (row.now ≡ x.now) }
-{
-    if row.len() != x.len() as usize {
-        return false;
-    }
-    for queue in 0..x.len() {
-        if row[queue as usize] != x.get(queue) {
-            return false;
-        }
-    }
-    true
 }
 
 // Whether the numbers of a state are lexicographically below those of another with as many queues.
@@ -212,6 +196,6 @@ impl<'l> Rows<'l> {
         requires { place < length self.now.states }
         ensures { MatchOption (slice_get self.now.states place) ⊥ (λ y. IsTrue result ↔ (y ≡ x.now)) }
     {
-        is_same(self.row(place), x)
+        x.is_row(self.row(place))
     }
 }

@@ -5,5 +5,6 @@ use Rattle.psi_state.proofs.ArraysLemmas.{quad-padded}
 use Rattle.psi_state.proofs.state.State.quad.Goals as goal
 
 pub returns : goal.returns
-returns c = quad-padded c.self.inside.values c.self.inside.len c.args.i c.self.invariant.1 c.self.invariant.2 c.self.invariant.3
+returns c = c.quad_of.ensures
+    ∙ quad-padded c.self.inside.values c.self.inside.len c.args.i c.self.invariant.1 c.self.invariant.2 c.self.invariant.3
     ∙ ap (λ x. quad x c.args.i) c.self.view_is
