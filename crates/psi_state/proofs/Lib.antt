@@ -9,9 +9,11 @@ pub mod RepeatsLemmas
 pub mod SetsLemmas
 pub mod StatesLemmas
 pub mod VolumeLemmas
+mod ApartLemmas
 mod ArraysLemmas
 mod QuadsLemmas
 mod CountingLemmas
 mod OdometerLemmas
+mod OrderLemmas
 mod RowsLemmas
 mod DecidingLemmas

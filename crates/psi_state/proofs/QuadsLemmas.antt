@@ -46,7 +46,7 @@ module _ (x y : List ℕ) (i : ℕ) (own : (k : ℕ) → slice_index x k < 65536
   to k place is at = subst (λ m. slice_index x m ≡ slice_index y m) is at
 
   -- a quad tells each of its numbers
-  each-from_quad : (k j : ℕ) → 4 * i + j ≡ k → j < 4 → slice_index x k ≡ slice_index y k
+  pub each-from_quad : (k j : ℕ) → 4 * i + j ≡ k → j < 4 → slice_index x k ≡ slice_index y k
   each-from_quad k zero is small = to k (4 * i) (omega arith) first
   each-from_quad k (suc zero) is small = to k (4 * i + 1) (omega arith) second
   each-from_quad k (suc (suc zero)) is small = to k (4 * i + 2) (omega arith) third

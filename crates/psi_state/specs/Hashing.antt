@@ -5,6 +5,10 @@ use Rattle.std.specs.Prelude.{ℕ, zero, suc, ◌+◌, ◌*◌, ◌/◌, ◌%◌
 abbrev pub quad : List ℕ → ℕ → ℕ
 quad x i = slice_index x (4 * i) + 65536 * slice_index x (4 * i + 1) + 4294967296 * (slice_index x (4 * i + 2) + 65536 * slice_index x (4 * i + 3))
 
+-- the number at a place, counted from 0, of four that stand side by side
+abbrev pub number_in : ℕ → ℕ → ℕ
+number_in n place = n / 2 ^ (16 * place) % 2 ^ 16
+
 -- the product of the first n quads
 abbrev pub mixed : List ℕ → ℕ → ℕ
 mixed x zero = 0

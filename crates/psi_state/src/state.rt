@@ -7,7 +7,7 @@ ghost use Rattle.std.specs.Cmp.Rules.{comparing};
 ghost use Rattle.std.specs.Cmp.Lexicographic.{pointwise, slice_cmp};
 ghost use Rattle.std.specs.Ordering.{nat_cmp, as_partial_cmp};
 ghost use Rattle.psi_state.specs.State.{IsVector, IsBelow};
-ghost use Rattle.psi_state.specs.Hashing.{quad, mixed, hash};
+ghost use Rattle.psi_state.specs.Hashing.{quad, number_in, mixed, hash};
 
 use std::cmp::Ordering;
 use std::fmt;
@@ -53,6 +53,26 @@ fn quad_of(numbers: &[u16], i: u8) -> u64
     let low = numbers[first] as u64 + 65_536 * numbers[first + 1] as u64;
     let high = numbers[first + 2] as u64 + 65_536 * numbers[first + 3] as u64;
     low + 4_294_967_296 * high
+}
+
+// The place, counted from 0, of the first numbers in which two quads differ.
+#[inline]
+fn first_apart(own: u64, others: u64) -> u32
+    requires { own ≡ others → ⊥ }
+    ensures place { result < 4 }
+    ensures before { (k : ℕ) → k < result → number_in own k ≡ number_in others k }
+    ensures apart { number_in own result ≡ number_in others result → ⊥ }
+{
+    (own ^ others).trailing_zeros() / 16
+}
+
+// The number at a place of a quad, counted from 0.
+#[inline]
+fn number_at(quad: u64, place: u32) -> u64
+    requires { place < 4 }
+    ensures { result ≡ number_in quad place }
+{
+    (quad >> (16 * place)) % 65_536
 }
 
 impl State {
@@ -247,7 +267,17 @@ impl Ord for State {
     ghost matches_eq = { Prim.search (comparing, rules) };
 
     fn cmp(&self, other: &State) -> Ordering {
-        self.as_slice().cmp(other.as_slice())
+        if self.len() != other.len() {
+            return self.as_slice().cmp(other.as_slice());
+        }
+        for i in 0..8 {
+            let (own, others) = (self.quad(i), other.quad(i));
+            if own != others {
+                let place = first_apart(own, others);
+                return number_at(own, place).cmp(&number_at(others, place));
+            }
+        }
+        Ordering::Equal
     }
 }
 

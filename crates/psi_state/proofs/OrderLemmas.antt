@@ -1,0 +1,89 @@
+-- The lexicographic order of states of as many queues, by their quads.
+use Rattle.std.specs.Prelude.{◌≡◌, ℕ, zero, suc, ◌+◌, ◌*◌, ◌/◌, ◌%◌, ◌<◌, List, [], ◌∷◌, length, slice_index, refl}
+use Rattle.std.specs.Cmp.{nat_cmp_is}
+use Rattle.std.specs.Cmp.Lexicographic.{slice_cmp}
+use Rattle.std.specs.Ordering.{nat_cmp, ordering_then}
+use Rattle.std.specs.declared.cmp.Ordering.{Ordering}
+use Rattle.std.specs.declared.cmp.Ordering.TheVariants.{Equal}
+use Rattle.std.proofs.Common.{inl, inr, ap, sym, ◌∙◌, subst, arith}
+use Rattle.std.proofs.lemmas.Bool.{cases_lt}
+use Rattle.std.proofs.lemmas.Grind.{common_steps}
+use Rattle.std.proofs.lemmas.List.{get_or_past}
+use Rattle.psi_state.specs.Hashing.{quad, number_in}
+use Rattle.psi_state.proofs.QuadsLemmas.{each-from_quad}
+
+-- the first place at which two lists differ tells their order
+one_differs : (x y : ℕ) (o : Ordering) → (x ≡ y → ⊥) → ordering_then (nat_cmp x y) o ≡ nat_cmp x y
+one_differs x y o differ = grind (arith, common_steps)
+
+cmp-apart : (xs ys : List ℕ) (i : ℕ) → ((k : ℕ) → k < i → slice_index xs k ≡ slice_index ys k) → i < length xs → i < length ys
+    → (slice_index xs i ≡ slice_index ys i → ⊥) → slice_cmp nat_cmp xs ys ≡ nat_cmp (slice_index xs i) (slice_index ys i)
+cmp-apart [] ys i same left right differ = absurd (omega arith)
+cmp-apart (x ∷ xs) [] i same left right differ = absurd (omega arith)
+cmp-apart (x ∷ xs) (y ∷ ys) zero same left right differ = one_differs x y (slice_cmp nat_cmp xs ys) differ
+cmp-apart (x ∷ xs) (y ∷ ys) (suc i) same left right differ =
+    let tied : Equal ≡ nat_cmp x y = nat_cmp_is x y Equal (same 0 (omega arith)) in
+    rw (← tied) (cmp-apart xs ys i (λ k before. same (suc k) (omega arith)) (omega arith) (omega arith) differ)
+
+-- lists that are the same are equal in it
+pub cmp-same : (xs ys : List ℕ) → xs ≡ ys → slice_cmp nat_cmp xs ys ≡ Equal
+cmp-same [] [] same = refl
+cmp-same [] (y ∷ ys) same = absurd cc
+cmp-same (x ∷ xs) [] same = absurd cc
+cmp-same (x ∷ xs) (y ∷ ys) same =
+    let tied : Equal ≡ nat_cmp x y = nat_cmp_is x y Equal cc in
+    rw (← tied) (cmp-same xs ys cc)
+
+-- the numbers of a quad are the list's
+number-quad : (x : List ℕ) (i : ℕ) → ((k : ℕ) → slice_index x k < 65536) → (place k : ℕ) → 4 * i + place ≡ k → place < 4 → number_in (quad x i) place ≡ slice_index x k
+number-quad x i each zero k at small =
+    subst (λ m. number_in (quad x i) 0 ≡ slice_index x m) (let e : 4 * i ≡ k = omega arith in e) (omega (arith, each (4 * i)))
+number-quad x i each (suc zero) k at small =
+    subst (λ m. number_in (quad x i) 1 ≡ slice_index x m) at (omega (arith, each (4 * i), each (4 * i + 1)))
+number-quad x i each (suc (suc zero)) k at small =
+    subst (λ m. number_in (quad x i) 2 ≡ slice_index x m) at (omega (arith, each (4 * i), each (4 * i + 1), each (4 * i + 2)))
+number-quad x i each (suc (suc (suc zero))) k at small =
+    subst (λ m. number_in (quad x i) 3 ≡ slice_index x m) at (omega (arith, each (4 * i), each (4 * i + 1), each (4 * i + 2), each (4 * i + 3)))
+number-quad x i each (suc (suc (suc (suc place)))) k at small = absurd (omega arith)
+
+module _ (x y : List ℕ) (i place : ℕ) (own : (k : ℕ) → slice_index x k < 65536) (others : (k : ℕ) → slice_index y k < 65536) (long : length x ≡ length y)
+    (before : (k : ℕ) → k < i → quad x k ≡ quad y k) (small : place < 4)
+    (same : (k : ℕ) → k < place → number_in (quad x i) k ≡ number_in (quad y i) k)
+    (apart : number_in (quad x i) place ≡ number_in (quad y i) place → ⊥) where
+  same-until : (k : ℕ) → k < 4 * i + place → slice_index x k ≡ slice_index y k
+  same-until k earlier =
+      elim (cases_lt (k / 4) i) [
+        | inl less ↦ each-from_quad x y (k / 4) own others (before (k / 4) less) k (k % 4) (omega arith) (omega arith)
+        | inr last ↦ sym (number-quad x i own (k % 4) k (omega arith) (omega arith))
+            ∙ (same (k % 4) (omega arith) ∙ number-quad y i others (k % 4) k (omega arith) (omega arith))
+      ]
+
+  differ : slice_index x (4 * i + place) ≡ slice_index y (4 * i + place) → ⊥
+  differ equal = apart (number-quad x i own place (4 * i + place) refl small ∙ (equal ∙ sym (number-quad y i others place (4 * i + place) refl small)))
+
+  within : 4 * i + place < length x
+  within =
+      elim (cases_lt (4 * i + place) (length x)) [
+        | inl less ↦ less
+        | inr past ↦ absurd (differ (get_or_past x (4 * i + place) 0 past ∙ sym (get_or_past y (4 * i + place) 0 (omega arith))))
+      ]
+
+  -- the first numbers that differ tell the order
+  pub cmp-from_quads : nat_cmp (number_in (quad x i) place) (number_in (quad y i) place) ≡ slice_cmp nat_cmp x y
+  cmp-from_quads =
+      ap (λ n. nat_cmp n (number_in (quad y i) place)) (number-quad x i own place (4 * i + place) refl small)
+      ∙ (ap (λ n. nat_cmp (slice_index x (4 * i + place)) n) (number-quad y i others place (4 * i + place) refl small)
+      ∙ sym (cmp-apart x y (4 * i + place) same-until within (let w = within in omega arith) differ))
+
+-- the same of two quads by themselves
+pub order-told : (x y : List ℕ) (i place a b m n : ℕ) (told : Ordering) → ((k : ℕ) → slice_index x k < 65536) → ((k : ℕ) → slice_index y k < 65536)
+    → length x ≡ length y → ((k : ℕ) → k < i → quad x k ≡ quad y k) → a ≡ quad x i → b ≡ quad y i → place < 4
+    → ((k : ℕ) → k < place → number_in a k ≡ number_in b k) → (number_in a place ≡ number_in b place → ⊥)
+    → m ≡ number_in a place → n ≡ number_in b place → told ≡ nat_cmp m n → told ≡ slice_cmp nat_cmp x y
+order-told x y i place a b m n told own others long before a_is b_is small same apart m_is n_is is =
+    let first : (k : ℕ) → number_in a k ≡ number_in (quad x i) k = λ k. ap (λ v. number_in v k) a_is in
+    let second : (k : ℕ) → number_in b k ≡ number_in (quad y i) k = λ k. ap (λ v. number_in v k) b_is in
+    is ∙ (ap (λ v. nat_cmp v n) (m_is ∙ first place)
+    ∙ (ap (λ v. nat_cmp (number_in (quad x i) place) v) (n_is ∙ second place)
+    ∙ cmp-from_quads x y i place own others long before small (λ k less. sym (first k) ∙ (same k less ∙ second k))
+    (λ equal. apart (first place ∙ (equal ∙ sym (second place))))))
