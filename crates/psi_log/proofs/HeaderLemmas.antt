@@ -17,8 +17,9 @@ use Rattle.psi_log_words.proofs.WordLemmas.{bind_ok, ok_same, held, same_word, l
 use Rattle.psi_log_words.specs.Regions.{Given, form_of, read_state, read_given}
 use Rattle.psi_log_words.proofs.StateLemmas.{state_found, state_again, state_shaped, state_lacks}
 use Rattle.psi_log_words.proofs.GivenLemmas.{region_found, region_again, words_lack}
-use Rattle.psi_log.specs.Reading.{named_line, read_header, read_begin, read_end}
-use Rattle.psi_log.proofs.LineLemmas.{named_line_found, named_line_again, horizon_small}
+use Rattle.psi_log_lines.specs.Lines.{named_line, read_header}
+use Rattle.psi_log.specs.Reading.{read_begin, read_end}
+use Rattle.psi_log_lines.proofs.LineLemmas.{named_line_found, named_line_again, horizon_small}
 
 -- the first line
 version_found : (line : List ℕ) (v : ℕ) → read_version line ≡ Ok v → (line ≡ codes "psi-log " ++ decimal v) × ((v ≡ 1) ⊎ (v ≡ 2))

@@ -13,8 +13,10 @@ use Rattle.psi_log_words.specs.Words.{line_of, words_of}
 use Rattle.psi_log_words.specs.declared.refusals.Cause.TheVariants.{TrailingText, TooLong}
 use Rattle.psi_log_words.proofs.WordLemmas.{bind_ok, ok_same, held}
 use Rattle.psi_log_words.specs.Regions.{box_before}
-use Rattle.psi_log.specs.Reading.{read_header, read_begin, read_steps, read_end, after_header, read}
-use Rattle.psi_log.proofs.LineLemmas.{words_found, line_of_words, words_line, words_again, steps_found, steps_again}
+use Rattle.psi_log_lines.specs.Lines.{read_header}
+use Rattle.psi_log.specs.Reading.{read_begin, read_steps, read_end, after_header, read}
+use Rattle.psi_log.proofs.StepsLemmas.{steps_found, steps_again}
+use Rattle.psi_log_lines.proofs.LineLemmas.{words_found, line_of_words, words_line, words_again}
 use Rattle.psi_log.proofs.HeaderLemmas.{header_found, header_again, begin_found, begin_again, begin_lacks, end_found, end_again, end_lacks}
 
 abbrev made : Header → LogRegion → List Entry → List ℕ → Certificate

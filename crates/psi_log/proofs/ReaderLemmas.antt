@@ -1,21 +1,23 @@
 -- A reader of logs that goes on by a step, and the regions that it reads.
-use Rattle.std.specs.Prelude.{◌≡◌, ℕ, ◌+◌, ◌<◌, ◌≤◌, List, length, Bool, true, false, not, ◌==◌, nat_le, Result, Ok, refl}
-use Rattle.std.proofs.Common.{ap, sym, ◌∙◌, subst, arith}
+use Rattle.std.specs.Prelude.{◌≡◌, ℕ, ◌+◌, ◌<◌, ◌≤◌, List, length, Bool, true, false, not, ◌==◌, nat_le, Ok, refl}
+use Rattle.std.proofs.Common.{ap, sym, subst, arith}
 use Rattle.psi_state.specs.declared.outcome.Step.{Step}
 use Rattle.psi_log_text.specs.declared.header.Header.{Header}
 use Rattle.psi_log_text.specs.Log.{LogRegion, Entry, IsHeader, IsRegion, IsState}
-use Rattle.psi_log_words.specs.Refusal.{Refusal, refused, ◌>>=◌, holds_or}
+use Rattle.psi_log_words.specs.Refusal.{refused, ◌>>=◌, holds_or}
 use Rattle.psi_log_words.specs.Words.{line_of, words_of}
 use Rattle.psi_log_words.specs.declared.refusals.Cause.TheVariants.{TrailingText, TooLong}
 use Rattle.psi_log_words.proofs.WordLemmas.{bind_ok, ok_same}
-use Rattle.psi_log.specs.Reading.{read_header, read_begin, box_before, read_step, read_end}
-use Rattle.psi_log.specs.Scanned.{next_step}
+use Rattle.psi_log_lines.specs.Lines.{read_header, read_step}
+use Rattle.psi_log_words.specs.Regions.{box_before}
+use Rattle.psi_log.specs.Reading.{read_begin, read_end}
+use Rattle.psi_log_lines.specs.Scanned.{next_step}
 use Rattle.psi_log.specs.Cursor.{Cursor, begin_line, begun, ended, IsCursor}
 use Rattle.psi_log.specs.SpotsViews.{region_in, either, HasQueues, IsFilled}
 use Rattle.psi_log.specs.ReaderViews.{spot_of, other_of, before_of, cursor_of, IsKept}
 use Rattle.psi_log.specs.declared.spot.Spot.{Spot}
 use Rattle.psi_log.proofs.HeaderLemmas.{header_found, begin_found, end_found}
-use Rattle.psi_log.proofs.LineLemmas.{step_found}
+use Rattle.psi_log_lines.proofs.LineLemmas.{step_found}
 
 -- the region of a step that is read is in its ranges
 pub next_found : (h : Header) (n : ℕ) (before : LogRegion) (text : List ℕ) (x : Entry × List ℕ) → IsHeader h → IsRegion h.queues before

@@ -1,18 +1,18 @@
 -- Lines that go on behind the words of their step, with the region after it.
-use Rattle.std.specs.Prelude.{◌≡◌, ℕ, ◌+◌, ◌≤◌, List, [], ◌∷◌, length, take, drop, codes, Option, Some, None, IfSome, Ok, refl}
-use Rattle.std.proofs.Common.{ap, sym, ◌∙◌, subst, arith}
+use Rattle.std.specs.Prelude.{◌≡◌, ℕ, ◌+◌, ◌≤◌, List, [], ◌∷◌, length, take, drop, codes, Option, Some, IfSome}
+use Rattle.std.proofs.Common.{ap, sym, subst, arith}
 use Rattle.psi_state.specs.State.{Corners}
 use Rattle.psi_log_text.specs.Log.{LogRegion, in_box, in_set}
-use Rattle.psi_log.specs.RegionsViews.{region_of}
-use Rattle.psi_log.specs.LinesViews.{IsLast}
-use Rattle.psi_log.specs.Scanned.{Stands, TellsSet, AreChanged, next_step}
+use Rattle.psi_log_words.specs.RegionsViews.{region_of}
+use Rattle.psi_log_lines.specs.LinesViews.{IsLast}
+use Rattle.psi_log_lines.specs.Scanned.{Stands, TellsSet, AreChanged}
 use Rattle.psi_log.specs.SpotsViews.{region_in, IsFilled, GoesOn}
-use Rattle.psi_log.specs.declared.set_line.LastSet.{LastSet}
+use Rattle.psi_log_lines.specs.declared.set_line.LastSet.{LastSet}
 use Rattle.psi_log.specs.declared.spot.Spot.{Spot}
 use Rattle.psi_state_list.specs.declared.line_list.ListedRegion.{ListedRegion}
 use Rattle.psi_state_list.specs.declared.line_list.ListedRegion.TheVariants.{Set}
-use Rattle.psi_log.proofs.SetLineLemmas.{set_line}
-use Rattle.psi_log.proofs.MoveLineLemmas.{move_line, moved_so_none, moved_so_all}
+use Rattle.psi_log_lines.proofs.SetLineLemmas.{set_line}
+use Rattle.psi_log_lines.proofs.MoveLineLemmas.{move_line, moved_so_none, moved_so_all}
 
 -- with a box that is written by what changed
 pub move_goes_on : (queues : ℕ) (from to : Corners) (text : List ℕ) (at end : ℕ) → queues ≤ 32 → Stands text at (at + 5) (codes " move") → AreChanged queues from text (at + 5) end to

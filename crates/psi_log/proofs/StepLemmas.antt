@@ -14,10 +14,11 @@ use Rattle.psi_log_words.specs.declared.refusals.LogError.TheVariants.{Refused, 
 use Rattle.psi_log_words.proofs.WordLemmas.{bind_ok, ok_same}
 use Rattle.psi_log_words.specs.Regions.{box_before}
 use Rattle.psi_log_words.specs.RegionsViews.{region_of, IsThere}
-use Rattle.psi_log.specs.Reading.{read_step, read_steps}
-use Rattle.psi_log.specs.LinesViews.{entry_of, HasRegion, IsLast}
-use Rattle.psi_log.specs.declared.set_line.LastSet.{LastSet}
-use Rattle.psi_log.specs.Scanned.{TellsSet, next_step}
+use Rattle.psi_log_lines.specs.Lines.{read_step}
+use Rattle.psi_log.specs.Reading.{read_steps}
+use Rattle.psi_log_lines.specs.LinesViews.{entry_of, HasRegion, IsLast}
+use Rattle.psi_log_lines.specs.declared.set_line.LastSet.{LastSet}
+use Rattle.psi_log_lines.specs.Scanned.{TellsSet, next_step}
 use Rattle.psi_state_list.specs.declared.line_list.ListedRegion.{ListedRegion}
 use Rattle.psi_state_list.specs.declared.line_list.ListedRegion.TheVariants.{Box, Set}
 use Rattle.psi_state_list.specs.declared.line_list.Line.{Line}

@@ -7,7 +7,7 @@ use Rattle.std.proofs.lemmas.List.Elements.{All-get_or}
 use Rattle.std.proofs.lemmas.Option.{slice_get-get_or, get_or_from_slice_get, slice_get_within, slice_get-map}
 use Rattle.psi_log_text.specs.Log.{LogRegion, in_box, in_set, Entry, Certificate, IsLog}
 use Rattle.psi_log_words.specs.RegionsViews.{region_of, IsThere}
-use Rattle.psi_log.specs.LinesViews.{entry_of, HasRegion}
+use Rattle.psi_log_lines.specs.LinesViews.{entry_of, HasRegion}
 use Rattle.psi_log.specs.PartsViews.{certificate_of, IsWhole}
 use Rattle.psi_log.specs.Told.{region_at, form, step_at, HasState}
 use Rattle.psi_log.specs.declared.form.Form.{Form}

@@ -1,12 +1,14 @@
 -- The reading of a log in one pass: what stands before its steps, step by step, and its end.
-use Rattle.std.specs.Prelude.{◌≡◌, ◌==◌, ℕ, ◌+◌, ◌≤◌, List, length, nat_le, Result, Ok}
+use Rattle.std.specs.Prelude.{◌==◌, ℕ, ◌+◌, ◌≤◌, List, length, nat_le, Result, Ok}
 use Rattle.psi_log_text.specs.declared.header.Header.{Header}
 use Rattle.psi_log_text.specs.Log.{LogRegion, Entry, Certificate, IsHeader, IsRegion}
 use Rattle.psi_log_words.specs.Refusal.{Refusal, refused, ◌>>=◌, holds_or}
 use Rattle.psi_log_words.specs.Words.{line_of, words_of}
 use Rattle.psi_log_words.specs.declared.refusals.Cause.TheVariants.{TrailingText, TooLong}
-use Rattle.psi_log.specs.Reading.{read_header, read_begin, box_before, read_steps, read_end}
-use Rattle.psi_log.specs.Scanned.{next_step}
+use Rattle.psi_log_lines.specs.Lines.{read_header}
+use Rattle.psi_log_words.specs.Regions.{box_before}
+use Rattle.psi_log.specs.Reading.{read_begin, read_steps, read_end}
+use Rattle.psi_log_lines.specs.Scanned.{next_step}
 
 -- how far a log is read: its header, how many steps are read, the regions before and after the last one of them, and the text behind it; where
 -- no step is read, both are the region at which the run begins

@@ -3,7 +3,7 @@ use Rattle.std.specs.Prelude.{map}
 use Rattle.std.specs.List.{All}
 use Rattle.psi_log_text.specs.Log.{Certificate}
 use Rattle.psi_log_words.specs.RegionsViews.{region_of, IsThere}
-use Rattle.psi_log.specs.LinesViews.{entry_of, HasRegion}
+use Rattle.psi_log_lines.specs.LinesViews.{entry_of, HasRegion}
 use Rattle.psi_log.specs.declared.parts.Parts.{Parts}
 
 -- the log of these parts

@@ -1,5 +1,5 @@
 -- What a reader of logs is seen as, of its fields: the region stands in one of two spots, and the one before it in the other, unless it stayed.
-use Rattle.std.specs.Prelude.{◌≡◌, ℕ, List, Bool}
+use Rattle.std.specs.Prelude.{ℕ, List, Bool}
 use Rattle.psi_log_text.specs.declared.header.Header.{Header}
 use Rattle.psi_log.specs.Cursor.{Cursor, IsCursor}
 use Rattle.psi_log.specs.SpotsViews.{region_in, either, HasQueues, IsFilled}

@@ -6,9 +6,9 @@ use Rattle.psi_state.specs.declared.outcome.Step.{Step}
 use Rattle.psi_log_text.specs.declared.header.Header.{Header}
 use Rattle.psi_log_text.specs.Log.{LogRegion, greatest_horizon}
 use Rattle.psi_log_text.specs.Room.{spaced_words}
-use Rattle.psi_log.specs.RegionsViews.{region_of, IsThere}
-use Rattle.psi_log.specs.LinesViews.{IsLast}
-use Rattle.psi_log.specs.Scanned.{Stands, next_step}
+use Rattle.psi_log_words.specs.RegionsViews.{region_of, IsThere}
+use Rattle.psi_log_lines.specs.LinesViews.{IsLast}
+use Rattle.psi_log_lines.specs.Scanned.{Stands, next_step}
 use Rattle.psi_log.specs.declared.spot.Spot.{Spot}
 use Rattle.psi_state_list.specs.declared.line_list.ListedRegion.TheVariants.{Set}
 

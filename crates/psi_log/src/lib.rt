@@ -3,14 +3,9 @@
 #![tactic(auto)]
 
 mod form;
-mod header;
 mod log;
-mod move_line;
 mod parts;
 mod reader;
-mod rows;
-mod scan;
-mod set_line;
 mod spot;
 mod steps;
 

@@ -6,8 +6,8 @@ ghost use Rattle.psi_log_words.specs.RegionsViews.{region_of, IsThere};
 ghost use Rattle.psi_log.specs.Reading.{read_begin, read_end, after_header, read};
 ghost use Rattle.psi_log.specs.PartsViews.{certificate_of, IsWhole};
 
-use crate::header::read_header;
 use crate::steps::read_steps;
+use psi_log_lines::read_header;
 use psi_log_text::{Header, MOST_LOG_BYTES};
 use psi_log_words::{
     Cause, LogError, box_before, form_of, has_pieces, read_given, read_state, read_words,

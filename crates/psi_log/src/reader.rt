@@ -2,17 +2,17 @@
 
 ghost use Rattle.std.specs.Prelude.{◌≡◌, ◌+◌, ◌<◌, ◌≤◌, length, false, not, Ok, IfOk, IfErr, OnOk, OnErr, IsTrue};
 ghost use Rattle.psi_log_words.specs.Refusal.{Gives, IsLogError};
-ghost use Rattle.psi_log.specs.Reading.{box_before};
-ghost use Rattle.psi_log.specs.Scanned.{next_step};
+ghost use Rattle.psi_log_words.specs.Regions.{box_before};
+ghost use Rattle.psi_log_lines.specs.Scanned.{next_step};
 ghost use Rattle.psi_log.specs.SpotsViews.{region_in, either, HasQueues, IsFilled};
 ghost use Rattle.psi_log.specs.ReaderViews.{spot_of, other_of};
 ghost use Rattle.psi_log.specs.Told.{shown};
 ghost use Rattle.psi_log.specs.Cursor.{begin_line, begun, next_of, ended, IsCursor};
 
 use crate::form::BorrowedRegion;
-use crate::header::read_header;
 use crate::parts::{read_begin, read_end};
 use crate::spot::{ReadLine, Spot, read_onto};
+use psi_log_lines::read_header;
 use psi_log_text::{Header, MOST_LOG_BYTES};
 use psi_log_words::{Cause, LogError, read_words};
 use psi_state::{State, Step};

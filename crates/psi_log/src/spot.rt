@@ -4,16 +4,14 @@ ghost use Rattle.std.specs.Prelude.{◌≡◌, ℕ, Option, Some, ◌≤◌, len
 ghost use Rattle.psi_state.specs.State.{Corners};
 ghost use Rattle.psi_log_text.specs.Log.{in_box};
 ghost use Rattle.psi_log_words.specs.Refusal.{IsLogError};
-ghost use Rattle.psi_log.specs.Reading.{box_before};
-ghost use Rattle.psi_log.specs.Scanned.{next_step};
+ghost use Rattle.psi_log_words.specs.Regions.{box_before};
+ghost use Rattle.psi_log_lines.specs.Scanned.{next_step};
 ghost use Rattle.psi_log.specs.Told.{shown};
 ghost use Rattle.psi_log.specs.SpotsViews.{region_in, either, HasQueues, IsFilled, GoesOn};
 
 use crate::form::BorrowedRegion;
-use crate::move_line::read_changes;
-use crate::scan::{has_byte, has_word};
-use crate::set_line::{LastSet, read_new_set, step_at};
 use crate::steps::read_by_words;
+use psi_log_lines::{LastSet, has_byte, has_word, read_changes, read_new_set, step_at};
 use psi_log_text::Header;
 use psi_log_words::LogError;
 use psi_state::{Bounds, Step};

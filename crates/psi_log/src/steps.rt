@@ -3,13 +3,12 @@
 ghost use Rattle.std.specs.Prelude.{◌≡◌, ◌+◌, ◌-◌, ◌≤◌, length, map, take, Ok, IfOk, IfErr, IfSome, OnOk, option_copied};
 ghost use Rattle.std.specs.List.{All};
 ghost use Rattle.psi_log_words.specs.Refusal.{IsLogError};
-ghost use Rattle.psi_log.specs.Reading.{read_step, read_steps};
-ghost use Rattle.psi_log.specs.LinesViews.{entry_of, HasRegion, IsLast};
-ghost use Rattle.psi_log.specs.Scanned.{next_step};
+ghost use Rattle.psi_log_lines.specs.Lines.{read_step};
+ghost use Rattle.psi_log.specs.Reading.{read_steps};
+ghost use Rattle.psi_log_lines.specs.LinesViews.{entry_of, HasRegion, IsLast};
+ghost use Rattle.psi_log_lines.specs.Scanned.{next_step};
 
-use crate::header::greatest_horizon;
-use crate::move_line::read_move_line;
-use crate::set_line::{LastSet, read_set_line};
+use psi_log_lines::{LastSet, greatest_horizon, read_move_line, read_set_line};
 use psi_log_text::Header;
 use psi_log_words::{Cause, LogError, box_before, form_of, number_in, read_given, read_words};
 use psi_state::{Bounds, MOST_EVENTS, Step};
@@ -17,7 +16,7 @@ use psi_state_list::{Line, LineList, StateList};
 use std::alloc::Global;
 
 // The words of a step and of the region after it; the states of a set are put behind those of the list.
-#[tactic(auto, unfolding(crate::specs::Reading::read_step))]
+#[tactic(auto, unfolding(psi_log_lines::specs::Lines::read_step))]
 fn read_step(
     header: &Header,
     line: u32,

@@ -5,7 +5,8 @@ use Rattle.psi_rate.specs.Composition.{Parts, Functions, system_functions}
 use Rattle.psi_log_text.specs.declared.header.Header.{Header as LogHeader}
 use Rattle.psi_log_text.specs.Log.{LogRegion, Entry, Certificate}
 use Rattle.psi_log_words.specs.Refusal.{Refusal, ◌>>=◌, holds_or}
-use Rattle.psi_log.specs.Reading.{box_before, read_steps, read}
+use Rattle.psi_log_words.specs.Regions.{box_before}
+use Rattle.psi_log.specs.Reading.{read_steps, read}
 use Rattle.psi_replay.specs.Verdict.{rejected, is_within, holds_all, judge_steps, judged, event_numbers, verdict_of}
 use Rattle.psi_replay.specs.declared.answers.Verdict.{Verdict}
 use Rattle.psi_replay.specs.declared.causes.Rejection.{Rejection}

@@ -1,9 +1,9 @@
 -- Answers in the proof of `spot::set_onto`.
 use Rattle.std.specs.Prelude.{length, take, drop, ◌+◌, Option, IfSome}
 use Rattle.std.proofs.Common.{refl, subst}
-use Rattle.psi_log.specs.LinesViews.{IsLast}
-use Rattle.psi_log.specs.Scanned.{Stands}
-use Rattle.psi_log.specs.declared.set_line.LastSet.{LastSet}
+use Rattle.psi_log_lines.specs.LinesViews.{IsLast}
+use Rattle.psi_log_lines.specs.Scanned.{Stands}
+use Rattle.psi_log_lines.specs.declared.set_line.LastSet.{LastSet}
 use Rattle.psi_log.proofs.SpotLemmas.{set_goes_on, same_set_goes_on}
 use Rattle.psi_log.proofs.spot.set_onto.Goals as goal
 

@@ -5,8 +5,8 @@ use Rattle.std.specs.List.{All}
 use Rattle.std.proofs.lemmas.List.Elements.{All-push}
 use Rattle.psi_state.specs.State.{Corners}
 use Rattle.psi_log_words.specs.Refusal.{IsLogError}
-use Rattle.psi_log.specs.LinesViews.{entry_of, HasRegion}
-use Rattle.psi_log.specs.Scanned.{next_step}
+use Rattle.psi_log_lines.specs.LinesViews.{entry_of, HasRegion}
+use Rattle.psi_log_lines.specs.Scanned.{next_step}
 use Rattle.psi_state_list.specs.declared.line_list.Line.{Line}
 use Rattle.psi_log.proofs.StepLemmas.{regions_kept, next_pushed, next_refused, steps_end, states_kept}
 use Rattle.psi_log.proofs.steps.read_steps.Goals as goal

@@ -2,7 +2,7 @@
 use Rattle.std.specs.Prelude.{◌≡◌, ◌+◌, ◌-◌, ◌≤◌, length, map, take, IfSome}
 use Rattle.std.specs.List.{All}
 use Rattle.psi_log.specs.Reading.{read_steps}
-use Rattle.psi_log.specs.LinesViews.{entry_of, HasRegion, IsLast}
+use Rattle.psi_log_lines.specs.LinesViews.{entry_of, HasRegion, IsLast}
 use Rattle.psi_log.proofs.StepLemmas.{behind}
 use Rattle.psi_log.proofs.steps.read_steps.Given as goal
 

@@ -1,0 +1,7 @@
+-- The lemmas of this crate.
+pub mod CutLemmas
+pub mod LineLemmas
+pub mod ScanLemmas
+pub mod RowsLemmas
+pub mod SetLineLemmas
+pub mod MoveLineLemmas

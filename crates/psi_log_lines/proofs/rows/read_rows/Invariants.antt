@@ -1,0 +1,17 @@
+-- Invariants of the loops of `rows::read_rows`.
+use Rattle.std.specs.Prelude.{◌≡◌, ◌≤◌, length, drop, true}
+use Rattle.psi_log_words.specs.Regions.{ascends}
+use Rattle.psi_log_lines.specs.Scanned.{AreScanned}
+use Rattle.psi_log_lines.specs.RowsViews.{IsFront, EndsIn}
+use Rattle.psi_log_lines.proofs.rows.read_rows.Given as goal
+
+abbrev pub invariant-loop : goal.invariant-loop
+invariant-loop l = record {
+  queues : l.states.queues ≡ l.queues;
+  count : length l.row ≡ l.queues;
+  within : l.end ≤ length l.text;
+  rows : AreScanned l.queues l.text l.at l.end l.fn.states.states l.states.states;
+  order : ascends (drop (length l.fn.states.states) l.states.states) ≡ true;
+  front : IsFront l.row l.front;
+  last : 1 ≤ l.front.queue → EndsIn l.states.states l.row;
+}

@@ -1,0 +1,14 @@
+//! The lines of a log's text: those of its header, and those of steps, read in one pass over their bytes where
+//! all of it is as it has to be; where it isn't, nothing is said, and a line is read word by word.
+#![tactic(auto)]
+
+mod header;
+mod move_line;
+mod rows;
+mod scan;
+mod set_line;
+
+pub use header::{greatest_horizon, read_header};
+pub use move_line::{read_changes, read_move_line};
+pub use scan::{has_byte, has_word};
+pub use set_line::{LastSet, read_new_set, read_set_line, step_at};

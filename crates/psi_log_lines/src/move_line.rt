@@ -1,0 +1,93 @@
+//! The line of a step with a box that is written by what changed, read in one pass over its bytes.
+
+ghost use Rattle.std.specs.Prelude.{◌≡◌, ℕ, List, ◌<◌, ◌≤◌, ◌^◌, length, Some, Ok, IfSome};
+ghost use Rattle.psi_log_text.specs.Text.{change_text};
+ghost use Rattle.psi_log_words.specs.ChangesViews.{change};
+ghost use Rattle.psi_log_lines.specs.LinesViews.{entry_of, HasRegion};
+ghost use Rattle.psi_log_lines.specs.Scanned.{Stands, AreChanged, next_step};
+
+use crate::scan::{has_byte, has_short, small_at};
+use crate::set_line::step_at;
+use psi_log_text::Header;
+use psi_log_words::{Change, is_change};
+use psi_state::Bounds;
+use psi_state_list::{Line, ListedRegion};
+
+// The change of a queue that stands at a place, and the place behind it.
+fn change_at(text: &[u8], at: usize, queues: u8) -> Option<(Change, usize)>
+    ensures queue { IfSome result (λ read. read.0.queue < queues) }
+    ensures range { IfSome result (λ read. (read.0.least < 2 ^ 16) × (read.0.greatest < 2 ^ 16)) }
+    ensures within { IfSome result (λ read. read.1 ≤ length text.now) }
+    ensures there { IfSome result (λ read. Stands text.now at read.1 (change_text (change read.0))) }
+{
+    let (queue, comma) = small_at(text, at)?;
+    if queue >= queues as u16 || !has_byte(text, comma, b',') {
+        return None;
+    }
+    let (least, next) = small_at(text, comma + 1)?;
+    if !has_byte(text, next, b',') {
+        return None;
+    }
+    let (greatest, end) = small_at(text, next + 1)?;
+    let queue = queue as u8;
+    Some((
+        Change {
+            queue,
+            least,
+            greatest,
+        },
+        end,
+    ))
+}
+
+/// The box that the changes make of another which stand in a text from a place on, each behind a space, and the place
+/// behind them.
+pub fn read_changes(text: &[u8], at: usize, queues: u8, from: &Bounds) -> Option<(Bounds, usize)>
+    requires few { queues ≤ 32 }
+    requires same { length from.now.lo ≡ queues }
+    requires within { at ≤ length text.now }
+    ensures count { IfSome result (λ read. length read.0.lo ≡ queues) }
+    ensures changes { IfSome result (λ read. AreChanged queues from.now text.now at read.1 read.0) }
+{
+    let mut to = *from;
+    let mut next: u8 = 0;
+    let mut end = at;
+    for _ in 0..queues {
+        if !has_byte(text, end, b' ') {
+            return Some((to, end));
+        }
+        let (c, after) = change_at(text, end + 1, queues)?;
+        if c.queue < next || !is_change(from, &c) {
+            return None;
+        }
+        to.set(c.queue, c.least, c.greatest);
+        next = c.queue + 1;
+        end = after;
+    }
+    Some((to, end))
+}
+
+/// The step with a box whose line begins a text, where it is written as it is to be by what changed from another box,
+/// and what follows the line. Where nothing is given, nothing is said of the line.
+pub fn read_move_line<'t>(
+    header: &Header,
+    from: &Bounds,
+    text: &'t [u8],
+) -> Option<(Line, &'t [u8])>
+    requires some { 1 ≤ header.now.queues }
+    requires few { header.now.queues ≤ 32 }
+    requires same { length from.now.lo ≡ header.now.queues }
+    ensures value { IfSome result (λ read. (n : ℕ) (states : List (List ℕ)) → next_step header.now n (Some from.now) text.now ≡ Ok (entry_of states read.0, read.1.now)) }
+    ensures there { IfSome result (λ read. (states : List (List ℕ)) → HasRegion header.now.queues states read.0) }
+{
+    let (step, at) = step_at(header.version, text)?;
+    if !has_short(text, at, b" move") {
+        return None;
+    }
+    let (to, end) = read_changes(text, at + 5, header.queues, from)?;
+    if !has_byte(text, end, b'\n') {
+        return None;
+    }
+    let region = ListedRegion::Box(to);
+    Some((Line { step, region }, &text[end + 1..]))
+}
