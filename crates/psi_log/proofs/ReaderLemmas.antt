@@ -124,7 +124,10 @@ begin_line_found queues text x some few r =
     let begin = bind_ok (read_begin queues (words_of line.0.0)) (λ (b : LogRegion). Ok (b, line.0.1)) x line.2 in
     subst (λ (p : LogRegion × List ℕ). IsRegion queues p.0) (ok_same (begin.0, line.0.1) x begin.2) (begin_found queues (words_of line.0.0) begin.0 some few begin.1).1
 
-pub begun_found : (text : List ℕ) (c : Cursor) → begun text ≡ Ok c → IsCursor c
+abbrev cursor : Header → LogRegion × List ℕ → Cursor
+cursor h b = record { header = h; done = 0; before = b.0; region = b.0; rest = b.1 }
+
+pub begun_found : (text : List ℕ) (c : Cursor) → begun text ≡ Ok c → IsCursor c × (c.done ≡ 0)
 unfolding begun
 begun_found text c r =
     let rule = bind_ok (holds_or (refused 0 TooLong) (nat_le (length text) 33554432)) (λ (u : Unit {0}). read_header text >>= (λ (p : Header × List ℕ).
@@ -133,11 +136,8 @@ begun_found text c r =
     let begin = bind_ok (begin_line header.0.0.queues header.0.1) (λ (b : LogRegion × List ℕ). Ok (cursor header.0.0 b)) c header.2 in
     let is = (header_found text header.0 header.1).1 in
     let region = begin_line_found header.0.0.queues header.0.1 begin.0 is.some is.few begin.1 in
-    subst (λ (k : Cursor). IsCursor k) (ok_same (cursor header.0.0 begin.0) c begin.2)
-    (record { header = is; before = region; region = region; done = omega arith })
-  where
-    cursor : Header → LogRegion × List ℕ → Cursor
-    cursor h b = record { header = h; done = 0; before = b.0; region = b.0; rest = b.1 }
+    subst (λ (k : Cursor). IsCursor k × (k.done ≡ 0)) (ok_same (cursor header.0.0 begin.0) c begin.2)
+    (record { header = is; before = region; region = region; done = omega arith }, refl)
 
 -- the state at time zero has a number for each queue
 pub ended_found : (h : Header) (text x : List ℕ) → ended h text ≡ Ok x → IsState h.queues x

@@ -171,6 +171,7 @@ impl<'t> LogReader<'t> {
     #[tactic(auto, using(crate::proofs::ReaderLemmas::begun_found, crate::proofs::ReaderLemmas::begins_kept))]
     pub fn open(alloc: Global, text: &'t [u8]) -> Result<LogReader<'t>, LogError>
         ensures value { Gives (λ reader. reader) result (begun text.now) }
+        ensures start { IfOk result (λ reader. reader.done ≡ 0) }
         ensures cursor { IfOk result (λ reader. IsCursor reader) }
     {
         let mut words = Vec::new(alloc);

@@ -4,4 +4,5 @@ pub mod SetLemmas
 pub mod RegionLemmas
 pub mod JudgingLemmas
 pub mod AcceptedLemmas
+mod PassLemmas
 mod Worked

@@ -7,6 +7,7 @@ use Rattle.psi_log_text.specs.Log.{LogRegion, Entry, Certificate}
 use Rattle.psi_log_words.specs.Refusal.{Refusal, ◌>>=◌, holds_or}
 use Rattle.psi_log_words.specs.Regions.{box_before}
 use Rattle.psi_log.specs.Reading.{read_steps, read}
+use Rattle.psi_log.specs.Cursor.{Cursor, left_of}
 use Rattle.psi_replay.specs.Verdict.{rejected, is_within, holds_all, judge_steps, judged, event_numbers, verdict_of}
 use Rattle.psi_replay.specs.declared.answers.Verdict.{Verdict}
 use Rattle.psi_replay.specs.declared.causes.Rejection.{Rejection}
@@ -16,6 +17,14 @@ use Rattle.psi_replay.specs.declared.causes.Cause.TheVariants.{Header, OutsideBo
 abbrev pub told : {X : Type 0} → Result X Rejection → Result (Unit {0}) Refusal
 told (Ok kept) = Ok tt
 told (Err rejection) = Err (rejected rejection.line rejection.cause)
+
+-- one judging behind another: the first rule that is broken
+abbrev pub and_then : {X : Type 0} → Result (Unit {0}) Refusal → Result X Refusal → Result X Refusal
+and_then before next = before >>= (λ _. next)
+
+-- the last region, or the first line that breaks a rule, and the text that is left
+abbrev pub lines_end : Result LogRegion Refusal → List ℕ → Result (Result LogRegion Refusal × List ℕ) Refusal
+lines_end last rest = Ok (last, rest)
 
 -- the rules of the lines before the steps
 unfoldable pub judge_begin : List ℕ → ℕ → LogHeader → LogRegion → Result (Unit {0}) Refusal
@@ -32,7 +41,15 @@ module _ (caps : List ℕ) (limit : ℕ) (events : ℕ → ℕ) (f : Functions) 
   unfoldable pub lines_left : LogHeader → ℕ → ℕ → LogRegion → List ℕ → Result (Unit {0}) Refusal → Result (Result LogRegion Refusal × List ℕ) Refusal
   lines_left h count n region text before = do
     steps ← read_steps h count n (box_before h.version region) text
-    Ok (before >>= (λ _. judge_steps caps limit events f n count region steps.0), steps.1)
+    lines_end (and_then before (judge_steps caps limit events f n count region steps.0)) steps.1
+
+-- the state at time zero of a log, and its judging by rules
+abbrev pub end_of : (Certificate → Result (Unit {0}) Refusal) → Certificate → Result (List ℕ × Result (Unit {0}) Refusal) Refusal
+end_of rules c = Ok (c.final, rules c)
+
+-- the same of a text that is read up to its first step
+abbrev pub judged_left : (Certificate → Result (Unit {0}) Refusal) → Cursor → Result (List ℕ × Result (Unit {0}) Refusal) Refusal
+judged_left rules c = left_of c >>= (λ (k : Certificate). end_of rules k)
 
 -- the rules of a system for a log, under the words of its seed and stream
 abbrev pub judged_under : {E : Type 0} → (E → List ℕ → List ℕ) → Parts E → Certificate → Result (Unit {0}) Refusal

@@ -6,19 +6,47 @@ ghost use Rattle.psi_log_text.specs.Log.{IsLog, IsRegion};
 ghost use Rattle.psi_replay.specs.Verdict.{is_within, judge_step, judge_steps, judge_end, judged, event_numbers};
 ghost use Rattle.psi_replay.specs.RegionsViews.{seen};
 ghost use Rattle.psi_replay.specs.Judging.{Gives};
+ghost use Rattle.psi_replay.specs.Passes.{judge_begin};
 
 use crate::causes::{Cause, Rejection};
 use crate::covering::{holds_all, step_covers};
 use crate::regions::{ReadRegion, region_of};
 use psi_event::EventLaw;
-use psi_log::Log;
+use psi_log::{Header, Log};
 use psi_past::Past;
 use psi_rate::System;
 use psi_state::{State, Step};
 
-// Judges the line of a step, which has to be that of a time.
+/// Judges the lines before the steps.
+///
+/// # Errors
+///
+/// The first of these that breaks a rule, with its first cause.
+#[tactic(auto, unfolding(crate::specs::Passes::judge_begin))]
+pub(crate) fn judge_begin<E: EventLaw>(
+    system: &System<'_, E>,
+    header: &Header,
+    begin: &ReadRegion<'_>,
+) -> Result<(), Rejection>
+    requires { IsRegion header.now.queues (seen begin.now) }
+    ensures value { Gives (λ _. tt) result (judge_begin system.now.caps system.now.limit header.now (seen begin.now)) }
+    ensures queues { OnOk result (header.now.queues ≡ length system.now.caps) }
+    ensures within { OnOk result (is_within system.now.caps (seen begin.now) ≡ true) }
+{
+    let caps = system.caps();
+    Cause::Header.unless(header.queues == caps.len(), 2)?;
+    Cause::Header.unless(header.horizon <= 1 << system.limit(), 5)?;
+    Cause::OutsideBox.unless(begin.is_within(&caps), 6)?;
+    Cause::NotCovered.unless(holds_all(&caps, begin), 6)
+}
+
+/// Judges the line of a step, which has to be that of a time.
+///
+/// # Errors
+///
+/// The line, with the first cause for which it breaks a rule.
 #[tactic(auto, unfolding(crate::specs::Verdict::judge_step))]
-fn judge_step<E: EventLaw, P: Past>(
+pub(crate) fn judge_step<E: EventLaw, P: Past>(
     system: &System<'_, E>,
     past: &mut P,
     line: u32,
@@ -79,9 +107,13 @@ fn judge_steps<'l, E: EventLaw, P: Past>(
     Ok(before)
 }
 
-// Judges the last line.
+/// Judges the last line.
+///
+/// # Errors
+///
+/// The line, with the first cause for which it breaks a rule.
 #[tactic(auto, unfolding(crate::specs::Verdict::judge_end))]
-fn judge_end(line: u32, last: &ReadRegion<'_>, end: &State) -> Result<(), Rejection>
+pub(crate) fn judge_end(line: u32, last: &ReadRegion<'_>, end: &State) -> Result<(), Rejection>
     requires { IsRegion (length end.now) (seen last.now) }
     ensures { Gives (λ _. tt) result (judge_end line (seen last.now) end.now) }
 {

@@ -10,10 +10,11 @@ mod answers;
 mod causes;
 mod covering;
 mod judging;
+mod passing;
 mod regions;
 mod replay;
 mod sets;
 
 pub use answers::Verdict;
 pub use causes::Cause;
-pub use replay::verdict;
+pub use replay::{replay_text, verdict};

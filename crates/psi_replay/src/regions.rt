@@ -3,6 +3,7 @@
 ghost use Rattle.std.specs.Prelude.{◌≡◌, ◌==◌, ◌<◌, ◌≤◌, ℕ, true, length, slice_index};
 ghost use Rattle.psi_state.specs.State.{IsBelow, box};
 ghost use Rattle.psi_log_text.specs.Log.{in_box, in_set, IsLog, IsRegion};
+ghost use Rattle.psi_log.specs.Told.{shown};
 ghost use Rattle.psi_replay.specs.Verdict.{states_of, has, is_within, is_small};
 ghost use Rattle.psi_replay.specs.Numbered.{nth_region};
 ghost use Rattle.psi_replay.specs.RegionsViews.{seen};
@@ -20,6 +21,19 @@ pub(crate) enum ReadRegion<'l> {
     Set(Set<'l>),
 }
 
+impl<'l> ReadRegion<'l> {
+    /// The region that is borrowed from a log.
+    #[inline]
+    pub(crate) fn of(told: Told<'l>) -> ReadRegion<'l>
+        ensures { seen result ≡ shown told.entry }
+    {
+        match told {
+            Told::Box(bounds) => ReadRegion::Box(bounds),
+            Told::Set(rows) => ReadRegion::Set(Set::new(rows)),
+        }
+    }
+}
+
 /// The region of a log with a number: 0 is the one at which the run begins, and `i` the one after the `i`-th
 /// step line.
 pub(crate) fn region_of(log: &Log, number: u32) -> ReadRegion<'_>
@@ -28,10 +42,7 @@ pub(crate) fn region_of(log: &Log, number: u32) -> ReadRegion<'_>
     ensures value { seen result ≡ nth_region log.entry.now number }
     ensures regional { IsRegion log.entry.now.header.queues (seen result) }
 {
-    match log.look(number) {
-        Told::Box(bounds) => ReadRegion::Box(bounds),
-        Told::Set(rows) => ReadRegion::Set(Set::new(rows)),
-    }
+    ReadRegion::of(log.look(number))
 }
 
 impl ReadRegion<'_> {

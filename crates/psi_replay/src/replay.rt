@@ -1,16 +1,23 @@
-//! The verdict on a log.
+//! The verdict on a log, and on the log that a text is.
 
 ghost use Rattle.std.specs.Prelude.{◌≡◌};
 ghost use Rattle.psi_past.specs.SeedWord.{seed_word};
 ghost use Rattle.psi_rate.specs.Composition.{system_functions};
+ghost use Rattle.psi_log_text.specs.Log.{Certificate};
+ghost use Rattle.psi_log_words.specs.Refusal.{Gives};
 ghost use Rattle.psi_replay.specs.Verdict.{judged, verdict_of, event_numbers, ReachesAccepted, AcceptsWithin};
+ghost use Rattle.psi_replay.specs.Passes.{told, judged_under, replayed};
 
 use crate::answers::Verdict;
+use crate::causes::Rejection;
 use crate::judging::judged;
+use crate::passing::judge_left;
 use psi_event::EventLaw;
-use psi_log::Log;
+use psi_log::{Header, Log, LogError, LogReader};
 use psi_past::{SeedPast, Windowed};
 use psi_rate::System;
+use psi_state::State;
+use std::alloc::Global;
 
 /// The verdict on a log of a network: accepted where it breaks no rule, whoever wrote it, and rejected else, at
 /// the first line that breaks one.
@@ -50,5 +57,50 @@ pub fn verdict<E: EventLaw>(system: &System<'_, E>, log: &Log) -> Verdict
             line: rejection.line,
             cause: rejection.cause.code(),
         },
+    }
+}
+
+// The verdict on a log of this header and of this state at time zero, whose rules were judged.
+fn verdict_from(header: &Header, end: &State, judged: Result<(), Rejection>) -> Verdict
+    ensures { (c : Certificate) → c.header ≡ header.now → c.final ≡ end.now → result ≡ verdict_of c (told judged) }
+{
+    match judged {
+        Ok(()) => Verdict::Accepted {
+            horizon: header.horizon,
+            state: *end,
+        },
+        Err(rejection) => Verdict::Rejected {
+            line: rejection.line,
+            cause: rejection.cause.code(),
+        },
+    }
+}
+
+/// The verdict of a network on the log that a text is: what [`verdict`] gives on the log that `psi_log::read_log`
+/// reads.
+///
+/// The text is read and judged in one pass, line by line. Where a line breaks a rule, the lines behind it are still
+/// read, since one that is refused comes first. At any time two regions are held, and the words of one line.
+///
+/// # Errors
+///
+/// The first line that isn't as the grammar of logs has it, with its first cause, as `psi_log::Cause` has them;
+/// `OutOfMemory`, and no clause says when that is.
+pub fn replay_text<E: EventLaw>(
+    alloc: Global,
+    system: &System<'_, E>,
+    text: &[u8],
+) -> Result<Verdict, LogError>
+    ensures { Gives (λ v. v) result (replayed (judged_under E.function system.now) text.now) }
+{
+    let mut reader = match LogReader::open(alloc, text) {
+        Ok(reader) => reader,
+        Err(error) => return Err(error),
+    };
+    let header = reader.header();
+    let mut past = Windowed::new(SeedPast::new(header.seed, header.stream));
+    match judge_left(system, &mut past, &mut reader) {
+        Ok(read) => Ok(verdict_from(&header, &read.end, read.judged)),
+        Err(error) => Err(error),
     }
 }
