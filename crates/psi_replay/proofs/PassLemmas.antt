@@ -158,6 +158,20 @@ module _ (caps : List ℕ) (limit : ℕ) (events : ℕ → ℕ) (f : Functions) 
       (holds_or (rejected 6 OutsideBox) (is_within caps c.begin)) (holds_or (rejected 6 NotCovered) (holds_all caps c.begin))
       (judge_steps caps limit events f 7 c.header.horizon c.begin c.entries) (λ (last : LogRegion). judge_end (7 + c.header.horizon) last c.final)
 
+  -- and the first of them that is broken
+  pub judged_begins : (c : Certificate) (refusal : Refusal) → judge_begin caps limit c.header c.begin ≡ Err refusal → judged caps limit events f c ≡ Err refusal
+  judged_begins c refusal is =
+      judged_parts c ∙ ap (λ (b : Result (Unit {0}) Refusal). and_then b (judge_steps caps limit events f 7 c.header.horizon c.begin c.entries)
+      >>= (λ (last : LogRegion). judge_end (7 + c.header.horizon) last c.final)) is
+
+  pub judged_steps : (c : Certificate) (steps : Result LogRegion Refusal) → judge_begin caps limit c.header c.begin ≡ Ok tt
+      → judge_steps caps limit events f 7 c.header.horizon c.begin c.entries ≡ steps
+      → judged caps limit events f c ≡ (steps >>= (λ (last : LogRegion). judge_end (7 + c.header.horizon) last c.final))
+  judged_steps c steps is told =
+      judged_parts c ∙ ap (λ (b : Result (Unit {0}) Refusal). and_then b (judge_steps caps limit events f 7 c.header.horizon c.begin c.entries)
+      >>= (λ (last : LogRegion). judge_end (7 + c.header.horizon) last c.final)) is
+      ∙ ap (λ (r : Result LogRegion Refusal). r >>= (λ (last : LogRegion). judge_end (7 + c.header.horizon) last c.final)) told
+
   -- all lines, where each is read
   pub left_judged : (c : Cursor) (begins kept r : Result (Unit {0}) Refusal) (last : LogRegion) (rest final : List ℕ) → begins ≡ judge_begin caps limit c.header c.region
       → lines_left caps limit events f c.header c.header.horizon 7 c.region c.rest begins ≡ lines_end (and_then kept (Ok last)) rest → ended c.header rest ≡ Ok final

@@ -126,7 +126,6 @@ pub(crate) fn judge_end(line: u32, last: &ReadRegion<'_>, end: &State) -> Result
 /// # Errors
 ///
 /// The first line that breaks one, with its first cause.
-#[tactic(auto, unfolding(crate::specs::Verdict::judged))]
 pub(crate) fn judged<E: EventLaw, P: Past>(
     system: &System<'_, E>,
     past: &mut P,
@@ -136,12 +135,8 @@ pub(crate) fn judged<E: EventLaw, P: Past>(
         Gives (λ _. tt) result (judged system.now.caps system.now.limit (event_numbers system.now words) (system_functions E.function system.now words) log.now) }
 {
     let header = log.header();
-    let caps = system.caps();
-    Cause::Header.unless(header.queues == caps.len(), 2)?;
-    Cause::Header.unless(header.horizon <= 1 << system.limit(), 5)?;
     let begin = region_of(log, 0);
-    Cause::OutsideBox.unless(begin.is_within(&caps), 6)?;
-    Cause::NotCovered.unless(holds_all(&caps, &begin), 6)?;
+    judge_begin(system, &header, &begin)?;
     let last = judge_steps(system, past, log)?;
     judge_end(7 + header.horizon, &last, &log.end())
 }

@@ -1,19 +1,28 @@
 -- The verdict on a log, and what is told of it.
 use Rattle.std.specs.Prelude.{◌≡◌, ℕ, List, [], Option, Result, Ok, Err, IsErr, refl}
-use Rattle.std.proofs.Common.{inl, inr, sym, ◌∙◌, subst}
+use Rattle.std.proofs.Common.{ap, inl, inr, sym, ◌∙◌, subst}
 use Rattle.psi_io.specs.Sink.{appended}
 use Rattle.psi_io.proofs.SinkLemmas.{appended-nothing}
 use Rattle.psi_log_text.specs.Log.{Certificate}
-use Rattle.psi_log_words.specs.Refusal.{Refusal}
+use Rattle.psi_log_words.specs.Refusal.{Refusal, ◌>>=◌, Gives}
+use Rattle.psi_log_words.specs.declared.refusals.LogError.{LogError}
+use Rattle.psi_log_words.specs.declared.refusals.LogError.TheVariants.{Refused, OutOfMemory}
+use Rattle.psi_log_words.proofs.WordLemmas.{bind_ok, ok_same}
 use Rattle.psi_log.specs.Reading.{read}
 use Rattle.psi_log.proofs.ReadLemmas.{read_found}
+use Rattle.psi_rate.specs.Composition.{Parts}
+use Rattle.psi_program.specs.Reply.{line_reply}
+use Rattle.psi_answers.specs.Lines.{log_refused_line}
 use Rattle.psi_replay.specs.Verdict.{verdict_of}
+use Rattle.psi_replay.specs.Passes.{judged_under, replayed}
+use Rattle.psi_replay.specs.declared.answers.Verdict.{Verdict}
 use Rattle.psi_model.specs.Network.{Network}
 use Rattle.psi_model.specs.Valid.{IsNetwork}
 use Rattle.psi_command.specs.declared.status.Status.TheVariants as status
 use Rattle.psi_reply.specs.Replay.{judgement, IsReplayed}
-use Rattle.psi_reply.specs.Reply.{verdict_reply}
-use Rattle.psi_reply.proofs.JudgingLemmas.{judged_certifies}
+use Rattle.psi_reply.specs.Networks.{IsSystemOf}
+use Rattle.psi_reply.specs.Reply.{verdict_reply, judged_log, replay_reply}
+use Rattle.psi_reply.proofs.JudgingLemmas.{judged_certifies, judged_by}
 
 -- what is told of a log that was read and judged so is the network's verdict
 pub verdict_told : (net : Network) (bytes : List ℕ) (c : Certificate) (judged : Result (Unit {0}) Refusal) → IsNetwork net → read bytes ≡ Ok c → judgement net c ≡ judged
@@ -37,3 +46,36 @@ refusal_told net bytes refusal reads before after grew = inr (record {
   status = refl;
   text = grew ∙ appended-nothing before;
 })
+
+-- what is told of the verdict on a text
+pub verdict_replied : (net : Network) (bytes : List ℕ) (v : Verdict) → replayed (judgement net) bytes ≡ Ok v → replay_reply net bytes ≡ verdict_reply v
+verdict_replied net bytes v is =
+    let log = bind_ok (read bytes) (λ (c : Certificate). Ok (verdict_of c (judgement net c))) v is in
+    ap (λ (r : Result Certificate Refusal). judged_log net r) log.1 ∙ ap (λ (w : Verdict). verdict_reply w) (ok_same (verdict_of log.0 (judgement net log.0)) v log.2)
+
+pub refusal_replied : (net : Network) (bytes : List ℕ) (line cause : ℕ) → replayed (judgement net) bytes ≡ Err (record { line = line; cause = cause })
+    → replay_reply net bytes ≡ line_reply status.LogRefused (log_refused_line line cause)
+refusal_replied net bytes line cause is = go (read bytes) is
+  where
+    go : (r : Result Certificate Refusal) → (r >>= (λ (c : Certificate). Ok (verdict_of c (judgement net c)))) ≡ Err (record { line = line; cause = cause })
+        → judged_log net r ≡ line_reply status.LogRefused (log_refused_line line cause)
+    go (Ok c) is = absurd cc
+    go (Err refusal) is = ap (λ (s : Refusal). judged_log net (Err s)) (same refusal is)
+      where
+        same : (refusal : Refusal) → ◌≡◌ {A = Result Verdict Refusal} (Err refusal) (Err (record { line = line; cause = cause })) → refusal ≡ record { line = line; cause = cause }
+        same refusal is = cc
+
+-- the verdict of a system that is the network's is that of the network, and so is each refusal
+pub replayed_by : {E : Type 0} (function : E → List ℕ → List ℕ) (system : Parts E) (net : Network) (bytes : List ℕ) (result : Result Verdict LogError) → IsNetwork net → IsSystemOf function net system
+    → Gives (λ (v : Verdict). v) result (replayed (judged_under function system) bytes) → Gives (λ (v : Verdict). v) result (replayed (judgement net) bytes)
+replayed_by function system net bytes (Ok v) network of gives =
+    let log = bind_ok (read bytes) (λ (c : Certificate). Ok (verdict_of c (judged_under function system c))) v gives in
+    let own = judged_by function system net log.0 v network of (sym (ok_same (verdict_of log.0 (judged_under function system log.0)) v log.2)) in
+    ap (λ (r : Result Certificate Refusal). r >>= (λ (c : Certificate). Ok (verdict_of c (judgement net c)))) log.1 ∙ ap (λ (w : Verdict). Ok w) (sym own)
+replayed_by function system net bytes (Err OutOfMemory) network of gives = tt
+replayed_by function system net bytes (Err (Refused line cause)) network of gives = go (read bytes) gives
+  where
+    go : (r : Result Certificate Refusal) → (r >>= (λ (c : Certificate). Ok (verdict_of c (judged_under function system c)))) ≡ Err (record { line = line; cause = cause })
+        → (r >>= (λ (c : Certificate). Ok (verdict_of c (judgement net c)))) ≡ Err (record { line = line; cause = cause })
+    go (Ok c) is = absurd cc
+    go (Err refusal) is = cc

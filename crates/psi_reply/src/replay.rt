@@ -1,7 +1,8 @@
 //! `replay NET LOG`: the verdict of a network on a log.
 
 ghost use Rattle.std.specs.Prelude.{◌≡◌};
-ghost use Rattle.psi_replay.specs.Verdict.{verdict_of};
+ghost use Rattle.psi_log_words.specs.Refusal.{Gives};
+ghost use Rattle.psi_replay.specs.Passes.{replayed};
 ghost use Rattle.psi_replay.specs.declared.answers.Verdict.TheVariants.{Accepted};
 ghost use Rattle.psi_reply.specs.Replay.{judgement};
 ghost use Rattle.psi_reply.specs.Reply.{verdict_reply, replay_reply};
@@ -11,9 +12,9 @@ ghost use Rattle.psi_reply.specs.Ended.{ending_of};
 use crate::ending::Ending;
 use psi_answers::accepted_text;
 use psi_command::Status;
-use psi_log::{Log, LogError, read_log};
+use psi_log::LogError;
 use psi_model::Net;
-use psi_replay::{Verdict, verdict};
+use psi_replay::{Verdict, replay_text};
 use psi_state::State;
 use std::alloc::Global;
 
@@ -24,32 +25,33 @@ fn accept<'w>(alloc: Global, horizon: u32, state: &State) -> Ending<'w>
     Ending::printed(Status::Done, accepted_text(alloc, horizon, state))
 }
 
-// The verdict of the network on a log.
-fn verdict_on(net: &Net, log: &Log) -> Verdict
-    ensures { result ≡ verdict_of log.now (judgement net.now log.now) }
+// The work on a log with this verdict.
+fn tell<'w>(alloc: Global, verdict: Verdict) -> Ending<'w>
+    ensures { EndsWith (ending_of result) (verdict_reply verdict) }
 {
-    let system = net.system();
-    verdict(&system, log)
-}
-
-// The work on a log that was read.
-fn judge<'w>(alloc: Global, net: &Net, log: &Log) -> Ending<'w>
-    ensures { EndsWith (ending_of result) (verdict_reply (verdict_of log.now (judgement net.now log.now))) }
-{
-    match verdict_on(net, log) {
+    match verdict {
         Verdict::Accepted { horizon, state } => accept(alloc, horizon, &state),
         Verdict::Rejected { line, cause } => Ending::LogRejected { line, cause },
     }
 }
 
-/// The work for a replay, on the bytes of a log file: they are read as a log, and the log is judged. The horizon and
-/// the state of one that is accepted, the first line that is refused or breaks a rule, with its cause, or want of
-/// memory.
+// The verdict of the network on the log that a text is.
+fn verdict_on(alloc: Global, net: &Net, text: &[u8]) -> Result<Verdict, LogError>
+    ensures { Gives (λ verdict. verdict) result (replayed (judgement net.now) text.now) }
+{
+    let system = net.system();
+    replay_text(alloc, &system, text)
+}
+
+/// The work for a replay, on the bytes of a log file: they are read as a log, and the log is judged, in one pass. The
+/// horizon and the state of one that is accepted, the first line that is refused or breaks a rule, with its cause, or
+/// want of memory.
+#[tactic(auto, using(crate::proofs::ReplayingLemmas::verdict_replied, crate::proofs::ReplayingLemmas::refusal_replied))]
 pub fn replay_ending<'w>(alloc: Global, net: &Net, text: &[u8]) -> Ending<'w>
     ensures { EndsWith (ending_of result) (replay_reply net.now text.now) }
 {
-    match read_log(alloc, text) {
-        Ok(log) => judge(alloc, net, &log),
+    match verdict_on(alloc, net, text) {
+        Ok(verdict) => tell(alloc, verdict),
         Err(LogError::Refused { line, cause }) => Ending::LogRefused { line, cause },
         Err(LogError::OutOfMemory) => Ending::OutOfMemory,
     }
