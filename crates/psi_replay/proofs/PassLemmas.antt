@@ -9,8 +9,10 @@ use Rattle.psi_log_words.specs.Words.{line_of, words_of}
 use Rattle.psi_log_words.specs.declared.refusals.LogError.{LogError}
 use Rattle.psi_log_words.specs.declared.refusals.LogError.TheVariants.{Refused, OutOfMemory}
 use Rattle.psi_log_words.proofs.WordLemmas.{bind_ok, ok_same}
-use Rattle.psi_log.specs.Reading.{box_before, read_step, read_steps, read}
-use Rattle.psi_log.specs.Scanned.{next_step}
+use Rattle.psi_log_words.specs.Regions.{box_before}
+use Rattle.psi_log_lines.specs.Lines.{read_step}
+use Rattle.psi_log.specs.Reading.{read_steps, read}
+use Rattle.psi_log_lines.specs.Scanned.{next_step}
 use Rattle.psi_state.specs.declared.outcome.Step.{Step}
 use Rattle.psi_log.specs.Cursor.{Cursor, next_of, begun, ended, log_of, left_of}
 use Rattle.psi_log.proofs.PassLemmas.{read_begun}
