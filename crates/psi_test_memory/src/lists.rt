@@ -165,6 +165,7 @@ fn make_states(alloc: Global, calls: bool) -> Option<()> {
     if calls {
         let _told = (states.len(), states.get(1), states.is_below_next(0));
         let _within = states.leq(0, &caps());
+        states.clear();
     }
     Some(())
 }

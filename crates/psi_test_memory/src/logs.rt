@@ -6,7 +6,7 @@ use psi_event::EventLaw;
 use psi_follow::plan_of;
 use psi_horizon::Plan;
 use psi_io::MemorySink;
-use psi_log::{Form, Log, read_log};
+use psi_log::{Form, Log, LogReader, read_log};
 use psi_log_text::{Header, LineBuf};
 use psi_log_writer::{Block, log_fits, write_log};
 use psi_net::Net;
@@ -100,7 +100,20 @@ fn make_log(alloc: Global, calls: bool, net: &Net, limit: u8) -> Option<()>
         call_log(&log);
         let _verdict = verdict(&system, &log);
     }
+    let Ok(reader) = LogReader::open(alloc, writing.sink.bytes()) else {
+        return None;
+    };
+    if calls {
+        call_reader(&reader);
+    }
     Some(())
+}
+
+fn call_reader(reader: &LogReader<'_>) {
+    let _header = reader.header();
+    let _before = reader.before();
+    let _region = reader.region();
+    let _stays = reader.stays();
 }
 
 // The header of the longest run of a plan over so many queues.
