@@ -28,19 +28,10 @@ pub told_is : {X : Type 0} (result : Result X Rejection) (rules : Result (Unit {
 told_is (Ok x) rules gives = gives
 told_is (Err rejection) rules gives = gives
 
-pub told_gives : {X : Type 0} (result : Result X Rejection) (rules : Result (Unit {0}) Refusal) → rules ≡ told result → Gives (λ (x : X). tt) result rules
-told_gives (Ok x) rules is = is
-told_gives (Err rejection) rules is = is
-
 -- one judging after another
 bind_bind : {A B C : Type 0} (a : Result A Refusal) (b : A → Result B Refusal) (c : B → Result C Refusal) → ((a >>= b) >>= c) ≡ (a >>= (λ (x : A). b x >>= c))
 bind_bind (Ok x) b c = refl
 bind_bind (Err refusal) b c = refl
-
--- a reading of which something is made, where it is refused
-made_refused : {A B : Type 0} (error : LogError) (r : Result A Refusal) (f : A → Result B Refusal) → IsLogError error r → IsLogError error (r >>= f)
-made_refused (Refused l cause) r f fails = rw fails refl
-made_refused OutOfMemory r f fails = tt
 
 -- a step that is read, and the text behind it
 abbrev pub entry_end : List ℕ → Entry → Result (Entry × List ℕ) Refusal
@@ -258,7 +249,3 @@ verdict_refused rules own c (Refused l cause) fails = go (left_of c) fails
 pub refused_as : {A : Type 0} (error : LogError) (whole r : Result A Refusal) → whole ≡ r → IsLogError error r → IsLogError error whole
 refused_as (Refused l cause) whole r same fails = same ∙ fails
 refused_as OutOfMemory whole r same fails = tt
-
--- the state at time zero of a log, and its judging
-abbrev pub end_told : List ℕ → Result (Unit {0}) Refusal → Result (List ℕ × Result (Unit {0}) Refusal) Refusal
-end_told final judging = Ok (final, judging)

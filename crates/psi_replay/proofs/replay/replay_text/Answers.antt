@@ -9,7 +9,7 @@ use Rattle.psi_log_text.specs.Log.{Certificate}
 use Rattle.psi_log_words.specs.Refusal.{IsLogError}
 use Rattle.psi_replay.specs.Verdict.{judged, event_numbers}
 use Rattle.psi_replay.specs.Passes.{told, judged_left, judged_under}
-use Rattle.psi_replay.proofs.PassLemmas.{replay_left, replay_refused, verdict_left, verdict_refused, refused_as, end_told}
+use Rattle.psi_replay.proofs.PassLemmas.{replay_left, replay_refused, verdict_left, verdict_refused, refused_as}
 use Rattle.psi_replay.proofs.replay.replay_text.Goals as goal
 
 pub returns-in-Err : goal.returns-in-Err
