@@ -12,7 +12,7 @@ use Rattle.psi_region.specs.Covering.{Covers}
 use Rattle.psi_event.specs.Idle.{unchanged}
 use Rattle.psi_log_text.specs.Log.{LogRegion, in_box, in_set, Entry, Certificate, IsRegion, IsEntry, IsLog, IsSet}
 use Rattle.psi_log_words.proofs.StateLemmas.{below_found, below_again}
-use Rattle.psi_replay.specs.Verdict.{states_of, has, covers, is_within}
+use Rattle.psi_replay.specs.Verdict.{states_of, has, covers, is_within, is_small}
 use Rattle.psi_replay.specs.Numbered.{nth_region}
 use Rattle.psi_replay.proofs.ListLemmas.{same_test, all_more, all_fails, all_each, all_from, has-In, has-from_In, In-slice_get}
 
@@ -132,3 +132,21 @@ box_covers f b c r tells =
     same_test r (covers f (in_box b) (in_box c))
     (λ is. (let there = tells.0 is in all_from test (box b.lo b.hi) (λ x member. has-from_In (box c.lo c.hi) (f x) (there.each x member))))
     (λ all. tells.1 (record { each = λ x member. has-In (box c.lo c.hi) (f x) (all_each test (box b.lo b.hi) x all member) }))
+
+-- a region covers itself where nothing changes, and may follow itself
+region_covers_itself : (r : LogRegion) → covers unchanged r r ≡ true
+region_covers_itself (in_box b) = covers_itself (box b.lo b.hi)
+region_covers_itself (in_set xs) = covers_itself xs
+
+pub region_covers_same : (r s : LogRegion) → r ≡ s → covers unchanged r s ≡ true
+region_covers_same r s same = subst (λ (t : LogRegion). covers unchanged r t ≡ true) same (region_covers_itself r)
+
+small_itself : (r : LogRegion) → is_small r r ≡ true
+small_itself (in_box b) = refl
+small_itself (in_set xs) = refl
+
+pub small_same : (r s : LogRegion) → r ≡ s → is_small r s ≡ true
+small_same r s same = subst (λ (t : LogRegion). is_small r t ≡ true) same (small_itself r)
+
+pub within_same : (caps : List ℕ) (r s : LogRegion) → r ≡ s → is_within caps r ≡ true → is_within caps s ≡ true
+within_same caps r s same within = subst (λ (t : LogRegion). is_within caps t ≡ true) same within

@@ -139,6 +139,28 @@ pub(crate) fn step_covers<E: EventLaw>(
     }
 }
 
+/// Whether a region holds what a step makes of each state of another, which is the same: an idle step leaves them as
+/// they are.
+#[tactic(auto, using(crate::proofs::RegionLemmas::region_covers_same))]
+pub(crate) fn still_covers<E: EventLaw>(
+    event: Option<&E>,
+    caps: &State,
+    before: &ReadRegion<'_>,
+    after: &ReadRegion<'_>,
+) -> bool
+    requires valid { AreCapacities caps.now }
+    requires event { MatchOption event (Unit {0}) (λ e. E.capacities e.now ≡ caps.now) }
+    requires before { is_within caps.now (seen before.now) ≡ true }
+    requires after { IsRegion (length caps.now) (seen after.now) }
+    requires same { seen before.now ≡ seen after.now }
+    ensures { MatchOption event.entry (result ≡ covers unchanged (seen before.now) (seen after.now)) (λ e. result ≡ covers (E.function e.now) (seen before.now) (seen after.now)) }
+{
+    match event {
+        Some(event) => step_covers(Some(event), caps, before, after),
+        None => true,
+    }
+}
+
 /// Whether a region has all states of the capacities.
 pub(crate) fn holds_all(caps: &State, region: &ReadRegion<'_>) -> bool
     requires valid { AreCapacities caps.now }

@@ -1,6 +1,6 @@
 //! The rules of a log, line by line.
 
-ghost use Rattle.std.specs.Prelude.{◌≡◌, ◌≤◌, ◌<◌, length, true, IfOk, OnOk};
+ghost use Rattle.std.specs.Prelude.{◌≡◌, ◌≤◌, ◌<◌, length, true, IsTrue, IfOk, OnOk};
 ghost use Rattle.psi_rate.specs.Composition.{system_functions};
 ghost use Rattle.psi_log_text.specs.Log.{IsLog, IsRegion};
 ghost use Rattle.psi_replay.specs.Verdict.{is_within, judge_step, judge_steps, judge_end, judged, event_numbers};
@@ -9,7 +9,7 @@ ghost use Rattle.psi_replay.specs.Judging.{Gives};
 ghost use Rattle.psi_replay.specs.Passes.{judge_begin};
 
 use crate::causes::{Cause, Rejection};
-use crate::covering::{holds_all, step_covers};
+use crate::covering::{holds_all, step_covers, still_covers};
 use crate::regions::{ReadRegion, region_of};
 use psi_event::EventLaw;
 use psi_log::{Header, Log};
@@ -40,12 +40,13 @@ pub(crate) fn judge_begin<E: EventLaw>(
     Cause::NotCovered.unless(holds_all(&caps, begin), 6)
 }
 
-/// Judges the line of a step, which has to be that of a time.
+/// Judges the line of a step, which has to be that of a time. Where the region is known to stay as it was, less is
+/// asked of it.
 ///
 /// # Errors
 ///
 /// The line, with the first cause for which it breaks a rule.
-#[tactic(auto, unfolding(crate::specs::Verdict::judge_step))]
+#[tactic(auto, unfolding(crate::specs::Verdict::judge_step), using(crate::proofs::RegionLemmas::within_same))]
 pub(crate) fn judge_step<E: EventLaw, P: Past>(
     system: &System<'_, E>,
     past: &mut P,
@@ -54,10 +55,12 @@ pub(crate) fn judge_step<E: EventLaw, P: Past>(
     before: &ReadRegion<'_>,
     step: Step,
     after: &ReadRegion<'_>,
+    stays: bool,
 ) -> Result<(), Rejection>
     requires time { 1 ≤ time }
     requires before { is_within system.now.caps (seen before.now) ≡ true }
     requires after { IsRegion (length system.now.caps) (seen after.now) }
+    requires same { IsTrue stays → seen before.now ≡ seen after.now }
     ensures value { let words = P.words past.old in
         Gives (λ _. tt) result (judge_step system.now.caps system.now.limit (event_numbers system.now words) (system_functions E.function system.now words)
         line time (seen before.now) (record { step = step; region = seen after.now })) }
@@ -68,6 +71,9 @@ pub(crate) fn judge_step<E: EventLaw, P: Past>(
     let caps = system.caps();
     Cause::StepNumber.unless(step.number == time, line)?;
     Cause::WrongEvent.unless(step.event == number, line)?;
+    if stays {
+        return Cause::NotCovered.unless(still_covers(event, &caps, before, after), line);
+    }
     Cause::OutsideBox.unless(after.is_within(&caps), line)?;
     Cause::SplitTooLarge.unless(before.is_small(after), line)?;
     Cause::NotCovered.unless(step_covers(event, &caps, before, after), line)
@@ -101,6 +107,7 @@ fn judge_steps<'l, E: EventLaw, P: Past>(
             &before,
             step,
             &after,
+            false,
         )?;
         before = after;
     }

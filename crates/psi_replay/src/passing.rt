@@ -45,7 +45,7 @@ fn judge_next<E: EventLaw, P: Past>(
         Ok(()) => {
             let from = ReadRegion::of(reader.before());
             let to = ReadRegion::of(reader.region());
-            judge_step(system, past, line, time, &from, step, &to)
+            judge_step(system, past, line, time, &from, step, &to, reader.stays())
         }
         Err(rejection) => Err(rejection),
     }
