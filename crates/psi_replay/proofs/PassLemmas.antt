@@ -1,5 +1,5 @@
 -- The reading and the judging of a log side by side.
-use Rattle.std.specs.Prelude.{◌≡◌, ℕ, zero, suc, ◌+◌, ◌-◌, ◌<◌, ◌^◌, List, [], ◌∷◌, length, ◌==◌, nat_le, Result, Ok, Err, refl}
+use Rattle.std.specs.Prelude.{◌≡◌, ℕ, suc, ◌+◌, ◌-◌, ◌<◌, ◌^◌, List, ◌∷◌, length, ◌==◌, nat_le, Result, Ok, Err, refl}
 use Rattle.std.proofs.Common.{ap, sym, ◌∙◌, subst, arith}
 use Rattle.psi_rate.specs.Composition.{Functions}
 use Rattle.psi_log_text.specs.declared.header.Header.{Header as LogHeader}
@@ -11,7 +11,7 @@ use Rattle.psi_log_words.specs.declared.refusals.LogError.TheVariants.{Refused, 
 use Rattle.psi_log_words.proofs.WordLemmas.{bind_ok, ok_same}
 use Rattle.psi_log_words.specs.Regions.{box_before}
 use Rattle.psi_log_lines.specs.Lines.{read_step}
-use Rattle.psi_log.specs.Reading.{read_steps, read}
+use Rattle.psi_log.specs.Reading.{read_steps}
 use Rattle.psi_log_lines.specs.Scanned.{next_step}
 use Rattle.psi_state.specs.declared.outcome.Step.{Step}
 use Rattle.psi_log.specs.Cursor.{Cursor, next_of, begun, ended, log_of, left_of}

@@ -1,11 +1,9 @@
 -- Answers in the proof of `judging::judged`.
-use Rattle.std.specs.Prelude.{◌≡◌, ℕ, List, Ok, Err, Result, length}
 use Rattle.std.proofs.Common.{ap, sym, ◌∙◌, arith}
 use Rattle.std.proofs.lemmas.Grind.{common_steps}
 use Rattle.psi_rate.specs.Composition.{system_functions}
 use Rattle.psi_log_text.specs.declared.header.Header.{Header}
 use Rattle.psi_log_text.specs.Log.{LogRegion}
-use Rattle.psi_log_words.specs.Refusal.{Refusal}
 use Rattle.psi_replay.specs.Verdict.{event_numbers}
 use Rattle.psi_replay.specs.Passes.{judge_begin}
 use Rattle.psi_replay.proofs.PassLemmas.{judged_begins, judged_steps}

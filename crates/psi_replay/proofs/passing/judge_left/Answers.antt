@@ -1,10 +1,10 @@
 -- Answers in the proof of `passing::judge_left`.
-use Rattle.std.specs.Prelude.{◌≡◌, ℕ, List, ◌+◌, Result, Ok, length}
+use Rattle.std.specs.Prelude.{◌≡◌, ◌+◌, Ok}
 use Rattle.std.proofs.Common.{ap, sym, ◌∙◌, subst}
 use Rattle.psi_rate.specs.Composition.{system_functions}
 use Rattle.psi_log_text.specs.declared.header.Header.{Header}
 use Rattle.psi_log_text.specs.Log.{LogRegion}
-use Rattle.psi_log_words.specs.Refusal.{Refusal, IsLogError}
+use Rattle.psi_log_words.specs.Refusal.{IsLogError}
 use Rattle.psi_log.specs.Cursor.{Cursor, ended}
 use Rattle.psi_replay.specs.Verdict.{judge_end, event_numbers}
 use Rattle.psi_replay.specs.RegionsViews.{seen}

@@ -1,12 +1,10 @@
 -- Answers in the proof of `replay::replay_text`.
-use Rattle.std.specs.Prelude.{◌≡◌, ℕ, List}
-use Rattle.std.proofs.Common.{ap, sym, ◌∙◌, subst}
+use Rattle.std.specs.Prelude.{ℕ}
+use Rattle.std.proofs.Common.{ap, sym, ◌∙◌}
 use Rattle.psi_past.specs.Seeded.{Seeded}
 use Rattle.psi_past.specs.SeedWord.{seed_word}
 use Rattle.psi_rate.specs.Composition.{system_functions}
 use Rattle.psi_log_text.specs.declared.header.Header.{Header}
-use Rattle.psi_log_text.specs.Log.{Certificate}
-use Rattle.psi_log_words.specs.Refusal.{IsLogError}
 use Rattle.psi_replay.specs.Verdict.{judged, event_numbers}
 use Rattle.psi_replay.specs.Passes.{told, judged_left, judged_under}
 use Rattle.psi_replay.proofs.PassLemmas.{replay_left, replay_refused, verdict_left, verdict_refused, refused_as}
