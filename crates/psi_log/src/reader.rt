@@ -1,10 +1,10 @@
 //! A log that is read in one pass, step by step.
 
 ghost use Rattle.std.specs.Prelude.{◌≡◌, ◌+◌, ◌<◌, ◌≤◌, length, false, not, Ok, IfOk, IfErr, OnOk, OnErr, IsTrue};
-ghost use Rattle.psi_log_words.specs.Refusal.{Gives, IsLogError};
 ghost use Rattle.psi_log_words.specs.Regions.{box_before};
-ghost use Rattle.psi_log_lines.specs.Scanned.{next_step};
+ghost use Rattle.psi_log_words.specs.Refusal.{Gives, IsLogError};
 ghost use Rattle.psi_log.specs.SpotsViews.{region_in, either, HasQueues, IsFilled};
+ghost use Rattle.psi_log_lines.specs.Scanned.{next_step};
 ghost use Rattle.psi_log.specs.ReaderViews.{spot_of, other_of};
 ghost use Rattle.psi_log.specs.Told.{shown};
 ghost use Rattle.psi_log.specs.Cursor.{begin_line, begun, next_of, ended, IsCursor};

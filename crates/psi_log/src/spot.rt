@@ -188,21 +188,21 @@ fn scan_onto<'t>(
 // The step whose line begins a text, word by word, with the region before it in a spot. The region after it is read
 // onto another spot. The vector holds the line's words.
 fn words_onto<'t>(
+    words: &mut Vec<&'t [u8]>,
     header: &Header,
     line: u32,
     from: &Spot<'t>,
     to: &mut Spot<'t>,
     text: &'t [u8],
-    words: &mut Vec<&'t [u8]>,
 ) -> Result<ReadLine<'t>, LogError>
+    requires from { IsFilled header.now.queues from.now }
     requires some { 1 ≤ header.now.queues }
     requires few { header.now.queues ≤ 32 }
-    requires from { IsFilled header.now.queues from.now }
     requires queues { HasQueues header.now.queues to.old }
-    ensures queues { HasQueues header.now.queues to.new }
     ensures filled { IfOk result (λ read. read.stays ≡ false → IsFilled header.now.queues to.new) }
     ensures value { IfOk result (λ read. next_step header.now line (box_before header.now.version (region_in from.now)) text.now
         ≡ Ok (record { step = read.step; region = either read.stays (region_in from.now) (region_in to.new) }, read.rest.now)) }
+    ensures queues { HasQueues header.now.queues to.new }
     ensures refused { IfErr result (λ error. IsLogError error (next_step header.now line (box_before header.now.version (region_in from.now)) text.now)) }
 {
     let before = from.box_in(header.version);
@@ -247,5 +247,5 @@ pub(crate) fn read_onto<'t>(
         Ok(None) => {}
         Err(_) => return Err(LogError::OutOfMemory),
     }
-    words_onto(header, line, from, to, text, words)
+    words_onto(words, header, line, from, to, text)
 }

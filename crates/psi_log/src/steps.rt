@@ -3,9 +3,9 @@
 ghost use Rattle.std.specs.Prelude.{◌≡◌, ◌+◌, ◌-◌, ◌≤◌, length, map, take, Ok, IfOk, IfErr, IfSome, OnOk, option_copied};
 ghost use Rattle.std.specs.List.{All};
 ghost use Rattle.psi_log_words.specs.Refusal.{IsLogError};
+ghost use Rattle.psi_log_lines.specs.LinesViews.{entry_of, HasRegion, IsLast};
 ghost use Rattle.psi_log_lines.specs.Lines.{read_step};
 ghost use Rattle.psi_log.specs.Reading.{read_steps};
-ghost use Rattle.psi_log_lines.specs.LinesViews.{entry_of, HasRegion, IsLast};
 ghost use Rattle.psi_log_lines.specs.Scanned.{next_step};
 
 use psi_log_lines::{LastSet, greatest_horizon, read_move_line, read_set_line};

@@ -2,11 +2,11 @@
 //! a box goes past one of these.
 
 ghost use Rattle.std.specs.Prelude.{◌≡◌, ◌↔◌, ◌<◌, ℕ, List, length, map, slice_index_or, true, false, None, IsTrue, IfOk};
-ghost use Rattle.psi_event.specs.Law.{Function};
 ghost use Rattle.psi_packed.specs.Boxes.{AreMonotoneUnhalted, AreCorners};
+ghost use Rattle.psi_event.specs.Law.{Function};
 ghost use Rattle.psi_packed.specs.Views.{low_words, high_words};
-ghost use Rattle.psi_packed.specs.UnitEvents.{Encloses};
 ghost use Rattle.psi_packed_set.specs.Sets.{IsPackedBox};
+ghost use Rattle.psi_packed.specs.UnitEvents.{Encloses};
 ghost use Rattle.psi_packed_set.specs.UnitsKept.{AreUnitEvents};
 
 use psi_event::EventLaw;
