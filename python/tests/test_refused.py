@@ -83,7 +83,7 @@ def test_an_answer_that_fits_on_no_disk(here, capsys, name):
         (here / f"full{ending}").symlink_to("/dev/full")
     status = tool.main([str(word).format("full") for word in words])
     out, error = capsys.readouterr()
-    assert (status, out) == (1 if name == "psi-plot" else 7, ""), error
+    assert (status, out) == (7, ""), error
     last = error.splitlines()[-1]
     assert last.startswith(f"{name.split()[0]}: ") and last.endswith("No space left on device")
 

@@ -144,7 +144,7 @@ def test_where_a_picture_is_written_is_looked_at_first(tool, tmp_path):
     for words in (["forward", NET], ["report", "absent"], ["coupling", "absent"]):
         status, out, error = tool("psi-plot", *words, "-o", "none/picture.svg")
         said = "-o none/picture.svg can't be written: No such file or directory"
-        assert (status, out, error) == (1, "", f"psi-plot: {said}\n")
+        assert (status, out, error) == (7, "", f"psi-plot: {said}\n")
     assert [*tmp_path.iterdir()] == []
 
 
