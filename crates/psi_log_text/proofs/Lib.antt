@@ -1,4 +1,5 @@
 -- The lemmas of this crate.
 pub mod JoinedLemmas
 pub mod LinePiecesLemmas
+pub mod MoveLemmas
 mod Worked

@@ -38,16 +38,6 @@ pub(crate) fn put_set(out: &mut [u8], at: usize, table: &[Digits], states: &[Sta
     end
 }
 
-// Whether queue `q` holds other numbers of customers in one box than in the other.
-#[inline]
-fn is_changed(from: &Bounds, to: &Bounds, q: u8) -> bool
-    requires queue { q < length from.now.lo }
-    requires same { length from.now.lo ≡ length to.now.lo }
-    ensures { result ≡ differs from.now to.now q }
-{
-    from.least(q) != to.least(q) || from.greatest(q) != to.greatest(q)
-}
-
 // Puts the word of queue `q` with its range in a box.
 #[tactic(auto, unfolding(crate::specs::Room::spaced_words, crate::specs::Text::numbers_text))]
 fn put_range(out: &mut [u8], at: usize, table: &[Digits], to: &Bounds, q: u8) -> usize
@@ -60,30 +50,6 @@ fn put_range(out: &mut [u8], at: usize, table: &[Digits], to: &Bounds, q: u8) ->
     let queue = put_first(out, at, table, q as u16);
     let least = put_next(out, queue, table, to.least(q));
     put_next(out, least, table, to.greatest(q))
-}
-
-// Puts the word of queue `q`, where its range isn't the same in the two boxes.
-#[inline]
-#[tactic(auto, unfolding(crate::specs::Room::spaced_words))]
-fn put_change(
-    out: &mut [u8],
-    at: usize,
-    table: &[Digits],
-    from: &Bounds,
-    to: &Bounds,
-    q: u8,
-) -> usize
-    requires queue { q < length from.now.lo }
-    requires same { length from.now.lo ≡ length to.now.lo }
-    requires room { at + 33 ≤ length out.old }
-    requires table { AreDigits table.now }
-    ensures text { Puts out.old out.new at result (spaced_words (picked from.now to.now (q ∷ []))) }
-    ensures short { result ≤ at + 33 }
-{
-    if is_changed(from, to, q) {
-        return put_range(out, at, table, to, q);
-    }
-    at
 }
 
 /// Puts the words of a box by what changed from the box before it.
@@ -102,8 +68,17 @@ pub(crate) fn put_move(
     ensures short { result ≤ at + 1061 }
 {
     let mut end = put(out, at, b" move");
-    for q in 0..from.len() {
-        end = put_change(out, end, table, from, to, q);
+    // Called for its clause: the corners have one length.
+    let _queues = to.len();
+    // The queues that changed and aren't told yet, as bits.
+    let mut left = from.apart(to);
+    for _ in 0..from.len() {
+        if left == 0 {
+            return end;
+        }
+        let q = left.trailing_zeros() as u8;
+        end = put_range(out, end, table, to, q);
+        left &= !(1 << q);
     }
     end
 }

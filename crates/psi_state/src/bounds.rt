@@ -1,6 +1,7 @@
 //! A box of states: all states between two corners.
 
-ghost use Rattle.std.specs.Prelude.{◌≡◌, ◌+◌, ◌-◌, ◌<◌, ◌≤◌, ◌↔◌, suc, IsTrue, MatchOption, length, slice_get, slice_index, slice_set};
+ghost use Rattle.std.specs.Prelude.{◌≡◌, ◌==◌, ◌&&◌, if◌then◌else◌, ℕ, ◌+◌, ◌-◌, ◌<◌, ◌≤◌, ◌↔◌, suc, IsTrue, MatchOption, length, slice_get, slice_index, slice_set};
+ghost use Rattle.std.specs.Int.{bit_at};
 ghost use Rattle.psi_state.specs.State.{IsBelow, box, zeros};
 ghost use Rattle.psi_state.specs.Members.{In, AreAmong};
 
@@ -118,6 +119,23 @@ impl Bounds {
         ensures { IsTrue result ↔ AreAmong (box self.now.lo self.now.hi) (box other.now.lo other.now.hi) }
     {
         other.lo.leq(&self.lo) && self.hi.leq(&other.hi)
+    }
+
+    /// The queues whose least or greatest number of customers is another in `other`, as bits: bit `i` is 1 where that of
+    /// queue `i` is, and all others are 0.
+    pub fn apart(&self, other: &Bounds) -> u32
+        ensures { (i : ℕ) → bit_at result i ≡ (if slice_index self.now.lo i == slice_index other.now.lo i && slice_index self.now.hi i == slice_index other.now.hi i then 0 else 1) }
+    {
+        let (lo, hi) = (self.lo.padded(), self.hi.padded());
+        let (others_lo, others_hi) = (other.lo.padded(), other.hi.padded());
+        // Nothing is left out, so that the compiler compares several numbers at once.
+        let mut apart: u32 = 0;
+        for i in 0..32 {
+            if (lo[i] != others_lo[i]) | (hi[i] != others_hi[i]) {
+                apart |= 1 << i;
+            }
+        }
+        apart
     }
 
     /// The number of states of the box where it is at most `most`, and `None` exactly where it is above.

@@ -219,6 +219,14 @@ impl State {
         quad_of(&self.values, i)
     }
 
+    /// The numbers, one for each queue, and zeros behind them.
+    #[inline]
+    pub(crate) fn padded(&self) -> [u16; 32]
+        ensures { (i : ℕ) → slice_index result i ≡ slice_index self.now i }
+    {
+        self.values
+    }
+
     // The numbers, one for each queue.
     fn as_slice(&self) -> &[u16]
         ensures { result.now ≡ self.now }

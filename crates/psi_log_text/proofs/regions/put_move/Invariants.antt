@@ -1,11 +1,6 @@
 -- Invariants of the loops of `put_move`.
-use Rattle.std.specs.Prelude.{◌∷◌, ◌+◌, ◌*◌, ◌≤◌, codes}
-use Rattle.psi_state.specs.State.{numbers_from}
-use Rattle.psi_log_text.specs.Room.{Puts, spaced_words, picked}
+use Rattle.psi_log_text.proofs.MoveLemmas.{AreTold}
 use Rattle.psi_log_text.proofs.regions.put_move.Given as goal
 
-abbrev pub invariant-loop-q : goal.invariant-loop-q
-invariant-loop-q l = record {
-  text : Puts l.fn.out l.out l.fn.at l.end (spaced_words (codes "move" ∷ picked l.from l.to (numbers_from 0 l.q)));
-  short : l.end ≤ l.fn.at + 5 + 33 * l.q;
-}
+abbrev pub invariant-loop : goal.invariant-loop
+invariant-loop l = AreTold l.from l.to l.fn.out l.out l.fn.at l.end-2 l.left l.counter
