@@ -21,6 +21,12 @@ stretch values first last = slice_range values first (last + 1)
 pub record IsRising (values : List ℕ) : Type 0 where
   pub each : (i : ℕ) → i + 1 < length values → slice_index values i ≤ slice_index values (i + 1)
 
+-- so many values stand before the first that is below the one before it: all where there is none
+pub record IsFront (values : List ℕ) (front : ℕ) : Type 0 where
+  pub within : front ≤ length values
+  pub rises : (i : ℕ) → i + 1 < front → slice_index values i ≤ slice_index values (i + 1)
+  pub falls : front < length values → slice_index values front < slice_index values (front - 1)
+
 -- what an `IndexTable` holds: 1 to 65,535 values, each of 32 bits
 pub record IsValueList (values : List ℕ) : Type 0 where
   pub some : 1 ≤ length values

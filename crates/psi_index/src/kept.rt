@@ -1,7 +1,7 @@
 //! What a table keeps beside its values.
 
 ghost use Rattle.std.specs.Prelude.{◌≡◌, ℕ, ◌<◌, ◌≤◌, ◌↔◌, IsTrue, IfOk, length, map, slice_index};
-ghost use Rattle.psi_index.specs.Extremes.{IsRising, IsValueList, complement, greatest_of, least_of, stretch};
+ghost use Rattle.psi_index.specs.Extremes.{IsFront, IsRising, IsValueList, complement, greatest_of, least_of, stretch};
 ghost use Rattle.psi_index.specs.BoundsKept.{ArePeaks, AreTroughs};
 
 use crate::OutOfMemory;
@@ -12,7 +12,8 @@ use std::alloc::{AllocError, Global};
 use std::marker::Model;
 
 // The values of a table and, where they don't rise, their levels, their complements and the levels of these, the
-// greatest value up to each place and the least from it on. It is seen as the list of the values.
+// greatest value up to each place and the least from it on; and how many stand before the first that falls. It is
+// seen as the list of the values.
 #[derive(Drop, Debug)]
 pub(crate) struct Kept {
     values: Vec<u32>,
@@ -22,6 +23,7 @@ pub(crate) struct Kept {
     peaks: Vec<u32>,
     troughs: Vec<u32>,
     rises: bool,
+    front: u16,
 }
 
 impl Model for Kept {
@@ -29,12 +31,13 @@ impl Model for Kept {
 
     ghost Value = { List ℕ };
 
+    ghost use Rattle.psi_index.specs.Extremes.{IsFront};
     ghost use Rattle.psi_index.specs.LevelsKept.{IsTable};
     ghost use Rattle.psi_index.specs.BoundsKept.{AreBounds};
 
     ghost view = { λ kept. kept.values.items };
 
-    ghost invariant = { λ kept. IsTable kept.values.items kept.low.items kept.complements.items kept.high.items kept.rises × AreBounds kept.values.items kept.peaks.items kept.troughs.items kept.rises };
+    ghost invariant = { λ kept. IsTable kept.values.items kept.low.items kept.complements.items kept.high.items kept.rises × AreBounds kept.values.items kept.peaks.items kept.troughs.items kept.rises × IsFront kept.values.items kept.front };
 }
 
 impl Kept {
@@ -44,10 +47,11 @@ impl Kept {
         requires few { length values.items ≤ 65535 }
         ensures { IfOk result (λ kept. kept ≡ values.items) }
     {
-        if is_rising(&values) {
+        let front = rising_front(&values);
+        if front == values.len() {
             Ok(Kept::rising(alloc, values))
         } else {
-            Kept::sparse(alloc, values)
+            Kept::sparse(alloc, values, front as u16)
         }
     }
 
@@ -57,6 +61,7 @@ impl Kept {
         requires rises { IsRising values.items }
         ensures { result ≡ values.items }
     {
+        let front = values.len() as u16;
         Kept {
             values,
             low: Vec::new(alloc),
@@ -65,13 +70,15 @@ impl Kept {
             peaks: Vec::new(alloc),
             troughs: Vec::new(alloc),
             rises: true,
+            front,
         }
     }
 
-    // Of values that don't.
-    fn sparse(alloc: Global, values: Vec<u32>) -> Result<Kept, OutOfMemory>
+    // Of values that don't, and so many before the first that falls.
+    fn sparse(alloc: Global, values: Vec<u32>, front: u16) -> Result<Kept, OutOfMemory>
         requires valid { IsValueList values.items }
         requires falls { ¬ IsRising values.items }
+        requires front { IsFront values.items front }
         ensures { IfOk result (λ kept. kept ≡ values.items) }
     {
         let low = levels_of(alloc, &values)?;
@@ -87,6 +94,7 @@ impl Kept {
             peaks,
             troughs,
             rises: false,
+            front,
         })
     }
 
@@ -170,6 +178,13 @@ impl Kept {
     {
         self.rises
     }
+
+    // How many values stand before the first that is below the one before it: all where there is none.
+    pub(crate) fn rising_front(&self) -> u16
+        ensures { IsFront self.now result }
+    {
+        self.front
+    }
 }
 
 // The complement of each value.
@@ -179,14 +194,14 @@ fn complements(alloc: Global, values: &[u32]) -> Result<Vec<u32>, AllocError>
     values.iter().map(|value| u32::MAX - *value).collect(alloc)
 }
 
-// Whether no value is below the one before it.
-fn is_rising(values: &[u32]) -> bool
-    ensures { IsTrue result ↔ IsRising values.now }
+// How many values stand before the first that is below the one before it: all where there is none.
+fn rising_front(values: &[u32]) -> usize
+    ensures { IsFront values.now result }
 {
     for i in 1..values.len() {
         if values[i] < values[i - 1] {
-            return false;
+            return i;
         }
     }
-    true
+    values.len()
 }

@@ -1,7 +1,7 @@
 //! The table of values.
 
 ghost use Rattle.std.specs.Prelude.{◌≡◌, ℕ, ◌<◌, ◌≤◌, ◌↔◌, IsTrue, IfOk, length, slice_index};
-ghost use Rattle.psi_index.specs.Extremes.{IsRising, IsValueList, greatest_of, least_of, stretch};
+ghost use Rattle.psi_index.specs.Extremes.{IsFront, IsRising, IsValueList, greatest_of, least_of, stretch};
 
 use crate::OutOfMemory;
 use crate::kept::Kept;
@@ -117,5 +117,12 @@ impl IndexTable {
         ensures { IsTrue result ↔ IsRising self.now }
     {
         self.kept().rises()
+    }
+
+    /// How many values stand before the first that is below the one before it: all where there is none.
+    pub fn rising_front(&self) -> u16
+        ensures { IsFront self.now result }
+    {
+        self.kept().rising_front()
     }
 }

@@ -2,6 +2,7 @@
 use Rattle.std.proofs.Common.{◌≡◌, ◌≢◌, ℕ, ◌+◌, ◌-◌, ◌*◌, ◌<◌, ◌≤◌, List, [], length, get_or, slice_index, Option, Some, None, false, inl, inr, ap, sym, subst, arith}
 use Rattle.std.proofs.lemmas.Bool.{cases_lt, cases_Bool}
 use Rattle.psi_event.proofs.ChoiceLemmas.{first_some-none, first_some-found}
+use Rattle.psi_index.specs.Extremes.{IsFront}
 use Rattle.psi_route.specs.Routing.{Shape, routing, weight, crosses, pair_of, pair_at, pair_from, pair_between}
 use Rattle.psi_route.proofs.ActingLemmas.{then_some-true, then_some-false}
 use Rattle.psi_route.proofs.UpsetLemmas.{crosses-is, is-crosses}
@@ -84,6 +85,35 @@ falls-none s a b n past (Some p) first second before limit no_more = record {
     | inl under ↦ before.before v w under less
     | inr more ↦ (let e : n ≡ w = omega arith in subst (λ k. crosses (routing s) a b v k ≡ false) e (no_more.each v (omega (arith, limit))))
   ];
+  at = before.at;
+}
+
+-- no key falls among values that rise
+pub rising-no_fall : (s : Shape) (table : List ℕ) (a b w front past : ℕ) → table ≡ get_or s.tables a [] → a < length s.targets → b < length s.targets → IsFront table front → past ≤ front
+    → NoFall s a b w past
+rising-no_fall s table a b w front past own first second rising few = record {
+  each = λ v small. elim (cases_Bool (crosses (routing s) a b v w)) [
+    | inr fails ↦ fails
+    | inl passes ↦ absurd (let cross = is-crosses (routing s) a b v w first second passes in
+        let falls : 32 * weight s a (v + 1) + a < 32 * weight s b w + b = cross.falls in
+        let above : 32 * weight s b w + b < 32 * weight s a v + a = cross.above in
+        let here : slice_index table v ≡ weight s a v = ap (λ (t : List ℕ). slice_index t v) own in
+        let next : slice_index table (v + 1) ≡ weight s a (v + 1) = ap (λ (t : List ℕ). slice_index t (v + 1)) own in
+        let more : slice_index table v ≤ slice_index table (v + 1) = rising.rises v (omega arith) in
+        omega arith)
+  ];
+}
+
+-- where no key falls before the fall that is found, past whatever number, it is the least of all
+pub falls-rest : (s : Shape) (a b n m past : ℕ) (found : Option (ℕ × ℕ)) → a < length s.targets → b < length s.targets → AreFalls s a b n found → IsPast s a b found past → n ≤ m
+    → ((w : ℕ) → NoFall s a b w past) → AreFalls s a b m found
+falls-rest s a b n m past None first second before limit more rest = record {
+  each = λ v w small. all-none s a b w first second (subst (λ k. NoFall s a b w k) limit (rest w)) v;
+}
+falls-rest s a b n m past (Some p) first second before limit more rest = record {
+  few = (let few : p.1 < n = before.few in omega arith);
+  here = before.here;
+  before = λ v w small less. (rest w).each v (omega (arith, limit));
   at = before.at;
 }
 

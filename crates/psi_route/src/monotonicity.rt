@@ -74,9 +74,13 @@ impl Route {
         ensures { result ≡ pair_between (shape_of self.now) a b }
     {
         let clear = self.clear(a, b);
+        let rising = self.tables[a as usize].rising_front();
         let mut found = None;
         for w in clear..self.cap(b) {
             let past = self.past(a, b, w, found);
+            if past <= rising {
+                break;
+            }
             let fall = self.first_fall(a, b, w, past);
             found = self.earlier(a, b, w, past, fall, found);
         }
