@@ -1,6 +1,6 @@
 //! Where the values of one table fall past those of another.
 
-ghost use Rattle.std.specs.Prelude.{ℕ, ◌+◌, ◌<◌, ◌≤◌, length, slice_index, MatchOption, IsTrue};
+ghost use Rattle.std.specs.Prelude.{ℕ, ◌+◌, ◌^◌, ◌<◌, ◌≤◌, length, slice_index, MatchOption, IsTrue};
 ghost use Rattle.std.specs.Bool.{MatchBool};
 ghost use Rattle.psi_index.specs.Falls.{Falls, NeverFalls};
 
@@ -11,7 +11,7 @@ impl IndexTable {
     /// great, and a later one is less. The number of the other's values where there is none.
     ///
     /// Two places of `other` at a time are passed over by the least value from them on and the greatest up to them; only
-    /// where these don't tell, each is looked up.
+    /// where these don't tell, and behind the last two, each is looked up.
     // Out of line: where it is inlined, what its caller keeps takes the registers of the loop.
     #[inline(never)]
     pub fn first_passed(&self, other: &IndexTable, more: u32) -> u16
@@ -24,18 +24,18 @@ impl IndexTable {
         // Called for its clause: the number of values here fits 16 bits, too.
         let _count = self.len();
         let count = other.len() as usize;
+        let more = more as u64;
         let mut near = 0;
         let mut place = 0;
-        while place < count {
-            let past = count.min(place + 2);
-            let low = others_troughs[place] as u64 + more as u64;
-            let high = others_peaks[past - 1] as u64 + more as u64;
+        while place + 1 < count {
+            let low = others_troughs[place] as u64 + more;
+            let high = others_peaks[place + 1] as u64 + more;
             near = past_lower(peaks, near, low);
             if !stays_above(troughs, near, high) {
                 let passed = self.passed_between(
                     other,
                     place as u16,
-                    past as u16,
+                    place as u16 + 2,
                     near as u16,
                     more,
                 );
@@ -43,9 +43,12 @@ impl IndexTable {
                     return passed;
                 }
             }
-            place = past;
+            place += 2;
         }
-        other.len()
+        match self.passed_between(other, place as u16, count as u16, near as u16, more) {
+            Some(passed) => passed,
+            None => other.len(),
+        }
     }
 
     // The first place of `other` from `first` on and before `past` whose value, with `more` added, the values here fall
@@ -57,15 +60,16 @@ impl IndexTable {
         first: u16,
         past: u16,
         near: u16,
-        more: u32,
+        more: u64,
     ) -> Option<u16>
         requires others { past ≤ length other.now }
         requires near { near ≤ length self.now }
+        requires more { more < 2 ^ 32 }
         ensures { MatchOption result ((w : ℕ) → first ≤ w → w < past → NeverFalls self.now (slice_index other.now w + more))
             (λ p. (first ≤ p) × (p < past) × ((w : ℕ) → first ≤ w → w < p → NeverFalls self.now (slice_index other.now w + more)) × Falls self.now (slice_index other.now p + more)) }
     {
         for place in first..past {
-            if self.falls_past(near, other.at(place) as u64 + more as u64) {
+            if self.falls_past(near, other.at(place) as u64 + more) {
                 return Some(place);
             }
         }
@@ -91,12 +95,11 @@ fn past_lower(peaks: &[u32], near: usize, bound: u64) -> usize
     ensures within { result ≤ length peaks.now }
     ensures below { (k : ℕ) → near ≤ k → k < result → slice_index peaks.now k < bound }
 {
-    for place in near..peaks.len() {
-        if peaks[place] as u64 >= bound {
-            return place;
-        }
+    let mut place = near;
+    while place < peaks.len() && (peaks[place] as u64) < bound {
+        place += 1;
     }
-    peaks.len()
+    place
 }
 
 // Whether the trough at the place, if there is one, isn't below the bound.
