@@ -1,9 +1,12 @@
 //! What an event does, in the terms of queueing.
 
-use crate::Tables;
+ghost use Rattle.std.specs.Prelude.{◌≡◌, IfOk};
+
+use crate::{OutOfMemory, Tables};
 use psi_guard::Parts;
 use psi_route::{Full, Source};
 use psi_state::Queues;
+use std::alloc::Global;
 
 /// What an event does to a state. Queues are counted from 0, sizes and amounts are in customers.
 ///
@@ -83,4 +86,35 @@ pub enum Kind {
         /// The parts, 1 to 32, of different queues.
         parts: Parts,
     },
+}
+
+impl Kind {
+    /// The same kind, with the least and greatest values of its tables at hand.
+    ///
+    /// # Errors
+    ///
+    /// [`OutOfMemory`] where there is no memory for them.
+    pub fn indexed(self, alloc: Global) -> Result<Kind, OutOfMemory>
+        ensures { IfOk result (λ kind. kind ≡ self) }
+    {
+        match self {
+            Kind::Index {
+                from,
+                to,
+                table,
+                full,
+                size,
+            } => {
+                let table = table.indexed(alloc)?;
+                Ok(Kind::Index {
+                    from,
+                    to,
+                    table,
+                    full,
+                    size,
+                })
+            }
+            kind => Ok(kind),
+        }
+    }
 }

@@ -7,10 +7,10 @@ use crate::OutOfMemory;
 use psi_index::IndexTable;
 use std::alloc::Global;
 
-// The values of one table: of as many as an index table takes, they are kept as one, which can be shared.
+// The values of one table: of as many as an index table takes, they may be kept as one, which can be shared.
 #[derive(Drop, Debug)]
 pub(crate) enum Row {
-    // No values, or too many.
+    // Any values.
     Plain(Vec<u32>),
     // 1 to 65,535 values.
     Indexed(IndexTable),
@@ -18,13 +18,23 @@ pub(crate) enum Row {
 
 impl Row {
     // The table of these values.
-    pub(crate) fn of(alloc: Global, values: Vec<u32>) -> Result<Row, OutOfMemory>
+    fn of(alloc: Global, values: Vec<u32>) -> Result<Row, OutOfMemory>
         ensures { IfOk result (λ row. row_of row ≡ values.items) }
     {
         if values.is_empty() || values.len() > 65_535 {
             Ok(Row::Plain(values))
         } else {
             Ok(Row::Indexed(IndexTable::new(alloc, values)?))
+        }
+    }
+
+    // The same table, as an index table where it has as many values as one takes.
+    pub(crate) fn indexed(self, alloc: Global) -> Result<Row, OutOfMemory>
+        ensures { IfOk result (λ row. row_of row ≡ row_of self) }
+    {
+        match self {
+            Row::Plain(values) => Row::of(alloc, values),
+            Row::Indexed(table) => Ok(Row::Indexed(table)),
         }
     }
 

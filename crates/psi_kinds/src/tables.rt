@@ -38,7 +38,7 @@ impl Tables {
         }
     }
 
-    /// Puts a table at the end of the list, with its least and greatest values at hand where it has 1 to 65,535 values.
+    /// Puts a table at the end of the list. Its least and greatest values aren't at hand: [`Tables::indexed`] makes them so.
     ///
     /// # Errors
     ///
@@ -48,8 +48,7 @@ impl Tables {
         ensures pushed { OnOk result (self.new ≡ self.old ++ row.items ∷ []) }
         ensures refused { OnErr result (self.new ≡ self.old) }
     {
-        let row = Row::of(*self.rows.allocator(), row)?;
-        self.push_row(row)
+        self.push_row(Row::Plain(row))
     }
 
     // The same of a row.
@@ -76,7 +75,25 @@ impl Tables {
         self.at(i).values()
     }
 
-    /// The same tables once more. Those of 1 to 65,535 values are shared, so they take no memory of their own.
+    /// The same tables, with the least and greatest values of those of 1 to 65,535 values at hand.
+    ///
+    /// # Errors
+    ///
+    /// [`OutOfMemory`] where there is no memory for them.
+    pub fn indexed(self, alloc: Global) -> Result<Tables, OutOfMemory>
+        ensures { IfOk result (λ tables. tables ≡ self) }
+    {
+        let mut indexed = Tables {
+            rows: Vec::with_capacity(alloc, self.rows.len())?,
+        };
+        for row in self.rows {
+            indexed.push_row(row.indexed(alloc)?)?;
+        }
+        Ok(indexed)
+    }
+
+    /// The same tables once more. Those whose least and greatest values are at hand are shared, so they take no memory of
+    /// their own.
     ///
     /// # Errors
     ///
