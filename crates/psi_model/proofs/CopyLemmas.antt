@@ -1,12 +1,15 @@
 -- Events of several servers: how many they are, their index values and their rates.
-use Rattle.std.proofs.Common.{◌≡◌, ℕ, zero, suc, ◌+◌, ◌*◌, ◌<◌, ◌≤◌, List, [], ◌∷◌, ◌++◌, length, map, nat_le, false, refl, sym, ap, arith, length-append}
+use Rattle.std.proofs.Common.{◌≡◌, ℕ, zero, suc, ◌+◌, ◌*◌, ◌<◌, ◌≤◌, List, [], ◌∷◌, ◌++◌, length, map, take, get_or, nat_le, false, refl, sym, ap, ◌∙◌, subst, arith, length-append}
+use Rattle.std.specs.List.{flat_map}
 use Rattle.std.proofs.Math.Nat.{suc-mul}
 use Rattle.std.proofs.lemmas.Bool.{lt-leb}
-use Rattle.std.proofs.lemmas.List.{length-map, append-nil, append_assoc, map_push}
+use Rattle.std.proofs.lemmas.List.{length-map, append-nil, append_assoc, map_push, take_more}
+use Rattle.std.proofs.lemmas.List.Concat.{flat_map-append}
 use Rattle.psi_state.specs.State.{numbers_from}
 use Rattle.psi_rate.specs.Rates.{total}
 use Rattle.psi_kinds.specs.declared.Kind.{Kind}
-use Rattle.psi_model.specs.Expansion.{at_server, served, served_by, values_in, values_of, most_index_values}
+use Rattle.psi_model.specs.Expansion.{at_server, served, served_by, expanded, values_in, values_of, most_index_values}
+use Rattle.psi_model.specs.declared.entries.Queue.{Queue}
 use Rattle.psi_model.specs.declared.entries.NamedEvent.{NamedEvent}
 
 -- the total of two lists of events, one behind the other
@@ -69,3 +72,15 @@ at_least (suc n) v some = omega (arith, suc-mul n v)
 -- one event's index values are too many
 pub too_many : (values n v : ℕ) → 1 ≤ n → most_index_values < v → nat_le (values + n * v) most_index_values ≡ false
 too_many values n v some many = (let least = at_least n v some in lt-leb (values + n * v) most_index_values (omega arith))
+
+-- one event more is expanded
+pub expanded_push : (queues : List Queue) (events : List NamedEvent) (event : NamedEvent)
+    → flat_map (expanded queues) (events ++ event ∷ []) ≡ flat_map (expanded queues) events ++ expanded queues event
+expanded_push queues events event =
+    flat_map-append (expanded queues) events (event ∷ []) ∙ ap (λ (es : List NamedEvent). flat_map (expanded queues) events ++ es) (append-nil (expanded queues event))
+
+pub expanded_more : (queues : List Queue) (events : List NamedEvent) (i : ℕ) (event : NamedEvent) → i < length events → event ≡ get_or events i event
+    → flat_map (expanded queues) (take (i + 1) events) ≡ flat_map (expanded queues) (take i events) ++ expanded queues event
+expanded_more queues events i event small is =
+    ap (λ (es : List NamedEvent). flat_map (expanded queues) es) (take_more events i event small) ∙ expanded_push queues (take i events) (get_or events i event)
+    ∙ ap (λ (e : NamedEvent). flat_map (expanded queues) (take i events) ++ expanded queues e) (sym is)

@@ -1,5 +1,5 @@
 -- Events are expanded over the servers of their sources.
-use Rattle.std.specs.Prelude.{ℕ, List, map, length, slice_index, codes, Option, Some, None, option_map}
+use Rattle.std.specs.Prelude.{ℕ, ◌<◌, List, map, length, slice_index, codes, Option, Some, None, option_map, All, IfSome}
 use Rattle.psi_state.specs.State.{numbers_from}
 use Rattle.psi_rate.specs.Rates.{total}
 use Rattle.psi_route.specs.declared.Source.{Source}
@@ -54,6 +54,10 @@ served_by n event = map (served event) (numbers_from 1 n)
 -- an event expanded over the servers of its source
 abbrev pub expanded : List Queue → NamedEvent → List NamedEvent
 expanded queues event = served_by (servers_at queues (source_of event.kind)) event
+
+-- the source of each event that has one is one of the queues
+pub record AreSourced (queues : List Queue) (events : List NamedEvent) : Type 0 where
+  pub each : All (λ e. IfSome (source_of e.kind) (λ source. source.queue < length queues)) events
 
 -- the number of index values of a kind
 abbrev pub values_in : Kind → ℕ

@@ -1,11 +1,13 @@
 //! Events are expanded over the servers of their sources.
 
 ghost use Rattle.std.specs.Prelude.{◌≡◌, ◌≤◌, ◌<◌, ◌++◌, length, map, MatchOption, IfSome, IfOk, OnOk, option_map};
+ghost use Rattle.std.specs.List.{flat_map};
 ghost use Rattle.psi_rate.specs.Rates.{total};
-ghost use Rattle.psi_model.specs.Expansion.{source_of, with_server, at_server, servers_at, served_by, values_in, most_index_values};
+ghost use Rattle.psi_model.specs.Draft.{drafted, unexpanded, IsWhole};
+ghost use Rattle.psi_model.specs.Expansion.{source_of, with_server, at_server, servers_at, served_by, expanded, AreSourced, values_in, most_index_values};
 
 use crate::OutOfMemory;
-use crate::entries::{NamedEvent, Queue};
+use crate::entries::{Draft, NamedEvent, Queue};
 use psi_kinds::{Kind, Tables};
 use psi_route::Source;
 use std::alloc::Global;
@@ -118,6 +120,65 @@ pub fn push_expanded(
         })?;
     }
     Ok(())
+}
+
+// The events, with the least and greatest values of their tables at hand.
+fn all_indexed(alloc: Global, events: Vec<NamedEvent>) -> Result<Vec<NamedEvent>, OutOfMemory>
+    ensures { IfOk result (λ indexed. indexed.items ≡ events.items) }
+{
+    let mut indexed = Vec::with_capacity(alloc, events.len())?;
+    for event in events {
+        let kind = event.kind.indexed(alloc)?;
+        indexed.push(NamedEvent {
+            name: event.name,
+            server: event.server,
+            rate: event.rate,
+            kind,
+        })?;
+    }
+    Ok(indexed)
+}
+
+// The events one behind the other, each once for each server of its source.
+#[tactic(auto, using(crate::proofs::CopyLemmas::expanded_more))]
+fn all_served(
+    alloc: Global,
+    queues: &[Queue],
+    events: &[NamedEvent],
+) -> Result<Vec<NamedEvent>, OutOfMemory>
+    requires { AreSourced queues.now events.now }
+    ensures { IfOk result (λ all. all.items ≡ flat_map (expanded queues.now) events.now) }
+{
+    let mut all = Vec::with_capacity(alloc, events.len())?;
+    for event in events {
+        let servers = servers_at(queues, source_of(&event.kind));
+        push_expanded(alloc, &mut all, event, servers)?;
+    }
+    Ok(all)
+}
+
+/// What was said of a network whose events aren't expanded yet, with each event once for each server of its source, in
+/// their order. The tables of an index event are made once, and its servers share them.
+///
+/// # Errors
+///
+/// [`OutOfMemory`] where there is no memory for the events.
+pub fn expand(alloc: Global, draft: Draft) -> Result<Draft, OutOfMemory>
+    requires sources { AreSourced draft.queues.items draft.events.items }
+    requires whole { IsWhole draft }
+    ensures network { IfOk result (λ made. drafted made ≡ unexpanded draft) }
+    ensures whole { IfOk result IsWhole }
+{
+    let events = all_indexed(alloc, draft.events)?;
+    let events = all_served(alloc, draft.queues.as_slice(), events.as_slice())?;
+    Ok(Draft {
+        queues: draft.queues,
+        caps: draft.caps,
+        events,
+        limit: draft.limit,
+        split: draft.split,
+        rewards: draft.rewards,
+    })
 }
 
 // The number of index values of tables, and None exactly where it is above the most that there may be.

@@ -2,7 +2,7 @@
 //!
 //! A network is `Net`: named queues with their capacities and servers, named events with their rates and
 //! kinds, and rewards. It is made of a `Draft`, what was said of it, whose events are expanded over the
-//! servers of their sources beforehand. `Net::system` gives what a sample runs. `generated` gives a large
+//! servers of their sources beforehand (`expand`). `Net::system` gives what a sample runs. `generated` gives a large
 //! valid network for trials, made from a number.
 #![tactic(auto)]
 
@@ -14,7 +14,9 @@ mod net;
 
 pub use building::{accepted_reward, capacities};
 pub use entries::{Draft, NamedEvent, Queue, RewardEntry};
-pub use expansion::{MOST_INDEX_VALUES, index_values, push_expanded, servers_at, source_of};
+pub use expansion::{
+    MOST_INDEX_VALUES, expand, index_values, push_expanded, servers_at, source_of,
+};
 pub use generating::generated;
 pub use net::Net;
 pub use psi_name::{Name, name_of};
