@@ -1,14 +1,14 @@
 -- Every event that is read is accepted, and their rates make a wheel.
-use Rattle.std.specs.Prelude.{◌≡◌, ℕ, ◌+◌, ◌<◌, ◌≤◌, List, [], ◌++◌, length, map, codes, IfSome, IfOk, Option, Some, None, Ok, refl}
+use Rattle.std.specs.Prelude.{◌≡◌, ℕ, ◌+◌, ◌<◌, ◌≤◌, List, [], ◌∷◌, ◌++◌, length, map, codes, IfSome, IfOk, Option, Some, None, Ok, refl}
 use Rattle.std.proofs.Common.{ap, sym, ◌∙◌, subst, arith}
 use Rattle.std.proofs.lemmas.List.{length-map}
-use Rattle.std.proofs.lemmas.List.Elements.{All-nil, All-append}
+use Rattle.std.proofs.lemmas.List.Elements.{All-nil, All-append, All-push}
 use Rattle.toml.specs.Data.{Data, Members}
 use Rattle.psi_state.specs.State.{AreCapacities}
 use Rattle.psi_rate.specs.Rates.{greatest_total, total}
 use Rattle.psi_net_document.specs.Refusal.{top, event_place}
 use Rattle.psi_net_document.specs.Values.{elements_in, table_in, each}
-use Rattle.psi_model.specs.Expansion.{source_of, servers_at, expanded, values_of, count_key}
+use Rattle.psi_model.specs.Expansion.{source_of, servers_at, expanded, AreSourced, values_of, count_key}
 use Rattle.psi_net.specs.EventTables.{event_of, within_limits, are_within, Listed, event_step, events_in, events_of}
 use Rattle.psi_model.specs.Valid.{AreListed}
 use Rattle.psi_net_document.specs.declared.refusals.Cause.TheVariants.{NoEvents}
@@ -33,6 +33,14 @@ source_read place version earlier names caps queues ms event listed is are h =
     let valid = subst (λ (cs : List ℕ). AreCapacities cs) (sym are) (capacities_kept queues listed) in
     let kept = if_ok (IsEvent caps) (event_kept place version earlier names caps (names_same queues names caps is are) valid ms) h in
     subst (λ (n : ℕ). IfSome (source_of event.kind) (λ s. s.queue < n)) (ap (λ (cs : List ℕ). length cs) are ∙ length-map queues (λ (q : Queue). q.capacity)) (source_small caps event.kind kept.kind.named)
+
+-- one event more whose source is one of the queues
+pub sourced_more : (queues : List Queue) (events : List NamedEvent) (event : NamedEvent) → AreSourced queues events → IfSome (source_of event.kind) (λ s. s.queue < length queues)
+    → AreSourced queues (events ++ event ∷ [])
+sourced_more queues events event kept one = record { each = All-push (λ (e : NamedEvent). IfSome (source_of e.kind) (λ s. s.queue < length queues)) events event kept.each one }
+
+pub none_sourced : (queues : List Queue) → AreSourced queues []
+none_sourced queues = record { each = All-nil (λ (e : NamedEvent). IfSome (source_of e.kind) (λ s. s.queue < length queues)) }
 
 -- and of the tables: each has at least one event
 record AreRead (queues : List Queue) (n : ℕ) (read : Listed) : Type 0 where

@@ -1,7 +1,7 @@
 //! The array `event`.
 
 ghost use Rattle.std.specs.Prelude.{◌≡◌, ◌≤◌, ◌<◌, ◌+◌, ◌++◌, ◌∷◌, [], length, map, codes, None, false, Result, IfSome, IfOk, OnOk};
-ghost use Rattle.std.specs.List.{list_any};
+ghost use Rattle.std.specs.List.{flat_map, list_any};
 ghost use Rattle.std.specs.Str.{bytes_eq};
 ghost use Rattle.toml.specs.View.{view, table_view};
 ghost use Rattle.psi_rate.specs.Rates.{total};
@@ -10,7 +10,7 @@ ghost use Rattle.psi_net_document.specs.declared.refusals.NetRefusal.{NetRefusal
 ghost use Rattle.psi_net_document.specs.Refusal.{Gives};
 ghost use Rattle.psi_net.specs.Errors.{Reads};
 ghost use Rattle.psi_net_document.specs.Values.{seen, no_unknown, required, each};
-ghost use Rattle.psi_model.specs.Expansion.{source_of, servers_at, served_by};
+ghost use Rattle.psi_model.specs.Expansion.{source_of, servers_at, expanded, AreSourced};
 ghost use Rattle.psi_net.specs.EventTables.{kind_named, kind_in, event_keys, kind_of, event_of, are_within, event_step, events_of};
 ghost use Rattle.psi_net.specs.Counting.{IsCounted};
 ghost use Rattle.psi_net.specs.Listing.{listed};
@@ -23,9 +23,7 @@ use crate::part_tables::guarded;
 use crate::words::KindWord;
 use indexmap::IndexSet;
 use psi_kinds::Kind;
-use psi_model::{
-    MOST_INDEX_VALUES, Name, NamedEvent, index_values, push_expanded, servers_at, source_of,
-};
+use psi_model::{MOST_INDEX_VALUES, Name, NamedEvent, index_values, servers_at, source_of};
 use psi_net_document::{
     Cause, NetRefusal, Place, Section, elements_in, find, no_unknown, present, read, required_name,
     required_number, table_in, text_in, unless_taken,
@@ -154,18 +152,21 @@ fn event(
     })
 }
 
-// The events read so far, the names of their tables, their index values and their total rate.
+// The events of the tables read so far, the names of these, and what the events come to once they are expanded over
+// servers: their number, their index values and their total rate.
 #[derive(Drop)]
 pub(crate) struct EventList {
     pub(crate) names: IndexSet<Name>,
     pub(crate) events: Vec<NamedEvent>,
+    pub(crate) count: u32,
     pub(crate) values: u32,
     pub(crate) rates: u32,
 }
 
-// Index values and a total rate.
+// A number of events, their index values and their total rate.
 #[derive(Drop)]
 struct Counts {
+    count: u32,
     values: u32,
     rates: u32,
 }
@@ -174,18 +175,19 @@ struct Counts {
 #[tactic(auto, using(psi_model::proofs::CopyLemmas::length_more, psi_model::proofs::CopyLemmas::values_more, psi_model::proofs::CopyLemmas::rates_more, psi_model::proofs::CopyLemmas::too_many), unfolding(crate::specs::EventTables::are_within, crate::specs::EventTables::within_limits))]
 fn counted(
     place: Place,
+    known: &KnownQueues,
     list: &EventList,
     event: &NamedEvent,
-    servers: u16,
 ) -> Result<Counts, NetRefusal>
-    requires counted { IsCounted list.now.events.items list.now.values list.now.rates }
-    requires some { 1 ≤ servers }
-    requires few { servers ≤ 64 }
+    requires counted { IsCounted (flat_map (expanded known.now.queues.items) list.now.events.items) list.now.count list.now.values list.now.rates }
+    requires source { IfSome (source_of event.now.kind) (λ source. source.queue < length known.now.queues.items) }
     requires rate { event.now.rate ≤ 1048576 }
-    ensures value { Gives (λ _. tt) result (are_within place event.now (list.now.events.items ++ served_by servers event.now)) }
-    ensures counted { IfOk result (λ counts. IsCounted (list.now.events.items ++ served_by servers event.now) counts.values counts.rates) }
+    ensures value { Gives (λ _. tt) result (are_within place event.now (flat_map (expanded known.now.queues.items) list.now.events.items ++ expanded known.now.queues.items event.now)) }
+    ensures counted { IfOk result (λ counts. IsCounted (flat_map (expanded known.now.queues.items) list.now.events.items ++ expanded known.now.queues.items event.now) counts.count counts.values counts.rates) }
 {
-    if list.events.len() + servers as usize > MOST_EVENTS as usize {
+    let servers = servers_of(known, &event.kind);
+    let count = list.count + servers as u32;
+    if count > MOST_EVENTS as u32 {
         let key = if source_of(&event.kind).is_some() {
             "from"
         } else {
@@ -204,7 +206,11 @@ fn counted(
     if rates > MOST_TOTAL {
         return Err(Cause::TotalTooLarge.at_key(place, "rate"));
     }
-    Ok(Counts { values, rates })
+    Ok(Counts {
+        count,
+        values,
+        rates,
+    })
 }
 
 // How many servers the source of a kind has; without a source there is 1.
@@ -218,7 +224,7 @@ fn servers_of(known: &KnownQueues, kind: &Kind) -> u16
 }
 
 // One element of the array, with its number and what was read before it.
-#[tactic(auto, unfolding(crate::specs::EventTables::event_step))]
+#[tactic(auto, using(psi_model::proofs::CopyLemmas::expanded_push), unfolding(crate::specs::EventTables::event_step))]
 fn push_event(
     alloc: Global,
     version: u32,
@@ -227,9 +233,11 @@ fn push_event(
     list: &mut EventList,
     value: &Value,
 ) -> Result<(), NetError>
-    requires { IsCounted list.old.events.items list.old.values list.old.rates }
-    ensures value { Reads (λ _. listed list.new) result (event_step version known.now.queues.items number (listed list.old) (view value.now)) }
-    ensures counted { OnOk result (IsCounted list.new.events.items list.new.values list.new.rates) }
+    requires counted { IsCounted (flat_map (expanded known.now.queues.items) list.old.events.items) list.old.count list.old.values list.old.rates }
+    requires sources { AreSourced known.now.queues.items list.old.events.items }
+    ensures value { Reads (λ _. listed known.now.queues.items list.new) result (event_step version known.now.queues.items number (listed known.now.queues.items list.old) (view value.now)) }
+    ensures counted { OnOk result (IsCounted (flat_map (expanded known.now.queues.items) list.new.events.items) list.new.count list.new.values list.new.rates) }
+    ensures sources { OnOk result (AreSourced known.now.queues.items list.new.events.items) }
 {
     let place = Place {
         section: Section::Event,
@@ -237,17 +245,17 @@ fn push_event(
     };
     let table = judged!(table_in(place, value));
     let event = read!(event(alloc, place, version, &list.names, known, table));
-    let servers = servers_of(known, &event.kind);
-    let counts = judged!(counted(place, list, &event, servers));
-    push_expanded(alloc, &mut list.events, &event, servers)?;
+    let counts = judged!(counted(place, known, list, &event));
     list.names.insert(event.name)?;
+    list.events.push(event)?;
+    list.count = counts.count;
     list.values = counts.values;
     list.rates = counts.rates;
     Ok(())
 }
 
 // The events of the array's elements.
-#[tactic(auto, using(psi_net_document::proofs::TurnLemmas::turn, crate::proofs::ErrorLemmas::turn_errs, psi_net_document::proofs::TurnLemmas::turn_ends))]
+#[tactic(auto, using(psi_net_document::proofs::TurnLemmas::turn, crate::proofs::ErrorLemmas::turn_errs, psi_net_document::proofs::TurnLemmas::turn_ends, crate::proofs::KeptEventsLemmas::none_sourced))]
 fn all_events(
     alloc: Global,
     version: u32,
@@ -255,11 +263,13 @@ fn all_events(
     values: &[Value],
 ) -> Result<EventList, NetError>
     requires { length values.now ≤ 1024 }
-    ensures { Reads listed result (each (event_step version known.now.queues.items) 1 (record { names = []; events = [] }) (map view values.now)) }
+    ensures value { Reads (listed known.now.queues.items) result (each (event_step version known.now.queues.items) 1 (record { names = []; events = [] }) (map view values.now)) }
+    ensures sources { IfOk result (λ list. AreSourced known.now.queues.items list.events.items) }
 {
     let mut list = EventList {
         names: IndexSet::new(alloc),
         events: Vec::new(alloc),
+        count: 0,
         values: 0,
         rates: 0,
     };
@@ -270,7 +280,7 @@ fn all_events(
     Ok(list)
 }
 
-// `event`: an array of 1 to 1,024 tables.
+// `event`: an array of 1 to 1,024 tables. Their events aren't expanded yet.
 #[tactic(auto, unfolding(crate::specs::EventTables::events_in))]
 pub(crate) fn events(
     alloc: Global,
@@ -278,7 +288,8 @@ pub(crate) fn events(
     known: &KnownQueues,
     value: Option<&Value>,
 ) -> Result<Vec<NamedEvent>, NetError>
-    ensures { Reads (λ events. events.items) result (events_of version known.now.queues.items (seen value.entry)) }
+    ensures value { Reads (λ events. flat_map (expanded known.now.queues.items) events.items) result (events_of version known.now.queues.items (seen value.entry)) }
+    ensures sources { IfOk result (λ events. AreSourced known.now.queues.items events.items) }
 {
     match value {
         Some(value) => {

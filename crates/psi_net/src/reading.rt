@@ -5,7 +5,8 @@ ghost use Rattle.psi_net_document.specs.Refusal.{Gives, top};
 ghost use Rattle.psi_net.specs.Errors.{IsNetError, Reads};
 ghost use Rattle.toml.specs.View.{view, table_view};
 ghost use Rattle.psi_net_document.specs.Values.{seen, required};
-ghost use Rattle.psi_model.specs.Draft.{drafted, IsWhole};
+ghost use Rattle.psi_model.specs.Draft.{drafted, unexpanded, IsWhole};
+ghost use Rattle.psi_model.specs.Expansion.{AreSourced};
 ghost use Rattle.psi_net.specs.Reading.{version_in, most_limit, numbers_of, document_network, file_text, text_network, network_of};
 
 use crate::event_tables::events;
@@ -13,7 +14,7 @@ use crate::judged;
 use crate::net_error::NetError;
 use crate::queue_tables::queues;
 use crate::reward_tables::rewards;
-use psi_model::{Draft, Net};
+use psi_model::{Draft, Net, expand};
 use psi_net_document::{
     Cause, MOST_NET_BYTES, NetRefusal, Place, find, no_unknown, number_or, present, read,
 };
@@ -90,11 +91,12 @@ fn top_numbers(table: &Table) -> Result<TopNumbers, NetRefusal>
     })
 }
 
-// The network that a document says.
+// The network that a document says. Its events aren't expanded yet.
 #[tactic(auto, unfolding(crate::specs::Reading::document_network))]
 fn document(alloc: Global, table: &Table) -> Result<Draft, NetError>
-    ensures network { Reads drafted result (document_network (table_view table.now)) }
+    ensures network { Reads unexpanded result (document_network (table_view table.now)) }
     ensures whole { IfOk result IsWhole }
+    ensures sources { IfOk result (λ draft. AreSourced draft.queues.items draft.events.items) }
 {
     let numbers = judged!(top_numbers(table));
     let known = read!(queues(alloc, find(table, "queue")));
@@ -124,11 +126,12 @@ fn file_text(bytes: &[u8]) -> Result<&str, NetRefusal>
     }
 }
 
-// What a text says. The TOML table is dropped here, so it is gone when the network is made.
+// What a text says. The TOML table is dropped here, so it is gone when events are expanded and the network is made.
 #[tactic(auto, unfolding(crate::specs::Reading::text_network))]
 fn text_draft(alloc: Global, text: &str) -> Result<Draft, NetError>
-    ensures network { Reads drafted result (text_network text.now) }
+    ensures network { Reads unexpanded result (text_network text.now) }
     ensures whole { IfOk result IsWhole }
+    ensures sources { IfOk result (λ draft. AreSourced draft.queues.items draft.events.items) }
 {
     match toml::table_from_str(alloc, text) {
         Ok(table) => document(alloc, &table),
@@ -197,5 +200,6 @@ pub fn net_of(alloc: Global, bytes: &[u8]) -> Result<Net, NetError>
 {
     let text = judged!(file_text(bytes));
     let draft = read!(text_draft(alloc, text));
+    let draft = expand(alloc, draft)?;
     Ok(Net::made(alloc, draft)?)
 }
