@@ -172,7 +172,7 @@ struct Counts {
 }
 
 // What the events so far and those of this one come to, which is within the limits.
-#[tactic(auto, using(psi_model::proofs::CopyLemmas::length_more, psi_model::proofs::CopyLemmas::values_more, psi_model::proofs::CopyLemmas::rates_more, psi_model::proofs::CopyLemmas::too_many), unfolding(crate::specs::EventTables::are_within, crate::specs::EventTables::within_limits))]
+#[tactic(auto, using(psi_model::proofs::CopyLemmas::length_more, psi_model::proofs::CopyLemmas::values_more, psi_model::proofs::CopyLemmas::rates_more, psi_model::proofs::CopyLemmas::too_many, psi_model::proofs::QueueLemmas::servers_most), unfolding(crate::specs::EventTables::are_within, crate::specs::EventTables::within_limits))]
 fn counted(
     place: Place,
     known: &KnownQueues,
@@ -185,7 +185,7 @@ fn counted(
     ensures value { Gives (λ _. tt) result (are_within place event.now (flat_map (expanded known.now.queues.items) list.now.events.items ++ expanded known.now.queues.items event.now)) }
     ensures counted { IfOk result (λ counts. IsCounted (flat_map (expanded known.now.queues.items) list.now.events.items ++ expanded known.now.queues.items event.now) counts.count counts.values counts.rates) }
 {
-    let servers = servers_of(known, &event.kind);
+    let servers = servers_at(known.queues.as_slice(), source_of(&event.kind));
     let count = list.count + servers as u32;
     if count > MOST_EVENTS as u32 {
         let key = if source_of(&event.kind).is_some() {
@@ -211,16 +211,6 @@ fn counted(
         values,
         rates,
     })
-}
-
-// How many servers the source of a kind has; without a source there is 1.
-fn servers_of(known: &KnownQueues, kind: &Kind) -> u16
-    requires { IfSome (source_of kind.now) (λ source. source.queue < length known.now.queues.items) }
-    ensures value { result ≡ servers_at known.now.queues.items (source_of kind.now) }
-    ensures some { 1 ≤ result }
-    ensures few { result ≤ 64 }
-{
-    servers_at(known.queues.as_slice(), source_of(kind))
 }
 
 // One element of the array, with its number and what was read before it.
