@@ -63,7 +63,8 @@ fn call_table(table: &IndexTable)
         table.first_at_least_between(1, 6, 6),
     );
     let _below = (table.past_last_below(1, 6, 4), table.first_below(1, 6, 4));
-    let _passed = (table.first_passed(table, 1), table.share().is_ok());
+    let _passed = (table.first_passed(table, 1), table.rising_front());
+    let _shared = table.share().is_ok();
 }
 
 // An empty set with room for eight states, and a region that is split where it has as few.

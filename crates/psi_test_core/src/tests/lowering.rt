@@ -40,13 +40,14 @@ fn by_tables(alloc: Global, first: &[u32], second: &[u32]) -> Result<Kind, OutOf
     let mut to = Queues::empty();
     to.push(0);
     to.push(1);
-    Ok(Kind::Index {
+    let kind = Kind::Index {
         from: None,
         to,
         table,
         full: Full::Lost,
         size: 1,
-    })
+    };
+    kind.indexed(alloc)
 }
 
 // The event joins the second of two empty queues, and the first where one customer is there.
