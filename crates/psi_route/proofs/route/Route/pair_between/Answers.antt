@@ -1,5 +1,5 @@
 -- Answers in the proof of `Route::pair_between`.
-use Rattle.std.proofs.Common.{◌≡◌, ◌≤◌, ℕ, List, [], Option, Some, length, get_or, slice_index, refl, ap, ◌∙◌, subst, arith}
+use Rattle.std.proofs.Common.{◌≡◌, ◌≤◌, ℕ, List, [], Some, length, get_or, slice_index, refl, ap, ◌∙◌, subst, arith}
 use Rattle.std.proofs.lemmas.List.{get_or_read_under}
 use Rattle.psi_route.specs.Falls.{AreFalls}
 use Rattle.psi_route.specs.Route.{shape_of}
