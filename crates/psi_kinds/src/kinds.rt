@@ -1,6 +1,6 @@
 //! What an event does, in the terms of queueing.
 
-ghost use Rattle.std.specs.Prelude.{◌≡◌, IfOk};
+ghost use Rattle.std.specs.Prelude.{◌≡◌, OnOk};
 
 use crate::{OutOfMemory, Tables};
 use psi_guard::Parts;
@@ -89,32 +89,17 @@ pub enum Kind {
 }
 
 impl Kind {
-    /// The same kind, with the least and greatest values of its tables at hand.
+    /// Puts the least and greatest values of its tables at hand; the kind stays the same.
     ///
     /// # Errors
     ///
-    /// [`OutOfMemory`] where there is no memory for them.
-    pub fn indexed(self, alloc: Global) -> Result<Kind, OutOfMemory>
-        ensures { IfOk result (λ kind. kind ≡ self) }
+    /// [`OutOfMemory`] where there is no memory for them. The kind may then have other tables.
+    pub fn index(&mut self, alloc: Global) -> Result<(), OutOfMemory>
+        ensures { OnOk result (self.new ≡ self.old) }
     {
         match self {
-            Kind::Index {
-                from,
-                to,
-                table,
-                full,
-                size,
-            } => {
-                let table = table.indexed(alloc)?;
-                Ok(Kind::Index {
-                    from,
-                    to,
-                    table,
-                    full,
-                    size,
-                })
-            }
-            kind => Ok(kind),
+            Kind::Index { table, .. } => table.index_all(alloc),
+            _ => Ok(()),
         }
     }
 }

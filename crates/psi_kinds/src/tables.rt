@@ -7,6 +7,7 @@ use crate::rows::Row;
 use psi_index::IndexTable;
 use std::alloc::Global;
 use std::marker::Model;
+use std::mem;
 
 /// One table for each queue of a list: what the index of the queue is where it holds 0, 1, 2, .. customers.
 ///
@@ -38,7 +39,7 @@ impl Tables {
         }
     }
 
-    /// Puts a table at the end of the list. Its least and greatest values aren't at hand: [`Tables::indexed`] makes them so.
+    /// Puts a table at the end of the list. Its least and greatest values aren't at hand: [`Tables::index_all`] makes them so.
     ///
     /// # Errors
     ///
@@ -75,21 +76,20 @@ impl Tables {
         self.at(i).values()
     }
 
-    /// The same tables, with the least and greatest values of those of 1 to 65,535 values at hand.
+    /// Puts the least and greatest values of the tables of 1 to 65,535 values at hand; the tables stay the same.
     ///
     /// # Errors
     ///
-    /// [`OutOfMemory`] where there is no memory for them.
-    pub fn indexed(self, alloc: Global) -> Result<Tables, OutOfMemory>
-        ensures { IfOk result (λ tables. tables ≡ self) }
+    /// [`OutOfMemory`] where there is no memory for them. There may then be other tables.
+    pub fn index_all(&mut self, alloc: Global) -> Result<(), OutOfMemory>
+        ensures { OnOk result (self.new ≡ self.old) }
     {
-        let mut indexed = Tables {
-            rows: Vec::with_capacity(alloc, self.rows.len())?,
-        };
-        for row in self.rows {
-            indexed.push_row(row.indexed(alloc)?)?;
+        let mut rows = Vec::with_capacity(alloc, self.rows.len())?;
+        for row in mem::replace(&mut self.rows, Vec::new(alloc)) {
+            rows.push(row.indexed(alloc)?)?;
         }
-        Ok(indexed)
+        self.rows = rows;
+        Ok(())
     }
 
     /// The same tables once more. Those whose least and greatest values are at hand are shared, so they take no memory of

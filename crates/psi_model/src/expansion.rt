@@ -122,21 +122,14 @@ pub fn push_expanded(
     Ok(())
 }
 
-// The events, with the least and greatest values of their tables at hand.
-fn all_indexed(alloc: Global, events: Vec<NamedEvent>) -> Result<Vec<NamedEvent>, OutOfMemory>
-    ensures { IfOk result (λ indexed. indexed.items ≡ events.items) }
+// Puts the least and greatest values of the tables of events at hand; the events stay the same.
+fn index_all(alloc: Global, events: &mut [NamedEvent]) -> Result<(), OutOfMemory>
+    ensures { OnOk result (events.new ≡ events.old) }
 {
-    let mut indexed = Vec::with_capacity(alloc, events.len())?;
-    for event in events {
-        let kind = event.kind.indexed(alloc)?;
-        indexed.push(NamedEvent {
-            name: event.name,
-            server: event.server,
-            rate: event.rate,
-            kind,
-        })?;
+    for place in 0..events.len() {
+        events[place].kind.index(alloc)?;
     }
-    Ok(indexed)
+    Ok(())
 }
 
 // The events one behind the other, each once for each server of its source.
@@ -169,8 +162,9 @@ pub fn expand(alloc: Global, draft: Draft) -> Result<Draft, OutOfMemory>
     ensures network { IfOk result (λ made. drafted made ≡ unexpanded draft) }
     ensures whole { IfOk result IsWhole }
 {
-    let events = all_indexed(alloc, draft.events)?;
-    let events = all_served(alloc, draft.queues.as_slice(), events.as_slice())?;
+    let mut listed = draft.events;
+    index_all(alloc, &mut listed)?;
+    let events = all_served(alloc, draft.queues.as_slice(), listed.as_slice())?;
     Ok(Draft {
         queues: draft.queues,
         caps: draft.caps,

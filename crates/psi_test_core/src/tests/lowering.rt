@@ -40,14 +40,15 @@ fn by_tables(alloc: Global, first: &[u32], second: &[u32]) -> Result<Kind, OutOf
     let mut to = Queues::empty();
     to.push(0);
     to.push(1);
-    let kind = Kind::Index {
+    let mut kind = Kind::Index {
         from: None,
         to,
         table,
         full: Full::Lost,
         size: 1,
     };
-    kind.indexed(alloc)
+    kind.index(alloc)?;
+    Ok(kind)
 }
 
 // The event joins the second of two empty queues, and the first where one customer is there.
