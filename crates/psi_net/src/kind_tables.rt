@@ -1,6 +1,6 @@
 //! The keys of each kind of event, in the order in which they are read.
 
-ghost use Rattle.std.specs.Prelude.{◌≡◌, ℕ, ◌≤◌, ◌<◌, ◌+◌, [], true, length, map, codes, None, is_some, nat_le, slice_index, vec_capacity, IfOk, OnOk};
+ghost use Rattle.std.specs.Prelude.{◌≡◌, ℕ, ◌≤◌, ◌<◌, ◌+◌, [], true, length, map, codes, None, is_some, nat_le, slice_index, IfOk, OnOk};
 ghost use Rattle.std.specs.List.{list_all};
 ghost use Rattle.toml.specs.View.{view, table_view};
 ghost use Rattle.psi_route.specs.declared.Full.TheVariants.{Lost};
@@ -87,29 +87,17 @@ fn full(place: Place, value: Option<&Value>) -> Result<Full, NetRefusal>
 // The greatest index value.
 const MOST_INDEX_VALUE: u32 = 1_000_000_000;
 
-// One integer more of a row, for which there is room.
-#[tactic(auto, unfolding(crate::specs::KindTables::number_step))]
-fn push_number(place: Place, numbers: &mut Vec<u32>, value: &Value) -> Result<(), NetRefusal>
-    requires room { length numbers.old.items < vec_capacity numbers.old }
-    ensures value { (n : ℕ) → Gives (λ _. numbers.new.items) result (number_step place n numbers.old.items (view value.now)) }
-    ensures count { OnOk result (length numbers.new.items ≡ length numbers.old.items + 1) }
-    ensures capacity { vec_capacity numbers.new ≡ vec_capacity numbers.old }
-{
-    let number = read!(number_in(place, "table", 0, MOST_INDEX_VALUE, value));
-    numbers.push_reserved(number);
-    Ok(())
-}
-
 // The integers of a row.
 // Out of line: where it is inlined, what its caller keeps takes the registers of the loop.
 #[inline(never)]
-#[tactic(auto, using(psi_net_document::proofs::TurnLemmas::turn, psi_net_document::proofs::TurnLemmas::turn_fails, psi_net_document::proofs::TurnLemmas::turn_ends))]
+#[tactic(auto, using(psi_net_document::proofs::TurnLemmas::turn, psi_net_document::proofs::TurnLemmas::turn_fails, psi_net_document::proofs::TurnLemmas::turn_ends), unfolding(crate::specs::KindTables::number_step))]
 fn all_numbers(alloc: Global, place: Place, values: &[Value]) -> Result<Vec<u32>, NetError>
     ensures { Reads (λ numbers. numbers.items) result (each (number_step place) 1 [] (map view values.now)) }
 {
     let mut numbers = Vec::with_capacity(alloc, values.len())?;
     for value in values {
-        judged!(push_number(place, &mut numbers, value));
+        let number = judged!(number_in(place, "table", 0, MOST_INDEX_VALUE, value));
+        numbers.push_reserved(number);
     }
     Ok(numbers)
 }
