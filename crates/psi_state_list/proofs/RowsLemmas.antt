@@ -1,5 +1,5 @@
 -- States that are kept as their numbers.
-use Rattle.std.specs.Prelude.{◌≡◌, ℕ, zero, suc, ◌+◌, ◌*◌, ◌<◌, ◌≤◌, ◌-◌, List, [], ◌∷◌, ◌++◌, length, take, drop, Some, Bool, ◌&&◌, nat_lt, false, refl}
+use Rattle.std.specs.Prelude.{◌≡◌, ℕ, zero, suc, ◌+◌, ◌*◌, ◌<◌, ◌≤◌, ◌-◌, List, [], ◌∷◌, ◌++◌, length, take, drop, slice_set, Some, Bool, ◌&&◌, nat_lt, false, refl}
 use Rattle.std.specs.List.{slice_get, list_all}
 use Rattle.std.specs.Ordering.{is_lt, nat_cmp, ordering_then}
 use Rattle.std.specs.declared.cmp.Ordering.{Ordering}
@@ -8,7 +8,7 @@ use Rattle.std.specs.Cmp.{nat_cmp_is}
 use Rattle.std.specs.Cmp.Lexicographic.{slice_cmp}
 use Rattle.std.proofs.Common.{get_or, ap, sym, ◌∙◌, arith}
 use Rattle.std.proofs.lemmas.Grind.{common_steps}
-use Rattle.std.proofs.lemmas.List.{take_all, nil_from_length, take-append-drop, take-append-le, drop-append-le, drop-drop, drop-take, take-take, length-drop}
+use Rattle.std.proofs.lemmas.List.{take_all, take_more, take_more_set, length-set, nil_from_length, take-append-drop, take-append-le, drop-append-le, drop-drop, drop-take, take-take, length-drop}
 use Rattle.std.proofs.lemmas.List.Folds.{list_all-append}
 use Rattle.std.proofs.lemmas.Nat.{mul-le}
 use Rattle.std.proofs.Math.Nat.{suc-mul}
@@ -151,3 +151,14 @@ rows_equal a b q r xs ys long other same =
 pub rows_same : (a b q r : ℕ) (xs ys : List ℕ) → q ≡ r → a ≡ b → xs ≡ ys
     → ◌≡◌ {A = States} (record { queues = q; states = rows a q xs }) (record { queues = r; states = rows b r ys })
 rows_same a b q r xs ys queues count numbers = cc
+
+-- the number of one queue more is put on a state
+pub put_one : (x y row : List ℕ) (queue : ℕ) → y ≡ slice_set x queue (get_or row queue 0) → length x ≡ length row → queue < length row → take queue x ≡ take queue row
+    → (length y ≡ length row) × (take (queue + 1) y ≡ take (queue + 1) row)
+put_one x y row queue is same within front =
+    let inside : queue < length x = omega arith in
+    let put : take (queue + 1) (slice_set x queue (get_or row queue 0)) ≡ take queue x ++ get_or row queue 0 ∷ [] = take_more_set x queue (get_or row queue 0) inside in
+    let own : take (queue + 1) row ≡ take queue row ++ get_or row queue 0 ∷ [] = take_more row queue 0 within in (
+      ap length is ∙ length-set x queue (get_or row queue 0) ∙ same,
+      ap (take (queue + 1)) is ∙ put ∙ ap (λ (xs : List ℕ). xs ++ get_or row queue 0 ∷ []) front ∙ sym own,
+    )

@@ -1,6 +1,6 @@
 //! States one behind another, borrowed from the vector of their numbers.
 
-ghost use Rattle.std.specs.Prelude.{◌≡◌, ◌↔◌, IsTrue, MatchOption, ◌+◌, ◌*◌, ◌<◌, ◌≤◌, ℕ, nat_le, length, take, drop, Some};
+ghost use Rattle.std.specs.Prelude.{◌≡◌, ◌↔◌, IsTrue, MatchOption, ◌+◌, ◌*◌, ◌<◌, ◌≤◌, ℕ, nat_le, length, take, drop, slice_index, Some};
 ghost use Rattle.std.specs.Ordering.{is_lt, nat_cmp};
 ghost use Rattle.std.specs.Cmp.Lexicographic.{slice_cmp};
 ghost use Rattle.std.specs.List.{slice_get, list_all};
@@ -72,6 +72,17 @@ fn is_less(row: &[u16], next: &[u16]) -> bool
     false
 }
 
+// Puts the numbers of a row in the place of a state's.
+#[inline]
+fn put_all(row: &[u16], x: &mut State)
+    requires { length row.now ≡ length x.old }
+    ensures { x.new ≡ row.now }
+{
+    for queue in 0..x.len() {
+        x.set(queue, row[queue as usize]);
+    }
+}
+
 // The state of these numbers.
 #[inline]
 fn state_of(row: &[u16], queues: u8) -> State
@@ -81,10 +92,109 @@ fn state_of(row: &[u16], queues: u8) -> State
     ensures { result ≡ row.now }
 {
     let mut x = State::zero(queues);
-    for queue in 0..queues {
+    put_all(row, &mut x);
+    x
+}
+
+// Whether these are four to eight queues: the first four numbers of a row are then read and compared at once, and the
+// others one by one.
+#[inline]
+fn are_few(queues: u8) -> bool
+    ensures least { IsTrue result → 4 ≤ queues }
+    ensures most { IsTrue result → queues ≤ 8 }
+{
+    4 <= queues && queues <= 8
+}
+
+// Four numbers side by side.
+#[inline]
+fn side_by_side(first: u16, second: u16, third: u16, fourth: u16) -> u64
+    ensures { result ≡ first + 65536 * second + 4294967296 * (third + 65536 * fourth) }
+{
+    let low = first as u64 + 65_536 * second as u64;
+    let high = third as u64 + 65_536 * fourth as u64;
+    low + 4_294_967_296 * high
+}
+
+// Whether the first four numbers of a row are a state's own.
+#[inline]
+fn begins_as(row: &[u16], x: &State) -> bool
+    requires row { 4 ≤ length row.now }
+    requires state { 4 ≤ length x.now }
+    ensures { IsTrue result ↔ ((i : ℕ) → i < 4 → slice_index row.now i ≡ slice_index x.now i) }
+{
+    let own = side_by_side(row[0], row[1], row[2], row[3]);
+    own == side_by_side(x.get(0), x.get(1), x.get(2), x.get(3))
+}
+
+// Whether the numbers of a row from queue 4 on are a state's own.
+#[inline]
+fn ends_as(row: &[u16], x: &State, queues: u8) -> bool
+    requires row { length row.now ≡ queues }
+    requires state { length x.now ≡ queues }
+    ensures { IsTrue result ↔ ((i : ℕ) → 4 ≤ i → i < queues → slice_index row.now i ≡ slice_index x.now i) }
+{
+    for queue in 4..queues {
+        if row[queue as usize] != x.get(queue) {
+            return false;
+        }
+    }
+    true
+}
+
+// Whether the numbers of a row of these queues, four or more, are a state's own.
+#[inline]
+fn is_few(row: &[u16], x: &State, queues: u8) -> bool
+    requires least { 4 ≤ queues }
+    requires row { length row.now ≡ queues }
+    requires state { length x.now ≡ queues }
+    ensures { IsTrue result ↔ (row.now ≡ x.now) }
+{
+    begins_as(row, x) && ends_as(row, x, queues)
+}
+
+// Puts the first four numbers of a row on a state.
+#[inline]
+fn put_four(row: &[u16], x: &mut State)
+    requires least { 4 ≤ length row.now }
+    requires count { length row.now ≡ length x.old }
+    ensures front { take 4 x.new ≡ take 4 row.now }
+    ensures count { length x.new ≡ length row.now }
+{
+    // All are read before the first is put, so that the compiler takes them at once.
+    let (first, second, third, fourth) = (row[0], row[1], row[2], row[3]);
+    x.set(0, first);
+    x.set(1, second);
+    x.set(2, third);
+    x.set(3, fourth);
+}
+
+// Puts the number of a queue on a state that has those of the queues before it, where there is such a queue.
+#[inline]
+fn put_next(row: &[u16], queue: u8, x: &mut State)
+    requires front { take queue x.old ≡ take queue row.now }
+    requires count { length x.old ≡ length row.now }
+    ensures front { take (queue + 1) x.new ≡ take (queue + 1) row.now }
+    ensures count { length x.new ≡ length row.now }
+{
+    if (queue as usize) < row.len() {
         x.set(queue, row[queue as usize]);
     }
-    x
+}
+
+// Puts the numbers of a row of four to eight queues in the place of a state's.
+#[inline]
+fn put_few(row: &[u16], x: &mut State)
+    requires least { 4 ≤ length row.now }
+    requires most { length row.now ≤ 8 }
+    requires count { length row.now ≡ length x.old }
+    ensures { x.new ≡ row.now }
+{
+    put_four(row, x);
+    put_next(row, 4, x);
+    put_next(row, 5, x);
+    put_next(row, 6, x);
+    put_next(row, 7, x);
 }
 
 impl<'l> Rows<'l> {
@@ -109,6 +219,18 @@ impl<'l> Rows<'l> {
         ensures { result ≡ length self.now.states }
     {
         self.count
+    }
+
+    /// The same states, borrowed once more.
+    #[inline]
+    pub fn again(&self) -> Rows<'l>
+        ensures { result ≡ self.now }
+    {
+        Rows {
+            queues: self.queues,
+            count: self.count,
+            numbers: self.numbers,
+        }
     }
 
     /// So many of the states, from a place on; places are counted from 0.
@@ -197,5 +319,36 @@ impl<'l> Rows<'l> {
         ensures { MatchOption (slice_get self.now.states place) ⊥ (λ y. IsTrue result ↔ (y ≡ x.now)) }
     {
         x.is_row(self.row(place))
+    }
+
+    /// The same of a state that has as many queues.
+    #[inline]
+    pub fn is_there(&self, place: usize, x: &State) -> bool
+        requires place { place < length self.now.states }
+        requires queues { MatchOption (slice_get self.now.states place) ⊥ (λ y. length y ≡ length x.now) }
+        ensures { MatchOption (slice_get self.now.states place) ⊥ (λ y. IsTrue result ↔ (y ≡ x.now)) }
+    {
+        let row = self.row(place);
+        if are_few(self.queues) {
+            return is_few(row, x, self.queues);
+        }
+        x.is_row(row)
+    }
+
+    /// Puts the state at a place, counted from 0, in the place of another.
+    #[inline]
+    pub fn get_onto(&self, place: usize, x: &mut State)
+        requires { place < length self.now.states }
+        ensures { slice_get self.now.states place ≡ Some x.new }
+    {
+        let row = self.row(place);
+        if x.len() != self.queues {
+            *x = State::zero(self.queues);
+        }
+        if are_few(self.queues) {
+            put_few(row, x);
+        } else {
+            put_all(row, x);
+        }
     }
 }
