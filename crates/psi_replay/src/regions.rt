@@ -46,15 +46,16 @@ pub(crate) fn region_of(log: &Log, number: u32) -> ReadRegion<'_>
 }
 
 impl ReadRegion<'_> {
-    /// Whether a state is one of the region's. In a set it is looked for at the place `near` and behind it first,
-    /// and where it is found, `near` becomes its place.
-    pub(crate) fn holds(&self, x: &State, near: &mut usize) -> bool
+    /// Whether a state is one of the region's. In a set it is looked for at the place `next` and before it first,
+    /// and where it is found, `next` becomes the place behind it.
+    #[inline]
+    pub(crate) fn holds(&self, x: &State, next: &mut usize) -> bool
         requires { IsRegion (length x.now) (seen self.now) }
         ensures { result ≡ has (states_of (seen self.now)) x.now }
     {
         match self {
             ReadRegion::Box(bounds) => bounds.holds(x),
-            ReadRegion::Set(set) => set.holds(x, near),
+            ReadRegion::Set(set) => set.holds(x, next),
         }
     }
 
@@ -112,14 +113,25 @@ fn least_room(caps: &State) -> u16
 }
 
 // Whether no state of a set has more customers than a queue has room for; at once where no number is above the least
-// capacity.
+// capacity, which isn't looked for where there are few states.
 fn set_is_within(set: &Set<'_>, caps: &State) -> bool
     requires { IsRegion (length caps.now) (in_set set.now) }
     ensures { result ≡ is_within caps.now (in_set set.now) }
 {
+    if set.len() <= 2 {
+        return each_is_within(set, caps);
+    }
     if set.are_at_most(least_room(caps)) {
         return true;
     }
+    each_is_within(set, caps)
+}
+
+// The same state by state.
+fn each_is_within(set: &Set<'_>, caps: &State) -> bool
+    requires { IsRegion (length caps.now) (in_set set.now) }
+    ensures { result ≡ is_within caps.now (in_set set.now) }
+{
     for place in 0..set.len() {
         if !set.leq(place, caps) {
             return false;
