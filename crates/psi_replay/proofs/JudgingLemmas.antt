@@ -13,6 +13,7 @@ use Rattle.psi_log_words.proofs.WordLemmas.{held}
 use Rattle.psi_log.specs.Told.{step_at}
 use Rattle.psi_replay.specs.Verdict.{rejected, covers, is_within, is_small, judge_step, judge_steps}
 use Rattle.psi_replay.specs.Judging.{Gives}
+use Rattle.psi_replay.specs.Passes.{and_then}
 use Rattle.psi_replay.specs.declared.causes.Rejection.{Rejection}
 use Rattle.psi_replay.specs.declared.causes.Cause.TheVariants.{StepNumber, WrongEvent, OutsideBox, NotCovered, SplitTooLarge}
 use Rattle.psi_replay.specs.Numbered.{nth_region}
@@ -57,6 +58,11 @@ slice_get_none : {X : Type 0} (xs : List X) (i : ℕ) → slice_get xs i ≡ Non
 slice_get_none [] i none = omega arith
 slice_get_none (x ∷ xs) zero none = absurd cc
 slice_get_none (x ∷ xs) (suc i) none = (let rest = slice_get_none xs i none in omega arith)
+
+-- two rules hold where both do
+pub both_hold : (a b : Result (Unit {0}) Refusal) → and_then a b ≡ Ok tt → (a ≡ Ok tt) × (b ≡ Ok tt)
+both_hold (Ok x) b is = (refl, is)
+both_hold (Err refusal) b is = absurd cc
 
 -- where the rules before it hold, the last rule of a step's line is left
 pub step_judged : (caps : List ℕ) (limit : ℕ) (events : ℕ → ℕ) (f : Functions) (n t : ℕ) (before : LogRegion) (e : Entry) (numbered drawn within small covered : Bool) (result : Result (Unit {0}) Rejection)

@@ -134,19 +134,10 @@ box_covers f b c r tells =
     (λ all. tells.1 (record { each = λ x member. has-In (box c.lo c.hi) (f x) (all_each test (box b.lo b.hi) x all member) }))
 
 -- a region covers itself where nothing changes, and may follow itself
-region_covers_itself : (r : LogRegion) → covers unchanged r r ≡ true
+pub region_covers_itself : (r : LogRegion) → covers unchanged r r ≡ true
 region_covers_itself (in_box b) = covers_itself (box b.lo b.hi)
 region_covers_itself (in_set xs) = covers_itself xs
 
-pub region_covers_same : (r s : LogRegion) → r ≡ s → covers unchanged r s ≡ true
-region_covers_same r s same = subst (λ (t : LogRegion). covers unchanged r t ≡ true) same (region_covers_itself r)
-
-small_itself : (r : LogRegion) → is_small r r ≡ true
+pub small_itself : (r : LogRegion) → is_small r r ≡ true
 small_itself (in_box b) = refl
 small_itself (in_set xs) = refl
-
-pub small_same : (r s : LogRegion) → r ≡ s → is_small r s ≡ true
-small_same r s same = subst (λ (t : LogRegion). is_small r t ≡ true) same (small_itself r)
-
-pub within_same : (caps : List ℕ) (r s : LogRegion) → r ≡ s → is_within caps r ≡ true → is_within caps s ≡ true
-within_same caps r s same within = subst (λ (t : LogRegion). is_within caps t ≡ true) same within

@@ -1,12 +1,14 @@
 -- The states of a region that is a set, and the search for one among them.
-use Rattle.std.specs.Prelude.{◌≡◌, ℕ, zero, suc, ◌<◌, List, [], ◌∷◌, true, Some, slice_get}
+use Rattle.std.specs.Prelude.{◌≡◌, ℕ, zero, suc, ◌<◌, ◌≤◌, List, [], ◌∷◌, length, true, Option, Some, MatchOption, slice_get}
 use Rattle.std.specs.declared.cmp.Ordering.TheVariants.{Less, Equal, Greater}
-use Rattle.std.proofs.Common.{inl, inr, ap, ◌∙◌, subst, arith}
+use Rattle.std.proofs.Common.{inl, inr, ap, sym, ◌∙◌, subst, arith}
 use Rattle.std.proofs.lemmas.Bool.{cases_lt}
+use Rattle.std.proofs.lemmas.Option.{slice_get_cases}
 use Rattle.psi_state.specs.Sets.{state_cmp}
 use Rattle.psi_state.proofs.SetsLemmas.{same-from_cmp}
 use Rattle.psi_state.specs.Ascending.{IsRising}
 use Rattle.psi_state.proofs.AscendingLemmas.{cmp-itself, cmp-never, cmp-back}
+use Rattle.psi_log_text.specs.Log.{IsSet}
 use Rattle.psi_replay.specs.Verdict.{has}
 use Rattle.psi_replay.proofs.ListLemmas.{In-slice_get, has_at}
 
@@ -56,3 +58,10 @@ search_before xs j k x y rising first greater second =
 -- the state at a place ties with x: it is x
 pub search_found : (xs : List (List ℕ)) (j : ℕ) (x y : List ℕ) → slice_get xs j ≡ Some y → state_cmp y x ≡ Equal → has xs x ≡ true
 search_found xs j x y first tied = has_at xs x j (first ∙ ap (λ (z : List ℕ). Some z) (same-from_cmp y x tied))
+
+-- each state of a set has as many queues
+pub place_long : (queues : ℕ) (xs : List (List ℕ)) (place : ℕ) → IsSet queues xs → place < length xs → MatchOption (slice_get xs place) ⊥ (λ (y : List ℕ). length y ≡ queues)
+place_long queues xs place is within = elim (slice_get_cases xs place).1 [
+  | inl found ↦ subst (λ (o : Option (List ℕ)). MatchOption o ⊥ (λ (y : List ℕ). length y ≡ queues)) (sym found.2) (is.each found.0 (In-slice_get xs place found.0 found.2)).count
+  | inr past ↦ absurd (let over : length xs ≤ place = past.0 in omega arith)
+]

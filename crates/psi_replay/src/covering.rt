@@ -3,7 +3,7 @@
 ghost use Rattle.std.specs.Prelude.{◌≡◌, ℕ, List, length, true, None, MatchOption};
 ghost use Rattle.psi_state.specs.State.{AreCapacities, IsBelow};
 ghost use Rattle.psi_event.specs.Idle.{unchanged};
-ghost use Rattle.psi_log_text.specs.Log.{in_box, in_set, IsRegion};
+ghost use Rattle.psi_log_text.specs.Log.{in_box, in_set, IsRegion, IsSet};
 ghost use Rattle.psi_replay.specs.Verdict.{states_of, has, covers, is_within, holds_all};
 ghost use Rattle.psi_replay.specs.RegionsViews.{seen};
 
@@ -14,20 +14,31 @@ use psi_region::covers_image;
 use psi_state::{Bounds, State};
 
 // Whether a region holds what the event makes of a state. The images of states that follow one another mostly do so
-// too, so each is looked for near the place `near` of the last one.
+// too, so each is looked for at the place `next` behind the last one.
 #[inline]
 fn holds_image<E: EventLaw>(
     event: &E,
     x: &mut State,
     after: &ReadRegion<'_>,
-    near: &mut usize,
+    next: &mut usize,
 ) -> bool
     requires state { IsBelow x.old (E.capacities event.now) }
     requires after { IsRegion (length (E.capacities event.now)) (seen after.now) }
     ensures { result ≡ has (states_of (seen after.now)) (E.function event.now x.old) }
 {
     event.apply(x);
-    after.holds(x, near)
+    after.holds(x, next)
+}
+
+// The same of a set.
+#[inline]
+fn set_holds_image<E: EventLaw>(event: &E, x: &mut State, after: &Set<'_>, next: &mut usize) -> bool
+    requires state { IsBelow x.old (E.capacities event.now) }
+    requires after { IsSet (length (E.capacities event.now)) after.now }
+    ensures { result ≡ has after.now (E.function event.now x.old) }
+{
+    event.apply(x);
+    after.holds(x, next)
 }
 
 // Whether a region holds what the event makes of each state of a box.
@@ -60,9 +71,9 @@ fn box_covers_each<E: EventLaw>(event: &E, before: &Bounds, after: &ReadRegion<'
     requires after { IsRegion (length (E.capacities event.now)) (seen after.now) }
     ensures { result ≡ covers (E.function event.now) (in_box before.now) (seen after.now) }
 {
-    let mut near = 0;
+    let mut next = 0;
     for mut x in before.states() {
-        if !holds_image(event, &mut x, after, &mut near) {
+        if !holds_image(event, &mut x, after, &mut next) {
             return false;
         }
     }
@@ -75,10 +86,42 @@ fn covers_set<E: EventLaw>(event: &E, before: &Set<'_>, after: &ReadRegion<'_>) 
     requires after { IsRegion (length (E.capacities event.now)) (seen after.now) }
     ensures { result ≡ covers (E.function event.now) (in_set before.now) (seen after.now) }
 {
-    let mut near = 0;
+    match after {
+        ReadRegion::Box(_) => set_covers_box(event, before, after),
+        ReadRegion::Set(to) => set_covers_set(event, before, to),
+    }
+}
+
+// The same of a box.
+fn set_covers_box<E: EventLaw>(event: &E, before: &Set<'_>, after: &ReadRegion<'_>) -> bool
+    requires before { is_within (E.capacities event.now) (in_set before.now) ≡ true }
+    requires after { IsRegion (length (E.capacities event.now)) (seen after.now) }
+    ensures { result ≡ covers (E.function event.now) (in_set before.now) (seen after.now) }
+{
+    let mut next = 0;
     for place in 0..before.len() {
         let mut x = before.get(place);
-        if !holds_image(event, &mut x, after, &mut near) {
+        if !holds_image(event, &mut x, after, &mut next) {
+            return false;
+        }
+    }
+    true
+}
+
+// The same of a set.
+fn set_covers_set<E: EventLaw>(event: &E, before: &Set<'_>, after: &Set<'_>) -> bool
+    requires before { is_within (E.capacities event.now) (in_set before.now) ≡ true }
+    requires after { IsSet (length (E.capacities event.now)) after.now }
+    ensures { result ≡ covers (E.function event.now) (in_set before.now) (in_set after.now) }
+{
+    // In the loop the compiler then needn't look each time where they stand.
+    let (from, to) = (before.again(), after.again());
+    let mut next = 0;
+    // Each state in turn is put here.
+    let mut x = State::zero(1);
+    for place in 0..from.len() {
+        from.get_onto(place, &mut x);
+        if !set_holds_image(event, &mut x, &to, &mut next) {
             return false;
         }
     }
@@ -86,7 +129,7 @@ fn covers_set<E: EventLaw>(event: &E, before: &Set<'_>, after: &ReadRegion<'_>) 
 }
 
 // Whether a region holds what the event makes of each state of another.
-fn covers<E: EventLaw>(event: &E, before: &ReadRegion<'_>, after: &ReadRegion<'_>) -> bool
+fn covers<'l, E: EventLaw>(event: &E, before: &ReadRegion<'l>, after: &ReadRegion<'l>) -> bool
     requires before { is_within (E.capacities event.now) (seen before.now) ≡ true }
     requires after { IsRegion (length (E.capacities event.now)) (seen after.now) }
     requires within { is_within (E.capacities event.now) (seen after.now) ≡ true }
@@ -103,7 +146,7 @@ fn covers<E: EventLaw>(event: &E, before: &ReadRegion<'_>, after: &ReadRegion<'_
 }
 
 // Whether a region holds each state of another; at once where both are the same set.
-fn idle_covers(caps: &State, before: &ReadRegion<'_>, after: &ReadRegion<'_>) -> bool
+fn idle_covers<'l>(caps: &State, before: &ReadRegion<'l>, after: &ReadRegion<'l>) -> bool
     requires valid { AreCapacities caps.now }
     requires before { is_within caps.now (seen before.now) ≡ true }
     requires after { IsRegion (length caps.now) (seen after.now) }
@@ -120,11 +163,11 @@ fn idle_covers(caps: &State, before: &ReadRegion<'_>, after: &ReadRegion<'_>) ->
 
 /// Whether a region holds what a step makes of each state of another. An idle step, which has no event,
 /// leaves them as they are.
-pub(crate) fn step_covers<E: EventLaw>(
+pub(crate) fn step_covers<'l, E: EventLaw>(
     event: Option<&E>,
     caps: &State,
-    before: &ReadRegion<'_>,
-    after: &ReadRegion<'_>,
+    before: &ReadRegion<'l>,
+    after: &ReadRegion<'l>,
 ) -> bool
     requires valid { AreCapacities caps.now }
     requires event { MatchOption event (Unit {0}) (λ e. E.capacities e.now ≡ caps.now) }
@@ -139,24 +182,15 @@ pub(crate) fn step_covers<E: EventLaw>(
     }
 }
 
-/// Whether a region holds what a step makes of each state of another, which is the same: an idle step leaves them as
-/// they are.
-#[tactic(auto, using(crate::proofs::RegionLemmas::region_covers_same))]
-pub(crate) fn still_covers<E: EventLaw>(
-    event: Option<&E>,
-    caps: &State,
-    before: &ReadRegion<'_>,
-    after: &ReadRegion<'_>,
-) -> bool
-    requires valid { AreCapacities caps.now }
-    requires event { MatchOption event (Unit {0}) (λ e. E.capacities e.now ≡ caps.now) }
-    requires before { is_within caps.now (seen before.now) ≡ true }
-    requires after { IsRegion (length caps.now) (seen after.now) }
-    requires same { seen before.now ≡ seen after.now }
-    ensures { MatchOption event.entry (result ≡ covers unchanged (seen before.now) (seen after.now)) (λ e. result ≡ covers (E.function e.now) (seen before.now) (seen after.now)) }
+/// Whether a region holds what a step makes of each of its own states: an idle step leaves them as they are.
+#[tactic(auto, using(crate::proofs::RegionLemmas::region_covers_itself))]
+pub(crate) fn covers_itself<E: EventLaw>(event: Option<&E>, region: &ReadRegion<'_>) -> bool
+    requires region { MatchOption event (Unit {0}) (λ e. IsRegion (length (E.capacities e.now)) (seen region.now)) }
+    requires within { MatchOption event (Unit {0}) (λ e. is_within (E.capacities e.now) (seen region.now) ≡ true) }
+    ensures { MatchOption event.entry (result ≡ covers unchanged (seen region.now) (seen region.now)) (λ e. result ≡ covers (E.function e.now) (seen region.now) (seen region.now)) }
 {
     match event {
-        Some(event) => step_covers(Some(event), caps, before, after),
+        Some(event) => covers(event, region, region),
         None => true,
     }
 }

@@ -1,15 +1,19 @@
 //! The rules of a log, line by line.
 
-ghost use Rattle.std.specs.Prelude.{◌≡◌, ◌≤◌, ◌<◌, length, true, IsTrue, IfOk, OnOk};
+ghost use Rattle.std.specs.Prelude.{◌≡◌, ◌==◌, ◌-◌, ◌≤◌, ◌<◌, length, true, option_map, slice_get, IfOk, OnOk};
+ghost use Rattle.psi_rate.specs.Rates.{event_of};
 ghost use Rattle.psi_rate.specs.Composition.{system_functions};
 ghost use Rattle.psi_log_text.specs.Log.{IsLog, IsRegion};
 ghost use Rattle.psi_replay.specs.Verdict.{is_within, judge_step, judge_steps, judge_end, judged, event_numbers};
 ghost use Rattle.psi_replay.specs.RegionsViews.{seen};
 ghost use Rattle.psi_replay.specs.Judging.{Gives};
-ghost use Rattle.psi_replay.specs.Passes.{judge_begin};
+ghost use Rattle.psi_log_words.specs.Refusal.{holds_or};
+ghost use Rattle.psi_replay.specs.Verdict.{rejected};
+ghost use Rattle.psi_replay.specs.declared.causes.Cause.TheVariants.{StepNumber, WrongEvent};
+ghost use Rattle.psi_replay.specs.Passes.{judge_begin, and_then};
 
 use crate::causes::{Cause, Rejection};
-use crate::covering::{holds_all, step_covers, still_covers};
+use crate::covering::{covers_itself, holds_all, step_covers};
 use crate::regions::{ReadRegion, region_of};
 use psi_event::EventLaw;
 use psi_log::{Header, Log};
@@ -40,43 +44,91 @@ pub(crate) fn judge_begin<E: EventLaw>(
     Cause::NotCovered.unless(holds_all(&caps, begin), 6)
 }
 
-/// Judges the line of a step, which has to be that of a time. Where the region is known to stay as it was, less is
-/// asked of it.
+// The number and the event of the word of a time.
+#[inline]
+fn drawn_at<'n, E: EventLaw, P: Past>(
+    system: &System<'n, E>,
+    past: &mut P,
+    time: u32,
+) -> (u16, Option<&'n E>)
+    requires { 1 ≤ time }
+    ensures number { result.0 ≡ event_numbers system.now (P.words past.old) time }
+    ensures event { option_map (λ e. e.now) result.1 ≡ slice_get system.now.events (event_of system.now.rates (P.words past.old (time - 1))) }
+    ensures words { P.words past.new ≡ P.words past.old }
+{
+    system.pick(past.word(time - 1))
+}
+
+// Judges the two numbers of a step, which have to be a time and the number of an event.
+fn judge_numbers(step: Step, line: u32, time: u32, number: u16) -> Result<(), Rejection>
+    ensures { Gives (λ _. tt) result (and_then (holds_or (rejected line StepNumber) (step.number == time)) (holds_or (rejected line WrongEvent) (step.event == number))) }
+{
+    Cause::StepNumber.unless(step.number == time, line)?;
+    Cause::WrongEvent.unless(step.event == number, line)
+}
+
+/// Judges the line of a step, which has to be that of a time. `caps` are the network's capacities.
 ///
 /// # Errors
 ///
 /// The line, with the first cause for which it breaks a rule.
-#[tactic(auto, unfolding(crate::specs::Verdict::judge_step), using(crate::proofs::RegionLemmas::within_same))]
-pub(crate) fn judge_step<E: EventLaw, P: Past>(
+#[tactic(auto, unfolding(crate::specs::Verdict::judge_step))]
+pub(crate) fn judge_step<'l, E: EventLaw, P: Past>(
     system: &System<'_, E>,
+    caps: &State,
     past: &mut P,
     line: u32,
     time: u32,
-    before: &ReadRegion<'_>,
+    before: &ReadRegion<'l>,
     step: Step,
-    after: &ReadRegion<'_>,
-    stays: bool,
+    after: &ReadRegion<'l>,
 ) -> Result<(), Rejection>
+    requires caps { caps.now ≡ system.now.caps }
     requires time { 1 ≤ time }
     requires before { is_within system.now.caps (seen before.now) ≡ true }
     requires after { IsRegion (length system.now.caps) (seen after.now) }
-    requires same { IsTrue stays → seen before.now ≡ seen after.now }
     ensures value { let words = P.words past.old in
         Gives (λ _. tt) result (judge_step system.now.caps system.now.limit (event_numbers system.now words) (system_functions E.function system.now words)
         line time (seen before.now) (record { step = step; region = seen after.now })) }
     ensures within { OnOk result (is_within system.now.caps (seen after.now) ≡ true) }
     ensures words { P.words past.new ≡ P.words past.old }
 {
-    let (number, event) = system.pick(past.word(time - 1));
-    let caps = system.caps();
-    Cause::StepNumber.unless(step.number == time, line)?;
-    Cause::WrongEvent.unless(step.event == number, line)?;
-    if stays {
-        return Cause::NotCovered.unless(still_covers(event, &caps, before, after), line);
-    }
-    Cause::OutsideBox.unless(after.is_within(&caps), line)?;
+    // Called for its clause: the events fit the capacities.
+    let _caps = system.caps();
+    let (number, event) = drawn_at(system, past, time);
+    judge_numbers(step, line, time, number)?;
+    Cause::OutsideBox.unless(after.is_within(caps), line)?;
     Cause::SplitTooLarge.unless(before.is_small(after), line)?;
-    Cause::NotCovered.unless(step_covers(event, &caps, before, after), line)
+    Cause::NotCovered.unless(step_covers(event, caps, before, after), line)
+}
+
+/// Judges the line of a step, which has to be that of a time and leaves the region as it was: less is then asked of it.
+///
+/// # Errors
+///
+/// The line, with the first cause for which it breaks a rule.
+#[tactic(auto, unfolding(crate::specs::Verdict::judge_step))]
+pub(crate) fn judge_stay<E: EventLaw, P: Past>(
+    system: &System<'_, E>,
+    past: &mut P,
+    line: u32,
+    time: u32,
+    region: &ReadRegion<'_>,
+    step: Step,
+) -> Result<(), Rejection>
+    requires time { 1 ≤ time }
+    requires regional { IsRegion (length system.now.caps) (seen region.now) }
+    requires within { is_within system.now.caps (seen region.now) ≡ true }
+    ensures value { let words = P.words past.old in
+        Gives (λ _. tt) result (judge_step system.now.caps system.now.limit (event_numbers system.now words) (system_functions E.function system.now words)
+        line time (seen region.now) (record { step = step; region = seen region.now })) }
+    ensures words { P.words past.new ≡ P.words past.old }
+{
+    // Called for its clause: the events fit the capacities.
+    let _caps = system.caps();
+    let (number, event) = drawn_at(system, past, time);
+    judge_numbers(step, line, time, number)?;
+    Cause::NotCovered.unless(covers_itself(event, region), line)
 }
 
 // Judges the lines of steps, and gives the last region.
@@ -94,6 +146,7 @@ fn judge_steps<'l, E: EventLaw, P: Past>(
     ensures regional { IfOk result (λ last. IsRegion (length system.now.caps) (seen last)) }
     ensures words { P.words past.new ≡ P.words past.old }
 {
+    let caps = system.caps();
     let horizon = log.header().horizon;
     let mut before = region_of(log, 0);
     for done in 0..horizon {
@@ -101,13 +154,13 @@ fn judge_steps<'l, E: EventLaw, P: Past>(
         let step = log.step(done + 1);
         judge_step(
             system,
+            &caps,
             past,
             7 + done,
             horizon - done,
             &before,
             step,
             &after,
-            false,
         )?;
         before = after;
     }

@@ -11,7 +11,7 @@ ghost use Rattle.psi_replay.specs.Judging.{Gives};
 ghost use Rattle.psi_replay.specs.Passes.{told, and_then, lines_end, lines_left, judged_left};
 
 use crate::causes::Rejection;
-use crate::judging::{judge_begin, judge_end, judge_step};
+use crate::judging::{judge_begin, judge_end, judge_stay, judge_step};
 use crate::regions::ReadRegion;
 use psi_event::EventLaw;
 use psi_log::{LogError, LogReader};
@@ -23,6 +23,7 @@ use psi_state::{State, Step};
 // already.
 fn judge_next<E: EventLaw, P: Past>(
     system: &System<'_, E>,
+    caps: &State,
     past: &mut P,
     line: u32,
     time: u32,
@@ -30,6 +31,7 @@ fn judge_next<E: EventLaw, P: Past>(
     step: Step,
     before: Result<(), Rejection>,
 ) -> Result<(), Rejection>
+    requires caps { caps.now ≡ system.now.caps }
     requires time { 1 ≤ time }
     requires cursor { IsCursor reader.now }
     requires queues { OnOk before (reader.now.header.queues ≡ length system.now.caps) }
@@ -43,9 +45,12 @@ fn judge_next<E: EventLaw, P: Past>(
 {
     match before {
         Ok(()) => {
-            let from = ReadRegion::of(reader.before());
             let to = ReadRegion::of(reader.region());
-            judge_step(system, past, line, time, &from, step, &to, reader.stays())
+            if reader.stays() {
+                return judge_stay(system, past, line, time, &to, step);
+            }
+            let from = ReadRegion::of(reader.before());
+            judge_step(system, caps, past, line, time, &from, step, &to)
         }
         Err(rejection) => Err(rejection),
     }
@@ -72,6 +77,7 @@ fn judge_lines<E: EventLaw, P: Past>(
     ensures done { OnOk result (reader.new.done ≡ reader.old.header.horizon) }
     ensures cursor { IsCursor reader.new }
 {
+    let caps = system.caps();
     let horizon = reader.header().horizon;
     let mut kept = before;
     for done in 0..horizon {
@@ -79,7 +85,16 @@ fn judge_lines<E: EventLaw, P: Past>(
             Ok(step) => step,
             Err(error) => return Err(error),
         };
-        kept = judge_next(system, past, 7 + done, horizon - done, reader, step, kept);
+        kept = judge_next(
+            system,
+            &caps,
+            past,
+            7 + done,
+            horizon - done,
+            reader,
+            step,
+            kept,
+        );
     }
     Ok(kept)
 }

@@ -4,6 +4,7 @@ ghost use Rattle.std.specs.Prelude.{◌≡◌, ◌<◌, ◌≤◌, ◌↔◌, le
 ghost use Rattle.std.specs.List.{list_all};
 ghost use Rattle.psi_state.specs.State.{IsBelow};
 ghost use Rattle.psi_state.specs.Ascending.{IsRising};
+ghost use Rattle.psi_log_text.specs.Log.{IsSet};
 ghost use Rattle.psi_replay.specs.Verdict.{has};
 
 use psi_log::Rows;
@@ -33,6 +34,16 @@ impl<'l> Set<'l> {
         Set { rows }
     }
 
+    /// The same states, borrowed once more.
+    #[inline]
+    pub(crate) fn again(&self) -> Set<'l>
+        ensures { result ≡ self.now }
+    {
+        Set {
+            rows: self.rows.again(),
+        }
+    }
+
     /// The number of states.
     #[inline]
     pub(crate) fn len(&self) -> usize
@@ -48,6 +59,15 @@ impl<'l> Set<'l> {
         ensures { slice_get self.now place ≡ Some result }
     {
         self.rows.get(place)
+    }
+
+    /// Puts the state at a place, counted from 0, in the place of another.
+    #[inline]
+    pub(crate) fn get_onto(&self, place: usize, x: &mut State)
+        requires { place < length self.now }
+        ensures { slice_get self.now place ≡ Some x.new }
+    {
+        self.rows.get_onto(place, x);
     }
 
     /// Whether the state at a place, counted from 0, is componentwise at most another.
@@ -75,7 +95,16 @@ impl<'l> Set<'l> {
         self.rows.are_same(&other.rows)
     }
 
-    // Whether a state stands at a place.
+    // Whether a state of as many queues stands at a place.
+    #[inline]
+    fn is_there(&self, place: usize, x: &State) -> bool
+        requires { IsSet (length x.now) self.now }
+        ensures { IsTrue result → slice_get self.now place ≡ Some x.now }
+    {
+        place < self.len() && self.rows.is_there(place, x)
+    }
+
+    // The same of any state.
     #[inline]
     fn has_at(&self, place: usize, x: &State) -> bool
         ensures { IsTrue result → slice_get self.now place ≡ Some x.now }
@@ -83,30 +112,30 @@ impl<'l> Set<'l> {
         place < self.len() && self.rows.is_at(place, x)
     }
 
-    /// Whether a state is one of them, which are in ascending order. It is looked for behind the place `near` and
-    /// at it, and else by halving. Where it is found, `near` becomes its place.
+    /// Whether a state is one of them, which are in ascending order. It is looked for at the place `next` and before
+    /// it, and else by halving. Where it is found, `next` becomes the place behind it.
     #[inline]
-    pub(crate) fn holds(&self, x: &State, near: &mut usize) -> bool
-        requires { IsRising self.now }
+    pub(crate) fn holds(&self, x: &State, next: &mut usize) -> bool
+        requires { IsSet (length x.now) self.now }
         ensures { result ≡ has self.now x.now }
     {
-        let next = near.saturating_add(1);
-        if self.has_at(next, x) {
-            *near = next;
+        let place = *next;
+        if self.is_there(place, x) {
+            *next = place.wrapping_add(1);
             return true;
         }
-        if self.has_at(*near, x) {
-            return true;
-        }
-        self.holds_anywhere(x, near)
+        self.holds_elsewhere(x, next)
     }
 
-    // The same by halving alone. It stays out of the way of the search beside the last place.
+    // The same where it isn't at the place `next`. It stays out of the way of the search there.
     #[inline(never)]
-    fn holds_anywhere(&self, x: &State, near: &mut usize) -> bool
+    fn holds_elsewhere(&self, x: &State, next: &mut usize) -> bool
         requires { IsRising self.now }
         ensures { result ≡ has self.now x.now }
     {
+        if self.has_at(next.wrapping_sub(1), x) {
+            return true;
+        }
         let mut low = 0;
         let mut high = self.len();
         while low < high {
@@ -114,7 +143,7 @@ impl<'l> Set<'l> {
             match self.get(middle).cmp(x) {
                 Ordering::Less => low = middle + 1,
                 Ordering::Equal => {
-                    *near = middle;
+                    *next = middle + 1;
                     return true;
                 }
                 Ordering::Greater => high = middle,

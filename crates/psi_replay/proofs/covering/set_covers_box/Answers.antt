@@ -1,11 +1,11 @@
--- Answers in the proof of `covering::covers_set`.
+-- Answers in the proof of `covering::set_covers_box`.
 use Rattle.std.specs.Prelude.{ℕ, List, Bool}
 use Rattle.psi_log_text.specs.Log.{in_set}
 use Rattle.psi_replay.specs.Verdict.{states_of, has}
 use Rattle.psi_replay.specs.RegionsViews.{seen}
 use Rattle.psi_replay.proofs.ListLemmas.{all_more, all_fails, In-slice_get}
 use Rattle.psi_replay.proofs.RegionLemmas.{within_each}
-use Rattle.psi_replay.proofs.covering.covers_set.Goals as goal
+use Rattle.psi_replay.proofs.covering.set_covers_box.Goals as goal
 
 pub holds_image-requires-clause-state : goal.holds_image-requires-clause-state
 holds_image-requires-clause-state g c =

@@ -1,9 +1,12 @@
--- Answers in the proof of `Set::holds_anywhere`.
+-- Answers in the proof of `Set::holds_elsewhere`.
 use Rattle.std.specs.Prelude.{◌<◌}
-use Rattle.std.proofs.Common.{sym, ◌∙◌, arith}
-use Rattle.psi_replay.proofs.ListLemmas.{has_none}
+use Rattle.std.proofs.Common.{sym, ◌∙◌, refl, arith}
+use Rattle.psi_replay.proofs.ListLemmas.{has_at, has_none}
 use Rattle.psi_replay.proofs.SetLemmas.{search_behind, search_before, search_found}
-use Rattle.psi_replay.proofs.sets.Set.holds_anywhere.Goals as goal
+use Rattle.psi_replay.proofs.sets.Set.holds_elsewhere.Goals as goal
+
+pub returns-then-has_at : goal.returns-then-has_at
+returns-then-has_at c = sym (has_at c.args.self.now c.args.x.now _ (c.if-has_at.ensures refl))
 
 pub loop-low-preserved-in-Less : goal.loop-low-preserved-in-Less
 loop-low-preserved-in-Less c =

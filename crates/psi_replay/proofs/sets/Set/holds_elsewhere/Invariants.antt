@@ -1,6 +1,6 @@
--- Invariants of the loops of `Set::holds_anywhere`.
+-- Invariants of the loops of `Set::holds_elsewhere`.
 use Rattle.std.specs.Prelude.{◌≡◌, ℕ, ◌-◌, ◌<◌, ◌≤◌, length, Some, slice_get}
-use Rattle.psi_replay.proofs.sets.Set.holds_anywhere.Given as goal
+use Rattle.psi_replay.proofs.sets.Set.holds_elsewhere.Given as goal
 
 -- the state stands at a place between the two, if anywhere
 abbrev pub invariant-loop-low : goal.invariant-loop-low

@@ -1,10 +1,10 @@
--- Invariants of the loops of `covering::covers_set`.
+-- Invariants of the loops of `covering::set_covers_box`.
 use Rattle.std.specs.Prelude.{◌≡◌, ℕ, List, drop}
 use Rattle.std.specs.List.{list_all}
 use Rattle.psi_log_text.specs.Log.{in_set}
 use Rattle.psi_replay.specs.Verdict.{states_of, has, covers}
 use Rattle.psi_replay.specs.RegionsViews.{seen}
-use Rattle.psi_replay.proofs.covering.covers_set.Given as goal
+use Rattle.psi_replay.proofs.covering.set_covers_box.Given as goal
 
 -- the images of the states so far are there
 abbrev pub invariant-loop-place : goal.invariant-loop-place
