@@ -2,6 +2,7 @@
 pub mod CutLemmas
 pub mod LineLemmas
 pub mod ScanLemmas
+pub mod RunLemmas
 pub mod RowsLemmas
 pub mod SetLineLemmas
 pub mod MoveLineLemmas

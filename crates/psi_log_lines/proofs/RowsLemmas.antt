@@ -1,24 +1,24 @@
--- The states of a set, read one after another, of which one may begin as the one before it.
+-- The states of a set, read one after another.
 use Rattle.std.specs.Prelude.{◌≡◌, ℕ, zero, suc, ◌+◌, ◌-◌, ◌<◌, ◌≤◌, ◌/◌, ◌%◌, ◌^◌, List, [], ◌∷◌, ◌++◌, length, take, drop, Bool, true, ◌&&◌, Option, Some, None, MatchOption, refl}
 use Rattle.std.specs.Fmt.{decimal}
 use Rattle.std.specs.List.{slice_get}
 use Rattle.std.specs.Ordering.{is_lt, nat_cmp}
 use Rattle.std.specs.Cmp.Lexicographic.{slice_cmp}
-use Rattle.std.proofs.Common.{get_or, ap, sym, ◌∙◌, subst, arith, append_assoc, length-append}
+use Rattle.std.proofs.Common.{get_or, set, ap, sym, ◌∙◌, arith, append_assoc, length-append}
 use Rattle.std.proofs.lemmas.Bool.{and_parts, and_from, lt-ltb}
 use Rattle.std.proofs.lemmas.Fmt.{decimal_digit, decimal_step}
-use Rattle.std.proofs.lemmas.List.{take_more, take_all, take-take, take-append-le, drop-append-le, append-nil}
-use Rattle.std.proofs.Math.Seq.{take-add, drop-append_seam}
+use Rattle.std.proofs.lemmas.List.{take_more, append-nil, drop-append-le, length-set, take-set, get_or-set_same}
 use Rattle.std.proofs.lemmas.List.Concat.{flat_map-append}
+use Rattle.std.proofs.Math.Seq.{drop-append_seam}
 use Rattle.psi_state.specs.Sets.{state_cmp}
+use Rattle.psi_log_text.specs.Log.{IsState}
 use Rattle.psi_log_text.specs.Text.{numbers_text}
 use Rattle.psi_state_list.proofs.RowsLemmas.{less_differs}
 use Rattle.psi_log_words.specs.Regions.{ascends}
 use Rattle.psi_log_words.proofs.OrderLemmas.{order_none, order_last, order_next}
 use Rattle.psi_log_lines.specs.Scanned.{Stands, with_comma, with_commas}
-use Rattle.psi_log_lines.specs.RowsViews.{IsFront, EndsIn}
-use Rattle.psi_log_lines.specs.declared.rows.Front.{Front}
-use Rattle.psi_log_lines.proofs.SetLineLemmas.{part_is}
+use Rattle.psi_log_lines.specs.RowsViews.{EndsIn, IsRead}
+use Rattle.psi_log_lines.proofs.ScanLemmas.{scanned_more}
 
 -- so many digits
 length_more : (n k : ℕ) → 10 ≤ n → n < 2 ^ 16 → length (decimal (n / 10)) ≡ k → length (decimal n) ≡ k + 1
@@ -52,17 +52,8 @@ pub front_short : (row : List ℕ) → length (with_commas (take 0 row)) ≡ 0
 unfolding with_commas
 front_short row = refl
 
-front_none : (row : List ℕ) → [] ≡ with_commas (take 0 row)
-unfolding with_commas
-front_none row = refl
-
--- the front before the first queue
-pub front_begin : (queues : ℕ) (row : List ℕ) (front : Front) → length row ≡ queues → 1 ≤ queues → front.queue ≡ 0 → front.text.now ≡ [] → IsFront row front
-front_begin queues row front count some first none =
-    record { within = omega arith; text = none ∙ front_none row ∙ ap (λ (k : ℕ). with_commas (take k row)) (sym first) }
-
 -- a word begins with its fronts
-text_front : (row : List ℕ) (q : ℕ) → q < length row → numbers_text row ≡ with_commas (take q row) ++ numbers_text (drop q row)
+pub text_front : (row : List ℕ) (q : ℕ) → q < length row → numbers_text row ≡ with_commas (take q row) ++ numbers_text (drop q row)
 unfolding with_commas numbers_text
 text_front row zero small = refl
 text_front [] (suc q) small = absurd (omega arith)
@@ -72,43 +63,15 @@ text_front (x ∷ y ∷ ys) (suc q) small =
     ∙ sym (append_assoc (with_comma x) (with_commas (take q (y ∷ ys))) (numbers_text (drop q (y ∷ ys)))
     ∙ append_assoc (decimal x) (44 ∷ []) (with_commas (take q (y ∷ ys)) ++ numbers_text (drop q (y ∷ ys))))
 
--- where two texts stand one behind the other, the first one stands
-stands_first : (text first second : List ℕ) (at end : ℕ) → at ≤ length text → Stands text at end (first ++ second) → Stands text at (at + length first) first
-stands_first text first second at end small both =
-    let place = both.place in
-    let count = length-append first second in
-    let part : take (end - at) (drop at text) ≡ first ++ second = part_is text (first ++ second) at end small both in
-    let least : length first ≤ end - at = omega arith in
-    let front : take (length first) (drop at text) ≡ first =
-    sym (take-take (length first) (end - at) (drop at text) least) ∙ ap (take (length first)) part ∙ take-append-le (length first) first second (omega arith) ∙ take_all (length first) first (omega arith) in
-    record {
-      front = take-add at (length first) text ∙ ap (λ (t : List ℕ). take at text ++ t) front;
-      place = refl;
-      len = refl;
-    }
-
--- the front of a word that stands in a text
-pub front_stands : (text row : List ℕ) (at end q : ℕ) → at ≤ length text → q < length row → Stands text at end (numbers_text row)
-    → Stands text at (at + length (with_commas (take q row))) (with_commas (take q row))
-front_stands text row at end q small within there =
-    stands_first text (with_commas (take q row)) (numbers_text (drop q row)) at end small (subst (λ (t : List ℕ). Stands text at end t) (text_front row q within) there)
-
-pub front_within : (text row : List ℕ) (at end q : ℕ) → q < length row → Stands text at end (numbers_text row) → at + length (with_commas (take q row)) ≤ end
-front_within text row at end q within there =
-    let place = there.place in
-    let count = ap length (text_front row q within) ∙ length-append (with_commas (take q row)) (numbers_text (drop q row)) in
-    omega arith
-
-pub front_part : (text row : List ℕ) (at end q len : ℕ) → at ≤ length text → q < length row → Stands text at end (numbers_text row) → len ≡ length (with_commas (take q row))
-    → take (at + len - at) (drop at text) ≡ with_commas (take q row)
-front_part text row at end q len small within there is =
-    part_is text (with_commas (take q row)) at (at + len) small
-    (subst (λ (n : ℕ). Stands text at (at + n) (with_commas (take q row))) (sym is) (front_stands text row at end q small within there))
-
 -- a state is above another where the first number that differs is
-pub above_at : (x y : List ℕ) (q : ℕ) → take q y ≡ take q x → q < length x → length y ≡ length x → get_or x q 0 < get_or y q 0 → is_lt (state_cmp x y) ≡ true
+above_at : (x y : List ℕ) (q : ℕ) → take q y ≡ take q x → q < length x → length y ≡ length x → get_or x q 0 < get_or y q 0 → is_lt (state_cmp x y) ≡ true
 above_at x y q same within count high =
     less_differs x y q (sym same) within (omega arith) (λ e. omega arith) ∙ lt-ltb (get_or x q 0) (get_or y q 0) high
+
+pub above_set : (x : List ℕ) (q n : ℕ) → q < length x → get_or x q 0 < n → is_lt (state_cmp x (set x q n)) ≡ true
+above_set x q n within high =
+    let number = get_or-set_same x q n 0 within in
+    above_at x (set x q n) q (take-set x q n) within (length-set x q n) (omega arith)
 
 -- states in order, with one more behind the last
 rising_onto : (xs : List (List ℕ)) (y : List ℕ) (k : ℕ) → k + 1 ≡ length xs → ascends xs ≡ true → ascends (drop k (xs ++ y ∷ [])) ≡ true → ascends (xs ++ y ∷ []) ≡ true
@@ -169,3 +132,20 @@ above_last xs ys x y last is above =
     let two : drop (length xs - 1) ys ≡ x ∷ y ∷ [] =
     ap (drop (length xs - 1)) is ∙ drop-append-le (length xs - 1) xs (y ∷ []) (omega arith) ∙ ap (λ (zs : List (List ℕ)). zs ++ y ∷ []) last in
     ap ascends two ∙ and_from (is_lt (state_cmp x y)) true above refl
+
+-- no state so far
+pub read_none : (queues : ℕ) (text : List ℕ) (at : ℕ) (old : List (List ℕ)) → at ≤ length text → IsRead queues text at at old old
+read_none queues text at old within = record { within = within; more = omega arith; rows = λ begin first are. are; order = λ first some rising. rising }
+
+-- and one more, above the last
+pub read_more : (queues : ℕ) (text : List ℕ) (at place end : ℕ) (old new newer : List (List ℕ)) (x y : List ℕ) → IsRead queues text at place old new → EndsIn new x → newer ≡ new ++ y ∷ []
+    → is_lt (state_cmp x y) ≡ true → Stands text place end (32 ∷ numbers_text y) → end ≤ length text → IsState queues y → IsRead queues text at end old newer
+read_more queues text at place end old new newer x y read last is above word within state =
+    let count : length newer ≡ length new + 1 = ap length is ∙ length-append new (y ∷ []) in
+    let more = read.more in
+    record {
+      within = within;
+      more = omega arith;
+      rows = λ begin first are. scanned_more queues text begin place end first new newer y (read.rows begin first are) is word state;
+      order = λ first some rising. rising_more first new newer y is (omega arith) (read.order first some rising) (above_last new newer x y last is above);
+    }

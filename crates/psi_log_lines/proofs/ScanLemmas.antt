@@ -130,12 +130,12 @@ in_push (z ∷ xs) x y there = elim there [ inl e ↦ inl (inl e) | inr t ↦ el
 
 -- and one more, behind a space
 pub scanned_more : (queues : ℕ) (text : List ℕ) (at place end : ℕ) (old new newer : List (List ℕ)) (x : List ℕ) → AreScanned queues text at place old new
-    → newer ≡ new ++ x ∷ [] → Stands text place (place + 1) (32 ∷ []) → Stands text (place + 1) end (numbers_text x) → IsState queues x → AreScanned queues text at end old newer
-scanned_more queues text at place end old new newer x are is space word state =
+    → newer ≡ new ++ x ∷ [] → Stands text place end (32 ∷ numbers_text x) → IsState queues x → AreScanned queues text at end old newer
+scanned_more queues text at place end old new newer x are is word state =
     let more = are.more in
     let behind : drop (length old) newer ≡ drop (length old) new ++ x ∷ [] = ap (drop (length old)) is ∙ drop-append-le (length old) new (x ∷ []) more in
     let one : Stands text place end (spaced_words (numbers_text x ∷ [])) =
-    subst (λ (w : List ℕ). Stands text place end w) (sym (one_word (numbers_text x))) (then (32 ∷ []) (numbers_text x) (32 ∷ numbers_text x) space word refl) in
+    subst (λ (w : List ℕ). Stands text place end w) (sym (one_word (numbers_text x))) word in
     record {
       kept = ap (take (length old)) is ∙ take-append-le (length old) new (x ∷ []) more ∙ are.kept;
       more = (let long : length newer ≡ length new + 1 = ap length is ∙ length-append new (x ∷ []) in omega arith);

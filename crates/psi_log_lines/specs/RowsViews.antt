@@ -1,22 +1,23 @@
--- What is read of a set's states one after another, where a word may begin as the one before it.
-use Rattle.std.specs.Prelude.{◌≡◌, ℕ, ◌-◌, ◌<◌, ◌≤◌, ◌^◌, List, [], ◌∷◌, ◌++◌, length, slice_index, take, drop, true}
-use Rattle.std.specs.Ordering.{is_lt}
-use Rattle.psi_state.specs.Sets.{state_cmp}
+-- What is read of a set's states one after another, where the words of some differ in one number.
+use Rattle.std.specs.Prelude.{◌≡◌, ◌⊎◌, ℕ, ◌+◌, ◌-◌, ◌<◌, ◌≤◌, ◌^◌, List, [], ◌∷◌, ◌++◌, length, slice_index, slice_index_or, slice_set, take, drop, decimal, true, false}
 use Rattle.psi_log_text.specs.Text.{numbers_text}
 use Rattle.psi_log_words.specs.Regions.{ascends}
-use Rattle.psi_log_lines.specs.declared.rows.Front.{Front}
-use Rattle.psi_log_lines.specs.Scanned.{Stands, with_commas}
+use Rattle.psi_log_lines.specs.declared.runs.Run.{Run}
+use Rattle.psi_log_lines.specs.Scanned.{Stands, AreScanned}
 
--- a front has the numbers of the row before its queue
-pub record IsFront (row : List ℕ) (front : Front) : Type 0 where
-  pub within : front.queue < length row
-  pub text : front.text.now ≡ with_commas (take front.queue row)
+-- the first bytes of a text from a place on are a run's, wherever its words have the same
+abbrev pub IsAlike : List ℕ → ℕ → Run → ℕ → Type 0
+IsAlike text at run count = (i : ℕ) → i < count → slice_index_or run.same i false ≡ true → slice_index text (at + i) ≡ slice_index run.bytes i
 
--- a row after another has the same front, which has a number, and is above it
-pub record IsAlike (old new : List ℕ) (front : Front) : Type 0 where
-  pub some : 1 ≤ front.queue
-  pub same : IsFront new front
-  pub above : is_lt (state_cmp old new) ≡ true
+-- a run's bytes make the row's word behind a space, with whatever number in its queue, and are the same but for that number
+pub record IsRun (row : List ℕ) (run : Run) : Type 0 where
+  pub queue : run.queue < length row
+  pub number : run.from ≤ run.until
+  pub word : run.until ≤ run.len
+  pub few : run.len ≤ 128
+  pub bytes : length run.bytes ≡ 128
+  pub same : (i : ℕ) → i < run.len → (i < run.from) ⊎ (run.until ≤ i) → slice_index_or run.same i false ≡ true
+  pub words : (n : ℕ) → take run.from run.bytes ++ (decimal n ++ take (run.len - run.until) (drop run.until run.bytes)) ≡ 32 ∷ numbers_text (slice_set row run.queue n)
 
 -- the row is the last of the states
 abbrev pub EndsIn : List (List ℕ) → List ℕ → Type 0
@@ -29,3 +30,10 @@ pub record IsNextRow (first : ℕ) (text : List ℕ) (at end : ℕ) (row : List 
   pub range : (i : ℕ) → slice_index row i < 2 ^ 16
   pub states : new ≡ old ++ row ∷ []
   pub order : first < length old → ascends (drop (length old - 1) new) ≡ true
+
+-- the states that were put behind the old ones stand in the text from one place to another, each behind a space, and are in order behind the last one
+pub record IsRead (queues : ℕ) (text : List ℕ) (at end : ℕ) (old new : List (List ℕ)) : Type 0 where
+  pub within : end ≤ length text
+  pub more : length old ≤ length new
+  pub rows : (begin : ℕ) (first : List (List ℕ)) → AreScanned queues text begin at first old → AreScanned queues text begin end first new
+  pub order : (first : ℕ) → first < length old → ascends (drop first old) ≡ true → ascends (drop first new) ≡ true

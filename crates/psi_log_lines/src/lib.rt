@@ -5,6 +5,7 @@
 mod header;
 mod move_line;
 mod rows;
+mod runs;
 mod scan;
 mod set_line;
 

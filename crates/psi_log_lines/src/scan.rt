@@ -161,16 +161,15 @@ fn small_with_comma(text: &[u8], at: usize, last: usize) -> Option<(u16, usize)>
     any_with_comma(text, at)
 }
 
-/// Reads the numbers of a row from a queue on that stand at a place, joined by commas, and answers the place behind
-/// them; those before this queue stay. Where nothing is given, nothing is said of the row.
+/// Reads the numbers of a row that stand at a place, joined by commas, and answers the place behind them. Where nothing
+/// is given, nothing is said of the row.
 #[inline(never)]
-pub(crate) fn read_row_from(text: &[u8], at: usize, from: usize, row: &mut [u16]) -> Option<usize>
-    requires some { from < length row.old }
+pub(crate) fn read_row(text: &[u8], at: usize, row: &mut [u16]) -> Option<usize>
+    requires some { 1 ≤ length row.old }
     requires within { at ≤ length text.now }
     ensures count { length row.new ≡ length row.old }
-    ensures same { take from row.new ≡ take from row.old }
     ensures within { IfSome result (λ end. end ≤ length text.now) }
-    ensures there { IfSome result (λ end. (begin : ℕ) → Stands text.now begin at (with_commas (take from row.old)) → Stands text.now begin end (numbers_text row.new)) }
+    ensures there { IfSome result (λ end. Stands text.now at end (numbers_text row.new)) }
 {
     if text.len() < 3 {
         return None;
@@ -178,7 +177,7 @@ pub(crate) fn read_row_from(text: &[u8], at: usize, from: usize, row: &mut [u16]
     let last = text.len() - 3;
     let most = row.len() - 1;
     let mut end = at;
-    for queue in from..most {
+    for queue in 0..most {
         let Some((number, next)) = small_with_comma(text, end, last) else {
             return None;
         };

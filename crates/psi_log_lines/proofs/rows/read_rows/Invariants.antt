@@ -2,7 +2,6 @@
 use Rattle.std.specs.Prelude.{◌≡◌, ◌≤◌, length, drop, true}
 use Rattle.psi_log_words.specs.Regions.{ascends}
 use Rattle.psi_log_lines.specs.Scanned.{AreScanned}
-use Rattle.psi_log_lines.specs.RowsViews.{IsFront, EndsIn}
 use Rattle.psi_log_lines.proofs.rows.read_rows.Given as goal
 
 abbrev pub invariant-loop : goal.invariant-loop
@@ -12,6 +11,4 @@ invariant-loop l = record {
   within : l.end ≤ length l.text;
   rows : AreScanned l.queues l.text l.at l.end l.fn.states.states l.states.states;
   order : ascends (drop (length l.fn.states.states) l.states.states) ≡ true;
-  front : IsFront l.row l.front;
-  last : 1 ≤ l.front.queue → EndsIn l.states.states l.row;
 }

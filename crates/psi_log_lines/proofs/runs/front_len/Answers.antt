@@ -1,7 +1,7 @@
--- Answers in the proof of `rows::front_len`.
+-- Answers in the proof of `runs::front_len`.
 use Rattle.std.proofs.Common.{sym, arith}
 use Rattle.psi_log_lines.proofs.RowsLemmas.{front_short, front_longer}
-use Rattle.psi_log_lines.proofs.rows.front_len.Goals as goal
+use Rattle.psi_log_lines.proofs.runs.front_len.Goals as goal
 
 pub loop-place-init : goal.loop-place-init
 loop-place-init c = record { value = sym (front_short c.args.row.now); few = omega arith }

@@ -1,7 +1,7 @@
--- Invariants of the loops of `rows::front_len`.
+-- Invariants of the loops of `runs::front_len`.
 use Rattle.std.specs.Prelude.{◌≡◌, ◌*◌, ◌≤◌, length, take}
 use Rattle.psi_log_lines.specs.Scanned.{with_commas}
-use Rattle.psi_log_lines.proofs.rows.front_len.Given as goal
+use Rattle.psi_log_lines.proofs.runs.front_len.Given as goal
 
 abbrev pub invariant-loop-place : goal.invariant-loop-place
 invariant-loop-place l = record {

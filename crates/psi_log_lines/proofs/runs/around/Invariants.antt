@@ -1,0 +1,9 @@
+-- Invariants of the loops of `runs::around`.
+use Rattle.std.specs.Prelude.{◌≡◌, ◌⊎◌, ℕ, ◌<◌, ◌≤◌, length, slice_index_or, true, false}
+use Rattle.psi_log_lines.proofs.runs.around.Given as goal
+
+abbrev pub invariant-loop-place : goal.invariant-loop-place
+invariant-loop-place l = record {
+  count : length l.same ≡ 128;
+  around : (i : ℕ) → i < l.place → (i < l.from) ⊎ (l.until ≤ i) → slice_index_or l.same i false ≡ true;
+}

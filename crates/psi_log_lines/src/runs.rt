@@ -1,0 +1,197 @@
+//! Runs of a set's states: such as differ from the one before in the number of one queue alone. What stands in their
+//! words before and behind this number is compared sixteen bytes at once.
+
+ghost use Rattle.std.specs.Prelude.{◌≡◌, ◌⊎◌, ◌∷◌, ◌+◌, ◌-◌, ◌<◌, ◌≤◌, ◌^◌, ℕ, length, slice_index, slice_index_or, slice_set, take, drop, decimal, true, false, IsTrue, IfOk, IfSome};
+ghost use Rattle.psi_log_text.specs.Text.{numbers_text};
+ghost use Rattle.psi_log_lines.specs.Scanned.{Stands, with_commas};
+ghost use Rattle.psi_log_lines.specs.RowsViews.{IsAlike, IsRun, IsRead, EndsIn};
+
+use crate::rows::{keep_range, width};
+use crate::scan::small_at;
+use psi_state_list::StateList;
+use std::alloc::AllocError;
+
+/// What the words of a run have in common: the bytes of one with the space before it, and which of them stand in each,
+/// which is all but the digits of the number of one queue.
+#[derive(Clone, Copy, Debug)]
+pub(crate) struct Run {
+    bytes: [u8; 128],
+    same: [bool; 128],
+    from: usize,
+    until: usize,
+    len: usize,
+    queue: usize,
+}
+
+// How long a state's word is before the number of a queue.
+fn front_len(row: &[u16], queue: usize) -> usize
+    requires queue { queue ≤ length row.now }
+    requires few { length row.now ≤ 32 }
+    ensures value { result ≡ length (with_commas (take queue row.now)) }
+    ensures few { result ≤ 192 }
+{
+    let mut len = 0;
+    for place in 0..queue {
+        len += width(row[place]) + 1;
+    }
+    len
+}
+
+// These bytes, and others behind them.
+fn bytes_of(word: &[u8]) -> [u8; 128]
+    requires { length word.now ≤ 128 }
+    ensures front { take (length word.now) result ≡ word.now }
+    ensures count { length result ≡ 128 }
+{
+    let mut bytes = [0; 128];
+    bytes[..word.len()].copy_from_slice(word);
+    bytes
+}
+
+// These numbers, and others behind them.
+fn padded(row: &[u16]) -> [u16; 32]
+    requires { length row.now ≤ 32 }
+    ensures front { take (length row.now) result ≡ row.now }
+    ensures count { length result ≡ 32 }
+{
+    let mut numbers = [0; 32];
+    numbers[..row.len()].copy_from_slice(row);
+    numbers
+}
+
+// For each of so many places whether it is before a number's digits or behind them.
+fn around(from: usize, until: usize, len: usize) -> [bool; 128]
+    requires { len ≤ 128 }
+    ensures { (i : ℕ) → i < len → (i < from) ⊎ (until ≤ i) → slice_index_or result i false ≡ true }
+{
+    let mut same = [false; 128];
+    for place in 0..len {
+        same[place] = (place < from) | (place >= until);
+    }
+    same
+}
+
+/// The run of a state whose word stands in a text behind a space, the space with it, in which this queue's number
+/// grows. There is none where it is longer than 128 bytes.
+#[inline(never)]
+pub(crate) fn run_of(text: &[u8], at: usize, end: usize, row: &[u16], queue: usize) -> Option<Run>
+    requires queue { queue < length row.now }
+    requires few { length row.now ≤ 32 }
+    requires within { end ≤ length text.now }
+    requires there { Stands text.now at end (32 ∷ numbers_text row.now) }
+    ensures { IfSome result (λ run. IsRun row.now run) }
+{
+    let len = end - at;
+    if len > 128 {
+        return None;
+    }
+    let from = 1 + front_len(row, queue);
+    let until = from + width(row[queue]);
+    Some(Run {
+        bytes: bytes_of(&text[at..end]),
+        same: around(from, until, len),
+        from,
+        until,
+        len,
+        queue,
+    })
+}
+
+// Whether sixteen bytes are the same as others, wherever they have to be. All of them are looked at, so that the
+// compiler compares them at once.
+#[inline]
+fn are_same(text: &[u8], bytes: &[u8], same: &[bool]) -> bool
+    requires text { length text.now ≡ 16 }
+    requires bytes { length bytes.now ≡ 16 }
+    requires same { length same.now ≡ 16 }
+    ensures { IsTrue result → (i : ℕ) → i < 16 → slice_index_or same.now i false ≡ true → slice_index text.now i ≡ slice_index bytes.now i }
+{
+    let mut apart = false;
+    for place in 0..16 {
+        apart |= (text[place] != bytes[place]) & same[place];
+    }
+    !apart
+}
+
+// Whether what stands at a place is as the words of a run are, but for the number's digits.
+#[inline]
+fn is_alike(text: &[u8], at: usize, run: &Run) -> bool
+    requires { run.now.len ≤ 128 }
+    ensures within { IsTrue result → at + 128 ≤ length text.now }
+    ensures alike { IsTrue result → IsAlike text.now at run.now run.now.len }
+{
+    if text.len() < 128 || at > text.len() - 128 {
+        return false;
+    }
+    for block in 0..8 {
+        let first = 16 * block;
+        if first >= run.len {
+            return true;
+        }
+        let part = &text[at + first..at + first + 16];
+        let bytes = &run.bytes[first..first + 16];
+        let same = &run.same[first..first + 16];
+        if !are_same(part, bytes, same) {
+            return false;
+        }
+    }
+    true
+}
+
+// The number in which the next state differs from the one whose numbers these are, and is above it, where its word is
+// of the run.
+#[inline]
+fn next_number(text: &[u8], at: usize, run: &Run, row: &[u16]) -> Option<u16>
+    requires { IsRun row.now run.now }
+    ensures within { IfSome result (λ n. at + run.now.len ≤ length text.now) }
+    ensures above { IfSome result (λ n. slice_index row.now run.now.queue < n) }
+    ensures there { IfSome result (λ n. Stands text.now at (at + run.now.len) (32 ∷ numbers_text (slice_set row.now run.now.queue n))) }
+{
+    if !is_alike(text, at, run) {
+        return None;
+    }
+    let (number, end) = small_at(text, at + run.from)?;
+    if number <= row[run.queue] || end != at + run.until {
+        return None;
+    }
+    // Where the word goes on, it is another one.
+    let after = at + run.len;
+    if after < text.len() && text[after] > b' ' {
+        return None;
+    }
+    Some(number)
+}
+
+/// Puts the states of a run, at most so many, which stand in a text from a place on, each behind a space, behind those
+/// of the list, the last of which has these numbers; and gives the place behind them.
+#[inline(never)]
+pub(crate) fn read_run(
+    text: &[u8],
+    at: usize,
+    most: usize,
+    run: &Run,
+    row: &[u16],
+    states: &mut StateList,
+) -> Result<usize, AllocError>
+    requires few { length row.now ≤ 32 }
+    requires queues { states.old.queues ≡ length row.now }
+    requires within { at ≤ length text.now }
+    requires run { IsRun row.now run.now }
+    requires last { EndsIn states.old.states row.now }
+    ensures queues { states.new.queues ≡ states.old.queues }
+    ensures read { IfOk result (λ end. IsRead (length row.now) text.now at end states.old.states states.new.states) }
+{
+    let mut numbers = padded(row);
+    let mut end = at;
+    for _ in 0..most {
+        let Some(number) = next_number(text, end, run, &numbers[..row.len()]) else {
+            return Ok(end);
+        };
+        numbers[run.queue] = number;
+        // Called for its clause: the range of the numbers.
+        keep_range(&numbers[..row.len()]);
+        states.push_padded(&numbers)?;
+        end += run.len;
+    }
+    Ok(end)
+}
