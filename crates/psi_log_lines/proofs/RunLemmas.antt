@@ -1,5 +1,5 @@
 -- Runs of states, whose words differ in one number.
-use Rattle.std.specs.Prelude.{◌≡◌, ◌⊎◌, ℕ, zero, suc, ◌+◌, ◌-◌, ◌<◌, ◌≤◌, List, [], ◌∷◌, ◌++◌, length, take, drop, slice_index_or, Bool, true, false, ◌||◌, nat_lt, nat_le, refl}
+use Rattle.std.specs.Prelude.{◌≡◌, ◌⊎◌, ℕ, zero, suc, ◌+◌, ◌-◌, ◌*◌, ◌<◌, ◌≤◌, List, [], ◌∷◌, ◌++◌, length, take, drop, slice_index_or, Bool, true, false, ◌||◌, nat_lt, nat_le, refl}
 use Rattle.std.specs.List.{flat_map}
 use Rattle.std.specs.Fmt.{decimal}
 use Rattle.std.proofs.Common.{get_or, set, ap, sym, ◌∙◌, subst, arith, append_assoc, drop-cons, length-append, inl, inr}
@@ -12,6 +12,7 @@ use Rattle.psi_log_lines.specs.Scanned.{Stands, with_commas}
 use Rattle.psi_log_lines.specs.RowsViews.{IsAlike, IsRun}
 use Rattle.psi_log_lines.specs.declared.runs.Run.{Run}
 use Rattle.psi_log_lines.proofs.RowsLemmas.{text_front}
+use Rattle.psi_log_lines.proofs.ScanLemmas.{digit_stands, digit_first, two_digits}
 use Rattle.psi_log_lines.proofs.SetLineLemmas.{part_is}
 
 -- numbers, each behind a comma
@@ -49,11 +50,11 @@ cut bytes front digits back from until len is first second third =
     )
 
 -- the run of a state
-pub run_is : (text row : List ℕ) (at end : ℕ) (run : Run) → at ≤ length text → run.queue < length row → Stands text at end (32 ∷ numbers_text row) → run.len ≡ end - at → run.len ≤ 128
+pub run_is : (text row : List ℕ) (at end : ℕ) (run : Run) → at ≤ length text → run.queue < length row → Stands text at end (32 ∷ numbers_text row) → run.len ≡ end - at → run.len < 128
     → take run.len run.bytes ≡ take (end - at) (drop at text) → length run.bytes ≡ 128 → run.from ≡ 1 + length (with_commas (take run.queue row))
-    → run.until ≡ run.from + length (decimal (get_or row run.queue 0)) → ((i : ℕ) → i < run.len → (i < run.from) ⊎ (run.until ≤ i) → slice_index_or run.same i false ≡ true)
+    → run.width ≡ length (decimal (get_or row run.queue 0)) → 1 ≤ run.width → ((i : ℕ) → i < run.len → (i < run.from) ⊎ (run.from + run.width ≤ i) → slice_index_or run.same i false ≡ true)
     → IsRun row run
-run_is text row at end run within queue there len few bytes size from until same =
+run_is text row at end run within queue there len few bytes size from width some same =
     let place = there.place in
     let front = with_commas (take run.queue row) in
     let digits = decimal (get_or row run.queue 0) in
@@ -63,10 +64,10 @@ run_is text row at end run within queue there len few bytes size from until same
     ap length parts ∙ length-append front (digits ++ back) ∙ ap (λ (k : ℕ). length front + k) (length-append digits back) in
     let whole : take run.len run.bytes ≡ (32 ∷ front) ++ (digits ++ back) =
     bytes ∙ part_is text (32 ∷ numbers_text row) at end within there ∙ ap (λ (t : List ℕ). 32 ∷ t) parts in
-    let pieces = cut run.bytes (32 ∷ front) digits back run.from run.until run.len whole (omega arith) until (omega arith) in
+    let pieces = cut run.bytes (32 ∷ front) digits back run.from (run.from + run.width) run.len whole (omega arith) (omega arith) (omega arith) in
     record {
       queue = queue;
-      number = omega arith;
+      number = some;
       word = omega arith;
       few = few;
       bytes = size;
@@ -113,7 +114,7 @@ part_stands text bytes a b n end is left right each =
     }
 
 -- the word of the next state of a run
-pub word_stands : (text row : List ℕ) (run : Run) (at n : ℕ) → IsRun row run → at + run.len ≤ length text → IsAlike text at run run.len → Stands text (at + run.from) (at + run.until) (decimal n)
+pub word_stands : (text row : List ℕ) (run : Run) (at n : ℕ) → IsRun row run → at + run.len ≤ length text → IsAlike text at run run.len → Stands text (at + run.from) (at + (run.from + run.width)) (decimal n)
     → Stands text at (at + run.len) (32 ∷ numbers_text (set row run.queue n))
 word_stands text row run at n is within alike number =
     let bytes = is.bytes in
@@ -123,9 +124,9 @@ word_stands text row run at n is within alike number =
     let front : Stands text at (at + run.from) (take run.from run.bytes) =
     part_stands text run.bytes at 0 run.from (at + run.from) refl (omega arith) (omega arith)
     (λ i small. subst (λ (k : ℕ). get_or text (at + i) 0 ≡ get_or run.bytes k 0) (omega arith) (alike i (omega arith) (is.same i (omega arith) (inl small)))) in
-    let back : Stands text (at + run.until) (at + run.len) (take (run.len - run.until) (drop run.until run.bytes)) =
-    part_stands text run.bytes (at + run.until) run.until (run.len - run.until) (at + run.len) (omega arith) (omega arith) (omega arith)
-    (λ i small. subst (λ (k : ℕ). get_or text k 0 ≡ get_or run.bytes (run.until + i) 0) (omega arith) (alike (run.until + i) (omega arith) (is.same (run.until + i) (omega arith) (inr (omega arith))))) in
+    let back : Stands text (at + (run.from + run.width)) (at + run.len) (take (run.len - (run.from + run.width)) (drop (run.from + run.width) run.bytes)) =
+    part_stands text run.bytes (at + (run.from + run.width)) (run.from + run.width) (run.len - (run.from + run.width)) (at + run.len) (omega arith) (omega arith) (omega arith)
+    (λ i small. subst (λ (k : ℕ). get_or text k 0 ≡ get_or run.bytes (run.from + run.width + i) 0) (omega arith) (alike (run.from + run.width + i) (omega arith) (is.same (run.from + run.width + i) (omega arith) (inr (omega arith))))) in
     then _ _ _ front (then _ _ _ number back refl) (is.words n)
 
 part_at : {X : Type 0} (xs : List X) (first n j : ℕ) (d : X) → j < n → get_or (take n (drop first xs)) j d ≡ get_or xs (first + j) d
@@ -162,3 +163,15 @@ around_more from until place same room before i small around = elim (cases_lt i 
     or_true : (b : Bool) → (b || true) ≡ true
     or_true true = refl
     or_true false = refl
+
+-- numbers of one and of two digits
+pub one_stands : (text : List ℕ) (at end first : ℕ) → end ≡ at + 1 → at < length text → 48 + first ≡ get_or text at 0 → first ≤ 9 → Stands text at end (decimal first)
+one_stands text at end first is small value few =
+    subst (λ (k : ℕ). Stands text at k (decimal first)) (sym is) (digit_first text at (at + 1) first few (digit_stands text at (get_or text at 0) first small refl value))
+
+pub two_stand : (text : List ℕ) (at end first second : ℕ) → end ≡ at + 2 → at + 1 < length text → 48 + first ≡ get_or text at 0 → 48 + second ≡ get_or text (at + 1) 0 → first ≤ 9 → second ≤ 9
+    → 1 ≤ first → Stands text at end (decimal (10 * first + second))
+two_stand text at end first second is small value next few least some =
+    subst (λ (k : ℕ). Stands text at k (decimal (10 * first + second))) (omega arith)
+    (two_digits text at (at + 1) (at + 1 + 1) first second some few least (digit_stands text at (get_or text at 0) first (omega arith) refl value)
+    (digit_stands text (at + 1) (get_or text (at + 1) 0) second small refl next))

@@ -12,12 +12,12 @@ IsAlike text at run count = (i : ℕ) → i < count → slice_index_or run.same 
 -- a run's bytes make the row's word behind a space, with whatever number in its queue, and are the same but for that number
 pub record IsRun (row : List ℕ) (run : Run) : Type 0 where
   pub queue : run.queue < length row
-  pub number : run.from ≤ run.until
-  pub word : run.until ≤ run.len
-  pub few : run.len ≤ 128
+  pub number : 1 ≤ run.width
+  pub word : run.from + run.width ≤ run.len
+  pub few : run.len < 128
   pub bytes : length run.bytes ≡ 128
-  pub same : (i : ℕ) → i < run.len → (i < run.from) ⊎ (run.until ≤ i) → slice_index_or run.same i false ≡ true
-  pub words : (n : ℕ) → take run.from run.bytes ++ (decimal n ++ take (run.len - run.until) (drop run.until run.bytes)) ≡ 32 ∷ numbers_text (slice_set row run.queue n)
+  pub same : (i : ℕ) → i < run.len → (i < run.from) ⊎ (run.from + run.width ≤ i) → slice_index_or run.same i false ≡ true
+  pub words : (n : ℕ) → take run.from run.bytes ++ (decimal n ++ take (run.len - (run.from + run.width)) (drop (run.from + run.width) run.bytes)) ≡ 32 ∷ numbers_text (slice_set row run.queue n)
 
 -- the row is the last of the states
 abbrev pub EndsIn : List (List ℕ) → List ℕ → Type 0

@@ -26,6 +26,7 @@ pub(crate) fn keep_range(row: &[u16])
 #[tactic(auto, using(crate::proofs::RowsLemmas::length_one, crate::proofs::RowsLemmas::length_two, crate::proofs::RowsLemmas::length_three, crate::proofs::RowsLemmas::length_four, crate::proofs::RowsLemmas::length_five))]
 pub(crate) fn width(n: u16) -> usize
     ensures value { result ≡ length (decimal n) }
+    ensures some { 1 ≤ result }
     ensures few { result ≤ 5 }
 {
     if n < 10 {

@@ -7,7 +7,7 @@ ghost use Rattle.psi_log_lines.specs.Scanned.{Stands, with_commas};
 ghost use Rattle.psi_log_lines.specs.RowsViews.{IsAlike, IsRun, IsRead, EndsIn};
 
 use crate::rows::{keep_range, width};
-use crate::scan::small_at;
+use crate::scan::{digit_of, small_at};
 use psi_state_list::StateList;
 use std::alloc::AllocError;
 
@@ -18,7 +18,7 @@ pub(crate) struct Run {
     bytes: [u8; 128],
     same: [bool; 128],
     from: usize,
-    until: usize,
+    width: usize,
     len: usize,
     queue: usize,
 }
@@ -72,7 +72,7 @@ fn around(from: usize, until: usize, len: usize) -> [bool; 128]
 }
 
 /// The run of a state whose word stands in a text behind a space, the space with it, in which this queue's number
-/// grows. There is none where it is longer than 128 bytes.
+/// grows. There is none where it is longer than 127 bytes.
 #[inline(never)]
 pub(crate) fn run_of(text: &[u8], at: usize, end: usize, row: &[u16], queue: usize) -> Option<Run>
     requires queue { queue < length row.now }
@@ -82,16 +82,16 @@ pub(crate) fn run_of(text: &[u8], at: usize, end: usize, row: &[u16], queue: usi
     ensures { IfSome result (λ run. IsRun row.now run) }
 {
     let len = end - at;
-    if len > 128 {
+    if len >= 128 {
         return None;
     }
     let from = 1 + front_len(row, queue);
-    let until = from + width(row[queue]);
+    let width = width(row[queue]);
     Some(Run {
         bytes: bytes_of(&text[at..end]),
-        same: around(from, until, len),
+        same: around(from, from + width, len),
         from,
-        until,
+        width,
         len,
         queue,
     })
@@ -125,17 +125,52 @@ fn is_alike(text: &[u8], at: usize, run: &Run) -> bool
     }
     for block in 0..8 {
         let first = 16 * block;
-        if first >= run.len {
-            return true;
-        }
         let part = &text[at + first..at + first + 16];
         let bytes = &run.bytes[first..first + 16];
         let same = &run.same[first..first + 16];
         if !are_same(part, bytes, same) {
             return false;
         }
+        if run.len <= first + 16 {
+            return true;
+        }
     }
     true
+}
+
+// The number of so many digits that stands at a place.
+#[inline(never)]
+fn long_number(text: &[u8], at: usize, width: usize) -> Option<u16>
+    requires { at + width ≤ length text.now }
+    ensures { IfSome result (λ n. Stands text.now at (at + width) (decimal n)) }
+{
+    let (number, end) = small_at(text, at)?;
+    if end != at + width {
+        return None;
+    }
+    Some(number)
+}
+
+// The same; at once where it has one or two digits.
+#[inline]
+fn number_of(text: &[u8], at: usize, width: usize) -> Option<u16>
+    requires some { 1 ≤ width }
+    requires within { at + width ≤ length text.now }
+    ensures { IfSome result (λ n. Stands text.now at (at + width) (decimal n)) }
+{
+    if width > 2 {
+        return long_number(text, at, width);
+    }
+    let first = digit_of(text[at])?;
+    if width == 1 {
+        return Some(first as u16);
+    }
+    let second = digit_of(text[at + 1])?;
+    if first == 0 {
+        return None;
+    }
+    let number = 10 * first + second;
+    Some(number as u16)
 }
 
 // The number in which the next state differs from the one whose numbers these are, and is above it, where its word is
@@ -150,13 +185,12 @@ fn next_number(text: &[u8], at: usize, run: &Run, row: &[u16]) -> Option<u16>
     if !is_alike(text, at, run) {
         return None;
     }
-    let (number, end) = small_at(text, at + run.from)?;
-    if number <= row[run.queue] || end != at + run.until {
+    let number = number_of(text, at + run.from, run.width)?;
+    if number <= row[run.queue] {
         return None;
     }
     // Where the word goes on, it is another one.
-    let after = at + run.len;
-    if after < text.len() && text[after] > b' ' {
+    if text[at + run.len] > b' ' {
         return None;
     }
     Some(number)

@@ -46,7 +46,7 @@ pub(crate) fn has_short(text: &[u8], at: usize, word: &[u8]) -> bool
 
 // The digit that a byte is.
 #[inline]
-fn digit_of(byte: u8) -> Option<u32>
+pub(crate) fn digit_of(byte: u8) -> Option<u32>
     ensures small { IfSome result (λ digit. digit ≤ 9) }
     ensures value { IfSome result (λ digit. 48 + digit ≡ byte) }
 {

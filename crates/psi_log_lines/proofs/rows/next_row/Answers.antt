@@ -1,5 +1,5 @@
 -- Answers in the proof of `rows::next_row`.
-use Rattle.std.proofs.Common.{◌+◌, length, ◌∷◌, [], ap, ◌∙◌, length-append, refl, arith}
+use Rattle.std.proofs.Common.{length, ◌∷◌, [], ap, ◌∙◌, length-append, refl, arith}
 use Rattle.psi_log_lines.proofs.RowsLemmas.{below_behind}
 use Rattle.psi_log_lines.proofs.rows.next_row.Goals as goal
 

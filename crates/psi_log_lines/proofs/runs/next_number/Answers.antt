@@ -10,4 +10,4 @@ returns-clause-there c =
     let within = c.if-not-is_alike.ensures.within refl in
     let few = c.requires.few in
     word_stands c.args.text.now c.args.row.now run c.args.at c.in_ok-number.number c.requires (omega arith) (c.if-not-is_alike.ensures.alike refl)
-    (subst (λ (k : ℕ). Stands c.args.text.now (c.args.at + c.args.run.now.from) k (decimal c.in_ok-number.number)) c.if-end-at.false c.in_ok-number.ensures.there)
+    (subst (λ (k : ℕ). Stands c.args.text.now (c.args.at + c.args.run.now.from) k (decimal c.in_ok-number.number)) (omega arith) c.in_ok-number.ensures)

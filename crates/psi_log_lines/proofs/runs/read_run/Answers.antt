@@ -1,7 +1,7 @@
 -- Answers in the proof of `runs::read_run`.
 use Rattle.std.specs.Prelude.{slice_set, true}
 use Rattle.std.specs.Ordering.{is_lt}
-use Rattle.std.proofs.Common.{◌≡◌, ◌∙◌, ℕ, List, ◌+◌, ◌++◌, ◌∷◌, [], length, take, ap, sym, subst, refl, arith}
+use Rattle.std.proofs.Common.{◌≡◌, ◌∙◌, ℕ, List, ◌+◌, ◌++◌, ◌∷◌, [], length, take, ap, sym, subst, arith}
 use Rattle.std.proofs.lemmas.List.{length-take-le, length-set}
 use Rattle.std.proofs.Math.Seq.{take-set-lt}
 use Rattle.psi_state.specs.Sets.{state_cmp}

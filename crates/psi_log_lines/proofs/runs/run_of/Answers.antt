@@ -9,5 +9,5 @@ returns c =
     let place = c.requires.there.place in
     let within = c.requires.within in
     let size = length-take-le (c.args.end - c.args.at) (drop c.args.at c.args.text.now) (omega (arith, length-drop c.args.at c.args.text.now)) in
-    run_is c.args.text.now c.args.row.now c.args.at c.args.end _ (omega arith) c.requires.queue c.requires.there refl c.if-len-gt128.false
-    (ap (λ (k : ℕ). take k c.bytes_of.result) (sym size) ∙ c.bytes_of.ensures.front) c.bytes_of.ensures.count (omega (arith, c.front_len-from.ensures.value)) (omega (arith, c.width.ensures.value)) c.around.ensures
+    run_is c.args.text.now c.args.row.now c.args.at c.args.end _ (omega arith) c.requires.queue c.requires.there refl c.if-len-ge128.false
+    (ap (λ (k : ℕ). take k c.bytes_of.result) (sym size) ∙ c.bytes_of.ensures.front) c.bytes_of.ensures.count (omega (arith, c.front_len-from.ensures.value)) c.width-width.ensures.value c.width-width.ensures.some c.around.ensures
