@@ -4,6 +4,7 @@ mod covering;
 mod diagrams;
 mod forms;
 mod keys;
+mod logs;
 mod lowering;
 mod plans;
 mod pools;
