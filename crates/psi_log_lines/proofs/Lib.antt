@@ -3,6 +3,8 @@ pub mod CutLemmas
 pub mod LineLemmas
 pub mod ScanLemmas
 pub mod RunLemmas
+
+pub mod SameLemmas
 pub mod RowsLemmas
 pub mod SetLineLemmas
 pub mod MoveLineLemmas

@@ -2,14 +2,18 @@
 //! all of it is as it has to be; where it isn't, nothing is said, and a line is read word by word.
 #![tactic(auto)]
 
+mod head;
 mod header;
 mod move_line;
 mod rows;
 mod runs;
+
+mod same;
 mod scan;
 mod set_line;
 
+pub use head::step_at;
 pub use header::{greatest_horizon, read_header};
 pub use move_line::{read_changes, read_move_line};
 pub use scan::{has_byte, has_word};
-pub use set_line::{LastSet, read_new_set, read_set_line, step_at};
+pub use set_line::{LastSet, read_new_set, read_set_line};

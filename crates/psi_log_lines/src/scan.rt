@@ -44,7 +44,7 @@ pub(crate) fn has_short(text: &[u8], at: usize, word: &[u8]) -> bool
     true
 }
 
-// The digit that a byte is.
+/// The digit that a byte is.
 #[inline]
 pub(crate) fn digit_of(byte: u8) -> Option<u32>
     ensures small { IfSome result (λ digit. digit ≤ 9) }

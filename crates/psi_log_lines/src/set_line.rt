@@ -2,40 +2,16 @@
 
 ghost use Rattle.std.specs.Prelude.{◌≡◌, ◌∷◌, [], ◌++◌, ◌+◌, ℕ, Option, ◌<◌, ◌≤◌, ◌^◌, length, slice_index, take, codes, decimal, Ok, IfOk, IfSome, OnOk};
 ghost use Rattle.psi_state.specs.State.{Corners};
-ghost use Rattle.psi_log_text.specs.Log.{greatest_horizon};
-ghost use Rattle.psi_log_text.specs.Room.{spaced_words};
 ghost use Rattle.psi_log_lines.specs.LinesViews.{entry_of, HasRegion, IsLast};
 ghost use Rattle.psi_log_lines.specs.Scanned.{Stands, AreScanned, next_step};
 
-use crate::header::greatest_horizon;
+use crate::head::step_at;
 use crate::rows::read_rows;
-use crate::scan::{has_byte, has_short, has_word, number_at, small_at};
+use crate::scan::{has_byte, has_short, has_word};
 use psi_log_text::Header;
-use psi_state::{MOST_EVENTS, MOST_SPLIT, Step};
+use psi_state::MOST_SPLIT;
 use psi_state_list::{Line, ListedRegion, StateList};
 use std::alloc::AllocError;
-
-/// The step whose line begins a text, and the place behind its event.
-#[tactic(auto, using(crate::proofs::SetLineLemmas::step_stands))]
-pub fn step_at(version: u8, text: &[u8]) -> Option<(Step, usize)>
-    ensures least { IfSome result (λ read. 1 ≤ read.0.number) }
-    ensures most { IfSome result (λ read. read.0.number ≤ greatest_horizon version) }
-    ensures event { IfSome result (λ read. read.0.event ≤ 1024) }
-    ensures there { IfSome result (λ read. Stands text.now 0 read.1 (codes "step" ++ spaced_words (decimal read.0.number ∷ decimal read.0.event ∷ []))) }
-{
-    if !has_short(text, 0, b"step ") {
-        return None;
-    }
-    let (number, end) = number_at(text, 5)?;
-    if number < 1 || number > greatest_horizon(version) || !has_byte(text, end, b' ') {
-        return None;
-    }
-    let (event, end) = small_at(text, end + 1)?;
-    if event as u32 > MOST_EVENTS {
-        return None;
-    }
-    Some((Step { number, event }, end))
-}
 
 /// The end of a set's line, from behind its event on, and the place of its states in a list of states.
 #[derive(Clone, Copy, Debug)]
