@@ -8,3 +8,4 @@ pub mod SameLemmas
 pub mod RowsLemmas
 pub mod SetLineLemmas
 pub mod MoveLineLemmas
+pub mod LikeLemmas

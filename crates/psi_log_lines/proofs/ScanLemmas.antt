@@ -90,7 +90,7 @@ commas_more text at place end q n x y small is front number =
     then (with_commas (take q x)) (with_comma n) (with_commas (take (q + 1) y)) front number whole
 
 -- numbers that are joined have a comma behind each but the last
-text_last : (xs : List ℕ) (n : ℕ) → numbers_text (xs ++ n ∷ []) ≡ with_commas xs ++ decimal n
+pub text_last : (xs : List ℕ) (n : ℕ) → numbers_text (xs ++ n ∷ []) ≡ with_commas xs ++ decimal n
 unfolding with_commas numbers_text
 text_last [] n = refl
 text_last (x ∷ []) n =

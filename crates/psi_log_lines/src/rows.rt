@@ -13,7 +13,7 @@ use psi_state::{MOST_SPLIT, State};
 use psi_state_list::StateList;
 use std::alloc::AllocError;
 
-// Does nothing; its clause is the range of the numbers.
+/// Does nothing; its clause is the range of the numbers.
 #[inline]
 pub(crate) fn keep_range(row: &[u16])
     ensures { (i : ℕ) → slice_index row.now i < 2 ^ 16 }
@@ -21,7 +21,7 @@ pub(crate) fn keep_range(row: &[u16])
     let _row = row;
 }
 
-// How many decimal digits a number has.
+/// How many decimal digits a number has.
 #[inline]
 #[tactic(auto, using(crate::proofs::RowsLemmas::length_one, crate::proofs::RowsLemmas::length_two, crate::proofs::RowsLemmas::length_three, crate::proofs::RowsLemmas::length_four, crate::proofs::RowsLemmas::length_five))]
 pub(crate) fn width(n: u16) -> usize
