@@ -1,6 +1,9 @@
 -- Lines that go on behind the words of their step, with the region after it.
-use Rattle.std.specs.Prelude.{◌≡◌, ℕ, ◌+◌, ◌≤◌, List, [], ◌∷◌, length, take, drop, codes, Option, Some, IfSome}
-use Rattle.std.proofs.Common.{ap, sym, subst, arith}
+use Rattle.std.specs.Prelude.{◌≡◌, ℕ, ◌+◌, ◌≤◌, List, [], ◌∷◌, ◌++◌, length, take, drop, codes, Option, Some, IfSome}
+use Rattle.std.specs.List.{slice_get}
+use Rattle.std.proofs.Common.{ap, sym, ◌∙◌, subst, arith}
+use Rattle.std.proofs.lemmas.Option.{slice_get_within, get_or_from_slice_get}
+use Rattle.std.proofs.lemmas.List.{drop_more}
 use Rattle.psi_state.specs.State.{Corners}
 use Rattle.psi_log_text.specs.Log.{LogRegion, in_box, in_set}
 use Rattle.psi_log_words.specs.RegionsViews.{region_of}
@@ -11,6 +14,7 @@ use Rattle.psi_log_lines.specs.declared.set_line.LastSet.{LastSet}
 use Rattle.psi_log.specs.declared.spot.Spot.{Spot}
 use Rattle.psi_state_list.specs.declared.line_list.ListedRegion.{ListedRegion}
 use Rattle.psi_state_list.specs.declared.line_list.ListedRegion.TheVariants.{Set}
+use Rattle.psi_state_list.specs.Rows.{States}
 use Rattle.psi_log_lines.proofs.SetLineLemmas.{set_line}
 use Rattle.psi_log_lines.proofs.MoveLineLemmas.{move_line, moved_so_none, moved_so_all}
 
@@ -45,3 +49,24 @@ same_set_goes_on queues before spot set text at some filled is there =
     let region : region_in spot ≡ in_set (take set.count (drop set.first spot.states.states)) = ap (λ (r : ListedRegion). region_of spot.states.states r) last.0 in
     subst (λ (r : LogRegion). GoesOn queues before text at (at + length set.text.now) r) (sym region)
     (set_goes_on queues before text set.text.now at (at + length set.text.now) xs some last.1.told there)
+
+-- the set of a spot, where it has one state
+pub one_told : (queues : ℕ) (spot : Spot) (set : LastSet) (rows : States) (state row : List ℕ) → IsFilled queues spot → spot.last ≡ Some set → set.count ≡ 1 → rows ≡ spot.states
+    → slice_get rows.states set.first ≡ Some state → length state ≡ rows.queues → row ≡ state → TellsSet (length row) set.text.now (row ∷ [])
+one_told queues spot set rows state row filled is one all here count same =
+    let last = subst (λ (o : Option LastSet). IfSome o (λ (l : LastSet). (spot.region ≡ Set l.first l.count) × IsLast queues spot.states.states l)) is filled.last in
+    let there : slice_get spot.states.states set.first ≡ Some state = ap (λ (r : States). slice_get r.states set.first) (sym all) ∙ here in
+    let size : length row ≡ queues = ap length same ∙ count ∙ ap (λ (r : States). r.queues) all ∙ filled.states in
+    let whole : take set.count (drop set.first spot.states.states) ≡ row ∷ [] =
+    ap (λ (k : ℕ). take k (drop set.first spot.states.states)) one
+    ∙ ap (take 1) (drop_more spot.states.states set.first [] (slice_get_within spot.states.states set.first state there))
+    ∙ ap (λ (x : List ℕ). x ∷ []) (get_or_from_slice_get spot.states.states set.first state [] there ∙ sym same) in
+    subst (λ (q : ℕ). TellsSet q set.text.now (row ∷ [])) (sym size) (subst (λ (xs : List (List ℕ)). TellsSet queues set.text.now xs) whole last.1.told)
+
+-- with the state that was put alone into the list of a spot
+pub one_goes_on : (queues : ℕ) (before : Option Corners) (text line row : List ℕ) (at : ℕ) (cleared states : List (List ℕ)) → 1 ≤ queues → TellsSet queues line (row ∷ [])
+    → Stands text at (at + length line) line → cleared ≡ [] → states ≡ cleared ++ row ∷ [] → GoesOn queues before text at (at + length line) (in_set (take 1 states))
+one_goes_on queues before text line row at cleared states some tells there none pushed =
+    let whole : take 1 states ≡ row ∷ [] = ap (take 1) (pushed ∙ ap (λ (xs : List (List ℕ)). xs ++ row ∷ []) none) in
+    subst (λ (xs : List (List ℕ)). GoesOn queues before text at (at + length line) (in_set xs)) (sym whole)
+    (set_goes_on queues before text line at (at + length line) (row ∷ []) some tells there)

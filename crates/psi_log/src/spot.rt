@@ -11,7 +11,7 @@ ghost use Rattle.psi_log.specs.SpotsViews.{region_in, either, HasQueues, IsFille
 
 use crate::form::BorrowedRegion;
 use crate::steps::read_by_words;
-use psi_log_lines::{LastSet, has_byte, has_word, read_changes, read_new_set, step_at};
+use psi_log_lines::{LastSet, has_byte, has_word, read_changes, read_like_set, read_new_set, step_at};
 use psi_log_text::Header;
 use psi_log_words::LogError;
 use psi_state::{Bounds, Step};
@@ -96,6 +96,42 @@ fn move_onto(
     Some((false, end + 1))
 }
 
+// Reads onto a spot the set of one state that stands behind an event as it is to be, by the line of another spot's
+// region where that is such a set too, and answers the place behind its line.
+fn like_onto<'t>(
+    queues: u8,
+    from: &Spot<'t>,
+    set: LastSet<'t>,
+    to: &mut Spot<'t>,
+    text: &'t [u8],
+    at: usize,
+) -> Result<Option<usize>, AllocError>
+    requires some { 1 ≤ queues }
+    requires few { queues ≤ 32 }
+    requires from { IsFilled queues from.now }
+    requires last { from.now.last ≡ Some set }
+    requires queues { HasQueues queues to.old }
+    ensures queues { HasQueues queues to.new }
+    ensures filled { IfOk result (λ line. IfSome line (λ end. IsFilled queues to.new)) }
+    ensures within { IfOk result (λ line. IfSome line (λ end. end ≤ length text.now)) }
+    ensures line { IfOk result (λ line. IfSome line (λ end. (before : Option Corners) → GoesOn queues before text.now at end (region_in to.new))) }
+{
+    if set.count != 1 {
+        return Ok(None);
+    }
+    let mut numbers = [0; 32];
+    let row = &mut numbers[..queues as usize];
+    row.copy_from_slice(from.states.all().row(set.first));
+    let Some(like) = read_like_set(text, at, set, row) else {
+        return Ok(None);
+    };
+    to.states.clear();
+    to.states.push_row(row)?;
+    to.region = ListedRegion::Set { first: 0, count: 1 };
+    to.last = Some(like);
+    Ok(Some(at + like.text.len()))
+}
+
 // Reads onto a spot the set that stands behind an event as it is to be: whether it is the set of another spot, as its
 // line ends alike, which then isn't put there, and the place behind its line.
 fn set_onto<'t>(
@@ -117,6 +153,9 @@ fn set_onto<'t>(
     if let Some(set) = from.last {
         if has_word(text, at, set.text) {
             return Ok(Some((true, at + set.text.len())));
+        }
+        if let Some(end) = like_onto(queues, from, set, to, text, at)? {
+            return Ok(Some((false, end)));
         }
     }
     to.states.clear();

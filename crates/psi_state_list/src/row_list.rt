@@ -257,10 +257,10 @@ impl<'l> Rows<'l> {
         state_of(self.row(place), self.queues)
     }
 
-    // The numbers of the state at a place.
+    /// The numbers of the state at a place, counted from 0, one for each queue. Nothing is copied.
     #[inline]
     #[tactic(auto, using(crate::proofs::RowsLemmas::length_rows, crate::proofs::RowsLemmas::rows_get, crate::proofs::RowsLemmas::rows_room))]
-    fn row(&self, place: usize) -> &'l [u16]
+    pub fn row(&self, place: usize) -> &'l [u16]
         requires { place < length self.now.states }
         ensures state { slice_get self.now.states place ≡ Some result.now }
         ensures count { length result.now ≡ self.now.queues }

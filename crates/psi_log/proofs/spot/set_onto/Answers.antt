@@ -13,9 +13,9 @@ returns-then-has_word-clause-line c = λ before.
 
 pub returns-clause-line : goal.returns-clause-line
 returns-clause-line c = λ before.
-    (let set = c.in-Some-2.set in
+    (let set = c.in-Some-3.set in
     let queues = c.args.queues in
     let states = c.read_new_set.new.states.states in
-    let last = subst (λ (o : Option LastSet). IfSome o (λ s. IsLast queues states s)) c.in-Some-2.is c.in_ok-set.ensures.last in
-    let there = subst (λ (o : Option LastSet). IfSome o (λ s. Stands c.args.text.now c.args.at (c.args.at + length s.text.now) s.text.now)) c.in-Some-2.is c.in_ok-set.ensures.there in
+    let last = subst (λ (o : Option LastSet). IfSome o (λ s. IsLast queues states s)) c.in-Some-3.is c.in_ok-set.ensures.last in
+    let there = subst (λ (o : Option LastSet). IfSome o (λ s. Stands c.args.text.now c.args.at (c.args.at + length s.text.now) s.text.now)) c.in-Some-3.is c.in_ok-set.ensures.there in
     set_goes_on queues before c.args.text.now set.text.now c.args.at (c.args.at + length set.text.now) (take set.count (drop set.first states)) c.requires.some last.told there)
