@@ -1,5 +1,5 @@
 -- What the fields of a reader of logs are seen as.
-use Rattle.std.specs.Prelude.{◌≡◌, ℕ, ◌≤◌, ◌++◌, ◌∷◌, [], List, codes, drop, Ok, Option, IfSome, Bool, true, false}
+use Rattle.std.specs.Prelude.{◌≡◌, ℕ, ◌≤◌, ◌++◌, ◌∷◌, [], List, length, codes, drop, Ok, Option, IfSome, Bool, true, false}
 use Rattle.std.specs.Fmt.{decimal}
 use Rattle.psi_state.specs.State.{Corners}
 use Rattle.psi_state.specs.declared.outcome.Step.{Step}
@@ -8,9 +8,10 @@ use Rattle.psi_log_text.specs.Log.{LogRegion, greatest_horizon}
 use Rattle.psi_log_text.specs.Room.{spaced_words}
 use Rattle.psi_log_words.specs.RegionsViews.{region_of, IsThere}
 use Rattle.psi_log_lines.specs.LinesViews.{IsLast}
-use Rattle.psi_log_lines.specs.Scanned.{Stands, next_step}
+use Rattle.psi_log_lines.specs.Scanned.{Stands, AreChanged, next_step}
 use Rattle.psi_log.specs.declared.spot.Spot.{Spot}
-use Rattle.psi_state_list.specs.declared.line_list.ListedRegion.TheVariants.{Set}
+use Rattle.psi_state_list.specs.declared.line_list.ListedRegion.{ListedRegion}
+use Rattle.psi_state_list.specs.declared.line_list.ListedRegion.TheVariants.{Box, Set}
 
 -- the region that stands in a spot
 abbrev pub region_in : Spot → LogRegion
@@ -30,6 +31,11 @@ pub record IsFilled (queues : ℕ) (s : Spot) : Type 0 where
   pub states : HasQueues queues s
   pub there : IsThere queues s.states.states s.region
   pub last : IfSome s.last (λ set. (s.region ≡ Set set.first set.count) × IsLast queues s.states.states set)
+
+-- a region is the box that changes make of another which stand in the text from one place to another
+abbrev pub IsChangedBox : ℕ → Corners → List ℕ → ℕ → ℕ → ListedRegion → Type 0
+IsChangedBox queues from text at end (Box to) = (length to.lo ≡ queues) × AreChanged queues from text at end to
+IsChangedBox queues from text at end (Set first count) = ⊥
 
 -- the words of a step begin a text, up to a place
 pub record BeginsWith (version : ℕ) (text : List ℕ) (at : ℕ) (s : Step) : Type 0 where

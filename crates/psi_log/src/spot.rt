@@ -7,11 +7,14 @@ ghost use Rattle.psi_log_words.specs.Refusal.{IsLogError};
 ghost use Rattle.psi_log_words.specs.Regions.{box_before};
 ghost use Rattle.psi_log_lines.specs.Scanned.{next_step};
 ghost use Rattle.psi_log.specs.Told.{shown};
-ghost use Rattle.psi_log.specs.SpotsViews.{region_in, either, HasQueues, IsFilled, GoesOn};
+ghost use Rattle.psi_log.specs.SpotsViews.{region_in, either, HasQueues, IsFilled, IsChangedBox, GoesOn};
 
 use crate::form::BorrowedRegion;
 use crate::steps::read_by_words;
-use psi_log_lines::{LastSet, has_byte, has_word, read_changes, read_like_set, read_new_set, step_at};
+use psi_log_lines::{
+    LastSet, has_byte, has_name, has_word, read_changes, read_changes_onto, read_like_set,
+    read_new_set, step_at,
+};
 use psi_log_text::Header;
 use psi_log_words::LogError;
 use psi_state::{Bounds, Step};
@@ -64,6 +67,30 @@ impl Spot<'_> {
     }
 }
 
+// Makes a region the box that the changes make of another which stand in a text from a place on, and answers the place
+// behind them. A box that stood there is written over in its place.
+fn changes_onto(
+    queues: u8,
+    from: &Bounds,
+    region: &mut ListedRegion,
+    text: &[u8],
+    at: usize,
+) -> Option<usize>
+    requires few { queues ≤ 32 }
+    requires same { length from.now.lo ≡ queues }
+    requires within { at ≤ length text.now }
+    ensures { IfSome result (λ end. IsChangedBox queues from.now text.now at end region.new) }
+{
+    match region {
+        ListedRegion::Box(to) => read_changes_onto(text, at, queues, from, to),
+        ListedRegion::Set { .. } => {
+            let (to, end) = read_changes(text, at, queues, from)?;
+            *region = ListedRegion::Box(to);
+            Some(end)
+        }
+    }
+}
+
 // Reads onto a spot the box that stands behind an event, written by what changed from another box as it is to be:
 // whether it is that box, which then isn't put there, and the place behind its line.
 fn move_onto(
@@ -81,17 +108,16 @@ fn move_onto(
     ensures within { IfSome result (λ read. read.1 ≤ length text.now) }
     ensures line { IfSome result (λ read. GoesOn queues (Some from.now) text.now at read.1 (either read.0 (in_box from.now) (region_in to.new))) }
 {
-    if !has_word(text, at, b" move") {
+    if !has_name(text, at, b" move") {
         return None;
     }
     if has_byte(text, at + 5, b'\n') {
         return Some((true, at + 6));
     }
-    let (bounds, end) = read_changes(text, at + 5, queues, from)?;
+    let end = changes_onto(queues, from, &mut to.region, text, at + 5)?;
     if !has_byte(text, end, b'\n') {
         return None;
     }
-    to.region = ListedRegion::Box(bounds);
     to.last = None;
     Some((false, end + 1))
 }

@@ -12,7 +12,7 @@ use psi_state::{MOST_EVENTS, Step};
 
 /// Whether a word stands at a place. Callers pass a constant, so that the compiler compares its bytes at once.
 #[inline]
-pub(crate) fn has_name(text: &[u8], at: usize, word: &[u8]) -> bool
+pub fn has_name(text: &[u8], at: usize, word: &[u8]) -> bool
     ensures within { IsTrue result → at + length word.now ≤ length text.now }
     ensures there { IsTrue result → Stands text.now at (at + length word.now) word.now }
 {

@@ -13,9 +13,9 @@ mod same;
 mod scan;
 mod set_line;
 
-pub use head::step_at;
+pub use head::{has_name, step_at};
 pub use header::{greatest_horizon, read_header};
 pub use like::read_like_set;
-pub use move_line::{read_changes, read_move_line};
+pub use move_line::{read_changes, read_changes_onto, read_move_line};
 pub use scan::{has_byte, has_word};
 pub use set_line::{LastSet, read_new_set, read_set_line};

@@ -40,6 +40,39 @@ fn change_at(text: &[u8], at: usize, queues: u8) -> Option<(Change, usize)>
     ))
 }
 
+/// Makes of a box the one that the changes make of another which stand in a text from a place on, each behind a space,
+/// and answers the place behind them. Where nothing is given, nothing is said of the box.
+pub fn read_changes_onto(
+    text: &[u8],
+    at: usize,
+    queues: u8,
+    from: &Bounds,
+    to: &mut Bounds,
+) -> Option<usize>
+    requires few { queues ≤ 32 }
+    requires same { length from.now.lo ≡ queues }
+    requires within { at ≤ length text.now }
+    ensures count { IfSome result (λ end. length to.new.lo ≡ queues) }
+    ensures changes { IfSome result (λ end. AreChanged queues from.now text.now at end to.new) }
+{
+    *to = *from;
+    let mut next: u8 = 0;
+    let mut end = at;
+    for _ in 0..queues {
+        if !has_byte(text, end, b' ') {
+            return Some(end);
+        }
+        let (c, after) = change_at(text, end + 1, queues)?;
+        if c.queue < next || !is_change(from, &c) {
+            return None;
+        }
+        to.set(c.queue, c.least, c.greatest);
+        next = c.queue + 1;
+        end = after;
+    }
+    Some(end)
+}
+
 /// The box that the changes make of another which stand in a text from a place on, each behind a space, and the place
 /// behind them.
 pub fn read_changes(text: &[u8], at: usize, queues: u8, from: &Bounds) -> Option<(Bounds, usize)>
@@ -50,20 +83,7 @@ pub fn read_changes(text: &[u8], at: usize, queues: u8, from: &Bounds) -> Option
     ensures changes { IfSome result (λ read. AreChanged queues from.now text.now at read.1 read.0) }
 {
     let mut to = *from;
-    let mut next: u8 = 0;
-    let mut end = at;
-    for _ in 0..queues {
-        if !has_byte(text, end, b' ') {
-            return Some((to, end));
-        }
-        let (c, after) = change_at(text, end + 1, queues)?;
-        if c.queue < next || !is_change(from, &c) {
-            return None;
-        }
-        to.set(c.queue, c.least, c.greatest);
-        next = c.queue + 1;
-        end = after;
-    }
+    let end = read_changes_onto(text, at, queues, from, &mut to)?;
     Some((to, end))
 }
 

@@ -1,10 +1,10 @@
--- Answers in the proof of `move_line::read_changes`.
+-- Answers in the proof of `move_line::read_changes_onto`.
 use Rattle.std.proofs.Common.{◌∙◌, ◌+◌, ◌<◌, ◌^◌, ap, length, refl, sym}
 use Rattle.std.proofs.lemmas.List.{length-set}
 use Rattle.psi_state.specs.State.{Corners}
 use Rattle.psi_log_words.specs.ChangesViews.{change}
 use Rattle.psi_log_lines.proofs.MoveLineLemmas.{moved_so_none, moved_so_more, moved_so_all}
-use Rattle.psi_log_lines.proofs.move_line.read_changes.Goals as goal
+use Rattle.psi_log_lines.proofs.move_line.read_changes_onto.Goals as goal
 
 pub loop-init : goal.loop-init
 loop-init c = record {

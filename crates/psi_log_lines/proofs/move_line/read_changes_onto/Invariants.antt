@@ -1,7 +1,7 @@
--- Invariants of the loops of `move_line::read_changes`.
+-- Invariants of the loops of `move_line::read_changes_onto`.
 use Rattle.std.specs.Prelude.{◌≡◌, ◌≤◌, length}
 use Rattle.psi_log_lines.proofs.MoveLineLemmas.{AreMoved}
-use Rattle.psi_log_lines.proofs.move_line.read_changes.Given as goal
+use Rattle.psi_log_lines.proofs.move_line.read_changes_onto.Given as goal
 
 abbrev pub invariant-loop : goal.invariant-loop
 invariant-loop l = record {
