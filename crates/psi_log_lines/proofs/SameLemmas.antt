@@ -1,16 +1,15 @@
 -- Bytes that are compared several at once, and the number at the head of a step's line.
 use Rattle.std.specs.Prelude.{◌≡◌, ℕ, ◌+◌, ◌-◌, ◌<◌, ◌≤◌, List, [], ◌∷◌, ◌++◌, length, take, drop}
 use Rattle.std.proofs.Common.{get_or, ap, sym, ◌∙◌, subst, arith}
-use Rattle.std.proofs.lemmas.List.{get_or-take, get_or-drop}
+use Rattle.std.proofs.lemmas.List.{get_or-take, get_or-drop, take-take}
 use Rattle.std.proofs.Math.Seq.{take-add}
 use Rattle.psi_log_lines.specs.Scanned.{Stands}
 use Rattle.psi_log_lines.proofs.ScanLemmas.{byte_stands}
 
 -- eight bytes more that are the same
-pub eight_more : (text other : List ℕ) (n more : ℕ) → more ≡ n + 8 → take n text ≡ take n other → take (n + 8 - n) (drop n text) ≡ take (n + 8 - n) (drop n other)
+pub eight_more : (text other : List ℕ) (n count more : ℕ) → count ≡ 8 → more ≡ n + 8 → take n text ≡ take n other → take count (drop n text) ≡ take count (drop n other)
     → take more text ≡ take more other
-eight_more text other n more is front next =
-    let size : n + 8 - n ≡ 8 = omega arith in
+eight_more text other n count more size is front next =
     let eight : take 8 (drop n text) ≡ take 8 (drop n other) =
     ap (λ (k : ℕ). take k (drop n text)) (sym size) ∙ next ∙ ap (λ (k : ℕ). take k (drop n other)) size in
     ap (λ (k : ℕ). take k text) is
@@ -18,6 +17,14 @@ eight_more text other n more is front next =
     ∙ ap (λ (t : List ℕ). t ++ take 8 (drop n text)) front
     ∙ ap (λ (t : List ℕ). take n other ++ t) eight
     ∙ sym (ap (λ (k : ℕ). take k other) is ∙ take-add n 8 other)
+
+-- the last eight, of which some were the same already
+pub last_eight : (text other : List ℕ) (most done : ℕ) → 8 ≤ most → most - 8 ≤ done → take done text ≡ take done other
+    → take (most - (most - 8)) (drop (most - 8) text) ≡ take (most - (most - 8)) (drop (most - 8) other) → take most text ≡ take most other
+last_eight text other most done some before front next =
+    let fewer : take (most - 8) text ≡ take (most - 8) other =
+    sym (take-take (most - 8) done text before) ∙ ap (take (most - 8)) front ∙ take-take (most - 8) done other before in
+    eight_more text other (most - 8) (most - (most - 8)) most (omega arith) (omega arith) fewer next
 
 -- a digit of seven bytes behind the word of a step
 pub digit_behind : (text : List ℕ) (place digit : ℕ) → place < 7 → 12 ≤ length text → 48 + digit ≡ get_or (take (12 - 5) (drop 5 text)) place 0

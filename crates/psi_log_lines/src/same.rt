@@ -16,21 +16,25 @@ pub(crate) fn are_same(bytes: &[u8], others: &[u8]) -> bool
     !apart
 }
 
-// How many bytes two texts begin with that are found to be the same, eight at a time.
+// How many bytes two texts begin with that are found to be the same, eight at a time; the last eight of the shorter
+// text may overlap those before.
 #[inline]
 fn eights_alike(text: &[u8], other: &[u8]) -> usize
     ensures within { result ≤ length text.now }
     ensures other { result ≤ length other.now }
     ensures same { take result text.now ≡ take result other.now }
 {
-    let count = text.len().min(other.len()) / 8;
-    for eight in 0..count {
+    let most = text.len().min(other.len());
+    for eight in 0..most / 8 {
         let first = 8 * eight;
         if !are_same(&text[first..first + 8], &other[first..first + 8]) {
             return first;
         }
     }
-    8 * count
+    if most >= 8 && are_same(&text[most - 8..most], &other[most - 8..most]) {
+        return most;
+    }
+    8 * (most / 8)
 }
 
 /// How many bytes two texts begin with that are the same.
