@@ -123,15 +123,15 @@ one_size row q small =
     omega arith
 
 -- a number more, which may be another one
-pub like_more : (text word row newer : List ℕ) (at end after place queue digits : ℕ) → IsLike text word row at end place queue → queue + 1 < length row → length newer ≡ length row
-    → take queue newer ≡ take queue row → drop (queue + 1) newer ≡ drop (queue + 1) row → digits ≡ length (decimal (get_or row queue 0))
-    → Stands text end after (with_comma (get_or newer queue 0)) → IsLike text word newer at after (place + (digits + 1)) (queue + 1)
+pub like_more : (text word row newer : List ℕ) (at end after place queue bytes : ℕ) → IsLike text word row at end place queue → queue + 1 < length row → length newer ≡ length row
+    → take queue newer ≡ take queue row → drop (queue + 1) newer ≡ drop (queue + 1) row → bytes ≡ length (decimal (get_or row queue 0)) + 1
+    → Stands text end after (with_comma (get_or newer queue 0)) → IsLike text word newer at after (place + bytes) (queue + 1)
 unfolding with_commas
-like_more text word row newer at end after place queue digits like more count same others is there =
+like_more text word row newer at end after place queue bytes like more count same others is there =
     let front = with_commas (take (queue + 1 - queue) (drop queue row)) in
     let rest = numbers_text (drop (queue + 1) row) ++ (10 ∷ []) in
     let left = left_behind word row place queue (queue + 1) (omega arith) more like.back in
-    let size : digits + 1 ≡ length (with_commas (take (queue + 1 - queue) (drop queue row))) = ap (λ (k : ℕ). k + 1) is ∙ sym (one_size row queue (omega arith)) in
+    let size : bytes ≡ length (with_commas (take (queue + 1 - queue) (drop queue row))) = is ∙ sym (one_size row queue (omega arith)) in
     let joined : with_commas (take queue row) ++ with_comma (get_or newer queue 0) ≡ with_commas (take (queue + 1) newer) =
     sym (ap with_commas (take_more newer queue 0 (omega arith) ∙ ap (λ (t : List ℕ). t ++ get_or newer queue 0 ∷ []) same)
     ∙ flat_map-append with_comma (take queue row) (get_or newer queue 0 ∷ [])
@@ -139,7 +139,7 @@ like_more text word row newer at end after place queue digits like more count sa
     record {
       within = omega arith;
       front = then (with_commas (take queue row)) (with_comma (get_or newer queue 0)) (with_commas (take (queue + 1) newer)) like.front there joined;
-      back = behind word front rest place (digits + 1) size left ∙ ap (λ (d : List ℕ). numbers_text d ++ (10 ∷ [])) (sym others);
+      back = behind word front rest place bytes size left ∙ ap (λ (d : List ℕ). numbers_text d ++ (10 ∷ [])) (sym others);
     }
 
 -- and the last one

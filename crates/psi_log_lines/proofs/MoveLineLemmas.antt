@@ -2,7 +2,7 @@
 use Rattle.std.specs.Prelude.{◌≡◌, ℕ, ◌+◌, ◌<◌, ◌≤◌, ◌^◌, List, [], ◌∷◌, ◌++◌, length, map, take, drop, codes, true, ◌&&◌, nat_lt, nat_le, slice_set, Some, Ok, refl}
 use Rattle.std.specs.List.{list_all}
 use Rattle.std.specs.Fmt.{decimal}
-use Rattle.std.proofs.Common.{ap, sym, ◌∙◌, subst, arith, inl, inr}
+use Rattle.std.proofs.Common.{ap, sym, ◌∙◌, subst, arith, append_assoc, inl, inr}
 use Rattle.std.proofs.lemmas.Bool.{and_parts, and_from, le-leb, ltb-true}
 use Rattle.std.proofs.lemmas.List.{take-append-drop, append-nil, length-map, map-append}
 use Rattle.psi_state.specs.State.{Corners}
@@ -22,17 +22,17 @@ use Rattle.psi_log_words.specs.Regions.{form_of, move_form, queues_ascend, is_ch
 use Rattle.psi_log_words.proofs.RegionLemmas.{IsChange, change_again, changes_shaped, changes_lack}
 use Rattle.psi_log_words.proofs.MovedLemmas.{behind_last, IsMoved, moved_none, moved_more}
 use Rattle.psi_log_lines.specs.Lines.{read_step}
-use Rattle.psi_log_lines.specs.Scanned.{Stands, AreChanged, next_step}
+use Rattle.psi_log_lines.specs.Scanned.{Stands, with_comma, AreChanged, next_step}
 use Rattle.psi_log_lines.proofs.ScanLemmas.{in_push}
 use Rattle.psi_log_lines.proofs.LineLemmas.{words_line, words_again, horizon_small}
 
 -- a change stands in the text by its three numbers
-pub change_stands : (text : List ℕ) (at a b c d end q l g : ℕ) → Stands text at a (decimal q) → Stands text a b (44 ∷ []) → Stands text b c (decimal l) → Stands text c d (44 ∷ []) → Stands text d end (decimal g)
+pub change_stands : (text : List ℕ) (at comma next end q l g : ℕ) → Stands text at comma (with_comma q) → Stands text comma next (with_comma l) → Stands text next end (decimal g)
     → Stands text at end (change_text (record { queue = q; least = l; greatest = g }))
 unfolding numbers_text
-change_stands text at a b c d end q l g first comma second more third =
-    then (decimal q) (44 ∷ (decimal l ++ (44 ∷ decimal g))) _ first
-    (then (44 ∷ []) (decimal l ++ (44 ∷ decimal g)) _ comma (then (decimal l) (44 ∷ decimal g) _ second (then (44 ∷ []) (decimal g) _ more third refl) refl) refl) refl
+change_stands text at comma next end q l g first second third =
+    then (with_comma q) (with_comma l ++ decimal g) _ first (then (with_comma l) (decimal g) (with_comma l ++ decimal g) second third refl)
+    (append_assoc (decimal q) (44 ∷ []) (with_comma l ++ decimal g) ∙ ap (λ (t : List ℕ). decimal q ++ (44 ∷ t)) (append_assoc (decimal l) (44 ∷ []) (decimal g)))
 
 -- queues that ascend are no more than the last one and those before it
 count_below : (c : Change) (cs : List Change) → queues_ascend (c ∷ cs) ≡ true → length (c ∷ cs) + c.queue ≤ behind_last (c ∷ cs)

@@ -11,6 +11,19 @@ use crate::same::alike;
 use crate::scan::{has_byte, small_at};
 use crate::set_line::LastSet;
 
+// How many bytes a number takes with the comma behind it; without a branch where it has one or two digits.
+#[inline]
+#[tactic(auto, using(crate::proofs::RowsLemmas::length_one, crate::proofs::RowsLemmas::length_two))]
+fn bytes_of(n: u16) -> usize
+    ensures value { result ≡ length (decimal n) + 1 }
+    ensures few { result ≤ 6 }
+{
+    if n >= 100 {
+        return width(n) + 1;
+    }
+    2 + (n >= 10) as usize
+}
+
 // The queue, from one on, up to which the numbers of a row take at most so many bytes, each with the comma behind it,
 // and how many bytes they take. It isn't behind the last queue.
 #[inline]
@@ -25,7 +38,7 @@ fn pass(row: &[u16], from: usize, room: usize) -> (usize, usize)
     let last = row.len() - 1;
     let mut len = 0;
     for queue in from..last {
-        let next = len + width(row[queue]) + 1;
+        let next = len + bytes_of(row[queue]);
         if next > room {
             return (queue, len);
         }
@@ -75,13 +88,13 @@ fn read_like(text: &[u8], at: usize, word: &[u8], row: &mut [u16]) -> Option<usi
             return Some(here + same);
         }
         let (next, len) = pass(row, queue, same);
-        let digits = width(row[next]);
+        let bytes = bytes_of(row[next]);
         here = read_number(text, here + len, next, row)?;
         queue = next + 1;
         if queue == row.len() {
             return Some(here);
         }
-        place += len + digits + 1;
+        place += len + bytes;
     }
     None
 }

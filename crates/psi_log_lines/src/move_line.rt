@@ -6,7 +6,7 @@ ghost use Rattle.psi_log_words.specs.ChangesViews.{change};
 ghost use Rattle.psi_log_lines.specs.LinesViews.{entry_of, HasRegion};
 ghost use Rattle.psi_log_lines.specs.Scanned.{Stands, AreChanged, next_step};
 
-use crate::scan::{has_byte, has_short, small_at};
+use crate::scan::{has_byte, has_short, small_at, small_with_comma};
 use crate::head::step_at;
 use psi_log_text::Header;
 use psi_log_words::{Change, is_change};
@@ -20,15 +20,16 @@ fn change_at(text: &[u8], at: usize, queues: u8) -> Option<(Change, usize)>
     ensures within { IfSome result (λ read. read.1 ≤ length text.now) }
     ensures there { IfSome result (λ read. Stands text.now at read.1 (change_text (change read.0))) }
 {
-    let (queue, comma) = small_at(text, at)?;
-    if queue >= queues as u16 || !has_byte(text, comma, b',') {
+    if text.len() < 3 {
         return None;
     }
-    let (least, next) = small_at(text, comma + 1)?;
-    if !has_byte(text, next, b',') {
+    let last = text.len() - 3;
+    let (queue, next) = small_with_comma(text, at, last)?;
+    if queue >= queues as u16 {
         return None;
     }
-    let (greatest, end) = small_at(text, next + 1)?;
+    let (least, next) = small_with_comma(text, next, last)?;
+    let (greatest, end) = small_at(text, next)?;
     let queue = queue as u8;
     Some((
         Change {

@@ -139,9 +139,10 @@ fn any_with_comma(text: &[u8], at: usize) -> Option<(u16, usize)>
     Some((number, end + 1))
 }
 
-// The same; at once where it has one or two digits. At `last`, and before it, two bytes more stand behind a place.
+/// The number of 16 bits that stands at a place with a comma behind it, and the place behind the comma; at once where it
+/// has one or two digits. At `last`, and before it, two bytes more stand behind a place.
 #[inline]
-fn small_with_comma(text: &[u8], at: usize, last: usize) -> Option<(u16, usize)>
+pub(crate) fn small_with_comma(text: &[u8], at: usize, last: usize) -> Option<(u16, usize)>
     requires { last + 2 < length text.now }
     ensures within { IfSome result (λ read. read.1 ≤ length text.now) }
     ensures there { IfSome result (λ read. Stands text.now at read.1 (with_comma read.0)) }

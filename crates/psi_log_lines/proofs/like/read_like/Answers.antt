@@ -37,18 +37,18 @@ loop-preserved c =
     let more = c.if-queue-row.false in
     let inside = c.pass-next.ensures.within in
     let after = c.pass-next.ensures.after in
-    let bytes = c.pass-next.ensures.len in
-    let digits = c.width-digits.ensures.value in
+    let passed = c.pass-next.ensures.len in
+    let bytes = c.bytes_of-bytes.ensures.value in
     let longer = front_longer c.loop.row next inside in
     let like = like_pass c.args.text.now c.args.word.now c.loop.row c.args.at c.loop.here c.loop.place c.loop.queue next c.alike-same.result len c.loop.invariant.like c.pass-next.ensures.after
     c.pass-next.ensures.within c.pass-next.ensures.len c.pass-next.ensures.room c.alike-same.ensures.same in
-    let then = like_more c.args.text.now c.args.word.now c.loop.row c.read_number.new.row c.args.at (c.loop.here + len) c.in_ok-here.here (c.loop.place + len) next c.width-digits.result like
-    (omega arith) count c.in_ok-here.ensures.front c.in_ok-here.ensures.back c.width-digits.ensures.value (c.in_ok-here.ensures.more (omega arith)) in
-    let place : c.loop.place + len + (c.width-digits.result + 1) ≡ c.loop.place + (len + c.width-digits.result + 1) = omega arith in
+    let then = like_more c.args.text.now c.args.word.now c.loop.row c.read_number.new.row c.args.at (c.loop.here + len) c.in_ok-here.here (c.loop.place + len) next c.bytes_of-bytes.result like
+    (omega arith) count c.in_ok-here.ensures.front c.in_ok-here.ensures.back c.bytes_of-bytes.ensures.value (c.in_ok-here.ensures.more (omega arith)) in
+    let place : c.loop.place + len + c.bytes_of-bytes.result ≡ c.loop.place + (len + c.bytes_of-bytes.result) = omega arith in
     record {
       count = count ∙ c.loop.invariant.count;
       within = c.in_ok-here.ensures.within;
-      room = room_behind c.args.text.now c.args.word.now c.loop.row c.args.at c.loop.here c.loop.place c.loop.queue (next + 1) (len + c.width-digits.result + 1) c.loop.invariant.like
+      room = room_behind c.args.text.now c.args.word.now c.loop.row c.args.at c.loop.here c.loop.place c.loop.queue (next + 1) (len + c.bytes_of-bytes.result) c.loop.invariant.like
           c.loop.invariant.room (omega arith) (omega arith) (omega arith);
       like = subst (λ (k : ℕ). IsLike c.args.text.now c.args.word.now c.read_number.new.row c.args.at c.in_ok-here.here k (next + 1)) place then;
     }
