@@ -3,7 +3,7 @@ pub mod CutLemmas
 pub mod LineLemmas
 pub mod ScanLemmas
 pub mod RunLemmas
-
+pub mod ApartLemmas
 pub mod SameLemmas
 pub mod RowsLemmas
 pub mod SetLineLemmas

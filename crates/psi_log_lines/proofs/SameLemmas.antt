@@ -6,25 +6,25 @@ use Rattle.std.proofs.Math.Seq.{take-add}
 use Rattle.psi_log_lines.specs.Scanned.{Stands}
 use Rattle.psi_log_lines.proofs.ScanLemmas.{byte_stands}
 
--- eight bytes more that are the same
-pub eight_more : (text other : List ℕ) (n count more : ℕ) → count ≡ 8 → more ≡ n + 8 → take n text ≡ take n other → take count (drop n text) ≡ take count (drop n other)
-    → take more text ≡ take more other
-eight_more text other n count more size is front next =
-    let eight : take 8 (drop n text) ≡ take 8 (drop n other) =
-    ap (λ (k : ℕ). take k (drop n text)) (sym size) ∙ next ∙ ap (λ (k : ℕ). take k (drop n other)) size in
+-- some of eight bytes more that are the same
+pub some_more : (text other : List ℕ) (n count same more : ℕ) → same ≤ count → more ≡ n + same → take n text ≡ take n other
+    → take same (take count (drop n text)) ≡ take same (take count (drop n other)) → take more text ≡ take more other
+some_more text other n count same more few is front next =
+    let part : take same (drop n text) ≡ take same (drop n other) =
+    sym (take-take same count (drop n text) few) ∙ next ∙ take-take same count (drop n other) few in
     ap (λ (k : ℕ). take k text) is
-    ∙ take-add n 8 text
-    ∙ ap (λ (t : List ℕ). t ++ take 8 (drop n text)) front
-    ∙ ap (λ (t : List ℕ). take n other ++ t) eight
-    ∙ sym (ap (λ (k : ℕ). take k other) is ∙ take-add n 8 other)
+    ∙ take-add n same text
+    ∙ ap (λ (t : List ℕ). t ++ take same (drop n text)) front
+    ∙ ap (λ (t : List ℕ). take n other ++ t) part
+    ∙ sym (ap (λ (k : ℕ). take k other) is ∙ take-add n same other)
 
--- the last eight, of which some were the same already
-pub last_eight : (text other : List ℕ) (most done : ℕ) → 8 ≤ most → most - 8 ≤ done → take done text ≡ take done other
-    → take (most - (most - 8)) (drop (most - 8) text) ≡ take (most - (most - 8)) (drop (most - 8) other) → take most text ≡ take most other
-last_eight text other most done some before front next =
+-- those of the last eight, of which some were the same already
+pub last_some : (text other : List ℕ) (most done same : ℕ) → 8 ≤ most → most - 8 ≤ done → same ≤ 8 → take done text ≡ take done other
+    → take same (take (most - (most - 8)) (drop (most - 8) text)) ≡ take same (take (most - (most - 8)) (drop (most - 8) other)) → take (most - 8 + same) text ≡ take (most - 8 + same) other
+last_some text other most done same some before few front next =
     let fewer : take (most - 8) text ≡ take (most - 8) other =
     sym (take-take (most - 8) done text before) ∙ ap (take (most - 8)) front ∙ take-take (most - 8) done other before in
-    eight_more text other (most - 8) (most - (most - 8)) most (omega arith) (omega arith) fewer next
+    some_more text other (most - 8) (most - (most - 8)) same (most - 8 + same) (omega arith) (omega arith) fewer next
 
 -- a digit of seven bytes behind the word of a step
 pub digit_behind : (text : List ℕ) (place digit : ℕ) → place < 7 → 12 ≤ length text → 48 + digit ≡ get_or (take (12 - 5) (drop 5 text)) place 0
