@@ -1,6 +1,6 @@
 -- A reader of logs that goes on by a step, and the regions that it reads.
 use Rattle.std.specs.Prelude.{◌≡◌, ℕ, ◌+◌, ◌<◌, ◌≤◌, List, length, Bool, true, false, not, ◌==◌, nat_le, Ok, refl}
-use Rattle.std.proofs.Common.{ap, sym, subst, arith}
+use Rattle.std.proofs.Common.{ap, sym, ◌∙◌, subst, arith}
 use Rattle.psi_state.specs.declared.outcome.Step.{Step}
 use Rattle.psi_log_text.specs.declared.header.Header.{Header}
 use Rattle.psi_log_text.specs.Log.{LogRegion, Entry, IsHeader, IsRegion, IsState}
@@ -14,7 +14,7 @@ use Rattle.psi_log.specs.Reading.{read_begin, read_end}
 use Rattle.psi_log_lines.specs.Scanned.{next_step}
 use Rattle.psi_log.specs.Cursor.{Cursor, begin_line, begun, ended, IsCursor}
 use Rattle.psi_log.specs.SpotsViews.{region_in, either, HasQueues, IsFilled}
-use Rattle.psi_log.specs.ReaderViews.{spot_of, other_of, before_of, cursor_of, IsKept}
+use Rattle.psi_log.specs.ReaderViews.{cursor_of, IsKept}
 use Rattle.psi_log.specs.declared.spot.Spot.{Spot}
 use Rattle.psi_log.proofs.HeaderLemmas.{header_found, begin_found, end_found}
 use Rattle.psi_log_lines.proofs.LineLemmas.{step_found}
@@ -29,92 +29,41 @@ next_found h n before text x is region r =
     let found = step_found h n before (words_of line.0.0) entry.0 is region entry.1 in
     subst (λ (p : Entry × List ℕ). IsRegion h.queues p.0.region) (ok_same (entry.0, line.0.1) x entry.2) found.1.region
 
--- what a reader holds behind a step
-pub record IsBehind (h : Header) (done : ℕ) (even odd even' odd' : Spot) (is_odd side stays : Bool) (rest : List ℕ) : Type 0 where
-  pub kept : IsKept h (done + 1) even' odd' side stays rest
-  pub region : region_in (spot_of side even' odd') ≡ either stays (region_in (spot_of is_odd even odd)) (region_in (other_of is_odd even' odd'))
-  pub before : region_in (before_of stays side even' odd') ≡ region_in (spot_of is_odd even odd)
+-- what a reader holds behind a step that leaves the region in its place
+module _ (h : Header) (done : ℕ) (rest rest' : List ℕ) (spot spare : Spot) (old : Bool) (kept : IsKept h done spot spare old rest) (small : done < h.horizon) where
+  pub stays_kept : (to : Spot) (stays : Bool) → stays ≡ true → HasQueues h.queues to → IsKept h (done + 1) spot to stays rest'
+  stays_kept to false is queues = absurd cc
+  stays_kept to true is queues = record {
+    cursor = record { header = kept.cursor.header; before = kept.cursor.region; region = kept.cursor.region; done = omega arith };
+    queues = queues;
+    region = kept.region;
+    before = kept.region;
+  }
 
-module _ (h : Header) (done : ℕ) (rest rest' : List ℕ) (step : Step) where
-  -- from one spot to the other, or where it is
-  moved : (from to' from' : Spot) → IsHeader h → IsRegion h.queues (region_in from) → done < h.horizon → from' ≡ from
-      → next_step h (7 + done) (box_before h.version (region_in from)) rest ≡ Ok (record { step = step; region = region_in to' }, rest')
-      → IsRegion h.queues (region_in to')
-  moved from to' from' header region small same next = next_found h (7 + done) (region_in from) rest (record { step = step; region = region_in to' }, rest') header region next
+  behind : (step : Step) (to : Spot) → IsFilled h.queues to
+      → next_step h (7 + done) (box_before h.version (region_in spot)) rest ≡ Ok (record { step = step; region = region_in to }, rest')
+      → IsKept h (done + 1) to spot false rest'
+  behind step to filled next = record {
+    cursor = record {
+      header = kept.cursor.header;
+      before = kept.cursor.region;
+      region = next_found h (7 + done) (region_in spot) rest (record { step = step; region = region_in to }, rest') kept.cursor.header kept.cursor.region next;
+      done = omega arith;
+    };
+    queues = kept.region.states;
+    region = filled;
+    before = kept.region;
+  }
 
-  pub goes_behind : (even odd even' odd' : Spot) (is_odd old stays side : Bool) → IsKept h done even odd is_odd old rest → done < h.horizon
-      → spot_of is_odd even' odd' ≡ spot_of is_odd even odd → HasQueues h.queues even' → HasQueues h.queues odd' → (stays ≡ false → IsFilled h.queues (other_of is_odd even' odd'))
-      → next_step h (7 + done) (box_before h.version (region_in (spot_of is_odd even odd))) rest
-      ≡ Ok (record { step = step; region = either stays (region_in (spot_of is_odd even odd)) (region_in (other_of is_odd even' odd')) }, rest')
-      → side ≡ either stays is_odd (not is_odd) → IsBehind h done even odd even' odd' is_odd side stays rest'
-  goes_behind even odd even' odd' true old true true kept small same first second filled next is = record {
-    kept = record {
-      cursor = record {
-        header = kept.cursor.header;
-        before = subst (λ (s : Spot). IsRegion h.queues (region_in s)) (sym same) kept.cursor.region;
-        region = subst (λ (s : Spot). IsRegion h.queues (region_in s)) (sym same) kept.cursor.region;
-        done = omega arith;
-      };
-      evens = first;
-      odds = second;
-      region = subst (λ (s : Spot). IsFilled h.queues s) (sym same) kept.region;
-      before = subst (λ (s : Spot). IsFilled h.queues s) (sym same) kept.region;
-    };
-    region = ap region_in same;
-    before = ap region_in same;
-  }
-  goes_behind even odd even' odd' false old true false kept small same first second filled next is = record {
-    kept = record {
-      cursor = record {
-        header = kept.cursor.header;
-        before = subst (λ (s : Spot). IsRegion h.queues (region_in s)) (sym same) kept.cursor.region;
-        region = subst (λ (s : Spot). IsRegion h.queues (region_in s)) (sym same) kept.cursor.region;
-        done = omega arith;
-      };
-      evens = first;
-      odds = second;
-      region = subst (λ (s : Spot). IsFilled h.queues s) (sym same) kept.region;
-      before = subst (λ (s : Spot). IsFilled h.queues s) (sym same) kept.region;
-    };
-    region = ap region_in same;
-    before = ap region_in same;
-  }
-  goes_behind even odd even' odd' true old false false kept small same first second filled next is = record {
-    kept = record {
-      cursor = record {
-        header = kept.cursor.header;
-        before = subst (λ (s : Spot). IsRegion h.queues (region_in s)) (sym same) kept.cursor.region;
-        region = moved odd even' odd' kept.cursor.header kept.cursor.region small same next;
-        done = omega arith;
-      };
-      evens = first;
-      odds = second;
-      region = filled refl;
-      before = subst (λ (s : Spot). IsFilled h.queues s) (sym same) kept.region;
-    };
-    region = refl;
-    before = ap region_in same;
-  }
-  goes_behind even odd even' odd' false old false true kept small same first second filled next is = record {
-    kept = record {
-      cursor = record {
-        header = kept.cursor.header;
-        before = subst (λ (s : Spot). IsRegion h.queues (region_in s)) (sym same) kept.cursor.region;
-        region = moved even odd' even' kept.cursor.header kept.cursor.region small same next;
-        done = omega arith;
-      };
-      evens = first;
-      odds = second;
-      region = filled refl;
-      before = subst (λ (s : Spot). IsFilled h.queues s) (sym same) kept.region;
-    };
-    region = refl;
-    before = ap region_in same;
-  }
-  goes_behind even odd even' odd' true old true false kept small same first second filled next is = absurd cc
-  goes_behind even odd even' odd' false old true true kept small same first second filled next is = absurd cc
-  goes_behind even odd even' odd' true old false true kept small same first second filled next is = absurd cc
-  goes_behind even odd even' odd' false old false false kept small same first second filled next is = absurd cc
+  -- and behind one that puts it into the spare spot
+  pub moves_kept : (step : Step) (from to spot' spare' : Spot) (stays : Bool) → from ≡ spot → spot' ≡ to → spare' ≡ spot → stays ≡ false → (stays ≡ false → IsFilled h.queues to)
+      → next_step h (7 + done) (box_before h.version (region_in from)) rest ≡ Ok (record { step = step; region = either stays (region_in from) (region_in to) }, rest')
+      → IsKept h (done + 1) spot' spare' stays rest'
+  moves_kept step from to spot' spare' true first one two is filled next = absurd cc
+  moves_kept step from to spot' spare' false first one two is filled next =
+      subst (λ (s : Spot). IsKept h (done + 1) s spare' false rest') (sym one)
+      (subst (λ (s : Spot). IsKept h (done + 1) to s false rest') (sym two) (behind step to (filled refl)
+      (ap (λ (s : Spot). next_step h (7 + done) (box_before h.version (region_in s)) rest) (sym first) ∙ next)))
 
 -- what is read before the steps is in its ranges
 begin_line_found : (queues : ℕ) (text : List ℕ) (x : LogRegion × List ℕ) → 1 ≤ queues → queues ≤ 32 → begin_line queues text ≡ Ok x → IsRegion queues x.0
@@ -154,6 +103,12 @@ pub ended_count : (h : Header) (text x : List ℕ) → ended h text ≡ Ok x →
 ended_count h text x r = (ended_found h text x r).count
 
 -- a reader keeps what it begins with
-pub begins_kept : (h : Header) (even odd : Spot) (rest : List ℕ) → IsCursor (cursor_of h 0 even odd false true rest) → IsFilled h.queues even → HasQueues h.queues odd
-    → IsKept h 0 even odd false true rest
-begins_kept h even odd rest cursor filled queues = record { cursor = cursor; evens = filled.states; odds = queues; region = filled; before = filled }
+pub begins_kept : (h : Header) (spot spare : Spot) (rest : List ℕ) → IsCursor (cursor_of h 0 spot spare true rest) → IsFilled h.queues spot → HasQueues h.queues spare
+    → IsKept h 0 spot spare true rest
+begins_kept h spot spare rest cursor filled queues = record { cursor = cursor; queues = queues; region = filled; before = filled }
+
+pub opens_kept : (h : Header) (begin spot empty spare : Spot) (text rest : List ℕ) → begun text ≡ Ok (record { header = h; done = 0; before = region_in begin; region = region_in begin; rest = rest })
+    → IsFilled h.queues begin → HasQueues h.queues empty → spot ≡ begin → spare ≡ empty → IsKept h 0 spot spare true rest
+opens_kept h begin spot empty spare text rest is filled queues one two =
+    subst (λ (s : Spot). IsKept h 0 s spare true rest) (sym one)
+    (subst (λ (s : Spot). IsKept h 0 begin s true rest) (sym two) (begins_kept h begin empty rest (begun_found text _ is).0 filled queues))

@@ -1,17 +1,14 @@
 //! A log that is read in one pass, step by step.
 
-ghost use Rattle.std.specs.Prelude.{◌≡◌, ◌+◌, ◌<◌, ◌≤◌, length, false, not, Ok, IfOk, IfErr, OnOk, OnErr, IsTrue};
-ghost use Rattle.psi_log_words.specs.Regions.{box_before};
+ghost use Rattle.std.specs.Prelude.{◌≡◌, ◌+◌, ◌<◌, ◌≤◌, length, Ok, IfOk, IfErr, OnOk, OnErr, IsTrue};
 ghost use Rattle.psi_log_words.specs.Refusal.{Gives, IsLogError};
-ghost use Rattle.psi_log.specs.SpotsViews.{region_in, either, HasQueues, IsFilled};
-ghost use Rattle.psi_log_lines.specs.Scanned.{next_step};
-ghost use Rattle.psi_log.specs.ReaderViews.{spot_of, other_of};
+ghost use Rattle.psi_log.specs.SpotsViews.{region_in, HasQueues, IsFilled};
 ghost use Rattle.psi_log.specs.Told.{shown};
 ghost use Rattle.psi_log.specs.Cursor.{begin_line, begun, next_of, ended, IsCursor};
 
 use crate::form::BorrowedRegion;
 use crate::parts::{read_begin, read_end};
-use crate::spot::{ReadLine, Spot, read_onto};
+use crate::spot::{Spot, read_onto};
 use psi_log_lines::read_header;
 use psi_log_text::{Header, MOST_LOG_BYTES};
 use psi_log_words::{Cause, LogError, read_words};
@@ -27,9 +24,8 @@ use std::marker::Model;
 pub struct LogReader<'t> {
     header: Header,
     done: u32,
-    even: Spot<'t>,
-    odd: Spot<'t>,
-    is_odd: bool,
+    spot: Box<Spot<'t>>,
+    spare: Box<Spot<'t>>,
     stays: bool,
     rest: &'t [u8],
     words: Vec<&'t [u8]>,
@@ -41,9 +37,9 @@ impl<'t> Model for LogReader<'t> {
 
     ghost Value = { Cursor };
 
-    ghost view = { λ r. cursor_of r.header r.done r.even r.odd r.is_odd r.stays r.rest.now };
+    ghost view = { λ r. cursor_of r.header r.done r.spot.value r.spare.value r.stays r.rest.now };
 
-    ghost invariant = { λ r. IsKept r.header r.done r.even r.odd r.is_odd r.stays r.rest.now };
+    ghost invariant = { λ r. IsKept r.header r.done r.spot.value r.spare.value r.stays r.rest.now };
 }
 
 // The region at which the run begins, on a spot, of the line that begins a text, and what follows it. The vector holds
@@ -125,43 +121,6 @@ fn end_of<'t>(header: &Header, text: &'t [u8], words: &mut Vec<&'t [u8]>) -> Res
     Ok(end)
 }
 
-// The step whose line begins a text, with the region before it in one of two spots. The region after it is read onto
-// the other one, unless it stays. The vector holds the words of a line that isn't written as it is to be.
-fn read_beside<'t>(
-    header: &Header,
-    line: u32,
-    is_odd: bool,
-    even: &mut Spot<'t>,
-    odd: &mut Spot<'t>,
-    text: &'t [u8],
-    words: &mut Vec<&'t [u8]>,
-) -> Result<ReadLine<'t>, LogError>
-    requires some { 1 ≤ header.now.queues }
-    requires few { header.now.queues ≤ 32 }
-    requires region { IsFilled header.now.queues (spot_of is_odd even.old odd.old) }
-    requires even { HasQueues header.now.queues even.old }
-    requires odd { HasQueues header.now.queues odd.old }
-    ensures even { HasQueues header.now.queues even.new }
-    ensures odd { HasQueues header.now.queues odd.new }
-    ensures same { spot_of is_odd even.new odd.new ≡ spot_of is_odd even.old odd.old }
-    ensures filled { IfOk result (λ read. read.stays ≡ false → IsFilled header.now.queues (other_of is_odd even.new odd.new)) }
-    ensures value { IfOk result (λ read. next_step header.now line (box_before header.now.version (region_in (spot_of is_odd even.old odd.old))) text.now
-        ≡ Ok (record { step = read.step; region = either read.stays (region_in (spot_of is_odd even.old odd.old)) (region_in (other_of is_odd even.new odd.new)) }, read.rest.now)) }
-    ensures refused { IfErr result (λ error. IsLogError error (next_step header.now line (box_before header.now.version (region_in (spot_of is_odd even.old odd.old))) text.now)) }
-{
-    if is_odd {
-        return read_onto(header, line, odd, even, text, words);
-    }
-    read_onto(header, line, even, odd, text, words)
-}
-
-// Whether the region stands in the odd spot behind a step.
-fn side_of(is_odd: bool, stays: bool) -> bool
-    ensures { result ≡ either stays is_odd (not is_odd) }
-{
-    if stays { is_odd } else { !is_odd }
-}
-
 impl<'t> LogReader<'t> {
     /// Begins to read a text as a log: its header, and the region at which the run begins.
     ///
@@ -175,17 +134,17 @@ impl<'t> LogReader<'t> {
         ensures cursor { IfOk result (λ reader. IsCursor reader) }
     {
         let mut words = Vec::new(alloc);
-        let (header, even, rest) = match begin_of(alloc, text, &mut words) {
+        let (header, begin, rest) = match begin_of(alloc, text, &mut words) {
             Ok(read) => read,
             Err(error) => return Err(error),
         };
-        let odd = spare_spot(alloc, header.queues);
+        let spot = Box::new(alloc, begin)?;
+        let spare = Box::new(alloc, spare_spot(alloc, header.queues))?;
         Ok(LogReader {
             header,
             done: 0,
-            even,
-            odd,
-            is_odd: false,
+            spot,
+            spare,
             stays: true,
             rest,
             words,
@@ -217,12 +176,11 @@ impl<'t> LogReader<'t> {
         ensures kept { OnErr result (self.new ≡ record { header = self.old.header; done = self.old.done; before = self.old.region; region = self.old.region; rest = self.old.rest }) }
     {
         self.stays = true;
-        let read = match read_beside(
+        let read = match read_onto(
             &self.header,
             7 + self.done,
-            self.is_odd,
-            &mut self.even,
-            &mut self.odd,
+            &self.spot,
+            &mut self.spare,
             self.rest,
             &mut self.words,
         ) {
@@ -232,7 +190,9 @@ impl<'t> LogReader<'t> {
         self.done += 1;
         self.rest = read.rest;
         self.stays = read.stays;
-        self.is_odd = side_of(self.is_odd, read.stays);
+        if !read.stays {
+            std::mem::swap(&mut self.spot, &mut self.spare);
+        }
         Ok(read.step)
     }
 
@@ -243,22 +203,14 @@ impl<'t> LogReader<'t> {
         if self.stays {
             return self.region();
         }
-        if self.is_odd {
-            self.even.look(self.header.queues)
-        } else {
-            self.odd.look(self.header.queues)
-        }
+        self.spare.look(self.header.queues)
     }
 
     /// The region after the last step that was read, borrowed. Nothing is copied.
     pub fn region(&self) -> BorrowedRegion<'_>
         ensures { shown result ≡ self.entry.now.region }
     {
-        if self.is_odd {
-            self.odd.look(self.header.queues)
-        } else {
-            self.even.look(self.header.queues)
-        }
+        self.spot.look(self.header.queues)
     }
 
     /// Whether the last step that was read left the region in its place. It may be false where both regions are the
