@@ -1,8 +1,8 @@
 -- The first byte in which two numbers of eight bytes differ.
-use Rattle.std.specs.Prelude.{◌≡◌, ℕ, zero, suc, ◌+◌, ◌*◌, ◌/◌, ◌%◌, ◌<◌, ◌≤◌, ◌^◌, List, length, take, refl}
+use Rattle.std.specs.Prelude.{◌≡◌, ℕ, zero, suc, ◌+◌, ◌*◌, ◌/◌, ◌%◌, ◌<◌, ◌≤◌, ◌^◌, List, length, take}
 use Rattle.std.specs.Int.{bit_at, trailing_zeros, to_le_bytes, from_le_bytes}
 use Rattle.std.specs.Int.RustNames.{bit_xor}
-use Rattle.std.proofs.Common.{get_or, inl, inr, ap, sym, ◌∙◌, subst, arith, w64}
+use Rattle.std.proofs.Common.{get_or, inl, inr, ap, sym, ◌∙◌, arith, w64}
 use Rattle.std.proofs.lemmas.Bool.{cases_eq}
 use Rattle.std.proofs.lemmas.List.{get_or-take, length-take-le}
 use Rattle.std.proofs.lemmas.Nat.{shr-shr, div-add-mod', xor_lt, le_bytes_8}

@@ -1,11 +1,10 @@
 -- The line of a set of one state that is like that of another one.
-use Rattle.std.specs.Prelude.{◌≡◌, ℕ, ◌+◌, ◌-◌, ◌<◌, ◌≤◌, ◌^◌, List, [], ◌∷◌, ◌++◌, length, slice_index, take, drop, map, codes, refl}
+use Rattle.std.specs.Prelude.{◌≡◌, ℕ, ◌+◌, ◌-◌, ◌<◌, ◌≤◌, ◌^◌, List, [], ◌∷◌, ◌++◌, length, slice_index, take, drop, codes, refl}
 use Rattle.std.specs.Fmt.{decimal}
 use Rattle.std.proofs.Common.{get_or, ap, sym, ◌∙◌, subst, arith, append_assoc, length-append, inl, inr}
 use Rattle.std.proofs.lemmas.List.{take_more, take_all, take-take, take-append-le, length-drop, drop-drop, get_or-drop, append-nil}
 use Rattle.std.proofs.Math.Seq.{take-add, drop-append_seam}
 use Rattle.std.proofs.lemmas.List.Concat.{flat_map-append}
-use Rattle.psi_state.specs.Members.{In}
 use Rattle.psi_log_text.specs.Log.{in_set, IsState, IsSet}
 use Rattle.psi_log_text.specs.Text.{numbers_text, region_words}
 use Rattle.psi_log_text.specs.Room.{spaced_words}

@@ -6,8 +6,8 @@ ghost use Rattle.psi_log_words.specs.ChangesViews.{change};
 ghost use Rattle.psi_log_lines.specs.LinesViews.{entry_of, HasRegion};
 ghost use Rattle.psi_log_lines.specs.Scanned.{Stands, AreChanged, next_step};
 
-use crate::scan::{has_byte, has_short, small_at, small_with_comma};
 use crate::head::step_at;
+use crate::scan::{has_byte, has_short, small_at, small_with_comma};
 use psi_log_text::Header;
 use psi_log_words::{Change, is_change};
 use psi_state::Bounds;

@@ -1,5 +1,5 @@
 -- Answers in the proof of `head::time_at`.
-use Rattle.std.proofs.Common.{◌+◌, subst, refl, arith, decimal, ◌≡◌, ℕ}
+use Rattle.std.proofs.Common.{◌+◌, subst, arith, decimal, ◌≡◌, ℕ}
 use Rattle.psi_log_lines.specs.Scanned.{Stands}
 use Rattle.psi_log_lines.proofs.ScanLemmas.{digit_first, digit_more}
 use Rattle.psi_log_lines.proofs.SameLemmas.{digit_behind}

@@ -1,5 +1,5 @@
 -- Invariants of the loops of `head::time_at`.
-use Rattle.std.specs.Prelude.{◌≤◌, ◌+◌, length, decimal}
+use Rattle.std.specs.Prelude.{◌≤◌, ◌+◌, decimal}
 use Rattle.psi_log_lines.specs.Scanned.{Stands}
 use Rattle.psi_log_lines.proofs.head.time_at.Given as goal
 

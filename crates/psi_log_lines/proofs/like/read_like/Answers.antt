@@ -1,6 +1,5 @@
 -- Answers in the proof of `like::read_like`.
-use Rattle.std.proofs.Common.{◌≡◌, ◌+◌, ap, sym, ◌∙◌, refl, subst, arith, length, ℕ}
-use Rattle.psi_log_lines.specs.Scanned.{with_commas}
+use Rattle.std.proofs.Common.{◌≡◌, ◌+◌, ◌∙◌, refl, subst, arith, ℕ}
 use Rattle.psi_log_lines.proofs.LikeLemmas.{IsLike, like_begin, like_whole, like_pass, like_more, like_last, room_behind}
 use Rattle.psi_log_lines.proofs.RowsLemmas.{front_longer}
 use Rattle.psi_log_lines.proofs.like.read_like.Goals as goal

@@ -1,5 +1,5 @@
 -- Answers in the proof of `like::read_like_set`.
-use Rattle.std.proofs.Common.{◌≡◌, ◌+◌, ◌∙◌, length, arith, refl}
+use Rattle.std.proofs.Common.{◌∙◌, length, arith, refl}
 use Rattle.psi_log_words.proofs.LineWordsLemmas.{rest_of}
 use Rattle.psi_log_lines.proofs.LikeLemmas.{like_word, like_set}
 use Rattle.psi_log_lines.proofs.like.read_like_set.Goals as goal
