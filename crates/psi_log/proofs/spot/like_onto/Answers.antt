@@ -1,5 +1,5 @@
 -- Answers in the proof of `spot::like_onto`.
-use Rattle.std.proofs.Common.{◌≡◌, ℕ, length, ◌∷◌, [], ◌∙◌, ap, subst, sym}
+use Rattle.std.proofs.Common.{◌≡◌, ℕ, length, ◌∷◌, [], ◌∙◌, ap, subst}
 use Rattle.psi_state_list.specs.Rows.{States}
 use Rattle.psi_log_lines.specs.Scanned.{TellsSet}
 use Rattle.psi_log.proofs.SpotLemmas.{one_told, one_goes_on}
