@@ -8,7 +8,6 @@ mod like;
 mod move_line;
 mod rows;
 mod runs;
-
 mod same;
 mod scan;
 mod set_line;
