@@ -2,7 +2,7 @@
 use Rattle.std.proofs.Common.{◌≡◌, ℕ, zero, suc, ◌+◌, ◌-◌, ◌<◌, ◌≤◌, List, [], ◌∷◌, length, slice_index, slice_range, inl, inr, ap, refl, arith}
 use Rattle.std.proofs.lemmas.Bool.{cases_lt}
 use Rattle.psi_index.specs.BoundsKept.{ArePeaks, AreTroughs}
-use Rattle.psi_index.specs.Extremes.{IsFront, IsLeast, IsRising, greatest_of}
+use Rattle.psi_index.specs.Extremes.{IsLeast, IsRising, greatest_of}
 use Rattle.psi_index.proofs.JoiningLemmas.{length-slice_range, slice_index-slice_range}
 
 -- no value is below an earlier one
@@ -59,17 +59,3 @@ rising-peaks values rising = record { count = refl; above = λ i k order small. 
 
 pub rising-troughs : (values : List ℕ) → IsRising values → AreTroughs values values
 rising-troughs values rising = record { count = refl; below = λ i k order small. rising-order values i k rising order small }
-
--- values all of which stand before the first that falls rise
-pub front-rises : (values : List ℕ) (front : ℕ) → IsFront values front → front ≡ length values → IsRising values
-front-rises values front kept all = record { each = λ i small. kept.rises i (omega arith) }
-
--- and no others do
-pub front-falls : (values : List ℕ) (front : ℕ) → IsFront values front → front < length values → IsRising values → ⊥
-front-falls values front kept less rising =
-    let falls : slice_index values front < slice_index values (front - 1) = kept.falls less in
-    elim (cases_lt 0 front) [
-      | inl some ↦ (let order = rising.each (front - 1) (omega arith) in
-          let same = ap (λ j. slice_index values j) (let e : front - 1 + 1 ≡ front = omega arith in e) in omega arith)
-      | inr none ↦ (let same = ap (λ j. slice_index values j) (let e : front - 1 ≡ front = omega arith in e) in omega arith)
-    ]

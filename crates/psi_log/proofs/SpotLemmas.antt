@@ -6,7 +6,7 @@ use Rattle.std.proofs.lemmas.Option.{slice_get_within, get_or_from_slice_get}
 use Rattle.std.proofs.lemmas.List.{drop_more}
 use Rattle.psi_state.specs.State.{Corners}
 use Rattle.psi_log_text.specs.Log.{LogRegion, in_box, in_set}
-use Rattle.psi_log_words.specs.RegionsViews.{region_of, IsThere}
+use Rattle.psi_log_words.specs.RegionsViews.{region_of}
 use Rattle.psi_log_lines.specs.LinesViews.{IsLast}
 use Rattle.psi_log_lines.specs.Scanned.{Stands, TellsSet, AreChanged}
 use Rattle.psi_log.specs.SpotsViews.{region_in, IsFilled, IsChangedBox, GoesOn}
@@ -29,11 +29,6 @@ pub changed_goes_on : (queues : ℕ) (from : Corners) (text : List ℕ) (at end 
     → IsChangedBox queues from text (at + 5) end region → Stands text end (end + 1) (10 ∷ []) → GoesOn queues (Some from) text at (end + 1) (region_of states region)
 changed_goes_on queues from text at end states (Box to) few name is feed = move_goes_on queues from to text at end few name is.1 feed
 changed_goes_on queues from text at end states (Set first count) few name is feed = absurd is
-
-pub changed_there : (queues : ℕ) (from : Corners) (text : List ℕ) (at end : ℕ) (states : List (List ℕ)) (region : ListedRegion) → IsChangedBox queues from text at end region
-    → IsThere queues states region
-changed_there queues from text at end states (Box to) is = is.0
-changed_there queues from text at end states (Set first count) is = absurd is
 
 -- with the box before, of which nothing changed
 pub same_box_goes_on : (queues : ℕ) (from : Corners) (text : List ℕ) (at : ℕ) → queues ≤ 32 → Stands text at (at + 5) (codes " move") → Stands text (at + 5) (at + 5 + 1) (10 ∷ [])
