@@ -36,6 +36,22 @@ rows_push (suc count) queues numbers x long same =
     rows_push count queues (drop queues numbers) x (omega (arith, length-drop queues numbers)) same in
     rw (next, first, behind, rest) refl
 
+-- and so many more
+pub rows_append : (count more queues : ℕ) (numbers others : List ℕ) → length numbers ≡ count * queues → rows (count + more) queues (numbers ++ others) ≡ rows count queues numbers ++ rows more queues others
+rows_append zero more queues numbers others long =
+    let none : numbers ≡ [] = nil_from_length numbers (omega arith) in
+    let all : zero + more ≡ more = omega arith in
+    rw (none, all) refl
+rows_append (suc count) more queues numbers others long =
+    let next : suc count + more ≡ suc (count + more) = omega arith in
+    let size : suc count * queues ≡ count * queues + queues = suc-mul count queues in
+    let room : queues ≤ length numbers = omega arith in
+    let first : take queues (numbers ++ others) ≡ take queues numbers = take-append-le queues numbers others room in
+    let behind : drop queues (numbers ++ others) ≡ drop queues numbers ++ others = drop-append-le queues numbers others room in
+    let rest : rows (count + more) queues (drop queues numbers ++ others) ≡ rows count queues (drop queues numbers) ++ rows more queues others =
+    rows_append count more queues (drop queues numbers) others (omega (arith, length-drop queues numbers)) in
+    rw (next, first, behind, rest) refl
+
 pub rows_get : (count queues : ℕ) (numbers : List ℕ) (i : ℕ) → i < count → slice_get (rows count queues numbers) i ≡ Some (take queues (drop (i * queues) numbers))
 rows_get zero queues numbers i small = absurd (omega arith)
 rows_get (suc count) queues numbers zero small = (let none : 0 * queues ≡ 0 = omega arith in rw none refl)
@@ -78,7 +94,7 @@ rows_part total queues first count size numbers small is =
     ap (λ (n : ℕ). rows count queues (take n (drop (first * queues) numbers))) is
     ∙ rows_front count (total - (first + count)) queues (drop (first * queues) numbers) ∙ ap (take count) (sym behind)
 
-sum_mul : (first count queues : ℕ) → first * queues + count * queues ≡ (first + count) * queues
+pub sum_mul : (first count queues : ℕ) → first * queues + count * queues ≡ (first + count) * queues
 sum_mul zero count queues = (let all : zero + count ≡ count = omega arith in rw all (omega arith))
 sum_mul (suc first) count queues =
     let next : suc first + count ≡ suc (first + count) = omega arith in
