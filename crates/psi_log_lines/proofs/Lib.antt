@@ -9,3 +9,4 @@ pub mod RowsLemmas
 pub mod SetLineLemmas
 pub mod MoveLineLemmas
 pub mod LikeLemmas
+mod GatheredLemmas

@@ -1,9 +1,9 @@
 -- Runs of states, whose words differ in one number.
-use Rattle.std.specs.Prelude.{◌≡◌, ◌⊎◌, ℕ, zero, suc, ◌+◌, ◌-◌, ◌*◌, ◌<◌, ◌≤◌, List, [], ◌∷◌, ◌++◌, length, take, drop, slice_index_or, Bool, true, false, ◌||◌, nat_lt, nat_le, refl}
+use Rattle.std.specs.Prelude.{◌≡◌, ◌⊎◌, ℕ, zero, suc, ◌+◌, ◌-◌, ◌*◌, ◌<◌, ◌≤◌, List, [], ◌∷◌, ◌++◌, length, take, drop, slice_index_or, Bool, true, false, refl}
 use Rattle.std.specs.List.{flat_map}
 use Rattle.std.specs.Fmt.{decimal}
 use Rattle.std.proofs.Common.{get_or, set, ap, sym, ◌∙◌, subst, arith, append_assoc, drop-cons, length-append, inl, inr}
-use Rattle.std.proofs.lemmas.Bool.{cases_lt, lt-ltb, le-leb}
+use Rattle.std.proofs.lemmas.Bool.{cases_lt}
 use Rattle.std.proofs.lemmas.List.{take_more, take_at, take-take, drop-take, append-nil, length-drop, length-take-le, length-set, take-set, drop-set-lt, get_or-drop, get_or-take, get_or-set_same, get_or-set_other}
 use Rattle.std.proofs.Math.Seq.{take-add, drop-append_seam}
 use Rattle.psi_log_text.specs.Text.{numbers_text}
@@ -29,6 +29,15 @@ text_parts : (row : List ℕ) (q : ℕ) → q < length row → numbers_text row 
 text_parts row q small =
     let next : q + 1 ≡ suc q = omega arith in
     rw next (text_front row q small ∙ ap (λ (t : List ℕ). with_commas (take q row) ++ t) (ap numbers_text (drop-cons row q 0 small) ∙ text_behind (get_or row q 0) (drop (suc q) row)))
+
+-- its digits stand in it
+pub digits_within : (row : List ℕ) (q : ℕ) → q < length row → 1 + (length (with_commas (take q row)) + length (decimal (get_or row q 0))) ≤ length (32 ∷ numbers_text row)
+digits_within row q small =
+    let front = with_commas (take q row) in
+    let digits = decimal (get_or row q 0) in
+    let back = behind (drop (q + 1) row) in
+    let count = ap length (text_parts row q small) ∙ length-append front (digits ++ back) ∙ ap (λ (k : ℕ). length front + k) (length-append digits back) in
+    omega arith
 
 -- and with another number
 text_other : (row : List ℕ) (q n : ℕ) → q < length row → numbers_text (set row q n) ≡ with_commas (take q row) ++ (decimal n ++ behind (drop (q + 1) row))
@@ -74,23 +83,6 @@ run_is text row at end run within queue there len few bytes size from width some
       same = same;
       words = λ n. (let first = pieces.0 in let last = pieces.1 in let other = text_other row run.queue n queue in rw (first, last, other) refl);
     }
-
--- a run stays one
-pub run_again : (row : List ℕ) (run : Run) (n : ℕ) → IsRun row run → IsRun (set row run.queue n) run
-run_again row run n is = record {
-  queue = (let queue = is.queue in omega (arith, length-set row run.queue n));
-  number = is.number;
-  word = is.word;
-  few = is.few;
-  bytes = is.bytes;
-  same = is.same;
-  words = λ m. is.words m ∙ ap (λ (x : List ℕ). 32 ∷ numbers_text x) (sym (set_twice row run.queue n m));
-}
-  where
-    set_twice : (xs : List ℕ) (i a b : ℕ) → set (set xs i a) i b ≡ set xs i b
-    set_twice [] i a b = refl
-    set_twice (x ∷ xs) zero a b = refl
-    set_twice (x ∷ xs) (suc i) a b = ap (λ (ys : List ℕ). x ∷ ys) (set_twice xs i a b)
 
 -- bytes that are the same one by one
 same_part : (xs ys : List ℕ) (a b n : ℕ) → a + n ≤ length xs → b + n ≤ length ys → ((i : ℕ) → i < n → get_or xs (a + i) 0 ≡ get_or ys (b + i) 0) → take n (drop a xs) ≡ take n (drop b ys)
@@ -147,22 +139,13 @@ alike_more text at run first upto a b c is_a is_b is_c is before each = λ i sma
       sym text_is ∙ each (i - first) (omega arith) (same_is ∙ same) ∙ bytes_is)
 ]
 
--- one place more is known
-pub around_more : (from until place : ℕ) (same : List Bool) → place < length same → ((i : ℕ) → i < place → (i < from) ⊎ (until ≤ i) → get_or same i false ≡ true)
-    → (i : ℕ) → i < place + 1 → (i < from) ⊎ (until ≤ i) → get_or (set same place (nat_lt place from || nat_le until place)) i false ≡ true
-around_more from until place same room before i small around = elim (cases_lt i place) [
-  | inl less ↦ get_or-set_other same place i (nat_lt place from || nat_le until place) false (omega arith) ∙ before i less around
-  | inr most ↦ (let last : i ≡ place = omega arith in
-      ap (λ (k : ℕ). get_or (set same place (nat_lt place from || nat_le until place)) k false) last
-      ∙ get_or-set_same same place (nat_lt place from || nat_le until place) false room ∙ elim around [
-        | inl less ↦ (let e = lt-ltb place from (omega arith) in rw e refl)
-        | inr more ↦ (let e = le-leb until place (omega arith) in rw e (or_true (nat_lt place from)))
-      ])
+-- one digit more is none that counts
+pub around_more : (from until place : ℕ) (same : List Bool) → from ≤ place → place < until → ((i : ℕ) → i < 128 → (i < from) ⊎ (until ≤ i) → get_or same i false ≡ true)
+    → (i : ℕ) → i < 128 → (i < from) ⊎ (until ≤ i) → get_or (set same place false) i false ≡ true
+around_more from until place same first last before i small around = elim around [
+  | inl less ↦ get_or-set_other same place i false false (omega arith) ∙ before i small (inl less)
+  | inr more ↦ get_or-set_other same place i false false (omega arith) ∙ before i small (inr more)
 ]
-  where
-    or_true : (b : Bool) → (b || true) ≡ true
-    or_true true = refl
-    or_true false = refl
 
 -- numbers of one and of two digits
 pub one_stands : (text : List ℕ) (at end first : ℕ) → end ≡ at + 1 → at < length text → 48 + first ≡ get_or text at 0 → first ≤ 9 → Stands text at end (decimal first)

@@ -1,8 +1,9 @@
 //! Runs of a set's states: such as differ from the one before in the number of one queue alone. What stands in their
 //! words before and behind this number is compared sixteen bytes at once.
 
-ghost use Rattle.std.specs.Prelude.{◌≡◌, ◌⊎◌, ◌∷◌, ◌+◌, ◌-◌, ◌<◌, ◌≤◌, ◌^◌, ℕ, length, slice_index, slice_index_or, slice_set, take, drop, decimal, true, false, IsTrue, IfOk, IfSome};
+ghost use Rattle.std.specs.Prelude.{◌≡◌, ◌⊎◌, ◌∷◌, ◌++◌, ◌+◌, ◌-◌, ◌*◌, ◌<◌, ◌≤◌, ◌^◌, ℕ, length, slice_index, slice_index_or, slice_set, take, drop, decimal, true, false, IsTrue, IfOk, IfSome, OnOk};
 ghost use Rattle.psi_log_text.specs.Text.{numbers_text};
+ghost use Rattle.psi_state_list.specs.Rows.{rows};
 ghost use Rattle.psi_log_lines.specs.Scanned.{Stands, with_commas};
 ghost use Rattle.psi_log_lines.specs.RowsViews.{IsAlike, IsRun, IsRead, EndsIn};
 
@@ -37,14 +38,14 @@ fn front_len(row: &[u16], queue: usize) -> usize
     len
 }
 
-// These bytes, and others behind them.
-fn bytes_of(word: &[u8]) -> [u8; 128]
-    requires { length word.now ≤ 128 }
-    ensures front { take (length word.now) result ≡ word.now }
-    ensures count { length result ≡ 128 }
+// These bytes.
+#[inline]
+fn bytes_of(text: &[u8]) -> [u8; 128]
+    requires { length text.now ≡ 128 }
+    ensures { result ≡ text.now }
 {
     let mut bytes = [0; 128];
-    bytes[..word.len()].copy_from_slice(word);
+    bytes.copy_from_slice(text);
     bytes
 }
 
@@ -59,20 +60,21 @@ fn padded(row: &[u16]) -> [u16; 32]
     numbers
 }
 
-// For each of so many places whether it is before a number's digits or behind them.
-fn around(from: usize, until: usize, len: usize) -> [bool; 128]
-    requires { len ≤ 128 }
-    ensures { (i : ℕ) → i < len → (i < from) ⊎ (until ≤ i) → slice_index_or result i false ≡ true }
+// For each place whether it is before a number's digits or behind them.
+#[inline]
+fn around(from: usize, until: usize) -> [bool; 128]
+    requires { until ≤ 128 }
+    ensures { (i : ℕ) → i < 128 → (i < from) ⊎ (until ≤ i) → slice_index_or result i false ≡ true }
 {
-    let mut same = [false; 128];
-    for place in 0..len {
-        same[place] = (place < from) | (place >= until);
+    let mut same = [true; 128];
+    for place in from..until {
+        same[place] = false;
     }
     same
 }
 
 /// The run of a state whose word stands in a text behind a space, the space with it, in which this queue's number
-/// grows. There is none where it is longer than 127 bytes.
+/// grows. There is none where it is longer than 127 bytes, or the text ends before 128.
 #[inline(never)]
 pub(crate) fn run_of(text: &[u8], at: usize, end: usize, row: &[u16], queue: usize) -> Option<Run>
     requires queue { queue < length row.now }
@@ -82,14 +84,14 @@ pub(crate) fn run_of(text: &[u8], at: usize, end: usize, row: &[u16], queue: usi
     ensures { IfSome result (λ run. IsRun row.now run) }
 {
     let len = end - at;
-    if len >= 128 {
+    if len >= 128 || text.len() - at < 128 {
         return None;
     }
     let from = 1 + front_len(row, queue);
     let width = width(row[queue]);
     Some(Run {
-        bytes: bytes_of(&text[at..end]),
-        same: around(from, from + width, len),
+        bytes: bytes_of(&text[at..at + 128]),
+        same: around(from, from + width),
         from,
         width,
         len,
@@ -173,20 +175,21 @@ fn number_of(text: &[u8], at: usize, width: usize) -> Option<u16>
     Some(number as u16)
 }
 
-// The number in which the next state differs from the one whose numbers these are, and is above it, where its word is
-// of the run.
+// The number in which the next state differs from the one that has `last` in the run's queue, and is above it, where
+// its word is of the run.
 #[inline]
-fn next_number(text: &[u8], at: usize, run: &Run, row: &[u16]) -> Option<u16>
+fn next_number(text: &[u8], at: usize, run: &Run, row: &[u16], last: u16) -> Option<u16>
     requires { IsRun row.now run.now }
     ensures within { IfSome result (λ n. at + run.now.len ≤ length text.now) }
-    ensures above { IfSome result (λ n. slice_index row.now run.now.queue < n) }
+    ensures above { IfSome result (λ n. last < n) }
+    ensures range { IfSome result (λ n. n < 2 ^ 16) }
     ensures there { IfSome result (λ n. Stands text.now at (at + run.now.len) (32 ∷ numbers_text (slice_set row.now run.now.queue n))) }
 {
     if !is_alike(text, at, run) {
         return None;
     }
     let number = number_of(text, at + run.from, run.width)?;
-    if number <= row[run.queue] {
+    if number <= last {
         return None;
     }
     // Where the word goes on, it is another one.
@@ -196,8 +199,48 @@ fn next_number(text: &[u8], at: usize, run: &Run, row: &[u16]) -> Option<u16>
     Some(number)
 }
 
+// Puts the first of these numbers behind so many others; a copy whose length the compiler knows is a few
+// instructions.
+#[inline]
+fn put_first(numbers: &mut [u16; 160], filled: usize, row: &[u16; 32], count: usize)
+    requires room { filled + 32 ≤ 160 }
+    requires few { count ≤ 32 }
+    ensures { take (filled + count) numbers.new ≡ take filled numbers.old ++ take count row.now }
+{
+    if count > 8 {
+        numbers[filled..filled + 32].copy_from_slice(row);
+    } else {
+        numbers[filled..filled + 8].copy_from_slice(&row[..8]);
+    }
+}
+
+// Puts states that wait, whose numbers these are, onto the list where another may have no room behind them.
+#[inline]
+fn make_way(
+    numbers: &[u16; 160],
+    filled: &mut usize,
+    count: &mut usize,
+    states: &mut StateList,
+) -> Result<(), AllocError>
+    requires few { filled.old ≤ 160 }
+    requires count { filled.old ≡ count.old * states.old.queues }
+    ensures queues { states.new.queues ≡ states.old.queues }
+    ensures room { OnOk result (filled.new + 32 ≤ 160) }
+    ensures count { OnOk result (filled.new ≡ count.new * states.old.queues) }
+    ensures states { OnOk result (states.new.states ++ rows count.new states.old.queues (take filled.new numbers.now) ≡ states.old.states ++ rows count.old states.old.queues (take filled.old numbers.now)) }
+{
+    if *filled + 32 <= 160 {
+        return Ok(());
+    }
+    states.push_rows(*count, &numbers[..*filled])?;
+    *filled = 0;
+    *count = 0;
+    Ok(())
+}
+
 /// Puts the states of a run, at most so many, which stand in a text from a place on, each behind a space, behind those
-/// of the list, the last of which has these numbers; and gives the place behind them.
+/// of the list, the last of which has these numbers; and gives the place behind them. They are put onto the list by
+/// as many as an array of numbers holds.
 #[inline(never)]
 pub(crate) fn read_run(
     text: &[u8],
@@ -215,17 +258,26 @@ pub(crate) fn read_run(
     ensures queues { states.new.queues ≡ states.old.queues }
     ensures read { IfOk result (λ end. IsRead (length row.now) text.now at end states.old.states states.new.states) }
 {
-    let mut numbers = padded(row);
+    // Called for its clause: the range of the numbers.
+    keep_range(row);
+    let first = padded(row);
+    let mut numbers = [0; 160];
+    let mut filled = 0;
+    let mut count = 0;
+    let mut last = row[run.queue];
     let mut end = at;
     for _ in 0..most {
-        let Some(number) = next_number(text, end, run, &numbers[..row.len()]) else {
-            return Ok(end);
+        let Some(number) = next_number(text, end, run, row, last) else {
+            break;
         };
-        numbers[run.queue] = number;
-        // Called for its clause: the range of the numbers.
-        keep_range(&numbers[..row.len()]);
-        states.push_padded(&numbers)?;
+        make_way(&numbers, &mut filled, &mut count, states)?;
+        put_first(&mut numbers, filled, &first, row.len());
+        numbers[filled + run.queue] = number;
+        filled += row.len();
+        count += 1;
+        last = number;
         end += run.len;
     }
+    states.push_rows(count, &numbers[..filled])?;
     Ok(end)
 }

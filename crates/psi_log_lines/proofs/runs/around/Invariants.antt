@@ -5,5 +5,6 @@ use Rattle.psi_log_lines.proofs.runs.around.Given as goal
 abbrev pub invariant-loop-place : goal.invariant-loop-place
 invariant-loop-place l = record {
   count : length l.same ≡ 128;
-  around : (i : ℕ) → i < l.place → (i < l.from) ⊎ (l.until ≤ i) → slice_index_or l.same i false ≡ true;
+  from : l.from ≤ l.place;
+  around : (i : ℕ) → i < 128 → (i < l.from) ⊎ (l.until ≤ i) → slice_index_or l.same i false ≡ true;
 }

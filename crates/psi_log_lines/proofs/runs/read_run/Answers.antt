@@ -1,47 +1,46 @@
 -- Answers in the proof of `runs::read_run`.
-use Rattle.std.specs.Prelude.{slice_set, true}
-use Rattle.std.specs.Ordering.{is_lt}
-use Rattle.std.proofs.Common.{◌≡◌, ◌∙◌, ℕ, List, ◌+◌, ◌++◌, ◌∷◌, [], length, take, ap, sym, subst, arith}
-use Rattle.std.proofs.lemmas.List.{length-take-le, length-set}
-use Rattle.std.proofs.Math.Seq.{take-set-lt}
-use Rattle.psi_state.specs.Sets.{state_cmp}
-use Rattle.psi_log_text.specs.Text.{numbers_text}
-use Rattle.psi_log_lines.specs.RowsViews.{EndsIn, IsRun}
-use Rattle.psi_log_lines.specs.Scanned.{Stands}
-use Rattle.psi_log_lines.proofs.RowsLemmas.{above_set, ends_in, read_none, read_more}
-use Rattle.psi_log_lines.proofs.RunLemmas.{run_again}
+use Rattle.std.specs.Prelude.{slice_set}
+use Rattle.std.proofs.Common.{◌≡◌, ◌∙◌, ℕ, List, ◌+◌, ◌*◌, ◌++◌, length, take, ap, subst, arith}
+use Rattle.std.proofs.lemmas.List.{length-set}
+use Rattle.std.proofs.Math.Nat.{suc-mul}
+use Rattle.psi_state_list.specs.Rows.{rows}
+use Rattle.psi_log_lines.proofs.RowsLemmas.{ends_in, read_more}
+use Rattle.psi_log_lines.proofs.GatheredLemmas.{above_other, gathered_more, put_behind, range_set}
 use Rattle.psi_log_lines.proofs.ScanLemmas.{is_state}
 use Rattle.psi_log_lines.proofs.runs.read_run.Goals as goal
 
-pub loop-init : goal.loop-init
-loop-init c =
-    let front = sym c.padded-numbers.ensures.front in
-    record {
-      queues = c.requires.queues;
-      run = subst (λ (x : List ℕ). IsRun x c.args.run.now) front c.requires.run;
-      last = subst (λ (x : List ℕ). EndsIn c.args.states.now.states x) front c.requires.last;
-      read = read_none (length c.args.row.now) c.args.text.now c.args.at c.args.states.now.states c.requires.within;
-    }
-
 pub loop-preserved : goal.loop-preserved
 loop-preserved c =
+    let row = c.args.row.now in
     let q = length c.args.row.now in
-    let run = c.args.run.now in
+    let queue = c.args.run.now.queue in
     let n = c.in-Some.number in
-    let x = take (length c.args.row.now) c.loop.numbers in
-    let numbers = slice_set c.loop.numbers c.args.run.now.queue c.in-Some.number in
-    let y = take (length c.args.row.now) numbers in
-    let is : y ≡ slice_set x run.queue n = take-set-lt q c.loop.numbers run.queue n c.requires.run.queue in
-    let made : c.push_padded.new.self.states ≡ c.loop.states.states ++ y ∷ [] =
-    c.in_ok-push_padded.ensures.states ∙ ap (λ (k : ℕ). c.loop.states.states ++ take k numbers ∷ []) c.loop.invariant.queues in
-    let above = subst (λ (z : List ℕ). is_lt (state_cmp x z) ≡ true) (sym is) (above_set x run.queue n c.loop.invariant.run.queue c.in-Some.ensures.above) in
-    let word = subst (λ (z : List ℕ). Stands c.args.text.now c.loop.end (c.loop.end + run.len) (32 ∷ numbers_text z)) (sym is) c.in-Some.ensures.there in
+    let y = slice_set c.args.row.now c.args.run.now.queue c.in-Some.number in
+    let filled = c.make_way.new.filled in
+    let count = c.make_way.new.count in
+    let states = c.make_way.new.states.states in
+    let all = c.loop.states.states ++ rows c.loop.count (length c.args.row.now) (take c.loop.filled c.loop.numbers) in
+    let new = slice_set c.put_first.new.numbers (c.make_way.new.filled + c.args.run.now.queue) c.in-Some.number in
+    let are : c.make_way.new.states.states ++ rows c.make_way.new.count (length c.args.row.now) (take c.make_way.new.filled c.loop.numbers)
+    ≡ c.loop.states.states ++ rows c.loop.count (length c.args.row.now) (take c.loop.filled c.loop.numbers) =
+    subst
+    (λ (k : ℕ). c.make_way.new.states.states ++ rows c.make_way.new.count k (take c.make_way.new.filled c.loop.numbers) ≡ c.loop.states.states ++ rows c.loop.count k (take c.loop.filled c.loop.numbers))
+    c.loop.invariant.queues c.in_ok-make_way.ensures.states in
+    let full : c.make_way.new.filled ≡ c.make_way.new.count * length c.args.row.now =
+    subst (λ (k : ℕ). c.make_way.new.filled ≡ c.make_way.new.count * k) c.loop.invariant.queues c.in_ok-make_way.ensures.count in
+    let room = c.in_ok-make_way.ensures.room in
     let few = c.requires.few in
-    let count = length-take-le q numbers (omega (arith, c.loop-test.array_long, length-set c.loop.numbers run.queue n)) in
+    let size = c.loop.invariant.size in
+    let put = c.put_first.ensures ∙ ap (λ (xs : List ℕ). take c.make_way.new.filled c.loop.numbers ++ xs) c.padded-first.ensures.front in
+    let kept = put_behind c.loop.numbers c.put_first.new.numbers row filled q queue n (omega arith) c.requires.run.queue put in
+    let made = gathered_more states all c.loop.numbers new y filled count q are kept full (omega arith) (length-set row queue n) in
     record {
-      queues = c.in_ok-push_padded.ensures.queues ∙ c.loop.invariant.queues;
-      run = subst (λ (z : List ℕ). IsRun z run) (sym is) (run_again x run n c.loop.invariant.run);
-      last = ends_in c.loop.states.states c.push_padded.new.self.states y made;
-      read = read_more q c.args.text.now c.args.at c.loop.end (c.loop.end + run.len) c.args.states.now.states c.loop.states.states c.push_padded.new.self.states x y
-          c.loop.invariant.read c.loop.invariant.last made above word c.in-Some.ensures.within (is_state q y count c.keep_range.ensures);
+      queues = c.in_ok-make_way.ensures.queues ∙ c.loop.invariant.queues;
+      size = length-set c.put_first.new.numbers (c.make_way.new.filled + c.args.run.now.queue) n ∙ c.put_first.array_long;
+      few = omega arith;
+      count = (let more = suc-mul count q in omega arith);
+      last = ends_in all _ y made;
+      read = read_more q c.args.text.now c.args.at c.loop.end (c.loop.end + c.args.run.now.len) c.args.states.now.states all _ (slice_set row queue c.loop.last) y
+          c.loop.invariant.read c.loop.invariant.last made (above_other row queue c.loop.last n c.requires.run.queue c.in-Some.ensures.above)
+          c.in-Some.ensures.there c.in-Some.ensures.within (is_state q y (length-set row queue n) (range_set row queue n c.keep_range.ensures c.in-Some.ensures.range));
     }
