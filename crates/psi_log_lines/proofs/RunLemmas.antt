@@ -139,10 +139,17 @@ alike_more text at run first upto a b c is_a is_b is_c is before each = λ i sma
       sym text_is ∙ each (i - first) (omega arith) (same_is ∙ same) ∙ bytes_is)
 ]
 
+-- one place more counts
+pub until_more : (place : ℕ) (same : List Bool) → place < length same → ((i : ℕ) → i < place → get_or same i false ≡ true) → (i : ℕ) → i < place + 1 → get_or (set same place true) i false ≡ true
+until_more place same room before i small = elim (cases_lt i place) [
+  | inl less ↦ get_or-set_other same place i true false (omega arith) ∙ before i less
+  | inr most ↦ (let last : i ≡ place = omega arith in ap (λ (k : ℕ). get_or (set same place true) k false) last ∙ get_or-set_same same place true false room)
+]
+
 -- one digit more is none that counts
-pub around_more : (from until place : ℕ) (same : List Bool) → from ≤ place → place < until → ((i : ℕ) → i < 128 → (i < from) ⊎ (until ≤ i) → get_or same i false ≡ true)
-    → (i : ℕ) → i < 128 → (i < from) ⊎ (until ≤ i) → get_or (set same place false) i false ≡ true
-around_more from until place same first last before i small around = elim around [
+pub around_more : (from until place len : ℕ) (same : List Bool) → from ≤ place → place < until → ((i : ℕ) → i < len → (i < from) ⊎ (until ≤ i) → get_or same i false ≡ true)
+    → (i : ℕ) → i < len → (i < from) ⊎ (until ≤ i) → get_or (set same place false) i false ≡ true
+around_more from until place len same first last before i small around = elim around [
   | inl less ↦ get_or-set_other same place i false false (omega arith) ∙ before i small (inl less)
   | inr more ↦ get_or-set_other same place i false false (omega arith) ∙ before i small (inr more)
 ]

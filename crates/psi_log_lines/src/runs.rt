@@ -60,13 +60,27 @@ fn padded(row: &[u16]) -> [u16; 32]
     numbers
 }
 
-// For each place whether it is before a number's digits or behind them.
+// So many places that count, and others behind them that don't.
 #[inline]
-fn around(from: usize, until: usize) -> [bool; 128]
-    requires { until ≤ 128 }
-    ensures { (i : ℕ) → i < 128 → (i < from) ⊎ (until ≤ i) → slice_index_or result i false ≡ true }
+fn all_until(len: usize) -> [bool; 128]
+    requires { len ≤ 128 }
+    ensures { (i : ℕ) → i < len → slice_index_or result i false ≡ true }
 {
-    let mut same = [true; 128];
+    let mut same = [false; 128];
+    for place in 0..len {
+        same[place] = true;
+    }
+    same
+}
+
+// For each of so many places whether it is before a number's digits or behind them.
+#[inline]
+fn around(from: usize, until: usize, len: usize) -> [bool; 128]
+    requires within { until ≤ len }
+    requires few { len ≤ 128 }
+    ensures { (i : ℕ) → i < len → (i < from) ⊎ (until ≤ i) → slice_index_or result i false ≡ true }
+{
+    let mut same = all_until(len);
     for place in from..until {
         same[place] = false;
     }
@@ -91,7 +105,7 @@ pub(crate) fn run_of(text: &[u8], at: usize, end: usize, row: &[u16], queue: usi
     let width = width(row[queue]);
     Some(Run {
         bytes: bytes_of(&text[at..at + 128]),
-        same: around(from, from + width),
+        same: around(from, from + width, len),
         from,
         width,
         len,
@@ -199,8 +213,18 @@ fn next_number(text: &[u8], at: usize, run: &Run, row: &[u16], last: u16) -> Opt
     Some(number)
 }
 
-// Puts the first of these numbers behind so many others; a copy whose length the compiler knows is a few
-// instructions.
+// The first eight of these numbers.
+#[inline]
+fn eight(row: &[u16; 32]) -> [u16; 8]
+    ensures { result ≡ take 8 row.now }
+{
+    let mut numbers = [0; 8];
+    numbers.copy_from_slice(&row[..8]);
+    numbers
+}
+
+// Puts the first of these numbers behind so many others. They are copied to a variable first, and as many at once as
+// the compiler knows of: it asks then neither whether both overlap nor how many they are.
 #[inline]
 fn put_first(numbers: &mut [u16; 160], filled: usize, row: &[u16; 32], count: usize)
     requires room { filled + 32 ≤ 160 }
@@ -208,9 +232,11 @@ fn put_first(numbers: &mut [u16; 160], filled: usize, row: &[u16; 32], count: us
     ensures { take (filled + count) numbers.new ≡ take filled numbers.old ++ take count row.now }
 {
     if count > 8 {
-        numbers[filled..filled + 32].copy_from_slice(row);
+        let own = *row;
+        numbers[filled..filled + 32].copy_from_slice(&own);
     } else {
-        numbers[filled..filled + 8].copy_from_slice(&row[..8]);
+        let own = eight(row);
+        numbers[filled..filled + 8].copy_from_slice(&own);
     }
 }
 

@@ -6,5 +6,5 @@ abbrev pub invariant-loop-place : goal.invariant-loop-place
 invariant-loop-place l = record {
   count : length l.same ≡ 128;
   from : l.from ≤ l.place;
-  around : (i : ℕ) → i < 128 → (i < l.from) ⊎ (l.until ≤ i) → slice_index_or l.same i false ≡ true;
+  around : (i : ℕ) → i < l.len → (i < l.from) ⊎ (l.until ≤ i) → slice_index_or l.same i false ≡ true;
 }

@@ -4,8 +4,8 @@ use Rattle.std.proofs.lemmas.List.{take-take, length-take-le}
 use Rattle.psi_log_lines.proofs.RunLemmas.{run_is, digits_within}
 use Rattle.psi_log_lines.proofs.runs.run_of.Goals as goal
 
-pub around-requires : goal.around-requires
-around-requires c =
+pub around-requires-clause-within : goal.around-requires-clause-within
+around-requires-clause-within c =
     let place = c.requires.there.place in
     let within = digits_within c.args.row.now c.args.queue c.requires.queue in
     omega (arith, c.front_len-from.ensures.value, c.width-width.ensures.value)
@@ -21,4 +21,4 @@ returns c =
     run_is c.args.text.now c.args.row.now c.args.at c.args.end _ (omega arith) c.requires.queue c.requires.there refl c.if-len-ge128.false
     (ap (take (c.args.end - c.args.at)) c.bytes_of.ensures ∙ take-take (c.args.end - c.args.at) (c.args.at + 128 - c.args.at) part (omega arith))
     (omega (arith, ap length c.bytes_of.ensures, size)) (omega (arith, c.front_len-from.ensures.value)) c.width-width.ensures.value c.width-width.ensures.some
-    (λ i small place. c.around.ensures i (omega arith) place)
+    c.around.ensures
