@@ -167,20 +167,30 @@ fn long_number(text: &[u8], at: usize, width: usize) -> Option<u16>
     Some(number)
 }
 
-// The same; at once where it has one or two digits.
+// The same, where it hasn't two digits; at once where it has one.
 #[inline]
-fn number_of(text: &[u8], at: usize, width: usize) -> Option<u16>
-    requires some { 1 ≤ width }
-    requires within { at + width ≤ length text.now }
+fn other_number(text: &[u8], at: usize, width: usize) -> Option<u16>
+    requires { at + width ≤ length text.now }
     ensures { IfSome result (λ n. Stands text.now at (at + width) (decimal n)) }
 {
-    if width > 2 {
+    if width != 1 {
         return long_number(text, at, width);
     }
     let first = digit_of(text[at])?;
-    if width == 1 {
-        return Some(first as u16);
+    Some(first as u16)
+}
+
+// The same; at once where it has two digits, as most have.
+#[inline]
+fn number_of(text: &[u8], at: usize, width: usize) -> Option<u16>
+    requires { at + width ≤ length text.now }
+    ensures { IfSome result (λ n. Stands text.now at (at + width) (decimal n)) }
+{
+    if width != 2 {
+        let number = other_number(text, at, width)?;
+        return Some(number);
     }
+    let first = digit_of(text[at])?;
     let second = digit_of(text[at + 1])?;
     if first == 0 {
         return None;
