@@ -133,11 +133,7 @@ above_last xs ys x y last is above =
     ap (drop (length xs - 1)) is ∙ drop-append-le (length xs - 1) xs (y ∷ []) (omega arith) ∙ ap (λ (zs : List (List ℕ)). zs ++ y ∷ []) last in
     ap ascends two ∙ and_from (is_lt (state_cmp x y)) true above refl
 
--- no state so far
-pub read_none : (queues : ℕ) (text : List ℕ) (at : ℕ) (old : List (List ℕ)) → at ≤ length text → IsRead queues text at at old old
-read_none queues text at old within = record { within = within; more = omega arith; rows = λ begin first are. are; order = λ first some rising. rising }
-
--- and one more, above the last
+-- one state more is read, above the last
 pub read_more : (queues : ℕ) (text : List ℕ) (at place end : ℕ) (old new newer : List (List ℕ)) (x y : List ℕ) → IsRead queues text at place old new → EndsIn new x → newer ≡ new ++ y ∷ []
     → is_lt (state_cmp x y) ≡ true → Stands text place end (32 ∷ numbers_text y) → end ≤ length text → IsState queues y → IsRead queues text at end old newer
 read_more queues text at place end old new newer x y read last is above word within state =

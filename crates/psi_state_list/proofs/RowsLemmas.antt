@@ -12,7 +12,6 @@ use Rattle.std.proofs.lemmas.List.{take_all, take_more, take_more_set, length-se
 use Rattle.std.proofs.lemmas.List.Folds.{list_all-append}
 use Rattle.std.proofs.lemmas.Nat.{mul-le}
 use Rattle.std.proofs.Math.Nat.{suc-mul}
-use Rattle.std.proofs.Math.Seq.{take-append-add}
 use Rattle.psi_state_list.specs.Rows.{rows, States}
 
 pub length_rows : (count queues : ℕ) (numbers : List ℕ) → length (rows count queues numbers) ≡ count
@@ -179,8 +178,3 @@ put_one x y row queue is same within front =
       ap length is ∙ length-set x queue (get_or row queue 0) ∙ same,
       ap (take (queue + 1)) is ∙ put ∙ ap (λ (xs : List ℕ). xs ++ get_or row queue 0 ∷ []) front ∙ sym own,
     )
-
--- of eight numbers that were put behind others, the first ones
-pub first_pushed : (old new row : List ℕ) (end count : ℕ) → new ≡ old ++ take 8 row → end ≡ length old + count → count ≤ 8 → take end new ≡ old ++ take count row
-first_pushed old new row end count is last few =
-    ap (take end) is ∙ ap (λ (k : ℕ). take k (old ++ take 8 row)) last ∙ take-append-add old (take 8 row) count ∙ ap (λ (t : List ℕ). old ++ t) (take-take count 8 row few)

@@ -56,25 +56,6 @@ fn push_all(numbers: &mut Vec<u16>, row: &[u16]) -> Result<(), AllocError>
     numbers.extend_from_slice(row)
 }
 
-// Puts the first of so many numbers behind others. Where they are at most eight, eight are put there at once, and
-// those behind them taken away again: a copy whose length the compiler knows is one instruction or two.
-#[inline]
-fn push_first(numbers: &mut Vec<u16>, row: &[u16; 32], count: u8) -> Result<(), AllocError>
-    requires { count ≤ 32 }
-    ensures pushed { OnOk result (numbers.new.items ≡ numbers.old.items ++ take count row.now) }
-    ensures kept { OnErr result (numbers.new.items ≡ numbers.old.items) }
-{
-    make_room(numbers, 32)?;
-    let count = count as usize;
-    if count > 8 {
-        return numbers.extend_from_slice(&row[..count]);
-    }
-    let end = numbers.len() + count;
-    numbers.extend_from_slice(&row[..8])?;
-    numbers.truncate(end);
-    Ok(())
-}
-
 impl StateList {
     /// The list of no states, for states of so many queues, 1 to 32. It takes no memory yet.
     pub fn new(alloc: Global, queues: u8) -> StateList
@@ -137,24 +118,6 @@ impl StateList {
         ensures kept { OnErr result (self.new.states ≡ self.old.states) }
     {
         push_all(&mut self.numbers, row)?;
-        self.count += 1;
-        Ok(())
-    }
-
-    /// Puts a state behind the others as [`StateList::push`] does, by its numbers, with which an array begins; what
-    /// stands behind them there is none of its. It is quicker than [`StateList::push_row`].
-    ///
-    /// # Errors
-    ///
-    /// `AllocError` where memory is wanting, and no clause says when that is; the list is then as it was.
-    #[inline]
-    #[tactic(auto, using(crate::proofs::RowsLemmas::rows_push))]
-    pub fn push_padded(&mut self, row: &[u16; 32]) -> Result<(), AllocError>
-        ensures queues { self.new.queues ≡ self.old.queues }
-        ensures states { OnOk result (self.new.states ≡ self.old.states ++ take self.old.queues row.now ∷ []) }
-        ensures kept { OnErr result (self.new.states ≡ self.old.states) }
-    {
-        push_first(&mut self.numbers, row, self.queues)?;
         self.count += 1;
         Ok(())
     }
