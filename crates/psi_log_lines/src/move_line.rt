@@ -6,8 +6,8 @@ ghost use Rattle.psi_log_words.specs.ChangesViews.{change};
 ghost use Rattle.psi_log_lines.specs.LinesViews.{entry_of, HasRegion};
 ghost use Rattle.psi_log_lines.specs.Scanned.{Stands, AreChanged, next_step};
 
-use crate::head::step_at;
-use crate::scan::{has_byte, has_short, small_at, small_with_comma};
+use crate::head::{has_name, step_at};
+use crate::scan::{has_byte, small_at, small_with_comma};
 use psi_log_text::Header;
 use psi_log_words::{Change, is_change};
 use psi_state::Bounds;
@@ -102,7 +102,7 @@ pub fn read_move_line<'t>(
     ensures there { IfSome result (λ read. (states : List (List ℕ)) → HasRegion header.now.queues states read.0) }
 {
     let (step, at) = step_at(header.version, text)?;
-    if !has_short(text, at, b" move") {
+    if !has_name(text, at, b" move") {
         return None;
     }
     let (to, end) = read_changes(text, at + 5, header.queues, from)?;

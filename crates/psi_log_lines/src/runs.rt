@@ -40,7 +40,7 @@ fn front_len(row: &[u16], queue: usize) -> usize
 
 // These bytes.
 #[inline]
-fn bytes_of(text: &[u8]) -> [u8; 128]
+fn array_of(text: &[u8]) -> [u8; 128]
     requires { length text.now ≡ 128 }
     ensures { result ≡ text.now }
 {
@@ -104,7 +104,7 @@ pub(crate) fn run_of(text: &[u8], at: usize, end: usize, row: &[u16], queue: usi
     let from = 1 + front_len(row, queue);
     let width = width(row[queue]);
     Some(Run {
-        bytes: bytes_of(&text[at..at + 128]),
+        bytes: array_of(&text[at..at + 128]),
         same: around(from, from + width, len),
         from,
         width,
@@ -116,7 +116,7 @@ pub(crate) fn run_of(text: &[u8], at: usize, end: usize, row: &[u16], queue: usi
 // Whether sixteen bytes are the same as others, wherever they have to be. All of them are looked at, so that the
 // compiler compares them at once.
 #[inline]
-fn are_same(text: &[u8], bytes: &[u8], same: &[bool]) -> bool
+fn agree_where(text: &[u8], bytes: &[u8], same: &[bool]) -> bool
     requires text { length text.now ≡ 16 }
     requires bytes { length bytes.now ≡ 16 }
     requires same { length same.now ≡ 16 }
@@ -144,7 +144,7 @@ fn is_alike(text: &[u8], at: usize, run: &Run) -> bool
         let part = &text[at + first..at + first + 16];
         let bytes = &run.bytes[first..first + 16];
         let same = &run.same[first..first + 16];
-        if !are_same(part, bytes, same) {
+        if !agree_where(part, bytes, same) {
             return false;
         }
         if run.len <= first + 16 {

@@ -27,23 +27,6 @@ pub fn has_word(text: &[u8], at: usize, word: &[u8]) -> bool
     part == word
 }
 
-/// The same, byte by byte, which is quicker where the word is short.
-#[inline]
-pub(crate) fn has_short(text: &[u8], at: usize, word: &[u8]) -> bool
-    ensures within { IsTrue result → at + length word.now ≤ length text.now }
-    ensures there { IsTrue result → Stands text.now at (at + length word.now) word.now }
-{
-    if at > text.len() || text.len() - at < word.len() {
-        return false;
-    }
-    for place in 0..word.len() {
-        if text[at + place] != word[place] {
-            return false;
-        }
-    }
-    true
-}
-
 /// The digit that a byte is.
 #[inline]
 pub(crate) fn digit_of(byte: u8) -> Option<u32>

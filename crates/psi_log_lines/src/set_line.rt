@@ -5,9 +5,9 @@ ghost use Rattle.psi_state.specs.State.{Corners};
 ghost use Rattle.psi_log_lines.specs.LinesViews.{entry_of, HasRegion, IsLast};
 ghost use Rattle.psi_log_lines.specs.Scanned.{Stands, AreScanned, next_step};
 
-use crate::head::step_at;
+use crate::head::{has_name, step_at};
 use crate::rows::read_rows;
-use crate::scan::{has_byte, has_short, has_word};
+use crate::scan::{has_byte, has_word};
 use psi_log_text::Header;
 use psi_state::MOST_SPLIT;
 use psi_state_list::{Line, ListedRegion, StateList};
@@ -42,7 +42,7 @@ pub fn read_new_set<'t>(
     ensures there { IfOk result (λ read. IfSome read (λ set. Stands text.now at (at + length set.text.now) set.text.now)) }
     ensures within { IfOk result (λ read. IfSome read (λ set. at + length set.text.now ≤ length text.now)) }
 {
-    if !has_short(text, at, b" set") {
+    if !has_name(text, at, b" set") {
         return Ok(None);
     }
     let first = states.len();

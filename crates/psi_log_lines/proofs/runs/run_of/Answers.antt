@@ -19,6 +19,6 @@ returns c =
     let part = drop c.args.at c.args.text.now in
     let size = length-take-le (c.args.at + 128 - c.args.at) part (omega (arith, length-drop c.args.at c.args.text.now)) in
     run_is c.args.text.now c.args.row.now c.args.at c.args.end _ (omega arith) c.requires.queue c.requires.there refl c.if-len-ge128.false
-    (ap (take (c.args.end - c.args.at)) c.bytes_of.ensures ∙ take-take (c.args.end - c.args.at) (c.args.at + 128 - c.args.at) part (omega arith))
-    (omega (arith, ap length c.bytes_of.ensures, size)) (omega (arith, c.front_len-from.ensures.value)) c.width-width.ensures.value c.width-width.ensures.some
+    (ap (take (c.args.end - c.args.at)) c.array_of.ensures ∙ take-take (c.args.end - c.args.at) (c.args.at + 128 - c.args.at) part (omega arith))
+    (omega (arith, ap length c.array_of.ensures, size)) (omega (arith, c.front_len-from.ensures.value)) c.width-width.ensures.value c.width-width.ensures.some
     c.around.ensures

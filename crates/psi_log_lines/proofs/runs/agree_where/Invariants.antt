@@ -1,6 +1,6 @@
--- Invariants of the loops of `runs::are_same`.
+-- Invariants of the loops of `runs::agree_where`.
 use Rattle.std.specs.Prelude.{◌≡◌, ℕ, ◌<◌, slice_index, slice_index_or, true, false}
-use Rattle.psi_log_lines.proofs.runs.are_same.Given as goal
+use Rattle.psi_log_lines.proofs.runs.agree_where.Given as goal
 
 -- the bytes so far are the same, wherever they have to be
 abbrev pub invariant-loop-place : goal.invariant-loop-place
