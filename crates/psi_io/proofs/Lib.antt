@@ -2,5 +2,6 @@
 pub mod CountsLemmas
 pub mod SinkLemmas
 pub mod FilesLemmas
+pub mod FeedingLemmas
 pub mod GivingLemmas
 pub mod GrowingLemmas

@@ -5,6 +5,7 @@ ghost use Rattle.std.specs.IoError.{error_kind};
 ghost use Rattle.psi_io.specs.Counts.{counted, Rose};
 
 use crate::asked::Asked;
+use crate::consumer::Consumer;
 use crate::shelf::{Shelf, ShelfFault};
 use std::alloc::Global;
 use std::io::{Error, ErrorKind, Read};
@@ -57,17 +58,19 @@ fn fault_of(error: &Error) -> ShelfFault
     }
 }
 
-/// The bytes that a reader has left, but at most `most + 1` of them.
-fn read_front<F: Read>(file: &mut F, alloc: Global, most: u32) -> Result<Vec<u8>, ShelfFault>
+/// Hands the bytes that a reader has left, but at most `most + 1` of them, to a consumer.
+fn feed_front<F: Read, C: Consumer>(file: &mut F, most: u32, to: &mut C) -> Result<(), ShelfFault>
     requires { most ≤ 2 ^ 30 }
-    ensures bytes { IfOk result (λ read. IfSome (F.remaining file.old) (λ bytes. read.items ≡ take (most + 1) bytes)) }
-    ensures bound { IfOk result (λ read. length read.items ≤ most + 1) }
+    ensures bytes { OnOk result (IfSome (F.remaining file.old) (λ bytes. C.taken to.new ≡ C.taken to.old ++ take (most + 1) bytes)) }
+    ensures front { OnOk result (take (length (C.taken to.old)) (C.taken to.new) ≡ C.taken to.old) }
+    ensures bound { OnOk result (length (C.taken to.new) ≤ length (C.taken to.old) + (most + 1)) }
+    ensures setting { C.setting to.new ≡ C.setting to.old }
 {
     let limit = most as usize + 1;
     let mut chunk = [0u8; CHUNK];
-    let mut bytes = Vec::new(alloc);
-    while bytes.len() < limit {
-        let wanted = CHUNK.min(limit - bytes.len());
+    let mut given = 0;
+    while given < limit {
+        let wanted = CHUNK.min(limit - given);
         let count = match file.read(&mut chunk[..wanted]) {
             Ok(count) => count,
             Err(error) => return Err(fault_of(&error)),
@@ -75,24 +78,27 @@ fn read_front<F: Read>(file: &mut F, alloc: Global, most: u32) -> Result<Vec<u8>
         if count == 0 {
             break;
         }
-        bytes.extend_from_slice(&chunk[..count])?;
+        to.take(&chunk[..count])?;
+        given += count;
     }
-    Ok(bytes)
+    Ok(())
 }
 
-/// The bytes of a file that was to be opened, but at most `most + 1` of them.
-fn front_of<F: Read + Drop>(
+/// Hands the bytes of a file that was to be opened, but at most `most + 1` of them, to a consumer.
+fn feed_opened<F: Read + Drop, C: Consumer>(
     opened: io::Result<F>,
-    alloc: Global,
     most: u32,
-) -> Result<Vec<u8>, ShelfFault>
+    to: &mut C,
+) -> Result<(), ShelfFault>
     requires { most ≤ 2 ^ 30 }
     // There are none where the file wasn't opened.
-    ensures bytes { IfOk result (λ read. IsOkAnd opened (λ file. IfSome (F.remaining file) (λ bytes. read.items ≡ take (most + 1) bytes))) }
-    ensures bound { IfOk result (λ read. length read.items ≤ most + 1) }
+    ensures bytes { OnOk result (IsOkAnd opened (λ file. IfSome (F.remaining file) (λ bytes. C.taken to.new ≡ C.taken to.old ++ take (most + 1) bytes))) }
+    ensures front { OnOk result (take (length (C.taken to.old)) (C.taken to.new) ≡ C.taken to.old) }
+    ensures bound { OnOk result (length (C.taken to.new) ≤ length (C.taken to.old) + (most + 1)) }
+    ensures setting { C.setting to.new ≡ C.setting to.old }
 {
     match opened {
-        Ok(mut file) => read_front(&mut file, alloc, most),
+        Ok(mut file) => feed_front(&mut file, most, to),
         Err(error) => Err(fault_of(&error)),
     }
 }
@@ -105,6 +111,35 @@ impl<R: Files> Shelf for DiskShelf<'_, R> {
     ghost asked = { λ shelf. shelf.asked };
 
     ghost faults = { λ shelf name. shelf.count };
+
+    /// Opens the file of this name and reads it, chunk by chunk, up to its end or to `most + 1`
+    /// bytes. Each chunk is a piece for the consumer.
+    ///
+    /// # Errors
+    ///
+    /// [`ShelfFault::Failed`] where the file can't be opened or read, and
+    /// [`ShelfFault::OutOfMemory`] where there is no memory, also for the consumer. With each of them
+    /// the count rises by one.
+    fn feed<C: Consumer>(&mut self, name: &str, most: u32, to: &mut C) -> Result<(), ShelfFault>
+        requires { most ≤ 2 ^ 30 }
+        ensures still { OnOk result (self.new.count ≡ self.old.count) }
+        ensures raised { OnErr result (self.new.count ≡ counted self.old.count) }
+
+        // What every shelf keeps.
+        ensures front { OnOk result (take (length (C.taken to.old)) (C.taken to.new) ≡ C.taken to.old) }
+        ensures bound { OnOk result (length (C.taken to.new) ≤ length (C.taken to.old) + (most + 1)) }
+        ensures setting { C.setting to.new ≡ C.setting to.old }
+        ensures failed { IsErrOf result ShelfFault.Failed → Rose self.old.count self.new.count }
+        ensures counts { self.old.count ≤ self.new.count }
+        ensures noted { self.new.asked ≡ self.old.asked ++ (record { name = name.now; most = most }) ∷ [] }
+    {
+        self.asked = self.asked.and(name.as_bytes(), most);
+        let answer = feed_opened(fs::open(self.rt, name), most, to);
+        if answer.is_err() {
+            self.count = self.count.saturating_add(1);
+        }
+        answer
+    }
 
     /// Opens the file of this name and reads it, chunk by chunk, up to its end or to `most + 1`
     /// bytes. Memory grows with what is read.
@@ -124,11 +159,8 @@ impl<R: Files> Shelf for DiskShelf<'_, R> {
         ensures counts { self.old.count ≤ self.new.count }
         ensures noted { self.new.asked ≡ self.old.asked ++ (record { name = name.now; most = most }) ∷ [] }
     {
-        self.asked = self.asked.and(name.as_bytes(), most);
-        let answer = front_of(fs::open(self.rt, name), alloc, most);
-        if answer.is_err() {
-            self.count = self.count.saturating_add(1);
-        }
-        answer
+        let mut bytes = Vec::new(alloc);
+        self.feed(name, most, &mut bytes)?;
+        Ok(bytes)
     }
 }

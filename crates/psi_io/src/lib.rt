@@ -1,12 +1,14 @@
 //! Where the files that the program reads come from, and where the texts that it writes go to.
 //!
-//! A [`Shelf`] gives the bytes of a name, a [`Sink`] takes bytes. Each counts its faults, so that
-//! a caller can say of every refusal that it came from outside. [`MemoryShelf`] and
+//! A [`Shelf`] gives the bytes of a name, whole or piece by piece to a [`Consumer`]; a [`Sink`] takes
+//! bytes. Shelves and sinks count their faults, so that a caller can say of every refusal that it came
+//! from outside. [`MemoryShelf`] and
 //! [`MemorySink`] keep everything in memory and fail where they are told to; [`DiskShelf`] and
 //! [`StdSink`] are thin adapters to the files and the output of the system.
 #![tactic(auto)]
 
 mod asked;
+mod consumer;
 mod disk_shelf;
 mod memory_file;
 mod memory_shelf;
@@ -17,6 +19,7 @@ mod std_sink;
 #[cfg(test)]
 mod tests;
 
+pub use consumer::Consumer;
 pub use disk_shelf::DiskShelf;
 pub use memory_shelf::MemoryShelf;
 pub use memory_sink::MemorySink;

@@ -1,10 +1,10 @@
 //! A file of a shelf in memory.
 
-ghost use Rattle.std.specs.Prelude.{◌≡◌, ◌+◌, ◌<◌, ◌≤◌, ◌^◌, take, string_bytes, IfOk, IfErr};
+ghost use Rattle.std.specs.Prelude.{◌≡◌, ◌+◌, ◌<◌, ◌≤◌, ◌^◌, ◌++◌, take, string_bytes, OnOk, IfErr};
 ghost use Rattle.psi_io.specs.MemoryShelf.{has_name, with_bytes, with_fault};
 
+use crate::consumer::Consumer;
 use crate::shelf::ShelfFault;
-use std::alloc::Global;
 use std::marker::Model;
 
 /// A file of a shelf in memory: its name, its bytes, and the count of its failed reads.
@@ -56,14 +56,15 @@ impl MemoryFile {
         self.count = self.count.saturating_add(1);
     }
 
-    /// The bytes of the file, but at most `most + 1` of them.
-    pub(crate) fn front(&self, alloc: Global, most: u32) -> Result<Vec<u8>, ShelfFault>
+    /// Hands the bytes of the file, but at most `most + 1` of them, to a consumer.
+    pub(crate) fn feed<C: Consumer>(&self, most: u32, to: &mut C) -> Result<(), ShelfFault>
         requires { most ≤ 2 ^ 30 }
-        ensures bytes { IfOk result (λ read. read.items ≡ take (most + 1) self.now.bytes) }
+        ensures bytes { OnOk result (C.taken to.new ≡ C.taken to.old ++ take (most + 1) self.now.bytes) }
+        ensures setting { C.setting to.new ≡ C.setting to.old }
         ensures memory { IfErr result (λ fault. fault ≡ ShelfFault.OutOfMemory) }
     {
         let count = self.bytes.len().min(most as usize + 1);
         let bytes = self.bytes.as_slice();
-        Ok(Vec::from_slice(alloc, &bytes[..count])?)
+        Ok(to.take(&bytes[..count])?)
     }
 }

@@ -6,6 +6,7 @@ ghost use Rattle.psi_io.specs.MemoryShelf.{has_name, told_of, faults_of, FailsTo
 
 use crate::OutOfMemory;
 use crate::asked::Asked;
+use crate::consumer::Consumer;
 use crate::memory_file::MemoryFile;
 use crate::shelf::{Shelf, ShelfFault};
 use std::alloc::Global;
@@ -105,6 +106,49 @@ impl Shelf for MemoryShelf {
 
     ghost gives = { Gives };
 
+    /// Hands the bytes that were last put under the name, cut at `most + 1`, to the consumer, as one
+    /// piece.
+    ///
+    /// # Errors
+    ///
+    /// [`ShelfFault::Failed`] exactly where the number of the read is in `fails` or the name isn't
+    /// there. The count of the name rises by one there, and no other read raises a count.
+    /// [`ShelfFault::OutOfMemory`] where the consumer has no memory for the bytes: such a read has its
+    /// number, and raises no count.
+    fn feed<C: Consumer>(&mut self, name: &str, most: u32, to: &mut C) -> Result<(), ShelfFault>
+        requires { most ≤ 2 ^ 30 }
+        ensures fails { IsErrOf result ShelfFault.Failed ↔ FailsToRead self.old name.now }
+        ensures raised { IsErrOf result ShelfFault.Failed → faults_of self.new name.now ≡ counted (faults_of self.old name.now) }
+        ensures after { OnOk result (self.new ≡ after_read self.old name.now most) }
+        ensures after_failed { IsErrOf result ShelfFault.Failed → self.new ≡ after_failed_read self.old name.now most }
+        ensures after_refused { IsErrOf result ShelfFault.OutOfMemory → self.new ≡ after_read self.old name.now most }
+
+        // What every shelf keeps.
+        ensures bytes { OnOk result (IfSome (told_of self.old name.now) (λ bytes. C.taken to.new ≡ C.taken to.old ++ take (most + 1) bytes)) }
+        ensures front { OnOk result (take (length (C.taken to.old)) (C.taken to.new) ≡ C.taken to.old) }
+        ensures bound { OnOk result (length (C.taken to.new) ≤ length (C.taken to.old) + (most + 1)) }
+        ensures setting { C.setting to.new ≡ C.setting to.old }
+        ensures failed { IsErrOf result ShelfFault.Failed → Rose (faults_of self.old name.now) (faults_of self.new name.now) }
+        ensures counts { (other : List ℕ) → faults_of self.old other ≤ faults_of self.new other }
+        ensures same { told_of self.new ≡ told_of self.old }
+        ensures noted { self.new.asked ≡ self.old.asked ++ (record { name = name.now; most = most }) ∷ [] }
+    {
+        self.asked = self.asked.and(name.as_bytes(), most);
+        self.reads = self.reads.saturating_add(1);
+        let fails = self.fails.contains(&self.reads);
+        match place_of(self.files.as_slice(), name) {
+            Some(place) if fails => {
+                self.files[place].count_fault();
+                Err(ShelfFault::Failed)
+            }
+            Some(place) => self.files[place].feed(most, to),
+            None => {
+                self.absent = self.absent.saturating_add(1);
+                Err(ShelfFault::Failed)
+            }
+        }
+    }
+
     /// Reads the bytes that were last put under the name, cut at `most + 1`.
     ///
     /// # Errors
@@ -129,19 +173,8 @@ impl Shelf for MemoryShelf {
         ensures same { told_of self.new ≡ told_of self.old }
         ensures noted { self.new.asked ≡ self.old.asked ++ (record { name = name.now; most = most }) ∷ [] }
     {
-        self.asked = self.asked.and(name.as_bytes(), most);
-        self.reads = self.reads.saturating_add(1);
-        let fails = self.fails.contains(&self.reads);
-        match place_of(self.files.as_slice(), name) {
-            Some(place) if fails => {
-                self.files[place].count_fault();
-                Err(ShelfFault::Failed)
-            }
-            Some(place) => self.files[place].front(alloc, most),
-            None => {
-                self.absent = self.absent.saturating_add(1);
-                Err(ShelfFault::Failed)
-            }
-        }
+        let mut bytes = Vec::new(alloc);
+        self.feed(name, most, &mut bytes)?;
+        Ok(bytes)
     }
 }

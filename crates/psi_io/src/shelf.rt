@@ -1,10 +1,11 @@
 //! The contract of a shelf.
 
-ghost use Rattle.std.specs.Prelude.{◌≡◌, ℕ, ◌+◌, ◌≤◌, ◌^◌, ◌++◌, List, [], ◌∷◌, Option, length, take, IfOk, IfSome, IsErrOf};
+ghost use Rattle.std.specs.Prelude.{◌≡◌, ℕ, ◌+◌, ◌≤◌, ◌^◌, ◌++◌, List, [], ◌∷◌, Option, length, take, IfOk, IfSome, OnOk, IsErrOf};
 ghost use Rattle.psi_io.specs.Counts.{Rose};
 ghost use Rattle.psi_io.specs.Shelf.{Read};
 ghost use Rattle.psi_io.specs.declared.shelf.ShelfFault.TheVariants.{OutOfMemory};
 
+use crate::consumer::Consumer;
 use std::alloc::{AllocError, Global};
 
 /// Why a read gave no bytes.
@@ -41,6 +42,28 @@ pub trait Shelf {
     ghost faults: { Self → List ℕ → ℕ };
 
     ghost gives: { Self → List ℕ → Type 0 } = { λ _ _. ⊥ };
+
+    /// Reads the file of this name up to its end, but at most `most + 1` bytes of it, and hands them
+    /// to a consumer piece by piece, in their order, so that they needn't be held whole.
+    ///
+    /// # Errors
+    ///
+    /// [`ShelfFault::Failed`] only where the count of this name rose or stands at the greatest u64,
+    /// and [`ShelfFault::OutOfMemory`] where there was not enough memory, here or for the consumer.
+    /// What the consumer took by then is not said.
+    fn feed<C: Consumer>(&mut self, name: &str, most: u32, to: &mut C) -> Result<(), ShelfFault>
+        requires { most ≤ 2 ^ 30 }
+        ensures bytes { OnOk result (IfSome (told self.old name.now) (λ bytes. C.taken to.new ≡ C.taken to.old ++ take (most + 1) bytes)) }
+        ensures front { OnOk result (take (length (C.taken to.old)) (C.taken to.new) ≡ C.taken to.old) }
+        ensures bound { OnOk result (length (C.taken to.new) ≤ length (C.taken to.old) + (most + 1)) }
+        ensures setting { C.setting to.new ≡ C.setting to.old }
+        ensures failed { IsErrOf result ShelfFault.Failed → Rose (faults self.old name.now) (faults self.new name.now) }
+        ensures counts { (other : List ℕ) → faults self.old other ≤ faults self.new other }
+        ensures same { told self.new ≡ told self.old }
+        ensures noted { asked self.new ≡ asked self.old ++ (record { name = name.now; most = most }) ∷ [] }
+        ensures given { gives self.old name.now → IsErrOf result ShelfFault.Failed → ⊥ }
+        ensures spared { gives self.old name.now → faults self.new ≡ faults self.old }
+        ensures gives_on { (other : List ℕ) → gives self.old other → gives self.new other };
 
     /// Reads the file of this name up to its end, but at most `most + 1` bytes of it, so that the
     /// caller sees from the length alone whether the file has more than `most` bytes.
