@@ -59,7 +59,11 @@ fn fault_of(error: &Error) -> ShelfFault
 }
 
 /// Hands the bytes that a reader has left, but at most `most + 1` of them, to a consumer.
-fn feed_front<F: Read, C: Consumer>(file: &mut F, most: u32, to: &mut C) -> Result<(), ShelfFault>
+pub(crate) fn feed_front<F: Read, C: Consumer>(
+    file: &mut F,
+    most: u32,
+    to: &mut C,
+) -> Result<(), ShelfFault>
     requires { most ≤ 2 ^ 30 }
     ensures bytes { OnOk result (IfSome (F.remaining file.old) (λ bytes. C.taken to.new ≡ C.taken to.old ++ take (most + 1) bytes)) }
     ensures front { OnOk result (take (length (C.taken to.old)) (C.taken to.new) ≡ C.taken to.old) }

@@ -2,12 +2,14 @@
 
 ghost use Rattle.std.specs.Prelude.{◌≤◌, ◌^◌};
 
+use crate::disk_shelf::feed_front;
 use crate::{
-    DiskShelf, MemoryShelf, MemorySink, Shelf, ShelfFault, Sink, SinkFault, StdSink, write_all,
+    Consumer, DiskShelf, MemoryShelf, MemorySink, OutOfMemory, Shelf, ShelfFault, Sink, SinkFault,
+    StdSink, write_all,
 };
 use std::alloc::{AllocError, Global};
 use std::fs::Permissions;
-use std::io::Write;
+use std::io::{Read, Write};
 use std::os::unix::fs::PermissionsExt;
 use std::test::Fail;
 use std::{fs, io};
@@ -32,6 +34,57 @@ impl Write for Narrow<'_> {
         } else {
             Err(io::Error::from(io::ErrorKind::Other))
         }
+    }
+}
+
+/// A consumer that keeps its pieces with their lengths, and refuses each once it has `most`.
+#[derive(Drop)]
+struct Pieces {
+    text: Vec<u8>,
+    lengths: Vec<usize>,
+    most: usize,
+}
+
+impl Pieces {
+    fn new(alloc: Global, most: usize) -> Pieces {
+        Pieces {
+            text: Vec::new(alloc),
+            lengths: Vec::new(alloc),
+            most,
+        }
+    }
+}
+
+impl Consumer for Pieces {
+    ghost taken = { λ pieces. pieces.text.items };
+
+    ghost setting = { λ pieces. tt };
+
+    fn take(&mut self, piece: &[u8]) -> Result<(), OutOfMemory> {
+        if self.lengths.len() >= self.most {
+            return Err(AllocError);
+        }
+        self.lengths.push(piece.len())?;
+        self.text.extend_from_slice(piece)
+    }
+}
+
+/// A reader that gives three bytes in each of two reads, and then fails.
+#[derive(Drop)]
+struct Breaking {
+    left: usize,
+    kind: io::ErrorKind,
+}
+
+impl Read for Breaking {
+    fn read(&mut self, buffer: &mut [u8]) -> io::Result<usize> {
+        if self.left == 0 {
+            return Err(io::Error::from(self.kind));
+        }
+        self.left -= 1;
+        let count = buffer.len().min(3);
+        buffer[..count].fill(b'a');
+        Ok(count)
     }
 }
 
@@ -120,6 +173,66 @@ fn a_shelf_over_files_gives_their_bytes_up_to_a_bound(rt: HostRuntime) -> Result
     assert!(rt; gives_front(&rt, alloc, name, 1_048_576, text));
     assert!(rt; gives_front(&rt, alloc, name, 1_073_741_824, text));
     fs::remove_file(&rt, name)?;
+    Ok(())
+}
+
+/// A file of three chunks, the last of them short, comes chunk by chunk in its order; one in memory
+/// comes as one piece. A piece that the consumer refuses is want of memory.
+#[test]
+fn a_file_is_handed_on_in_pieces(rt: HostRuntime) -> Result<(), Fail> {
+    let alloc = rt.alloc();
+    let name = "psi_io_pieces.txt";
+    let text = letters(alloc, 20_000)?;
+    let text = text.as_slice();
+    fs::write(&rt, name, text)?;
+    let mut disk = DiskShelf::new(&rt);
+    let mut pieces = Pieces::new(alloc, 3);
+    assert_eq!(rt; disk.feed(name, 1_048_576, &mut pieces), Ok(()));
+    assert_eq!(rt; pieces.text.as_slice(), text);
+    assert_eq!(rt;
+        pieces.lengths.as_slice(),
+        [8_192usize, 8_192, 3_616].as_slice()
+    );
+    let mut pieces = Pieces::new(alloc, 2);
+    assert_eq!(rt; disk.feed(name, 9_999, &mut pieces), Ok(()));
+    assert!(rt; text.starts_with(pieces.text.as_slice()));
+    assert_eq!(rt; pieces.text.len(), 10_000);
+    let mut pieces = Pieces::new(alloc, 2);
+    assert_eq!(rt;
+        disk.feed(name, 1_048_576, &mut pieces),
+        Err(ShelfFault::OutOfMemory)
+    );
+    assert_eq!(rt;
+        disk.feed("psi_io_absent.txt", 9, &mut pieces),
+        Err(ShelfFault::Failed)
+    );
+    fs::remove_file(&rt, name)?;
+    let mut memory = MemoryShelf::new(alloc, Vec::new(alloc));
+    assert_eq!(rt; memory.put(name, text), Ok(()));
+    let mut pieces = Pieces::new(alloc, 1);
+    assert_eq!(rt; memory.feed(name, 9_999, &mut pieces), Ok(()));
+    assert!(rt; text.starts_with(pieces.text.as_slice()));
+    assert_eq!(rt; pieces.text.len(), 10_000);
+    assert_eq!(rt;
+        memory.feed(name, 9_999, &mut pieces),
+        Err(ShelfFault::OutOfMemory)
+    );
+    Ok(())
+}
+
+/// A reader that fails in mid-stream: the bytes before were handed on, and the answer is its fault.
+#[test]
+fn a_read_that_fails_in_the_middle_is_a_fault(rt: HostRuntime) -> Result<(), Fail> {
+    for (kind, wanted) in [
+        (io::ErrorKind::Other, ShelfFault::Failed),
+        (io::ErrorKind::UnexpectedEof, ShelfFault::Failed),
+        (io::ErrorKind::OutOfMemory, ShelfFault::OutOfMemory),
+    ] {
+        let mut bytes = Vec::new(rt.alloc());
+        let mut reader = Breaking { left: 2, kind };
+        assert_eq!(rt; feed_front(&mut reader, 100, &mut bytes), Err(wanted));
+        assert_eq!(rt; bytes.as_slice(), b"aaaaaa".as_slice());
+    }
     Ok(())
 }
 
