@@ -8,4 +8,5 @@ pub mod StepLemmas
 mod SpotLemmas
 mod ReaderLemmas
 pub mod PassLemmas
+pub mod FrontLemmas
 mod Worked

@@ -1,0 +1,113 @@
+-- What is read of a text is read of a longer one that it begins, with more text left behind it.
+use Rattle.std.specs.Prelude.{◌≡◌, ℕ, ◌-◌, ◌+◌, ◌<◌, ◌≤◌, ◌^◌, List, ◌++◌, length, take, drop, codes, nat_le, nat_lt, Bool, true, ◌==◌, Option, None, Some, Result, Ok, Err, cond, refl}
+use Rattle.std.specs.List.{position, position_or_len}
+use Rattle.std.proofs.Common.{ap, ◌∙◌, arith, length-append}
+use Rattle.std.proofs.lemmas.Bool.{le-leb, lt-ltb}
+use Rattle.std.proofs.lemmas.List.{get_or_append_left, take-append-le, drop-append-le}
+use Rattle.std.proofs.lemmas.List.Quantifiers.{position-Some}
+use Rattle.std.proofs.lemmas.List.Sums.{position_or_len_is}
+use Rattle.psi_state.specs.State.{Corners}
+use Rattle.psi_log_text.specs.declared.header.Header.{Header}
+use Rattle.psi_log_text.specs.Log.{LogRegion, Entry, greatest_horizon}
+use Rattle.psi_log_words.specs.Refusal.{Refusal, refused, ◌>>=◌, holds_or}
+use Rattle.psi_log_words.specs.Words.{is_feed, cut_at, line_of, words_of, read_version, read_named}
+use Rattle.psi_log_words.specs.declared.refusals.Cause.TheVariants.{TooLong}
+use Rattle.psi_log_words.proofs.WordLemmas.{bind_ok, ok_same}
+use Rattle.psi_log_lines.specs.Lines.{named_line, read_header, read_step}
+use Rattle.psi_log_lines.specs.Scanned.{next_step}
+use Rattle.psi_log.specs.Reading.{read_begin}
+use Rattle.psi_log.specs.Cursor.{Cursor, begin_line, begun}
+
+-- a reading of a front of the text: what it gives, and the text that it leaves, stay when more text follows
+abbrev IsFront : {A : Type 0} → (List ℕ → Result (A × List ℕ) Refusal) → Type 0
+IsFront {A = A} reading = (text more : List ℕ) (x : A × List ℕ) → reading text ≡ Ok x → reading (text ++ more) ≡ Ok (x.0, x.1 ++ more)
+
+-- such are nothing read, one after another, and one behind what isn't read of the text
+none_front : {A : Type 0} (a : A) → IsFront (λ (text : List ℕ). Ok (a, text))
+none_front {A = A} a text more x h = ap (λ (p : A × List ℕ). Ok (p.0, p.1 ++ more)) (ok_same (a, text) x h)
+
+then_front : {A B : Type 0} (first : List ℕ → Result (A × List ℕ) Refusal) (next : A → List ℕ → Result (B × List ℕ) Refusal)
+    → IsFront first → ((a : A) → IsFront (next a)) → IsFront (λ (text : List ℕ). first text >>= (λ (p : A × List ℕ). next p.0 p.1))
+then_front {A = A} first next one two text more x h =
+    let read = bind_ok (first text) (λ (p : A × List ℕ). next p.0 p.1) x h in
+    rw (one text more read.0 read.1) (two read.0.0 read.0.1 more x read.2)
+
+given_front : {A B : Type 0} (r : Result A Refusal) (next : A → List ℕ → Result (B × List ℕ) Refusal) → ((a : A) → IsFront (next a)) → IsFront (λ (text : List ℕ). r >>= (λ (a : A). next a text))
+given_front (Ok a) next two = two a
+given_front (Err refusal) next two = λ text more x h. absurd cc
+
+-- a line
+pub line_front : (n : ℕ) (text line rest more : List ℕ) → line_of n text ≡ Ok (line, rest) → line_of n (text ++ more) ≡ Ok (line, rest ++ more)
+unfolding line_of
+line_front n text line rest more h = go (position is_feed text) refl h
+  where
+    go : (found : Option ℕ) → position is_feed text ≡ found → cut_at n text found ≡ Ok (line, rest) → cut_at n (text ++ more) (position is_feed (text ++ more)) ≡ Ok (line, rest ++ more)
+    go None is cut = absurd cc
+    go (Some at) is cut =
+        let there = position-Some is_feed text at 0 is in
+        let long : at < length (text ++ more) = omega (arith, length-append text more, there.0) in
+        let place : position_or_len is_feed (text ++ more) ≡ at =
+        position_or_len_is is_feed (text ++ more) at 0 (omega arith)
+        (λ k less. ap (λ (b : ℕ). b == 10) (get_or_append_left text more 0 k (omega (arith, there.0))) ∙ there.2 k less)
+        (λ less. ap (λ (b : ℕ). b == 10) (get_or_append_left text more 0 at there.0) ∙ there.1) in
+        let found : position is_feed (text ++ more) ≡ Some at =
+        ap (λ (k : ℕ). cond (nat_lt k (length (text ++ more))) (Some k) None) place
+        ∙ ap (λ (b : Bool). cond b (Some at) None) (lt-ltb at (length (text ++ more)) long) in
+        let inside : at + 1 ≤ length text = omega (arith, there.0) in
+        let same = ok_same (take at text, drop (at + 1) text) (line, rest) cut in
+        ap (cut_at n (text ++ more)) found
+        ∙ ap (λ (t : List ℕ). Ok (t, drop (at + 1) (text ++ more))) (take-append-le at text more (omega (arith, inside)))
+        ∙ ap (λ (t : List ℕ). Ok (take at text, t)) (drop-append-le (at + 1) text more inside)
+        ∙ ap (λ (p : List ℕ × List ℕ). Ok (p.0, p.1 ++ more)) same
+
+-- what is read of a line
+of_line : {A : Type 0} (n : ℕ) (f : List ℕ → Result A Refusal) → IsFront (λ (text : List ℕ). line_of n text >>= (λ (l : List ℕ × List ℕ). f l.0 >>= (λ (a : A). Ok (a, l.1))))
+of_line {A = A} n f =
+    then_front (line_of n) (λ (line text : List ℕ). f line >>= (λ (a : A). Ok (a, text))) (λ text more x h. line_front n text x.0 x.1 more h)
+    (λ line. given_front (f line) (λ (a : A) (text : List ℕ). Ok (a, text)) none_front)
+
+named_front : (n : ℕ) (name : List ℕ) (least most : ℕ) → IsFront (named_line n name least most)
+unfolding named_line
+named_front n name least most = of_line n (λ (line : List ℕ). read_named n name least most (words_of line))
+
+begin_front : (queues : ℕ) → IsFront (begin_line queues)
+unfolding begin_line
+begin_front queues = of_line 6 (λ (line : List ℕ). read_begin queues (words_of line))
+
+-- a step
+pub next_front : (h : Header) (n : ℕ) (before : Option Corners) (text rest more : List ℕ) (e : Entry) → next_step h n before text ≡ Ok (e, rest) → next_step h n before (text ++ more) ≡ Ok (e, rest ++ more)
+unfolding next_step
+next_front h n before text rest more e read = of_line n (λ (line : List ℕ). read_step h n before (words_of line)) text more (e, rest) read
+
+-- a header
+header_front : IsFront read_header
+unfolding read_header
+header_front =
+    then_front (line_of 1) (λ (line text : List ℕ). read_version line >>= (λ (v : ℕ). behind_version v text)) (λ text more x h. line_front 1 text x.0 x.1 more h)
+    (λ line. given_front (read_version line) behind_version version_front)
+  where
+    behind_version : ℕ → List ℕ → Result (Header × List ℕ) Refusal
+    behind_version v text = named_line 2 (codes "queues") 1 32 text >>= (λ (q : ℕ × List ℕ). named_line 3 (codes "seed") 0 (2 ^ 64 - 1) q.1 >>= (λ (s : ℕ × List ℕ).
+        named_line 4 (codes "stream") 0 (2 ^ 64 - 1) s.1 >>= (λ (n : ℕ × List ℕ). named_line 5 (codes "horizon") 1 (greatest_horizon v) n.1 >>= (λ (k : ℕ × List ℕ).
+        Ok (record { version = v; queues = q.0; seed = s.0; stream = n.0; horizon = k.0 }, k.1)))))
+
+    version_front : (v : ℕ) → IsFront (behind_version v)
+    version_front v =
+        then_front _ _ (named_front 2 (codes "queues") 1 32) (λ q. then_front _ _ (named_front 3 (codes "seed") 0 (2 ^ 64 - 1)) (λ s. then_front _ _ (named_front 4 (codes "stream") 0 (2 ^ 64 - 1)) (λ n.
+        then_front _ _ (named_front 5 (codes "horizon") 1 (greatest_horizon v)) (λ k. none_front (record { version = v; queues = q; seed = s; stream = n; horizon = k })))))
+
+-- what stands before the steps, as long as the longer text isn't too long
+pub begun_front : (text more : List ℕ) (c : Cursor) → begun text ≡ Ok c → length (text ++ more) ≤ 33554432
+    → begun (text ++ more) ≡ Ok (record { header = c.header; done = c.done; before = c.before; region = c.region; rest = c.rest ++ more })
+unfolding begun
+begun_front text more c h few =
+    let rule = bind_ok (holds_or (refused 0 TooLong) (nat_le (length text) 33554432)) (λ (u : Unit {0}). read_header text >>= (λ (p : Header × List ℕ).
+    begin_line p.0.queues p.1 >>= (λ (b : LogRegion × List ℕ). Ok (cursor p.0 b)))) c h in
+    let header = bind_ok (read_header text) (λ (p : Header × List ℕ). begin_line p.0.queues p.1 >>= (λ (b : LogRegion × List ℕ). Ok (cursor p.0 b))) c rule.2 in
+    let begin = bind_ok (begin_line header.0.0.queues header.0.1) (λ (b : LogRegion × List ℕ). Ok (cursor header.0.0 b)) c header.2 in
+    let fits : nat_le (length (text ++ more)) 33554432 ≡ true = le-leb (length (text ++ more)) 33554432 few in
+    rw (fits, header_front text more header.0 header.1, begin_front header.0.0.queues header.0.1 more begin.0 begin.1)
+    (ap (λ (k : Cursor). Ok (record { header = k.header; done = k.done; before = k.before; region = k.region; rest = k.rest ++ more })) (ok_same (cursor header.0.0 begin.0) c begin.2))
+  where
+    cursor : Header → LogRegion × List ℕ → Cursor
+    cursor h b = record { header = h; done = 0; before = b.0; region = b.0; rest = b.1 }
