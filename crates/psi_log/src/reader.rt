@@ -1,8 +1,8 @@
 //! A log that is read in one pass, step by step.
 
-ghost use Rattle.std.specs.Prelude.{◌≡◌, ◌+◌, ◌<◌, ◌≤◌, length, Ok, IfOk, IfErr, OnOk, OnErr, IsTrue};
+ghost use Rattle.std.specs.Prelude.{◌≡◌, ◌+◌, ◌<◌, ◌≤◌, length, Ok, IfOk, IfErr, OnOk, OnErr, IsTrue, ◌↔◌, []};
 ghost use Rattle.psi_log_words.specs.Refusal.{Gives, IsLogError};
-ghost use Rattle.psi_log.specs.SpotsViews.{region_in, HasQueues, IsFilled};
+ghost use Rattle.psi_log.specs.SpotsViews.{region_in, IsFilled};
 ghost use Rattle.psi_log.specs.Told.{shown};
 ghost use Rattle.psi_log.specs.Cursor.{begin_line, begun, next_of, ended, IsCursor};
 
@@ -22,13 +22,13 @@ use std::marker::Model;
 /// run begins. It holds these two regions and the words of one line, however many lines the text has.
 #[derive(Drop)]
 pub struct LogReader<'t> {
-    header: Header,
-    done: u32,
-    spot: Box<Spot<'t>>,
-    spare: Box<Spot<'t>>,
-    stays: bool,
-    rest: &'t [u8],
-    words: Vec<&'t [u8]>,
+    pub(crate) header: Header,
+    pub(crate) done: u32,
+    pub(crate) spot: Box<Spot<'t>>,
+    pub(crate) spare: Box<Spot<'t>>,
+    pub(crate) stays: bool,
+    pub(crate) rest: &'t [u8],
+    pub(crate) words: Vec<&'t [u8]>,
 }
 
 impl<'t> Model for LogReader<'t> {
@@ -91,15 +91,13 @@ fn begin_of<'t>(
     }
 }
 
-// A spot on which no region stands yet.
-fn spare_spot<'t>(alloc: Global, queues: u8) -> Spot<'t>
-    requires some { 1 ≤ queues }
-    requires few { queues ≤ 32 }
-    ensures { HasQueues queues result }
+/// A spot on which no region stands yet, with a list for states.
+pub(crate) fn spare_spot<'t>(states: StateList) -> Spot<'t>
+    ensures { result.states ≡ states }
 {
     Spot {
         region: ListedRegion::Set { first: 0, count: 0 },
-        states: StateList::new(alloc, queues),
+        states,
         last: None,
     }
 }
@@ -139,7 +137,8 @@ impl<'t> LogReader<'t> {
             Err(error) => return Err(error),
         };
         let spot = Box::new(alloc, begin)?;
-        let spare = Box::new(alloc, spare_spot(alloc, header.queues))?;
+        let states = StateList::new(alloc, header.queues);
+        let spare = Box::new(alloc, spare_spot(states))?;
         Ok(LogReader {
             header,
             done: 0,
@@ -157,6 +156,20 @@ impl<'t> LogReader<'t> {
         ensures cursor { IsCursor self.now }
     {
         self.header
+    }
+
+    /// How many steps are read.
+    pub fn done(&self) -> u32
+        ensures { result ≡ self.now.done }
+    {
+        self.done
+    }
+
+    /// Whether no text is left.
+    pub fn is_over(&self) -> bool
+        ensures { IsTrue result ↔ self.now.rest ≡ [] }
+    {
+        self.rest.is_empty()
     }
 
     /// The next step.
