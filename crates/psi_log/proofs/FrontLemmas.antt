@@ -36,6 +36,20 @@ given_front : {A B : Type 0} (r : Result A Refusal) (next : A → List ℕ → R
 given_front (Ok a) next two = two a
 given_front (Err refusal) next two = λ text more x h. absurd cc
 
+-- the first line feed stays the first
+feed_front : (text more : List ℕ) (at : ℕ) → position is_feed text ≡ Some at → (position is_feed (text ++ more) ≡ Some at) × (at + 1 ≤ length text)
+feed_front text more at is =
+    let there = position-Some is_feed text at 0 is in
+    let long : at < length (text ++ more) = omega (arith, length-append text more, there.0) in
+    let place : position_or_len is_feed (text ++ more) ≡ at =
+    position_or_len_is is_feed (text ++ more) at 0 (omega arith)
+    (λ k less. ap (λ (b : ℕ). b == 10) (get_or_append_left text more 0 k (omega (arith, there.0))) ∙ there.2 k less)
+    (λ less. ap (λ (b : ℕ). b == 10) (get_or_append_left text more 0 at there.0) ∙ there.1) in (
+      ap (λ (k : ℕ). cond (nat_lt k (length (text ++ more))) (Some k) None) place
+          ∙ ap (λ (b : Bool). cond b (Some at) None) (lt-ltb at (length (text ++ more)) long),
+      omega (arith, there.0),
+    )
+
 -- a line
 pub line_front : (n : ℕ) (text line rest more : List ℕ) → line_of n text ≡ Ok (line, rest) → line_of n (text ++ more) ≡ Ok (line, rest ++ more)
 unfolding line_of
@@ -44,21 +58,10 @@ line_front n text line rest more h = go (position is_feed text) refl h
     go : (found : Option ℕ) → position is_feed text ≡ found → cut_at n text found ≡ Ok (line, rest) → cut_at n (text ++ more) (position is_feed (text ++ more)) ≡ Ok (line, rest ++ more)
     go None is cut = absurd cc
     go (Some at) is cut =
-        let there = position-Some is_feed text at 0 is in
-        let long : at < length (text ++ more) = omega (arith, length-append text more, there.0) in
-        let place : position_or_len is_feed (text ++ more) ≡ at =
-        position_or_len_is is_feed (text ++ more) at 0 (omega arith)
-        (λ k less. ap (λ (b : ℕ). b == 10) (get_or_append_left text more 0 k (omega (arith, there.0))) ∙ there.2 k less)
-        (λ less. ap (λ (b : ℕ). b == 10) (get_or_append_left text more 0 at there.0) ∙ there.1) in
-        let found : position is_feed (text ++ more) ≡ Some at =
-        ap (λ (k : ℕ). cond (nat_lt k (length (text ++ more))) (Some k) None) place
-        ∙ ap (λ (b : Bool). cond b (Some at) None) (lt-ltb at (length (text ++ more)) long) in
-        let inside : at + 1 ≤ length text = omega (arith, there.0) in
+        let feed = feed_front text more at is in
         let same = ok_same (take at text, drop (at + 1) text) (line, rest) cut in
-        ap (cut_at n (text ++ more)) found
-        ∙ ap (λ (t : List ℕ). Ok (t, drop (at + 1) (text ++ more))) (take-append-le at text more (omega (arith, inside)))
-        ∙ ap (λ (t : List ℕ). Ok (take at text, t)) (drop-append-le (at + 1) text more inside)
-        ∙ ap (λ (p : List ℕ × List ℕ). Ok (p.0, p.1 ++ more)) same
+        rw (feed.0, take-append-le at text more (omega (arith, feed.1)), drop-append-le (at + 1) text more feed.1)
+        (ap (λ (p : List ℕ × List ℕ). Ok (p.0, p.1 ++ more)) same)
 
 -- what is read of a line
 of_line : {A : Type 0} (n : ℕ) (f : List ℕ → Result A Refusal) → IsFront (λ (text : List ℕ). line_of n text >>= (λ (l : List ℕ × List ℕ). f l.0 >>= (λ (a : A). Ok (a, l.1))))
@@ -66,6 +69,7 @@ of_line {A = A} n f =
     then_front (line_of n) (λ (line text : List ℕ). f line >>= (λ (a : A). Ok (a, text))) (λ text more x h. line_front n text x.0 x.1 more h)
     (λ line. given_front (f line) (λ (a : A) (text : List ℕ). Ok (a, text)) none_front)
 
+-- so are the lines of a name and a number, and the one of the region at which the run begins
 named_front : (n : ℕ) (name : List ℕ) (least most : ℕ) → IsFront (named_line n name least most)
 unfolding named_line
 named_front n name least most = of_line n (λ (line : List ℕ). read_named n name least most (words_of line))
@@ -96,7 +100,7 @@ header_front =
         then_front _ _ (named_front 2 (codes "queues") 1 32) (λ q. then_front _ _ (named_front 3 (codes "seed") 0 (2 ^ 64 - 1)) (λ s. then_front _ _ (named_front 4 (codes "stream") 0 (2 ^ 64 - 1)) (λ n.
         then_front _ _ (named_front 5 (codes "horizon") 1 (greatest_horizon v)) (λ k. none_front (record { version = v; queues = q; seed = s; stream = n; horizon = k })))))
 
--- what stands before the steps, as long as the longer text isn't too long
+-- what stands before the steps, where the longer text isn't too long
 pub begun_front : (text more : List ℕ) (c : Cursor) → begun text ≡ Ok c → length (text ++ more) ≤ 33554432
     → begun (text ++ more) ≡ Ok (record { header = c.header; done = c.done; before = c.before; region = c.region; rest = c.rest ++ more })
 unfolding begun
@@ -106,8 +110,12 @@ begun_front text more c h few =
     let header = bind_ok (read_header text) (λ (p : Header × List ℕ). begin_line p.0.queues p.1 >>= (λ (b : LogRegion × List ℕ). Ok (cursor p.0 b))) c rule.2 in
     let begin = bind_ok (begin_line header.0.0.queues header.0.1) (λ (b : LogRegion × List ℕ). Ok (cursor header.0.0 b)) c header.2 in
     let fits : nat_le (length (text ++ more)) 33554432 ≡ true = le-leb (length (text ++ more)) 33554432 few in
-    rw (fits, header_front text more header.0 header.1, begin_front header.0.0.queues header.0.1 more begin.0 begin.1)
-    (ap (λ (k : Cursor). Ok (record { header = k.header; done = k.done; before = k.before; region = k.region; rest = k.rest ++ more })) (ok_same (cursor header.0.0 begin.0) c begin.2))
+    rw (fits, header_front text more header.0 header.1, begin_front header.0.0.queues header.0.1 more begin.0 begin.1) (longer (cursor header.0.0 begin.0) begin.2)
   where
     cursor : Header → LogRegion × List ℕ → Cursor
     cursor h b = record { header = h; done = 0; before = b.0; region = b.0; rest = b.1 }
+
+    longer : (k : Cursor) → ◌≡◌ {A = Result Cursor Refusal} (Ok k) (Ok c)
+        → ◌≡◌ {A = Result Cursor Refusal} (Ok (record { header = k.header; done = k.done; before = k.before; region = k.region; rest = k.rest ++ more }))
+        (Ok (record { header = c.header; done = c.done; before = c.before; region = c.region; rest = c.rest ++ more }))
+    longer k same = ap (λ (j : Cursor). Ok (record { header = j.header; done = j.done; before = j.before; region = j.region; rest = j.rest ++ more })) (ok_same k c same)

@@ -77,15 +77,7 @@ impl PausedReader {
             states,
             spare,
         } = self;
-        let last = None;
-        let spot = Box::new(
-            alloc,
-            Spot {
-                region,
-                states,
-                last,
-            },
-        )?;
+        let spot = Box::new(alloc, Spot::new(region, states))?;
         let spare = Box::new(alloc, spare_spot(spare))?;
         Ok(LogReader {
             header,

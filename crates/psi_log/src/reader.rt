@@ -59,13 +59,7 @@ fn begin_line<'t>(
     let mut states = StateList::new(alloc, queues);
     let rest = read_words(6, text, words)?;
     let region = read_begin(queues, words, &mut states)?;
-    let last = None;
-    let spot = Spot {
-        region,
-        states,
-        last,
-    };
-    Ok((spot, rest))
+    Ok((Spot::new(region, states), rest))
 }
 
 // What stands before the steps of a text: its header, and the region at which the run begins, on a spot; and what follows
@@ -95,11 +89,7 @@ fn begin_of<'t>(
 pub(crate) fn spare_spot<'t>(states: StateList) -> Spot<'t>
     ensures { result.states ≡ states }
 {
-    Spot {
-        region: ListedRegion::Set { first: 0, count: 0 },
-        states,
-        last: None,
-    }
+    Spot::new(ListedRegion::Set { first: 0, count: 0 }, states)
 }
 
 // The state at time zero, of the last line, where nothing follows it. The vector holds its words.

@@ -1,6 +1,6 @@
 //! A place for one region, onto which that of a step's line is read.
 
-ghost use Rattle.std.specs.Prelude.{◌≡◌, ℕ, Option, Some, ◌≤◌, length, option_copied, false, Ok, IfOk, IfErr, IfSome};
+ghost use Rattle.std.specs.Prelude.{◌≡◌, ℕ, Option, Some, None, ◌≤◌, length, option_copied, false, Ok, IfOk, IfErr, IfSome};
 ghost use Rattle.psi_state.specs.State.{Corners};
 ghost use Rattle.psi_log_text.specs.Log.{in_box};
 ghost use Rattle.psi_log_words.specs.Refusal.{IsLogError};
@@ -40,6 +40,19 @@ pub(crate) struct ReadLine<'t> {
     pub(crate) stays: bool,
     /// What follows the line.
     pub(crate) rest: &'t [u8],
+}
+
+impl<'t> Spot<'t> {
+    /// A region on its spot, where the end of its line isn't kept.
+    pub(crate) fn new(region: ListedRegion, states: StateList) -> Spot<'t>
+        ensures { result ≡ record { region = region; states = states; last = None } }
+    {
+        Spot {
+            region,
+            states,
+            last: None,
+        }
+    }
 }
 
 impl Spot<'_> {
