@@ -1,27 +1,31 @@
 -- The reading and the judging of a log side by side.
-use Rattle.std.specs.Prelude.{◌≡◌, ℕ, suc, ◌+◌, ◌-◌, ◌<◌, ◌^◌, List, ◌∷◌, length, ◌==◌, nat_le, Result, Ok, Err, refl}
-use Rattle.std.proofs.Common.{ap, sym, ◌∙◌, subst, arith}
+use Rattle.std.specs.Prelude.{◌≡◌, ℕ, suc, ◌+◌, ◌-◌, ◌<◌, ◌^◌, List, [], ◌∷◌, ◌++◌, length, min, false, ◌==◌, nat_le, Result, Ok, Err, refl}
+use Rattle.std.proofs.Common.{ap, sym, ◌∙◌, subst, arith, append-nil}
 use Rattle.psi_rate.specs.Composition.{Functions}
 use Rattle.psi_log_text.specs.declared.header.Header.{Header as LogHeader}
 use Rattle.psi_log_text.specs.Log.{LogRegion, Entry, Certificate}
-use Rattle.psi_log_words.specs.Refusal.{Refusal, ◌>>=◌, holds_or, IsLogError}
+use Rattle.std.proofs.lemmas.Bool.{lt-leb}
+use Rattle.psi_log_words.specs.Refusal.{Refusal, refused, ◌>>=◌, holds_or, IsLogError}
+use Rattle.psi_log_words.specs.declared.refusals.Cause.TheVariants.{TooLong}
 use Rattle.psi_log_words.specs.Words.{line_of, words_of}
 use Rattle.psi_log_words.specs.declared.refusals.LogError.{LogError}
 use Rattle.psi_log_words.specs.declared.refusals.LogError.TheVariants.{Refused, OutOfMemory}
 use Rattle.psi_log_words.proofs.WordLemmas.{bind_ok, ok_same}
 use Rattle.psi_log_words.specs.Regions.{box_before}
 use Rattle.psi_log_lines.specs.Lines.{read_step}
-use Rattle.psi_log.specs.Reading.{read_steps}
+use Rattle.psi_log.specs.Reading.{read_steps, read}
 use Rattle.psi_log_lines.specs.Scanned.{next_step}
 use Rattle.psi_state.specs.declared.outcome.Step.{Step}
 use Rattle.psi_log.specs.Cursor.{Cursor, next_of, begun, ended, log_of, left_of}
 use Rattle.psi_log.proofs.PassLemmas.{read_begun}
+use Rattle.psi_log.proofs.FrontLemmas.{next_front}
 use Rattle.psi_replay.specs.Verdict.{rejected, is_within, holds_all, judge_step, judge_steps, judge_end, judged, verdict_of}
 use Rattle.psi_replay.specs.declared.answers.Verdict.{Verdict}
+use Rattle.psi_replay.specs.declared.answers.Verdict.TheVariants.{Accepted}
 use Rattle.psi_replay.specs.declared.causes.Cause.TheVariants.{Header, OutsideBox, NotCovered}
 use Rattle.psi_replay.specs.declared.causes.Rejection.{Rejection}
 use Rattle.psi_replay.specs.Judging.{Gives}
-use Rattle.psi_replay.specs.Passes.{told, and_then, lines_end, judge_begin, lines_left, end_of, judged_left, replayed}
+use Rattle.psi_replay.specs.Passes.{told, and_then, lines_end, judge_begin, lines_left, told_log, verdict_left, replayed}
 
 -- what is told of a judging is what it gives
 pub told_is : {X : Type 0} (result : Result X Rejection) (rules : Result (Unit {0}) Refusal) → Gives (λ (x : X). tt) result rules → rules ≡ told result
@@ -91,38 +95,6 @@ module _ (caps : List ℕ) (limit : ℕ) (events : ℕ → ℕ) (f : Functions) 
   unfolding lines_left read_steps judge_steps
   lines_over count n region text before none = rw none refl
 
-module _ (caps : List ℕ) (limit : ℕ) (events : ℕ → ℕ) (f : Functions) (h : LogHeader) (done : ℕ) (r : Cursor) (kept : Result (Unit {0}) Rejection)
-    (whole : Result (Result LogRegion Refusal × List ℕ) Refusal) where
-  next_is : (x : Result (Entry × List ℕ) Refusal) → r.header ≡ h → r.done ≡ done → next_of r ≡ x → next_step h (7 + done) (box_before h.version r.region) r.rest ≡ x
-  next_is x header place next =
-      subst (λ (d : ℕ). next_step h (7 + d) (box_before h.version r.region) r.rest ≡ x) place
-      (subst (λ (k : LogHeader). next_step k (7 + r.done) (box_before k.version r.region) r.rest ≡ x) header next)
-
-  -- a step that is read and judged takes the loop one step on
-  pub pass_more : (after : Cursor) (step : Step) (time : ℕ) (judging : Result (Unit {0}) Rejection) → r.header ≡ h → r.done ≡ done → done < h.horizon → time ≡ h.horizon - done
-      → next_of r ≡ entry_end after.rest (record { step = step; region = after.region }) → after.before ≡ r.region
-      → Gives (λ _. tt) judging (and_then (told kept) (judge_step caps limit events f (7 + done) time after.before (record { step = step; region = after.region })))
-      → lines_left caps limit events f h (h.horizon - done) (7 + done) r.region r.rest (told kept) ≡ whole
-      → lines_left caps limit events f h (h.horizon - (done + 1)) (7 + (done + 1)) after.region after.rest (told judging) ≡ whole
-  pass_more after step time judging header place small is next before gives same =
-      let e : Entry = record { step = step; region = after.region } in
-      let read = next_is (entry_end after.rest e) header place next in
-      let more = lines_more caps limit events f h (h.horizon - done) (h.horizon - (done + 1)) (7 + done) (7 + (done + 1)) r.region r.rest after.rest e (told kept) read (omega arith) (omega arith) in
-      let judged_so : and_then (told kept) (judge_step caps limit events f (7 + done) (h.horizon - done) r.region (record { step = step; region = after.region })) ≡ told judging =
-      ap (λ (t : ℕ). and_then (told kept) (judge_step caps limit events f (7 + done) t r.region (record { step = step; region = after.region }))) (sym is)
-      ∙ ap (λ (b : LogRegion). and_then (told kept) (judge_step caps limit events f (7 + done) time b (record { step = step; region = after.region }))) (sym before)
-      ∙ told_is judging _ gives in
-      ap (λ (j : Result (Unit {0}) Refusal). lines_left caps limit events f h (h.horizon - (done + 1)) (7 + (done + 1)) after.region after.rest j) (sym judged_so) ∙ sym more ∙ same
-
-  -- one that is refused ends it
-  pub pass_fails : (error : LogError) → r.header ≡ h → r.done ≡ done → done < h.horizon → IsLogError error (next_of r)
-      → lines_left caps limit events f h (h.horizon - done) (7 + done) r.region r.rest (told kept) ≡ whole → IsLogError error whole
-  pass_fails OutOfMemory header place small fails same = tt
-  pass_fails (Refused l cause) header place small fails same =
-      sym same
-      ∙ lines_fail caps limit events f h (h.horizon - done) (h.horizon - (done + 1)) (7 + done) r.region r.rest (told kept) (Refused l cause)
-      (next_is (Err (record { line = l; cause = cause })) header place fails) (omega arith)
-
 -- four rules, then others
 four : {L : Type 0} (q h w a : Result (Unit {0}) Refusal) (steps : Result L Refusal) (end : L → Result (Unit {0}) Refusal)
     → (q >>= (λ _. h >>= (λ _. w >>= (λ _. a >>= (λ _. steps >>= end))))) ≡ (((q >>= (λ _. h >>= (λ _. w >>= (λ _. a)))) >>= (λ _. steps)) >>= end)
@@ -131,15 +103,6 @@ four (Ok u) (Err refusal) w a steps end = refl
 four (Ok u) (Ok v) (Err refusal) a steps end = refl
 four (Ok u) (Ok v) (Ok x) (Err refusal) steps end = refl
 four (Ok u) (Ok v) (Ok x) (Ok y) steps end = refl
-
--- the log of what is read has the header that was read
-pub left_header : (c : Cursor) (k : Certificate) → left_of c ≡ Ok k → k.header ≡ c.header
-unfolding left_of
-left_header c k is =
-    let steps = bind_ok (read_steps c.header c.header.horizon 7 (box_before c.header.version c.region) c.rest)
-    (λ (s : List Entry × List ℕ). ended c.header s.1 >>= (λ (final : List ℕ). Ok (log_of c s.0 final))) k is in
-    let end = bind_ok (ended c.header steps.0.1) (λ (final : List ℕ). Ok (log_of c steps.0.0 final)) k steps.2 in
-    sym (ap (λ (log : Certificate). log.header) (ok_same (log_of c steps.0.0 end.0) k end.2))
 
 module _ (caps : List ℕ) (limit : ℕ) (events : ℕ → ℕ) (f : Functions) where
   -- the rules of a log, in three parts
@@ -165,53 +128,6 @@ module _ (caps : List ℕ) (limit : ℕ) (events : ℕ → ℕ) (f : Functions) 
       >>= (λ (last : LogRegion). judge_end (7 + c.header.horizon) last c.final)) is
       ∙ ap (λ (r : Result LogRegion Refusal). r >>= (λ (last : LogRegion). judge_end (7 + c.header.horizon) last c.final)) told
 
-  -- all lines, where each is read
-  pub left_judged : (c : Cursor) (begins kept r : Result (Unit {0}) Refusal) (last : LogRegion) (rest final : List ℕ) → begins ≡ judge_begin caps limit c.header c.region
-      → lines_left caps limit events f c.header c.header.horizon 7 c.region c.rest begins ≡ lines_end (and_then kept (Ok last)) rest → ended c.header rest ≡ Ok final
-      → r ≡ and_then kept (judge_end (7 + c.header.horizon) last final) → (judged_left (judged caps limit events f) c) ≡ Ok (final, r)
-  unfolding left_of lines_left
-  left_judged c begins kept r last rest final is lines end result =
-      let steps = bind_ok (read_steps c.header c.header.horizon 7 (box_before c.header.version c.region) c.rest)
-      (λ (s : List Entry × List ℕ). lines_end (and_then begins (judge_steps caps limit events f 7 c.header.horizon c.region s.0)) s.1) (and_then kept (Ok last), rest) lines in
-      let both = ok_same (and_then begins (judge_steps caps limit events f 7 c.header.horizon c.region steps.0.0), steps.0.1) (and_then kept (Ok last), rest) steps.2 in
-      let judging : and_then begins (judge_steps caps limit events f 7 c.header.horizon c.region steps.0.0) ≡ and_then kept (Ok last) = ap (λ (p : Result LogRegion Refusal × List ℕ). p.0) both in
-      let behind : steps.0.1 ≡ rest = ap (λ (p : Result LogRegion Refusal × List ℕ). p.1) both in
-      let told : ended c.header steps.0.1 ≡ Ok final = ap (λ (t : List ℕ). ended c.header t) behind ∙ end in
-      let log = log_of c steps.0.0 final in
-      let rules : judged caps limit events f (log_of c steps.0.0 final) ≡ r =
-      judged_parts log
-      ∙ ap (λ (b : Result (Unit {0}) Refusal). (b >>= (λ _. judge_steps caps limit events f 7 c.header.horizon c.region steps.0.0)) >>= (λ (l : LogRegion). judge_end (7 + c.header.horizon) l final)) (sym is)
-      ∙ ap (λ (j : Result LogRegion Refusal). j >>= (λ (l : LogRegion). judge_end (7 + c.header.horizon) l final)) judging
-      ∙ bind_bind kept (λ _. Ok last) (λ (l : LogRegion). judge_end (7 + c.header.horizon) l final) ∙ sym result in
-      rw (steps.1, told) (ap (λ (j : Result (Unit {0}) Refusal). Ok (final, j)) rules)
-
-  -- one of the steps is refused, or what is behind them
-  pub left_lines_refused : (c : Cursor) (begins : Result (Unit {0}) Refusal) (error : LogError) → IsLogError error (lines_left caps limit events f c.header c.header.horizon 7 c.region c.rest begins)
-      → IsLogError error (judged_left (judged caps limit events f) c)
-  unfolding left_of lines_left
-  left_lines_refused c begins OutOfMemory fails = tt
-  left_lines_refused c begins (Refused l cause) fails = go (read_steps c.header c.header.horizon 7 (box_before c.header.version c.region) c.rest) fails
-    where
-      go : (steps : Result (List Entry × List ℕ) Refusal)
-          → (steps >>= (λ (s : List Entry × List ℕ). lines_end (and_then begins (judge_steps caps limit events f 7 c.header.horizon c.region s.0)) s.1)) ≡ Err (record { line = l; cause = cause })
-          → ((steps >>= (λ (s : List Entry × List ℕ). ended c.header s.1 >>= (λ (final : List ℕ). Ok (log_of c s.0 final)))) >>= (λ (k : Certificate). end_of (judged caps limit events f) k))
-          ≡ Err (record { line = l; cause = cause })
-      go (Ok s) is = absurd cc
-      go (Err refusal) is = cc
-
-  pub left_end_refused : (c : Cursor) (begins : Result (Unit {0}) Refusal) (kept : Result LogRegion Refusal) (rest : List ℕ) (error : LogError)
-      → lines_left caps limit events f c.header c.header.horizon 7 c.region c.rest begins ≡ lines_end kept rest → IsLogError error (ended c.header rest)
-      → IsLogError error (judged_left (judged caps limit events f) c)
-  unfolding left_of lines_left
-  left_end_refused c begins kept rest OutOfMemory lines fails = tt
-  left_end_refused c begins kept rest (Refused l cause) lines fails =
-      let steps = bind_ok (read_steps c.header c.header.horizon 7 (box_before c.header.version c.region) c.rest)
-      (λ (s : List Entry × List ℕ). lines_end (and_then begins (judge_steps caps limit events f 7 c.header.horizon c.region s.0)) s.1) (kept, rest) lines in
-      let both = ok_same (and_then begins (judge_steps caps limit events f 7 c.header.horizon c.region steps.0.0), steps.0.1) (kept, rest) steps.2 in
-      let behind : steps.0.1 ≡ rest = ap (λ (p : Result LogRegion Refusal × List ℕ). p.1) both in
-      let told : ended c.header steps.0.1 ≡ Err (record { line = l; cause = cause }) = ap (λ (t : List ℕ). ended c.header t) behind ∙ fails in
-      rw (steps.1, told) refl
-
 -- a text is replayed by what is left behind its lines up to the first step
 pub replay_left : (rules : Certificate → Result (Unit {0}) Refusal) (text : List ℕ) (c : Cursor) → begun text ≡ Ok c
     → replayed rules text ≡ (left_of c >>= (λ (k : Certificate). Ok (verdict_of k (rules k))))
@@ -223,27 +139,126 @@ replay_refused rules text (Refused l cause) fails =
     ap (λ (r : Result Certificate Refusal). r >>= (λ (k : Certificate). Ok (verdict_of k (rules k)))) (read_begun text ∙ ap (λ (b : Result Cursor Refusal). b >>= (λ (d : Cursor). left_of d)) fails)
 replay_refused rules text OutOfMemory fails = tt
 
--- the verdict on what is left
-pub verdict_left : (rules own : Certificate → Result (Unit {0}) Refusal) (c : Cursor) (final : List ℕ) (r : Result (Unit {0}) Refusal) (v : Verdict)
-    → ((k : Certificate) → k.header ≡ c.header → rules k ≡ own k) → (judged_left own c) ≡ Ok (final, r)
-    → ((k : Certificate) → k.header ≡ c.header → k.final ≡ final → v ≡ verdict_of k r) → (left_of c >>= (λ (k : Certificate). Ok (verdict_of k (rules k)))) ≡ Ok v
-verdict_left rules own c final r v alike judges tells =
-    let log = bind_ok (left_of c) (λ (k : Certificate). end_of own k) (final, r) judges in
-    let header = left_header c log.0 log.1 in
-    let both = ok_same (log.0.final, own log.0) (final, r) log.2 in
-    let end : log.0.final ≡ final = ap (λ (p : List ℕ × Result (Unit {0}) Refusal). p.0) both in
-    let rule : rules log.0 ≡ r = alike log.0 header ∙ ap (λ (p : List ℕ × Result (Unit {0}) Refusal). p.1) both in
-    rw (log.1) (ap (λ (x : Result (Unit {0}) Refusal). Ok (verdict_of log.0 x)) rule ∙ ap (λ (w : Verdict). Ok w) (sym (tells log.0 header end)))
+-- a text of more bytes than a log may have is too long
+pub replay_long : (rules : Certificate → Result (Unit {0}) Refusal) (text : List ℕ) (count : ℕ) → count ≡ min (length text) 33554433 → 33554432 < count
+    → replayed rules text ≡ Err (refused 0 TooLong)
+unfolding read
+replay_long rules text count is many =
+    let long : nat_le (length text) 33554432 ≡ false = lt-leb (length text) 33554432 (omega arith) in
+    rw long refl
 
-pub verdict_refused : (rules own : Certificate → Result (Unit {0}) Refusal) (c : Cursor) (error : LogError) → IsLogError error (judged_left own c)
-    → IsLogError error (left_of c >>= (λ (k : Certificate). Ok (verdict_of k (rules k))))
-verdict_refused rules own c OutOfMemory fails = tt
-verdict_refused rules own c (Refused l cause) fails = go (left_of c) fails
-  where
-    go : (r : Result Certificate Refusal) → (r >>= (λ (k : Certificate). end_of own k)) ≡ Err (record { line = l; cause = cause })
-        → (r >>= (λ (k : Certificate). Ok (verdict_of k (rules k)))) ≡ Err (record { line = l; cause = cause })
-    go (Ok k) is = absurd cc
-    go (Err refusal) is = cc
+-- a verdict tells of a log its header's horizon and its state at time zero
+verdict_same : (c d : Certificate) (r : Result (Unit {0}) Refusal) → c.header ≡ d.header → c.final ≡ d.final → verdict_of c r ≡ verdict_of d r
+verdict_same c d (Ok kept) header final = ap (λ (h : LogHeader). Accepted h.horizon c.final) header ∙ ap (λ (s : List ℕ). Accepted d.header.horizon s) final
+verdict_same c d (Err refusal) header final = refl
+
+module _ (caps : List ℕ) (limit : ℕ) (events : ℕ → ℕ) (f : Functions) where
+  -- the verdict on lines that are read and judged
+  abbrev closes : LogHeader → Result LogRegion Refusal × List ℕ → Result Verdict Refusal
+  closes h lines = ended h lines.1 >>= (λ (final : List ℕ). Ok (verdict_of (told_log h final) (lines.0 >>= (λ (last : LogRegion). judge_end (7 + h.horizon) last final))))
+
+  -- the verdict on a text is that on what is left of it behind the lines up to the first step
+  pub left_begun : (rules : Certificate → Result (Unit {0}) Refusal) (text : List ℕ) (c : Cursor) → begun text ≡ Ok c → c.done ≡ 0
+      → ((k : Certificate) → k.header ≡ c.header → rules k ≡ judged caps limit events f k)
+      → replayed rules text ≡ verdict_left caps limit events f c.header c.done c.region c.rest (judge_begin caps limit c.header c.region)
+  unfolding left_of lines_left verdict_left
+  left_begun rules text c is none alike =
+      replay_left rules text c is ∙ rw none (rw (whole c.header.horizon) (steps (read_steps c.header c.header.horizon 7 (box_before c.header.version c.region) c.rest)))
+    where
+      whole : (n : ℕ) → n - 0 ≡ n
+      whole n = omega arith
+
+      verdicts : (entries : List Entry) (final : List ℕ)
+          → verdict_of (log_of c entries final) (rules (log_of c entries final))
+          ≡ verdict_of (told_log c.header final) (and_then (judge_begin caps limit c.header c.region) (judge_steps caps limit events f 7 c.header.horizon c.region entries)
+          >>= (λ (last : LogRegion). judge_end (7 + c.header.horizon) last final))
+      verdicts entries final =
+          ap (λ (r : Result (Unit {0}) Refusal). verdict_of (log_of c entries final) r) (alike (log_of c entries final) refl ∙ judged_parts caps limit events f (log_of c entries final))
+          ∙ verdict_same (log_of c entries final) (told_log c.header final) _ refl refl
+
+      ends : (entries : List Entry) (end : Result (List ℕ) Refusal)
+          → ((end >>= (λ (final : List ℕ). Ok (log_of c entries final))) >>= (λ (k : Certificate). Ok (verdict_of k (rules k))))
+          ≡ (end >>= (λ (final : List ℕ). Ok (verdict_of (told_log c.header final) (and_then (judge_begin caps limit c.header c.region) (judge_steps caps limit events f 7 c.header.horizon c.region entries)
+          >>= (λ (last : LogRegion). judge_end (7 + c.header.horizon) last final)))))
+      ends entries (Ok final) = ap (λ (v : Verdict). Ok v) (verdicts entries final)
+      ends entries (Err refusal) = refl
+
+      steps : (s : Result (List Entry × List ℕ) Refusal)
+          → ((s >>= (λ (s : List Entry × List ℕ). ended c.header s.1 >>= (λ (final : List ℕ). Ok (log_of c s.0 final)))) >>= (λ (k : Certificate). Ok (verdict_of k (rules k))))
+          ≡ ((s >>= (λ (s : List Entry × List ℕ). lines_end (and_then (judge_begin caps limit c.header c.region) (judge_steps caps limit events f 7 c.header.horizon c.region s.0)) s.1))
+          >>= (λ (lines : Result LogRegion Refusal × List ℕ). closes c.header lines))
+      steps (Ok s) = ends s.0 (ended c.header s.1)
+      steps (Err refusal) = refl
+
+module _ (caps : List ℕ) (limit : ℕ) (events : ℕ → ℕ) (f : Functions) (h : LogHeader) where
+  -- a step that is read and judged leaves what is behind it
+  pub left_more : (done time then : ℕ) (region : LogRegion) (text rest : List ℕ) (e : Entry) (before : Result (Unit {0}) Refusal)
+      → next_step h (7 + done) (box_before h.version region) text ≡ Ok (e, rest) → done < h.horizon → time ≡ h.horizon - done → then ≡ done + 1
+      → verdict_left caps limit events f h done region text before
+      ≡ verdict_left caps limit events f h then e.region rest (and_then before (judge_step caps limit events f (7 + done) time region e))
+  unfolding verdict_left
+  left_more done time then region text rest e before next small at behind =
+      rw (at, behind) (ap (λ (lines : Result (Result LogRegion Refusal × List ℕ) Refusal). lines >>= (λ (l : Result LogRegion Refusal × List ℕ). closes caps limit events f h l))
+      (lines_more caps limit events f h (h.horizon - done) (h.horizon - (done + 1)) (7 + done) (7 + (done + 1)) region text rest e before next (omega arith) (omega arith)))
+
+  -- one that is refused refuses them all
+  pub left_fails : (done : ℕ) (region : LogRegion) (text : List ℕ) (before : Result (Unit {0}) Refusal) (error : LogError)
+      → IsLogError error (next_step h (7 + done) (box_before h.version region) text) → done < h.horizon → IsLogError error (verdict_left caps limit events f h done region text before)
+  unfolding verdict_left
+  left_fails done region text before OutOfMemory fails small = tt
+  left_fails done region text before (Refused l cause) fails small =
+      ap (λ (lines : Result (Result LogRegion Refusal × List ℕ) Refusal). lines >>= (λ (l : Result LogRegion Refusal × List ℕ). closes caps limit events f h l))
+      (lines_fail caps limit events f h (h.horizon - done) (h.horizon - (done + 1)) (7 + done) region text before (Refused l cause) fails (omega arith))
+
+  -- behind the last step the end is left
+  left_over : (done : ℕ) (region : LogRegion) (text : List ℕ) (before : Result (Unit {0}) Refusal) → done ≡ h.horizon
+      → verdict_left caps limit events f h done region text before ≡ closes caps limit events f h (and_then before (Ok region), text)
+  unfolding verdict_left
+  left_over done region text before all =
+      ap (λ (lines : Result (Result LogRegion Refusal × List ℕ) Refusal). lines >>= (λ (l : Result LogRegion Refusal × List ℕ). closes caps limit events f h l))
+      (lines_over caps limit events f h (h.horizon - done) (7 + done) region text before (omega arith))
+
+  pub left_ends : (done : ℕ) (region : LogRegion) (text final : List ℕ) (before result : Result (Unit {0}) Refusal) → done ≡ h.horizon → ended h text ≡ Ok final
+      → and_then before (judge_end (7 + h.horizon) region final) ≡ result → verdict_left caps limit events f h done region text before ≡ Ok (verdict_of (told_log h final) result)
+  left_ends done region text final before result all end judges =
+      left_over done region text before all ∙ rw end (ap (λ (r : Result (Unit {0}) Refusal). Ok (verdict_of (told_log h final) r))
+      (bind_bind before (λ _. Ok region) (λ (last : LogRegion). judge_end (7 + h.horizon) last final) ∙ judges))
+
+  pub left_end_fails : (done : ℕ) (region : LogRegion) (text : List ℕ) (before : Result (Unit {0}) Refusal) (error : LogError) → done ≡ h.horizon → IsLogError error (ended h text)
+      → IsLogError error (verdict_left caps limit events f h done region text before)
+  left_end_fails done region text before OutOfMemory all fails = tt
+  left_end_fails done region text before (Refused l cause) all fails = left_over done region text before all ∙ rw fails refl
+
+module _ (caps : List ℕ) (limit : ℕ) (events : ℕ → ℕ) (f : Functions) (h : LogHeader) (done : ℕ) (r : Cursor) (kept : Result (Unit {0}) Rejection) where
+  next_is : (x : Result (Entry × List ℕ) Refusal) → r.header ≡ h → r.done ≡ done → next_of r ≡ x → next_step h (7 + done) (box_before h.version r.region) r.rest ≡ x
+  next_is x header place next =
+      subst (λ (d : ℕ). next_step h (7 + d) (box_before h.version r.region) r.rest ≡ x) place
+      (subst (λ (k : LogHeader). next_step k (7 + r.done) (box_before k.version r.region) r.rest ≡ x) header next)
+
+  -- a step that is read and judged takes the loop one step on, whatever text comes behind
+  pub pass_more : (after : Cursor) (step : Step) (time : ℕ) (judging : Result (Unit {0}) Rejection) → r.header ≡ h → r.done ≡ done → done < h.horizon → time ≡ h.horizon - done
+      → next_of r ≡ entry_end after.rest (record { step = step; region = after.region }) → after.before ≡ r.region
+      → Gives (λ _. tt) judging (and_then (told kept) (judge_step caps limit events f (7 + done) time after.before (record { step = step; region = after.region })))
+      → (more : List ℕ)
+      → verdict_left caps limit events f h done r.region (r.rest ++ more) (told kept) ≡ verdict_left caps limit events f h (done + 1) after.region (after.rest ++ more) (told judging)
+  pass_more after step time judging header place small is next before gives more =
+      let e : Entry = record { step = step; region = after.region } in
+      let read = next_front h (7 + done) (box_before h.version r.region) r.rest after.rest more e (next_is (entry_end after.rest e) header place next) in
+      let judged_so : and_then (told kept) (judge_step caps limit events f (7 + done) time r.region (record { step = step; region = after.region })) ≡ told judging =
+      ap (λ (b : LogRegion). and_then (told kept) (judge_step caps limit events f (7 + done) time b (record { step = step; region = after.region }))) (sym before) ∙ told_is judging _ gives in
+      left_more caps limit events f h done time (done + 1) r.region (r.rest ++ more) (after.rest ++ more) e (told kept) read small is refl
+      ∙ ap (λ (j : Result (Unit {0}) Refusal). verdict_left caps limit events f h (done + 1) after.region (after.rest ++ more) j) judged_so
+
+  -- one that is refused refuses what is left
+  pub pass_fails : (error : LogError) → r.header ≡ h → r.done ≡ done → done < h.horizon → IsLogError error (next_of r)
+      → IsLogError error (verdict_left caps limit events f h done r.region r.rest (told kept))
+  pass_fails OutOfMemory header place small fails = tt
+  pass_fails (Refused l cause) header place small fails =
+      left_fails caps limit events f h done r.region r.rest (told kept) (Refused l cause) (next_is (Err (record { line = l; cause = cause })) header place fails) small
+
+-- where no more text comes
+pub with_none : {A : Type 0} (old new : List ℕ → A) (from to : List ℕ) → ((more : List ℕ) → old (from ++ more) ≡ new (to ++ more)) → old from ≡ new to
+with_none old new from to same = ap old (sym (append-nil from)) ∙ same [] ∙ ap new (append-nil to)
 
 -- what is refused is refused by another name
 pub refused_as : {A : Type 0} (error : LogError) (whole r : Result A Refusal) → whole ≡ r → IsLogError error r → IsLogError error whole

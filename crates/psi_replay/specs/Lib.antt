@@ -4,3 +4,5 @@ pub mod Numbered
 pub mod RegionsViews
 pub mod Judging
 pub mod Passes
+pub mod Streams
+pub mod Fed

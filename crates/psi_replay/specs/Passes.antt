@@ -1,14 +1,14 @@
 -- The reading and the judging of a log side by side, line by line.
-use Rattle.std.specs.Prelude.{ℕ, ◌^◌, List, length, ◌==◌, nat_le, Result, Ok, Err}
+use Rattle.std.specs.Prelude.{ℕ, ◌+◌, ◌-◌, ◌^◌, List, [], length, ◌==◌, nat_le, Result, Ok, Err}
 use Rattle.psi_past.specs.SeedWord.{seed_word}
 use Rattle.psi_rate.specs.Composition.{Parts, Functions, system_functions}
 use Rattle.psi_log_text.specs.declared.header.Header.{Header as LogHeader}
-use Rattle.psi_log_text.specs.Log.{LogRegion, Certificate}
+use Rattle.psi_log_text.specs.Log.{LogRegion, in_set, Certificate}
 use Rattle.psi_log_words.specs.Refusal.{Refusal, ◌>>=◌, holds_or}
 use Rattle.psi_log_words.specs.Regions.{box_before}
 use Rattle.psi_log.specs.Reading.{read_steps, read}
-use Rattle.psi_log.specs.Cursor.{Cursor, left_of}
-use Rattle.psi_replay.specs.Verdict.{rejected, is_within, holds_all, judge_steps, judged, event_numbers, verdict_of}
+use Rattle.psi_log.specs.Cursor.{ended}
+use Rattle.psi_replay.specs.Verdict.{rejected, is_within, holds_all, judge_steps, judge_end, judged, event_numbers, verdict_of}
 use Rattle.psi_replay.specs.declared.answers.Verdict.{Verdict}
 use Rattle.psi_replay.specs.declared.causes.Rejection.{Rejection}
 use Rattle.psi_replay.specs.declared.causes.Cause.TheVariants.{Header, OutsideBox, NotCovered}
@@ -43,13 +43,18 @@ module _ (caps : List ℕ) (limit : ℕ) (events : ℕ → ℕ) (f : Functions) 
     steps ← read_steps h count n (box_before h.version region) text
     lines_end (and_then before (judge_steps caps limit events f n count region steps.0)) steps.1
 
--- the state at time zero of a log, and its judging by rules
-abbrev pub end_of : (Certificate → Result (Unit {0}) Refusal) → Certificate → Result (List ℕ × Result (Unit {0}) Refusal) Refusal
-end_of rules c = Ok (c.final, rules c)
+-- a log of which only its header and its state at time zero are known, which are all that a verdict tells of it
+abbrev pub told_log : LogHeader → List ℕ → Certificate
+told_log h final = record { header = h; begin = in_set []; entries = []; final = final }
 
--- the same of a text that is read up to its first step
-abbrev pub judged_left : (Certificate → Result (Unit {0}) Refusal) → Cursor → Result (List ℕ × Result (Unit {0}) Refusal) Refusal
-judged_left rules c = left_of c >>= (λ (k : Certificate). end_of rules k)
+-- the same rules
+module _ (caps : List ℕ) (limit : ℕ) (events : ℕ → ℕ) (f : Functions) where
+  -- the verdict on a log of which so many steps are read, where this is the region behind them, this the text that is left, and this the judging so far
+  unfoldable pub verdict_left : LogHeader → ℕ → LogRegion → List ℕ → Result (Unit {0}) Refusal → Result Verdict Refusal
+  verdict_left h done region text before = do
+    lines ← lines_left caps limit events f h (h.horizon - done) (7 + done) region text before
+    final ← ended h lines.1
+    Ok (verdict_of (told_log h final) (lines.0 >>= (λ (last : LogRegion). judge_end (7 + h.horizon) last final)))
 
 -- the rules of a system for a log, under the words of its seed and stream
 abbrev pub judged_under : {E : Type 0} → (E → List ℕ → List ℕ) → Parts E → Certificate → Result (Unit {0}) Refusal

@@ -11,10 +11,14 @@ mod causes;
 mod covering;
 mod judging;
 mod passing;
+mod progress;
 mod regions;
 mod replay;
 mod sets;
+mod stream;
+mod taken;
 
 pub use answers::Verdict;
 pub use causes::Cause;
 pub use replay::{replay_text, verdict};
+pub use stream::StreamReplay;

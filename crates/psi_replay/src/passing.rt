@@ -1,20 +1,21 @@
 //! The rules of a log that is read in one pass, judged line by line as it is read.
 
-ghost use Rattle.std.specs.Prelude.{◌≡◌, ◌≤◌, length, true, Ok, IfOk, IfErr, OnOk};
+ghost use Rattle.std.specs.Prelude.{◌≡◌, ℕ, ◌≤◌, List, ◌++◌, length, true, IfErr, OnOk};
 ghost use Rattle.psi_rate.specs.Composition.{system_functions};
 ghost use Rattle.psi_log_text.specs.Log.{IsRegion};
 ghost use Rattle.psi_log_words.specs.Refusal.{Gives as GivesRead, IsLogError};
 ghost use Rattle.psi_log.specs.Cursor.{IsCursor};
-ghost use Rattle.psi_replay.specs.Verdict.{is_within, judge_step, judge_end, judged, event_numbers};
+ghost use Rattle.psi_replay.specs.Verdict.{is_within, judge_step, judge_end, event_numbers, verdict_of};
 ghost use Rattle.psi_replay.specs.RegionsViews.{seen};
 ghost use Rattle.psi_replay.specs.Judging.{Gives};
-ghost use Rattle.psi_replay.specs.Passes.{told, and_then, lines_end, lines_left, judged_left};
+ghost use Rattle.psi_replay.specs.Passes.{told, and_then, told_log, verdict_left};
 
+use crate::answers::Verdict;
 use crate::causes::Rejection;
-use crate::judging::{judge_begin, judge_end, judge_stay, judge_step};
+use crate::judging::{judge_end, judge_stay, judge_step};
 use crate::regions::ReadRegion;
 use psi_event::EventLaw;
-use psi_log::{LogError, LogReader};
+use psi_log::{Header, LogError, LogReader};
 use psi_past::Past;
 use psi_rate::System;
 use psi_state::{State, Step};
@@ -56,36 +57,54 @@ fn judge_next<E: EventLaw, P: Past>(
     }
 }
 
-// Reads the lines of steps, and judges them as long as no rule is broken: the judging of all lines up to the last step.
-fn judge_lines<E: EventLaw, P: Past>(
+/// How far the lines of steps were read.
+#[derive(Debug, Drop)]
+pub(crate) struct Passed {
+    /// Whether the lines that were read break no rule, or the first that is broken.
+    pub(crate) judged: Result<(), Rejection>,
+    /// Whether all are read, or why the next one isn't.
+    pub(crate) read: Result<(), LogError>,
+}
+
+/// Reads the lines of steps, up to the last one or up to one that isn't read, and judges them as long as no rule is broken.
+pub(crate) fn judge_lines<E: EventLaw, P: Past>(
     system: &System<'_, E>,
     past: &mut P,
     reader: &mut LogReader<'_>,
     before: Result<(), Rejection>,
-) -> Result<Result<(), Rejection>, LogError>
+) -> Passed
     requires cursor { IsCursor reader.old }
-    requires done { reader.old.done ≡ 0 }
     requires queues { OnOk before (reader.old.header.queues ≡ length system.now.caps) }
     requires within { OnOk before (is_within system.now.caps reader.old.region ≡ true) }
-    ensures value { let words = P.words past.old in
-        IfOk result (λ kept. lines_left system.now.caps system.now.limit (event_numbers system.now words) (system_functions E.function system.now words)
-        reader.old.header reader.old.header.horizon 7 reader.old.region reader.old.rest (told before) ≡ lines_end (and_then (told kept) (Ok reader.new.region)) reader.new.rest) }
+    ensures left { let words = P.words past.old in
+        (more : List ℕ) → verdict_left system.now.caps system.now.limit (event_numbers system.now words) (system_functions E.function system.now words)
+        reader.old.header reader.old.done reader.old.region (reader.old.rest ++ more) (told before)
+        ≡ verdict_left system.now.caps system.now.limit (event_numbers system.now words) (system_functions E.function system.now words)
+        reader.new.header reader.new.done reader.new.region (reader.new.rest ++ more) (told result.judged) }
     ensures refused { let words = P.words past.old in
-        IfErr result (λ error. IsLogError error (lines_left system.now.caps system.now.limit (event_numbers system.now words) (system_functions E.function system.now words)
-        reader.old.header reader.old.header.horizon 7 reader.old.region reader.old.rest (told before))) }
+        IfErr result.read (λ error. IsLogError error (verdict_left system.now.caps system.now.limit (event_numbers system.now words) (system_functions E.function system.now words)
+        reader.new.header reader.new.done reader.new.region reader.new.rest (told result.judged))) }
+    ensures done { OnOk result.read (reader.new.done ≡ reader.new.header.horizon) }
+    ensures queues { OnOk result.judged (reader.new.header.queues ≡ length system.now.caps) }
+    ensures within { OnOk result.judged (is_within system.now.caps reader.new.region ≡ true) }
     ensures header { reader.new.header ≡ reader.old.header }
-    ensures done { OnOk result (reader.new.done ≡ reader.old.header.horizon) }
     ensures cursor { IsCursor reader.new }
+    ensures words { P.words past.new ≡ P.words past.old }
 {
     let caps = system.caps();
     let horizon = reader.header().horizon;
-    let mut kept = before;
-    for done in 0..horizon {
+    let mut judged = before;
+    for done in reader.done()..horizon {
         let step = match reader.next() {
             Ok(step) => step,
-            Err(error) => return Err(error),
+            Err(error) => {
+                return Passed {
+                    judged,
+                    read: Err(error),
+                };
+            }
         };
-        kept = judge_next(
+        judged = judge_next(
             system,
             &caps,
             past,
@@ -93,10 +112,13 @@ fn judge_lines<E: EventLaw, P: Past>(
             horizon - done,
             reader,
             step,
-            kept,
+            judged,
         );
     }
-    Ok(kept)
+    Passed {
+        judged,
+        read: Ok(()),
+    }
 }
 
 // Judges the last line, unless a rule is broken already.
@@ -115,41 +137,51 @@ fn judge_last(
     }
 }
 
-/// What a log is whose lines were read and judged.
-#[derive(Clone, Copy, Debug)]
-pub(crate) struct Passed {
-    /// The state at time zero.
-    pub(crate) end: State,
-    /// Whether all rules hold, or the first that is broken.
-    pub(crate) judged: Result<(), Rejection>,
+// The verdict on a log of this header and of this state at time zero, whose rules were judged.
+fn verdict_from(header: &Header, end: &State, judged: Result<(), Rejection>) -> Verdict
+    ensures { result ≡ verdict_of (told_log header.now end.now) (told judged) }
+{
+    match judged {
+        Ok(()) => Verdict::Accepted {
+            horizon: header.horizon,
+            state: *end,
+        },
+        Err(rejection) => Verdict::Rejected {
+            line: rejection.line,
+            cause: rejection.cause.code(),
+        },
+    }
 }
 
-/// Reads and judges a log that is read up to its first step. A line that is refused comes before a rule that is broken, wherever it stands.
+/// The verdict on what is left of a log, behind lines that were read and judged. A line that is refused comes before a
+/// rule that is broken, wherever it stands.
 ///
 /// # Errors
 ///
 /// The first refusal of a line; `OutOfMemory`.
-pub(crate) fn judge_left<E: EventLaw, P: Past>(
+pub(crate) fn verdict_left<E: EventLaw, P: Past>(
     system: &System<'_, E>,
     past: &mut P,
     reader: &mut LogReader<'_>,
-) -> Result<Passed, LogError>
-    requires { reader.old.done ≡ 0 }
+    before: Result<(), Rejection>,
+) -> Result<Verdict, LogError>
+    requires queues { OnOk before (reader.old.header.queues ≡ length system.now.caps) }
+    requires within { OnOk before (is_within system.now.caps reader.old.region ≡ true) }
     ensures value { let words = P.words past.old in
-        GivesRead (λ read. (read.end, told read.judged)) result (judged_left (judged system.now.caps system.now.limit (event_numbers system.now words)
-        (system_functions E.function system.now words)) reader.old) }
+        GivesRead (λ v. v) result (verdict_left system.now.caps system.now.limit (event_numbers system.now words) (system_functions E.function system.now words)
+        reader.old.header reader.old.done reader.old.region reader.old.rest (told before)) }
 {
     let header = reader.header();
-    let begun = judge_begin(system, &header, &ReadRegion::of(reader.region()));
-    let kept = match judge_lines(system, past, reader, begun) {
-        Ok(kept) => kept,
+    let passed = judge_lines(system, past, reader, before);
+    match passed.read {
+        Ok(()) => {}
         Err(error) => return Err(error),
-    };
+    }
     let end = match reader.end() {
         Ok(end) => end,
         Err(error) => return Err(error),
     };
     let last = ReadRegion::of(reader.region());
-    let judged = judge_last(kept, 7 + header.horizon, &last, &end);
-    Ok(Passed { end, judged })
+    let judged = judge_last(passed.judged, 7 + header.horizon, &last, &end);
+    Ok(verdict_from(&header, &end, judged))
 }

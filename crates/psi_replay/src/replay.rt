@@ -3,20 +3,18 @@
 ghost use Rattle.std.specs.Prelude.{◌≡◌};
 ghost use Rattle.psi_past.specs.SeedWord.{seed_word};
 ghost use Rattle.psi_rate.specs.Composition.{system_functions};
-ghost use Rattle.psi_log_text.specs.Log.{Certificate};
 ghost use Rattle.psi_log_words.specs.Refusal.{Gives};
 ghost use Rattle.psi_replay.specs.Verdict.{judged, verdict_of, event_numbers, ReachesAccepted, AcceptsWithin};
-ghost use Rattle.psi_replay.specs.Passes.{told, judged_under, replayed};
+ghost use Rattle.psi_replay.specs.Passes.{judged_under, replayed};
 
 use crate::answers::Verdict;
-use crate::causes::Rejection;
 use crate::judging::judged;
-use crate::passing::judge_left;
+use crate::passing::verdict_left;
+use crate::progress::begin;
 use psi_event::EventLaw;
-use psi_log::{Header, Log, LogError, LogReader};
+use psi_log::{Log, LogError};
 use psi_past::{SeedPast, Windowed};
 use psi_rate::System;
-use psi_state::State;
 use std::alloc::Global;
 
 /// The verdict on a log of a network: accepted where it breaks no rule, whoever wrote it, and rejected else, at
@@ -60,22 +58,6 @@ pub fn verdict<E: EventLaw>(system: &System<'_, E>, log: &Log) -> Verdict
     }
 }
 
-// The verdict on a log of this header and of this state at time zero, whose rules were judged.
-fn verdict_from(header: &Header, end: &State, judged: Result<(), Rejection>) -> Verdict
-    ensures { (c : Certificate) → c.header ≡ header.now → c.final ≡ end.now → result ≡ verdict_of c (told judged) }
-{
-    match judged {
-        Ok(()) => Verdict::Accepted {
-            horizon: header.horizon,
-            state: *end,
-        },
-        Err(rejection) => Verdict::Rejected {
-            line: rejection.line,
-            cause: rejection.cause.code(),
-        },
-    }
-}
-
 /// The verdict of a network on the log that a text is: what [`verdict`] gives on the log that `psi_log::read_log`
 /// reads.
 ///
@@ -93,14 +75,11 @@ pub fn replay_text<E: EventLaw>(
 ) -> Result<Verdict, LogError>
     ensures { Gives (λ v. v) result (replayed (judged_under E.function system.now) text.now) }
 {
-    let mut reader = match LogReader::open(alloc, text) {
-        Ok(reader) => reader,
+    let begun = match begin(alloc, system, text) {
+        Ok(begun) => begun,
         Err(error) => return Err(error),
     };
-    let header = reader.header();
-    let mut past = Windowed::new(SeedPast::new(header.seed, header.stream));
-    match judge_left(system, &mut past, &mut reader) {
-        Ok(read) => Ok(verdict_from(&header, &read.end, read.judged)),
-        Err(error) => Err(error),
-    }
+    let mut past = begun.past;
+    let mut reader = begun.reader;
+    verdict_left(system, &mut past, &mut reader, begun.judged)
 }
