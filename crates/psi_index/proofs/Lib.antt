@@ -1,5 +1,6 @@
 -- The lemmas of this crate.
 mod FallsLemmas
 mod JoiningLemmas
+mod KeptLemmas
+mod LevelsLemmas
 mod RisingLemmas
-mod WidthsLemmas

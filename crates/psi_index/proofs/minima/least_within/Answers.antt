@@ -1,14 +1,27 @@
 -- Answers in the proof of `least_within`.
-use Rattle.std.proofs.Common.{◌+◌, ◌^◌, sym, subst, arith}
+use Rattle.std.proofs.Common.{◌≡◌, ◌+◌, ◌-◌, ◌*◌, ◌^◌, ◌%◌, ap, subst, min, slice_index, arith}
+use Rattle.std.proofs.lemmas.Nat.{one_shl}
 use Rattle.psi_index.specs.Extremes.{IsLeast}
-use Rattle.psi_index.proofs.JoiningLemmas.{least-two, least-slice_range}
+use Rattle.psi_index.specs.LevelsKept.{entries_before}
+use Rattle.psi_index.proofs.JoiningLemmas.{least-two}
+use Rattle.psi_index.proofs.LevelsLemmas.{exponent-greatest}
 use Rattle.psi_index.proofs.minima.least_within.Goals as goal
 
-pub returns-clause-least : goal.returns-clause-least
-returns-clause-least c =
-    subst (λ m. IsLeast c.args.values.now c.args.from (c.args.to + 1) m) (sym c.min.ensures)
-    (least-two c.args.values.now c.level-least.result.now (2 ^ c.ilog2.result) c.args.from (c.args.to + 1) _ c.level-least.ensures
-    (omega arith) (omega arith) (omega arith) (omega arith))
-
-pub returns-clause-value : goal.returns-clause-value
-returns-clause-value c = least-slice_range c.args.values.now c.args.from (c.args.to + 1) c.min.result (returns-clause-least c) (omega arith)
+pub returns : goal.returns
+returns c =
+    let e = c.ilog2-exponent.result in
+    let base = c.args.base in
+    let start = base + entries_before c.args.count e in
+    let i = c.args.to + 1 - 2 ^ e in
+    let least = c.ilog2-exponent.ensures.power_le in
+    let past = c.ilog2-exponent.ensures.next_power_gt in
+    let most = exponent-greatest 65535 15 e (omega arith) (omega arith) in
+    let power = one_shl e 64 (omega arith) in
+    let left = ap (λ n. slice_index c.args.numbers.now n) (let place : base + c.level_start.result + c.args.from ≡ start + c.args.from = omega arith in place) in
+    let right = ap (λ n. slice_index c.args.numbers.now n)
+    (let place : base + c.level_start.result + c.args.from + (c.args.to - c.args.from + 1) - 1 * 2 ^ e % 2 ^ 64 ≡ start + i = omega arith in place) in
+    subst (λ m. IsLeast c.args.numbers.now (base + c.args.from) (base + c.args.to + 1) m)
+    (let same : min (slice_index c.args.numbers.now (start + c.args.from)) (slice_index c.args.numbers.now (start + i)) ≡ c.min.result = omega (arith, c.min.ensures) in same)
+    (least-two c.args.numbers.now (2 ^ e) (base + c.args.from) (base + i) (base + c.args.to + 1) (slice_index c.args.numbers.now (start + c.args.from))
+    (slice_index c.args.numbers.now (start + i)) (c.requires.sparse.each e c.args.from (omega arith)) (c.requires.sparse.each e i (omega arith))
+    (omega arith) (omega arith) (omega arith))
