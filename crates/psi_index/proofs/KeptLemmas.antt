@@ -4,7 +4,7 @@ use Rattle.std.proofs.Math.Seq.{take-append_seam}
 use Rattle.std.proofs.lemmas.List.{ext_get_or, get_or-take, length-take-le}
 use Rattle.psi_index.specs.BoundsKept.{AreBounds, ArePeaks, AreTroughs, HasPeaks, HasTroughs}
 use Rattle.psi_index.specs.Extremes.{IsFront, IsLeast, IsRising, IsValueList}
-use Rattle.psi_index.specs.LevelsKept.{AreComplements, IsSparse, IsTable}
+use Rattle.psi_index.specs.LevelsKept.{AreComplements, AreStarts, IsSparse, IsTable}
 use Rattle.psi_index.proofs.JoiningLemmas.{length-slice_range, slice_index-slice_range}
 
 pub front-length : (numbers values : List ℕ) (count : ℕ) → take count numbers ≡ values → count ≤ length numbers → length values ≡ count
@@ -82,19 +82,18 @@ pub whole-written : (n : ℕ) (made old : List ℕ) → n ≡ length made → ta
 whole-written n made old all = ap (λ m. take m (made ++ drop (length made) old)) all ∙ take-append_seam {A = ℕ} made (drop (length made) old)
 
 -- what is filled behind values that don't rise is what is kept of them
-pub sparse-kept : (numbers values : List ℕ) (count size front : ℕ) → take count numbers ≡ values → 2 * (size + count) ≤ length numbers → IsValueList values → ¬ IsRising values
-    → IsFront values front → IsSparse numbers 0 count → AreComplements numbers size count → IsSparse numbers size count → HasPeaks numbers (2 * size) count
-    → HasTroughs numbers (2 * size + count) count
-    → IsTable numbers count size false × AreBounds numbers count size false × IsFront (take count numbers) front
-sparse-kept numbers values count size front is room valid falls front_is low turned high peaks troughs = (
-  record {
-    counted = omega arith;
-    valid = subst (λ (xs : List ℕ). IsValueList xs) (sym is) valid;
-    risen = subst (λ (xs : List ℕ). IsTrue false ↔ IsRising xs) (sym is) (search rules);
-    turned = λ _. turned;
-    least = λ _. low;
-    most = λ _. high;
-  },
-  record { room = λ _. room; up_to = λ _. peaks; from_on = λ _. troughs },
-  subst (λ (xs : List ℕ). IsFront xs front) (sym is) front_is,
-)
+pub sparse-kept : (numbers values starts : List ℕ) (count size front : ℕ) → take count numbers ≡ values → size ≡ slice_index starts 16 → 2 * (size + count) ≤ length numbers
+    → IsValueList values → ¬ IsRising values → IsFront values front → AreStarts count starts → IsSparse numbers 0 count → AreComplements numbers size count
+    → IsSparse numbers size count → HasPeaks numbers (2 * size) count → HasTroughs numbers (2 * size + count) count
+    → IsTable numbers starts count false × AreBounds numbers count (slice_index starts 16) false × IsFront (take count numbers) front
+sparse-kept numbers values starts count size front is last room valid falls front_is begin low turned high peaks troughs =
+    (record {
+      counted = omega arith;
+      valid = subst (λ (xs : List ℕ). IsValueList xs) (sym is) valid;
+      risen = subst (λ (xs : List ℕ). IsTrue false ↔ IsRising xs) (sym is) (search rules);
+      begun = λ _. begin;
+      turned = λ _. subst (λ n. AreComplements numbers n count) last turned;
+      least = λ _. low;
+      most = λ _. subst (λ n. IsSparse numbers n count) last high;
+    }, subst (λ n. AreBounds numbers count n false) last (record { room = λ _. room; up_to = λ _. peaks; from_on = λ _. troughs; }),
+    subst (λ (xs : List ℕ). IsFront xs front) (sym is) front_is)

@@ -3,7 +3,7 @@ use Rattle.std.proofs.Common.{◌≡◌, ℕ, zero, suc, ◌+◌, ◌-◌, ◌*�
 use Rattle.std.proofs.Math.Nat.{pow-succ', pow-le-pow_right}
 use Rattle.std.proofs.lemmas.Bool.{cases_lt}
 use Rattle.psi_index.specs.Extremes.{IsLeast}
-use Rattle.psi_index.specs.LevelsKept.{AreLevels, HoldsLevels, IsSparse, entries_before}
+use Rattle.psi_index.specs.LevelsKept.{AreLevels, AreStarts, HoldsLevels, IsSparse, entries_before}
 use Rattle.psi_index.proofs.JoiningLemmas.{least-same, least-two}
 
 -- no greater power of two is at most a number
@@ -18,13 +18,10 @@ exponent-greatest n most e past least =
 pub exponent-within : (n most e : ℕ) → 2 ^ most ≤ n → e ≤ most → 2 ^ e ≤ n
 exponent-within n most e least order = (let two : zero < 2 = omega arith in let grows : 2 ^ e ≤ 2 ^ most = pow-le-pow_right two order in omega arith)
 
--- the entries of the lesser levels, in one number
-pub entries_before-closed : (count e : ℕ) → 2 ^ e ≤ 2 * count → entries_before count e + 2 ^ e ≡ e * (count + 1) + 1
-entries_before-closed count zero within = omega arith
-entries_before-closed count (suc e) within =
-    let twice = pow-succ' 2 e in
-    let before = entries_before-closed count e (omega arith) in
-    omega arith
+-- the entries of the lesser levels are at most so many
+pub entries_before-most : (count e : ℕ) → entries_before count e ≤ e * (count + 1)
+entries_before-most count zero = omega arith
+entries_before-most count (suc e) = (let before = entries_before-most count e in omega arith)
 
 -- a level begins behind those of lesser exponents
 pub entries_before-order : (count d e : ℕ) → d ≤ e → entries_before count d ≤ entries_before count e
@@ -100,4 +97,14 @@ sparse-same old new base count size is holds long same = record {
   room = λ e within. (let old_room = is.room e within in omega arith);
   each = λ e i within.
       (let room = holds.each e (omega arith) in levels-same old new base count e i (is.each e i within) within (λ k small. same k (omega arith)));
+}
+
+-- before the last start all levels stand
+pub starts-hold : (count : ℕ) (starts : List ℕ) → count ≤ 65535 → AreStarts count starts → HoldsLevels count (slice_index starts 16)
+starts-hold count starts few are = record {
+  each = λ e within.
+      (let most = exponent-greatest 65535 15 e (omega arith) (omega arith) in
+      let last = are.each 16 (omega arith) in
+      let order = entries_before-order count (e + 1) 16 (omega arith) in
+      omega arith);
 }

@@ -7,6 +7,10 @@ abbrev pub entries_before : ℕ → ℕ → ℕ
 entries_before count zero = 0
 entries_before count (suc e) = entries_before count e + (count + 1 - 2 ^ e)
 
+-- for each exponent, how many entries stand before those of its stretches
+pub record AreStarts (count : ℕ) (starts : List ℕ) : Type 0 where
+  pub each : (e : ℕ) → e ≤ 16 → slice_index starts e ≡ entries_before count e
+
 -- so many places have room for the values and all their levels
 pub record HoldsLevels (count size : ℕ) : Type 0 where
   pub each : (e : ℕ) → 2 ^ e ≤ count → entries_before count (e + 1) ≤ size
@@ -25,11 +29,12 @@ pub record IsSparse (numbers : List ℕ) (base count : ℕ) : Type 0 where
 pub record AreComplements (numbers : List ℕ) (base count : ℕ) : Type 0 where
   pub each : (i : ℕ) → i < count → slice_index numbers (base + i) ≡ complement (slice_index numbers i)
 
--- values and whether they rise; where they don't, their levels, their complements from a place on and the levels of these
-pub record IsTable (numbers : List ℕ) (count high : ℕ) (rises : Bool) : Type 0 where
+-- values and whether they rise; where they don't, where their levels begin, these, their complements behind them and the levels of these
+pub record IsTable (numbers starts : List ℕ) (count : ℕ) (rises : Bool) : Type 0 where
   pub counted : count ≤ length numbers
   pub valid : IsValueList (take count numbers)
   pub risen : IsTrue rises ↔ IsRising (take count numbers)
-  pub turned : rises ≡ false → AreComplements numbers high count
+  pub begun : rises ≡ false → AreStarts count starts
+  pub turned : rises ≡ false → AreComplements numbers (slice_index starts 16) count
   pub least : rises ≡ false → IsSparse numbers 0 count
-  pub most : rises ≡ false → IsSparse numbers high count
+  pub most : rises ≡ false → IsSparse numbers (slice_index starts 16) count

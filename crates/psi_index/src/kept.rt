@@ -3,28 +3,29 @@
 ghost use Rattle.std.specs.Prelude.{◌≡◌, ℕ, ◌+◌, ◌*◌, ◌<◌, ◌≤◌, ◌↔◌, IsTrue, IfOk, length, slice_index, take};
 ghost use Rattle.psi_index.specs.Extremes.{IsFront, IsRising, IsValueList, greatest_of, least_of, stretch};
 ghost use Rattle.psi_index.specs.BoundsKept.{ArePeaks, AreTroughs, HasPeaks, HasTroughs};
-ghost use Rattle.psi_index.specs.LevelsKept.{AreComplements, HoldsLevels, IsSparse};
+ghost use Rattle.psi_index.specs.LevelsKept.{AreComplements, AreStarts, HoldsLevels, IsSparse};
 
 use crate::OutOfMemory;
 use crate::hulls::{fill_peaks, fill_troughs};
-use crate::level::{fill_levels, levels_size};
+use crate::level::{STARTS, fill_levels, level_starts};
 use crate::minima::least_within;
 use std::marker::Model;
 
 // The values of a table, how many they are, whether they rise, and how many stand before the first that falls. Where
 // they don't rise, their levels stand behind them, and behind these their complements with their levels, in as many
-// places, the greatest value up to each place and the least from it on. It is seen as the list of the values.
+// places, the greatest value up to each place and the least from it on. `starts` is where the levels begin, and last how
+// many places the values and their levels take. It is seen as the list of the values.
 #[derive(Drop, Debug)]
 pub(crate) struct Kept {
     numbers: Vec<u32>,
-    size: usize,
+    starts: [u32; STARTS],
     count: u16,
     front: u16,
     rises: bool,
 }
 
 impl Model for Kept {
-    ghost use Rattle.std.specs.Prelude.{ℕ, List, take};
+    ghost use Rattle.std.specs.Prelude.{ℕ, List, slice_index, take};
 
     ghost Value = { List ℕ };
 
@@ -34,7 +35,7 @@ impl Model for Kept {
 
     ghost view = { λ kept. take kept.count kept.numbers.items };
 
-    ghost invariant = { λ kept. IsTable kept.numbers.items kept.count kept.size kept.rises × AreBounds kept.numbers.items kept.count kept.size kept.rises × IsFront (take kept.count kept.numbers.items) kept.front };
+    ghost invariant = { λ kept. IsTable kept.numbers.items kept.starts kept.count kept.rises × AreBounds kept.numbers.items kept.count (slice_index kept.starts 16) kept.rises × IsFront (take kept.count kept.numbers.items) kept.front };
 }
 
 impl Kept {
@@ -61,7 +62,7 @@ impl Kept {
         let count = values.len() as u16;
         Kept {
             numbers: values,
-            size: 0,
+            starts: [0; STARTS],
             count,
             front: count,
             rises: true,
@@ -75,15 +76,16 @@ impl Kept {
         requires front { IsFront values.items front }
         ensures { IfOk result (λ kept. kept ≡ values.items) }
     {
-        let count = values.len();
-        let size = levels_size(count);
+        let count = values.len() as u16;
+        let starts = level_starts(count);
+        let size = starts[16] as usize;
         let mut numbers = values;
-        numbers.resize(2 * (size + count), 0)?;
-        fill(&mut numbers, size, count);
+        numbers.resize(2 * (size + count as usize), 0)?;
+        fill(&mut numbers, &starts, size, count);
         Ok(Kept {
             numbers,
-            size,
-            count: count as u16,
+            starts,
+            count,
             front,
             rises: false,
         })
@@ -124,7 +126,7 @@ impl Kept {
         if self.rises {
             return self.at(from);
         }
-        least_within(&self.numbers, 0, self.count, from, to)
+        least_within(&self.numbers, &self.starts, 0, self.count, from, to)
     }
 
     // The greatest of them.
@@ -138,7 +140,8 @@ impl Kept {
         if self.rises {
             return self.at(to);
         }
-        u32::MAX - least_within(&self.numbers, self.size, self.count, from, to)
+        let high = self.starts[16] as usize;
+        u32::MAX - least_within(&self.numbers, &self.starts, high, self.count, from, to)
     }
 
     // For each place a number that no value up to it is above: the greatest of them.
@@ -148,7 +151,7 @@ impl Kept {
         if self.rises {
             return self.values();
         }
-        let first = 2 * self.size;
+        let first = 2 * self.starts[16] as usize;
         &self.numbers[first..first + self.count as usize]
     }
 
@@ -160,7 +163,7 @@ impl Kept {
             return self.values();
         }
         let count = self.count as usize;
-        let first = 2 * self.size + count;
+        let first = 2 * self.starts[16] as usize + count;
         &self.numbers[first..first + count]
     }
 
@@ -180,9 +183,9 @@ impl Kept {
 }
 
 // All that a table keeps of the first values beside them.
-fn fill(numbers: &mut [u32], size: usize, count: usize)
+fn fill(numbers: &mut [u32], starts: &[u32; STARTS], size: usize, count: u16)
+    requires starts { AreStarts count starts.now }
     requires some { 1 ≤ count }
-    requires few { count ≤ 65535 }
     requires levels { HoldsLevels count size }
     requires behind { count ≤ size }
     requires room { 2 * (size + count) ≤ length numbers.old }
@@ -194,11 +197,12 @@ fn fill(numbers: &mut [u32], size: usize, count: usize)
     ensures peaks { HasPeaks numbers.new (2 * size) count }
     ensures troughs { HasTroughs numbers.new (2 * size + count) count }
 {
-    fill_levels(numbers, 0, count);
-    fill_complements(numbers, size, count);
-    fill_levels(numbers, size, count);
-    fill_peaks(numbers, 2 * size, count);
-    fill_troughs(numbers, 2 * size + count, count);
+    let places = count as usize;
+    fill_levels(numbers, starts, 0, count);
+    fill_complements(numbers, size, places);
+    fill_levels(numbers, starts, size, count);
+    fill_peaks(numbers, 2 * size, places);
+    fill_troughs(numbers, 2 * size + places, places);
 }
 
 // The complements of the first values, from the place `base` on.

@@ -1,41 +1,37 @@
 //! The levels of a sparse table: the least value of each stretch of one length, one level behind the other.
 
-ghost use Rattle.std.specs.Prelude.{◌≡◌, ℕ, ◌+◌, ◌-◌, ◌*◌, ◌^◌, ◌<◌, ◌≤◌, length, min, slice_index};
-ghost use Rattle.psi_index.specs.LevelsKept.{HoldsLevels, IsSparse, entries_before};
+ghost use Rattle.std.specs.Prelude.{◌≡◌, ℕ, ◌+◌, ◌-◌, ◌<◌, ◌≤◌, length, min, slice_index};
+ghost use Rattle.psi_index.specs.LevelsKept.{AreStarts, HoldsLevels, IsSparse};
 
-// How many entries stand before those of the stretches of 2 to the power of `exponent` places, of so many values.
-pub(crate) fn level_start(count: usize, exponent: u32) -> usize
-    requires few { count ≤ 65535 }
-    requires within { 2 ^ exponent ≤ 2 * count }
-    ensures { result ≡ entries_before count exponent }
-{
-    exponent as usize * (count + 1) + 1 - (1 << exponent)
-}
+// How many exponents a table has starts for: the last is where the levels of 65,535 values end.
+pub(crate) const STARTS: usize = 17;
 
-// How many entries all levels of so many values have, the values among them.
-pub(crate) fn levels_size(count: usize) -> usize
-    requires some { 1 ≤ count }
-    requires few { count ≤ 65535 }
-    ensures levels { HoldsLevels count result }
-    ensures some { count ≤ result }
-    ensures few { result ≤ 2 ^ 21 }
+// How many entries stand before those of the stretches of 2 to the power of each exponent, of so many values. Before the
+// last stand all.
+pub(crate) fn level_starts(count: u16) -> [u32; STARTS]
+    ensures { AreStarts count result }
 {
-    level_start(count, count.ilog2() + 1)
+    let places = count as u32 + 1;
+    let mut starts = [0; STARTS];
+    for exponent in 0..STARTS - 1 {
+        starts[exponent + 1] = starts[exponent] + places.saturating_sub(1 << exponent);
+    }
+    starts
 }
 
 // The levels of the lengths 2, 4, 8 and so on, up to the number of the values, behind the values at the places from
 // `base` on.
-pub(crate) fn fill_levels(numbers: &mut [u32], base: usize, count: usize)
+pub(crate) fn fill_levels(numbers: &mut [u32], starts: &[u32; STARTS], base: usize, count: u16)
+    requires starts { AreStarts count starts.now }
     requires some { 1 ≤ count }
-    requires few { count ≤ 65535 }
     requires room { (size : ℕ) × HoldsLevels count size × (base + size ≤ length numbers.old) }
     ensures sparse { IsSparse numbers.new base count }
     ensures before { (k : ℕ) → k < base + count → slice_index numbers.new k ≡ slice_index numbers.old k }
     ensures len { length numbers.new ≡ length numbers.old }
 {
-    for exponent in 0..count.ilog2() {
-        let first = base + level_start(count, exponent);
-        let past = base + level_start(count, exponent + 1);
+    for exponent in 0..count.ilog2() as usize {
+        let first = base + starts[exponent] as usize;
+        let past = base + starts[exponent + 1] as usize;
         join(numbers, first, past, 1 << exponent);
     }
 }

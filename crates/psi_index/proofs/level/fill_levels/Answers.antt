@@ -5,34 +5,13 @@ use Rattle.psi_index.specs.LevelsKept.{entries_before}
 use Rattle.psi_index.proofs.LevelsLemmas.{entries_before-next, exponent-greatest, exponent-within, levels-more, values-within}
 use Rattle.psi_index.proofs.level.fill_levels.Goals as goal
 
-pub level_start-requires-clause-within : goal.level_start-requires-clause-within
-level_start-requires-clause-within c =
-    let power = exponent-within c.args.count c.ilog2-exponent-end.result c.loop-exponent.exponent c.ilog2-exponent-end.ensures.power_le (omega arith) in
-    omega arith
-
-pub overflow_add-first : goal.overflow_add-first
-overflow_add-first c =
-    let power = exponent-within c.args.count c.ilog2-exponent-end.result c.loop-exponent.exponent c.ilog2-exponent-end.ensures.power_le (omega arith) in
-    let next = entries_before-next c.args.count c.loop-exponent.exponent in
-    let room = c.requires.room.1.each c.loop-exponent.exponent power in
-    omega arith
-
-pub level_start-requires-in-loop-exponent-clause-within : goal.level_start-requires-in-loop-exponent-clause-within
-level_start-requires-in-loop-exponent-clause-within c =
-    let power = exponent-within c.args.count c.ilog2-exponent-end.result (c.loop-exponent.exponent + 1) c.ilog2-exponent-end.ensures.power_le (omega arith) in
-    omega arith
-
-pub overflow_add-past : goal.overflow_add-past
-overflow_add-past c =
-    let power = exponent-within c.args.count c.ilog2-exponent-end.result c.loop-exponent.exponent c.ilog2-exponent-end.ensures.power_le (omega arith) in
-    let room = c.requires.room.1.each c.loop-exponent.exponent power in
-    omega arith
-
 pub join-requires-clause-some : goal.join-requires-clause-some
 join-requires-clause-some c =
     let e = c.loop-exponent.exponent in
     let within = exponent-within c.args.count c.ilog2-exponent-end.result (e + 1) c.ilog2-exponent-end.ensures.power_le (omega arith) in
     let most = exponent-greatest c.args.count 15 (e + 1) (omega arith) within in
+    let start = c.requires.starts.each e (omega arith) in
+    let end = c.requires.starts.each (e + 1) (omega arith) in
     let power = one_shl e 64 (omega arith) in
     let next = entries_before-next c.args.count e in
     let twice = pow-add 2 e 1 in
@@ -43,6 +22,8 @@ join-requires-clause-room c =
     let e = c.loop-exponent.exponent in
     let within = exponent-within c.args.count c.ilog2-exponent-end.result (e + 1) c.ilog2-exponent-end.ensures.power_le (omega arith) in
     let most = exponent-greatest c.args.count 15 (e + 1) (omega arith) within in
+    let start = c.requires.starts.each e (omega arith) in
+    let end = c.requires.starts.each (e + 1) (omega arith) in
     let power = one_shl e 64 (omega arith) in
     let next = entries_before-next c.args.count e in
     let later = entries_before-next c.args.count (e + 1) in
@@ -55,6 +36,8 @@ loop-exponent-preserved c =
     let e = c.loop-exponent.exponent in
     let within = exponent-within c.args.count c.ilog2-exponent-end.result (e + 1) c.ilog2-exponent-end.ensures.power_le (omega arith) in
     let most = exponent-greatest c.args.count 15 (e + 1) (omega arith) within in
+    let start = c.requires.starts.each e (omega arith) in
+    let end = c.requires.starts.each (e + 1) (omega arith) in
     let power = one_shl e 64 (omega arith) in
     let next = entries_before-next c.args.count e in
     let values = values-within c.args.count e in
@@ -66,18 +49,18 @@ loop-exponent-preserved c =
           (λ i fits.
           (let both = c.join.ensures.joined i (omega arith) in
           let left = ap (λ n. slice_index c.loop-exponent.numbers n)
-          (let place : c.args.base + c.level_start.result + i ≡ c.args.base + entries_before c.args.count e + i = omega arith in place) in
+          (let place : c.args.base + slice_index c.args.starts.now e + i ≡ c.args.base + entries_before c.args.count e + i = omega arith in place) in
           let right = ap (λ n. slice_index c.loop-exponent.numbers n)
-          (let place : c.args.base + c.level_start.result + i + 1 * 2 ^ e % 2 ^ 64 ≡ c.args.base + entries_before c.args.count e + i + 2 ^ e = omega arith in place) in
+          (let place : c.args.base + slice_index c.args.starts.now e + i + 1 * 2 ^ e % 2 ^ 64 ≡ c.args.base + entries_before c.args.count e + i + 2 ^ e = omega arith in place) in
           let made = ap (λ n. slice_index c.join.new.numbers n)
-          (let place : c.args.base + c.level_start-in-loop-exponent.result + i ≡ c.args.base + entries_before c.args.count (e + 1) + i = omega arith in place) in
+          (let place : c.args.base + slice_index c.args.starts.now (e + 1) + i ≡ c.args.base + entries_before c.args.count (e + 1) + i = omega arith in place) in
           omega arith))
           (λ k less. c.join.ensures.before k (omega arith));
     }
 
 pub returns-clause-sparse : goal.returns-clause-sparse
 returns-clause-sparse c = record {
-  few = c.requires.few;
+  few = omega arith;
   room = λ e within. (let room = c.requires.room.1.each e within in omega (arith, c.loop-exponent.invariant.len));
   each = λ e i within.
       (let most = exponent-greatest c.args.count c.ilog2-exponent-end.result e c.ilog2-exponent-end.ensures.next_power_gt (omega arith) in

@@ -1,11 +1,23 @@
 -- Answers in the proof of `least_within`.
-use Rattle.std.proofs.Common.{◌≡◌, ◌+◌, ◌-◌, ◌*◌, ◌^◌, ◌%◌, ap, subst, min, slice_index, arith}
-use Rattle.std.proofs.lemmas.Nat.{one_shl}
+use Rattle.std.proofs.Common.{◌≡◌, ◌+◌, ◌-◌, ◌^◌, ap, subst, min, slice_index, arith}
 use Rattle.psi_index.specs.Extremes.{IsLeast}
 use Rattle.psi_index.specs.LevelsKept.{entries_before}
 use Rattle.psi_index.proofs.JoiningLemmas.{least-two}
-use Rattle.psi_index.proofs.LevelsLemmas.{exponent-greatest}
+use Rattle.psi_index.proofs.LevelsLemmas.{entries_before-next, exponent-greatest, values-within}
 use Rattle.psi_index.proofs.minima.least_within.Goals as goal
+
+pub bounds-starts-exponent : goal.bounds-starts-exponent
+bounds-starts-exponent c = (let most = exponent-greatest 65535 15 c.ilog2-exponent.result (omega arith) (omega arith) in omega arith)
+
+pub bounds-starts-exponent-2 : goal.bounds-starts-exponent-2
+bounds-starts-exponent-2 c = (let most = exponent-greatest 65535 15 c.ilog2-exponent.result (omega arith) (omega arith) in omega arith)
+
+pub overflow_sub-last-2 : goal.overflow_sub-last-2
+overflow_sub-last-2 c =
+    let most = exponent-greatest 65535 15 c.ilog2-exponent.result (omega arith) (omega arith) in
+    let end = c.requires.starts.each (c.ilog2-exponent.result + 1) (omega arith) in
+    let values = values-within c.args.count c.ilog2-exponent.result in
+    omega arith
 
 pub returns : goal.returns
 returns c =
@@ -16,10 +28,12 @@ returns c =
     let least = c.ilog2-exponent.ensures.power_le in
     let past = c.ilog2-exponent.ensures.next_power_gt in
     let most = exponent-greatest 65535 15 e (omega arith) (omega arith) in
-    let power = one_shl e 64 (omega arith) in
-    let left = ap (λ n. slice_index c.args.numbers.now n) (let place : base + c.level_start.result + c.args.from ≡ start + c.args.from = omega arith in place) in
+    let begin = c.requires.starts.each e (omega arith) in
+    let end = c.requires.starts.each (e + 1) (omega arith) in
+    let next = entries_before-next c.args.count e in
+    let left = ap (λ n. slice_index c.args.numbers.now n) (let place : base + slice_index c.args.starts.now e + c.args.from ≡ start + c.args.from = omega arith in place) in
     let right = ap (λ n. slice_index c.args.numbers.now n)
-    (let place : base + c.level_start.result + c.args.from + (c.args.to - c.args.from + 1) - 1 * 2 ^ e % 2 ^ 64 ≡ start + i = omega arith in place) in
+    (let place : base + slice_index c.args.starts.now (e + 1) - (c.args.count - c.args.to) ≡ start + i = omega arith in place) in
     subst (λ m. IsLeast c.args.numbers.now (base + c.args.from) (base + c.args.to + 1) m)
     (let same : min (slice_index c.args.numbers.now (start + c.args.from)) (slice_index c.args.numbers.now (start + i)) ≡ c.min.result = omega (arith, c.min.ensures) in same)
     (least-two c.args.numbers.now (2 ^ e) (base + c.args.from) (base + i) (base + c.args.to + 1) (slice_index c.args.numbers.now (start + c.args.from))

@@ -1,5 +1,5 @@
 -- Answers in the proof of `Kept::greatest`.
-use Rattle.std.proofs.Common.{◌≡◌, ℕ, ◌+◌, ◌-◌, ◌^◌, List, ◌∙◌, subst, arith}
+use Rattle.std.proofs.Common.{◌≡◌, ℕ, ◌+◌, ◌-◌, ◌^◌, List, slice_index, ◌∙◌, subst, arith}
 use Rattle.psi_index.specs.Extremes.{IsLeast, IsRising, IsValueList}
 use Rattle.psi_index.proofs.KeptLemmas.{front-length, turned-above, turned-reached}
 use Rattle.psi_index.proofs.RisingLemmas.{greatest-slice_range, rising-order, rising-greatest}
@@ -18,22 +18,22 @@ returns-then-self-clause-above c = λ k low high.
 
 -- the least complement of the stretch
 least-is : (c : goal.After-least_within)
-    → IsLeast c.self.inside.numbers.items (c.self.inside.size + c.args.from) (c.self.inside.size + (c.args.to + 1)) c.least_within.result
+    → IsLeast c.self.inside.numbers.items (slice_index c.self.inside.starts 16 + c.args.from) (slice_index c.self.inside.starts 16 + (c.args.to + 1)) c.least_within.result
 least-is c =
-    subst (λ (xs : List ℕ). IsLeast xs (c.self.inside.size + c.args.from) (c.self.inside.size + (c.args.to + 1)) c.least_within.result) c.deref.ensures.value
-    (subst (λ n. IsLeast c.deref.result.now (c.self.inside.size + c.args.from) n c.least_within.result)
-    (let past : c.self.inside.size + c.args.to + 1 ≡ c.self.inside.size + (c.args.to + 1) = omega arith in past) c.least_within.ensures)
+    subst (λ (xs : List ℕ). IsLeast xs (slice_index c.self.inside.starts 16 + c.args.from) (slice_index c.self.inside.starts 16 + (c.args.to + 1)) c.least_within.result) c.deref.ensures.value
+    (subst (λ n. IsLeast c.deref.result.now (slice_index c.self.inside.starts 16 + c.args.from) n c.least_within.result)
+    (let past : slice_index c.self.inside.starts 16 + c.args.to + 1 ≡ slice_index c.self.inside.starts 16 + (c.args.to + 1) = omega arith in past) c.least_within.ensures)
 
 pub returns-clause-above : goal.returns-clause-above
 returns-clause-above c = λ k low high.
     let count = front-length c.self.inside.numbers.items c.args.self.now c.self.inside.count c.self.view_is c.self.invariant.0.counted in
-    turned-above c.self.inside.numbers.items c.args.self.now c.self.inside.count c.self.inside.size c.args.from (c.args.to + 1) c.least_within.result k c.self.view_is
+    turned-above c.self.inside.numbers.items c.args.self.now c.self.inside.count (slice_index c.self.inside.starts 16) c.args.from (c.args.to + 1) c.least_within.result k c.self.view_is
     (omega arith) (subst (λ (xs : List ℕ). IsValueList xs) c.self.view_is c.self.invariant.0.valid) (c.self.invariant.0.turned c.if-self.false) (least-is c) low (omega arith)
 
 pub returns-clause-reached : goal.returns-clause-reached
 returns-clause-reached c =
     let count = front-length c.self.inside.numbers.items c.args.self.now c.self.inside.count c.self.view_is c.self.invariant.0.counted in
-    let found = turned-reached c.self.inside.numbers.items c.args.self.now c.self.inside.count c.self.inside.size c.args.from (c.args.to + 1) c.least_within.result c.self.view_is
+    let found = turned-reached c.self.inside.numbers.items c.args.self.now c.self.inside.count (slice_index c.self.inside.starts 16) c.args.from (c.args.to + 1) c.least_within.result c.self.view_is
     (omega arith) (subst (λ (xs : List ℕ). IsValueList xs) c.self.view_is c.self.invariant.0.valid) (c.self.invariant.0.turned c.if-self.false) (least-is c) in
     (found.0, found.1, omega arith, found.3)
 

@@ -1,5 +1,5 @@
 -- Answers in the proof of `Kept::peaks`.
-use Rattle.std.proofs.Common.{ℕ, ◌+◌, ◌*◌, List, slice_range, sym, subst, arith}
+use Rattle.std.proofs.Common.{ℕ, ◌+◌, ◌*◌, List, slice_index, slice_range, sym, subst, arith}
 use Rattle.psi_index.specs.BoundsKept.{ArePeaks}
 use Rattle.psi_index.specs.Extremes.{IsRising}
 use Rattle.psi_index.proofs.KeptLemmas.{peaks-behind}
@@ -13,7 +13,7 @@ returns-then-self c =
 
 pub returns : goal.returns
 returns c =
-    let base = 2 * c.self.inside.size in
+    let base = 2 * slice_index c.self.inside.starts 16 in
     let room = c.self.invariant.1.room c.if-self.false in
     subst (λ (xs : List ℕ). ArePeaks c.args.self.now (slice_range xs base (base + c.self.inside.count))) (sym c.deref.ensures.value)
     (peaks-behind c.self.inside.numbers.items c.args.self.now c.self.inside.count base c.self.view_is c.self.invariant.0.counted (omega arith)
