@@ -1,11 +1,11 @@
 -- The values of a table in front of all that it keeps of them.
-use Rattle.std.proofs.Common.{rules, IsTrue, ◌↔◌, ◌++◌, ◌≡◌, ℕ, ◌+◌, ◌-◌, ◌*◌, ◌^◌, ◌<◌, ◌≤◌, false, List, length, slice_index, slice_range, take, drop, ap, sym, ◌∙◌, subst, arith}
-use Rattle.std.proofs.Math.Seq.{take-append_seam}
-use Rattle.std.proofs.lemmas.List.{ext_get_or, get_or-take, length-take-le}
+use Rattle.std.proofs.Common.{rules, IsTrue, ◌↔◌, ◌++◌, ◌≡◌, ℕ, ◌+◌, ◌-◌, ◌*◌, ◌^◌, ◌<◌, ◌≤◌, false, List, length, length-drop, slice_index, slice_range, take, drop, ap, sym, ◌∙◌, subst, arith}
+use Rattle.std.proofs.Math.Seq.{take-append_seam, take-length}
+use Rattle.std.proofs.lemmas.List.{ext_get_or, get_or-drop, get_or-take, length-take-le}
 use Rattle.psi_index.specs.BoundsKept.{AreBounds, ArePeaks, AreTroughs, HasPeaks, HasTroughs}
 use Rattle.psi_index.specs.Extremes.{IsFront, IsLeast, IsRising, IsValueList}
 use Rattle.psi_index.specs.LevelsKept.{AreComplements, AreStarts, IsSparse, IsTable}
-use Rattle.psi_index.proofs.JoiningLemmas.{length-slice_range, slice_index-slice_range}
+use Rattle.psi_index.proofs.JoiningLemmas.{least-same, length-slice_range, slice_index-slice_range}
 
 pub front-length : (numbers values : List ℕ) (count : ℕ) → take count numbers ≡ values → count ≤ length numbers → length values ≡ count
 front-length numbers values count is within = ap (λ (xs : List ℕ). length xs) (sym is) ∙ length-take-le {A = ℕ} count numbers within
@@ -22,35 +22,37 @@ front-is numbers values within same =
     get_or-take {A = ℕ} (length values) numbers i 0 (omega arith) ∙ same i (omega arith))
 
 -- the least of a stretch in front is that of the values
-pub front-least : (numbers values : List ℕ) (count first last m : ℕ) → take count numbers ≡ values → last < count → IsLeast numbers (0 + first) (0 + last + 1) m
-    → IsLeast values first (last + 1) m
-front-least numbers values count first last m is within least = record {
-  below = λ k low less. (let here = front-index numbers values count k is (omega arith) in let most = least.below k (omega arith) (omega arith) in omega arith);
-  reached = (let found = least.reached in let here = front-index numbers values count found.0 is (omega arith) in (found.0, omega arith, omega arith, omega arith));
-}
+pub front-least : (numbers values : List ℕ) (count first past m : ℕ) → take count numbers ≡ values → past ≤ count → IsLeast numbers first past m → IsLeast values first past m
+front-least numbers values count first past m is within least =
+    least-same numbers values first past m least (λ k less. front-index numbers values count k is (omega arith))
+
+-- what stands behind a place
+pub rest-is : (numbers : List ℕ) (base : ℕ) → take (length numbers - base) (drop base numbers) ≡ drop base numbers
+rest-is numbers base = ap (λ n. take n (drop base numbers)) (sym (length-drop {A = ℕ} base numbers)) ∙ take-length {A = ℕ} (drop base numbers)
 
 -- no value of a stretch is above what the least complement leaves
 pub turned-above : (numbers values : List ℕ) (count high first past least k : ℕ) → take count numbers ≡ values → past ≤ count → IsValueList values
-    → AreComplements numbers high count → IsLeast numbers (high + first) (high + past) least → first ≤ k → k < past → slice_index values k ≤ 2 ^ 32 - 1 - least
+    → AreComplements numbers high count → IsLeast (drop high numbers) first past least → first ≤ k → k < past → slice_index values k ≤ 2 ^ 32 - 1 - least
 turned-above numbers values count high first past least k is within valid turned lowest low less =
     let here = front-index numbers values count k is (omega arith) in
     let turn = turned.each k (omega arith) in
-    let below = lowest.below (high + k) (omega arith) (omega arith) in
+    let there = get_or-drop {A = ℕ} high numbers k 0 in
+    let below = lowest.below k low less in
     let fits = valid.each k in
     omega arith
 
 -- and one of them is that
 pub turned-reached : (numbers values : List ℕ) (count high first past least : ℕ) → take count numbers ≡ values → past ≤ count → IsValueList values
-    → AreComplements numbers high count → IsLeast numbers (high + first) (high + past) least
+    → AreComplements numbers high count → IsLeast (drop high numbers) first past least
     → (k : ℕ) × (first ≤ k) × (k < past) × (slice_index values k ≡ 2 ^ 32 - 1 - least)
 turned-reached numbers values count high first past least is within valid turned lowest =
     let found = lowest.reached in
-    let k = found.0 - high in
+    let k = found.0 in
     let here = front-index numbers values count k is (omega arith) in
     let turn = turned.each k (omega arith) in
-    let same = ap (λ n. slice_index numbers n) (let place : high + k ≡ found.0 = omega arith in place) in
+    let there = get_or-drop {A = ℕ} high numbers k 0 in
     let fits = valid.each k in
-    (k, omega arith, omega arith, omega arith)
+    (k, found.1, found.2, omega arith)
 
 -- the bounds behind the values are those of the values
 pub peaks-behind : (numbers values : List ℕ) (count base : ℕ) → take count numbers ≡ values → count ≤ length numbers → base + count ≤ length numbers → HasPeaks numbers base count

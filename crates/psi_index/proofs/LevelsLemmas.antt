@@ -1,7 +1,8 @@
 -- The levels of a sparse table: where they begin, and that they stay.
-use Rattle.std.proofs.Common.{◌≡◌, ℕ, zero, suc, ◌+◌, ◌-◌, ◌*◌, ◌^◌, ◌<◌, ◌≤◌, List, length, min, slice_index, inl, inr, ap, sym, subst, arith}
+use Rattle.std.proofs.Common.{◌≡◌, ℕ, zero, suc, ◌+◌, ◌-◌, ◌*◌, ◌^◌, ◌<◌, ◌≤◌, List, drop, length, length-drop, min, slice_index, inl, inr, ap, sym, subst, arith}
 use Rattle.std.proofs.Math.Nat.{pow-succ', pow-le-pow_right}
 use Rattle.std.proofs.lemmas.Bool.{cases_lt}
+use Rattle.std.proofs.lemmas.List.{get_or-drop}
 use Rattle.psi_index.specs.Extremes.{IsLeast}
 use Rattle.psi_index.specs.LevelsKept.{AreLevels, AreStarts, HoldsLevels, IsSparse, entries_before}
 use Rattle.psi_index.proofs.JoiningLemmas.{least-same, least-two}
@@ -107,4 +108,25 @@ starts-hold count starts few are = record {
       let last = are.each 16 (omega arith) in
       let order = entries_before-order count (e + 1) 16 (omega arith) in
       omega arith);
+}
+
+-- a table behind others is one by itself
+pub sparse-behind : (numbers : List ℕ) (base count : ℕ) → IsSparse numbers base count → base ≤ length numbers → IsSparse (drop base numbers) 0 count
+sparse-behind numbers base count is within = record {
+  few = is.few;
+  room = λ e fits. (let room = is.room e fits in let long : length (drop base numbers) ≡ length numbers - base = length-drop {A = ℕ} base numbers in omega arith);
+  each = λ e i fits.
+      (let least = is.each e i fits in
+      let entry = get_or-drop {A = ℕ} base numbers (0 + entries_before count e + i) 0 in
+      let same = ap (λ n. slice_index numbers n) (let place : base + (0 + entries_before count e + i) ≡ base + entries_before count e + i = omega arith in place) in
+      let found = least.reached in
+      record {
+        below = λ k low less.
+            (let value = get_or-drop {A = ℕ} base numbers k 0 in let most = least.below (base + k) (omega arith) (omega arith) in omega arith);
+        reached =
+            (let k = found.0 - base in
+            let value = get_or-drop {A = ℕ} base numbers k 0 in
+            let there = ap (λ n. slice_index numbers n) (let place : base + k ≡ found.0 = omega arith in place) in
+            (k, omega arith, omega arith, omega arith));
+      });
 }

@@ -126,7 +126,7 @@ impl Kept {
         if self.rises {
             return self.at(from);
         }
-        least_within(&self.numbers, &self.starts, 0, self.count, from, to)
+        least_within(&self.numbers, &self.starts, self.count, from, to)
     }
 
     // The greatest of them.
@@ -140,8 +140,8 @@ impl Kept {
         if self.rises {
             return self.at(to);
         }
-        let high = self.starts[16] as usize;
-        u32::MAX - least_within(&self.numbers, &self.starts, high, self.count, from, to)
+        let high = &self.numbers[self.starts[16] as usize..];
+        u32::MAX - least_within(high, &self.starts, self.count, from, to)
     }
 
     // For each place a number that no value up to it is above: the greatest of them.

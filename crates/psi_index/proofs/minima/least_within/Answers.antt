@@ -22,8 +22,7 @@ overflow_sub-last-2 c =
 pub returns : goal.returns
 returns c =
     let e = c.ilog2-exponent.result in
-    let base = c.args.base in
-    let start = base + entries_before c.args.count e in
+    let start = 0 + entries_before c.args.count e in
     let i = c.args.to + 1 - 2 ^ e in
     let least = c.ilog2-exponent.ensures.power_le in
     let past = c.ilog2-exponent.ensures.next_power_gt in
@@ -31,11 +30,12 @@ returns c =
     let begin = c.requires.starts.each e (omega arith) in
     let end = c.requires.starts.each (e + 1) (omega arith) in
     let next = entries_before-next c.args.count e in
-    let left = ap (λ n. slice_index c.args.numbers.now n) (let place : base + slice_index c.args.starts.now e + c.args.from ≡ start + c.args.from = omega arith in place) in
+    let left = ap (λ n. slice_index c.args.numbers.now n) (let place : slice_index c.args.starts.now e + c.args.from ≡ start + c.args.from = omega arith in place) in
     let right = ap (λ n. slice_index c.args.numbers.now n)
-    (let place : base + slice_index c.args.starts.now (e + 1) - (c.args.count - c.args.to) ≡ start + i = omega arith in place) in
-    subst (λ m. IsLeast c.args.numbers.now (base + c.args.from) (base + c.args.to + 1) m)
+    (let place : slice_index c.args.starts.now (e + 1) - (c.args.count - c.args.to) ≡ start + i = omega arith in place) in
+    subst (λ n. IsLeast c.args.numbers.now n (c.args.to + 1) c.min.result) (let same : 0 + c.args.from ≡ c.args.from = omega arith in same)
+    (subst (λ m. IsLeast c.args.numbers.now (0 + c.args.from) (c.args.to + 1) m)
     (let same : min (slice_index c.args.numbers.now (start + c.args.from)) (slice_index c.args.numbers.now (start + i)) ≡ c.min.result = omega (arith, c.min.ensures) in same)
-    (least-two c.args.numbers.now (2 ^ e) (base + c.args.from) (base + i) (base + c.args.to + 1) (slice_index c.args.numbers.now (start + c.args.from))
+    (least-two c.args.numbers.now (2 ^ e) (0 + c.args.from) (0 + i) (c.args.to + 1) (slice_index c.args.numbers.now (start + c.args.from))
     (slice_index c.args.numbers.now (start + i)) (c.requires.sparse.each e c.args.from (omega arith)) (c.requires.sparse.each e i (omega arith))
-    (omega arith) (omega arith) (omega arith))
+    (omega arith) (omega arith) (omega arith)))

@@ -1,7 +1,9 @@
 -- Answers in the proof of `Kept::greatest`.
-use Rattle.std.proofs.Common.{◌≡◌, ℕ, ◌+◌, ◌-◌, ◌^◌, List, slice_index, ◌∙◌, subst, arith}
+use Rattle.std.proofs.Common.{ℕ, ◌+◌, ◌-◌, ◌^◌, List, sym, drop, slice_index, ◌∙◌, subst, arith}
 use Rattle.psi_index.specs.Extremes.{IsLeast, IsRising, IsValueList}
-use Rattle.psi_index.proofs.KeptLemmas.{front-length, turned-above, turned-reached}
+use Rattle.psi_index.proofs.KeptLemmas.{rest-is, front-length, turned-above, turned-reached}
+use Rattle.psi_index.specs.LevelsKept.{IsSparse}
+use Rattle.psi_index.proofs.LevelsLemmas.{sparse-behind}
 use Rattle.psi_index.proofs.RisingLemmas.{greatest-slice_range, rising-order, rising-greatest}
 use Rattle.psi_index.proofs.kept.Kept.greatest.Goals as goal
 
@@ -16,13 +18,21 @@ returns-then-self-clause-above c = λ k low high.
     let order = rising-order c.args.self.now k c.args.to rising high (omega arith) in
     omega (arith, c.at.ensures)
 
+pub least_within-requires-clause-sparse : goal.least_within-requires-clause-sparse
+least_within-requires-clause-sparse c =
+    let size = slice_index c.self.inside.starts 16 in
+    let numbers = c.self.inside.numbers.items in
+    let room = c.self.invariant.1.room c.if-self.false in
+    subst (λ (xs : List ℕ). IsSparse xs 0 c.self.inside.count) (sym (rest-is c.deref.result.now size))
+    (subst (λ (xs : List ℕ). IsSparse (drop size xs) 0 c.self.inside.count) (sym c.deref.ensures.value)
+    (sparse-behind numbers size c.self.inside.count (c.self.invariant.0.most c.if-self.false) (omega arith)))
+
 -- the least complement of the stretch
-least-is : (c : goal.After-least_within)
-    → IsLeast c.self.inside.numbers.items (slice_index c.self.inside.starts 16 + c.args.from) (slice_index c.self.inside.starts 16 + (c.args.to + 1)) c.least_within.result
+least-is : (c : goal.After-least_within) → IsLeast (drop (slice_index c.self.inside.starts 16) c.self.inside.numbers.items) c.args.from (c.args.to + 1) c.least_within.result
 least-is c =
-    subst (λ (xs : List ℕ). IsLeast xs (slice_index c.self.inside.starts 16 + c.args.from) (slice_index c.self.inside.starts 16 + (c.args.to + 1)) c.least_within.result) c.deref.ensures.value
-    (subst (λ n. IsLeast c.deref.result.now (slice_index c.self.inside.starts 16 + c.args.from) n c.least_within.result)
-    (let past : slice_index c.self.inside.starts 16 + c.args.to + 1 ≡ slice_index c.self.inside.starts 16 + (c.args.to + 1) = omega arith in past) c.least_within.ensures)
+    let size = slice_index c.self.inside.starts 16 in
+    subst (λ (xs : List ℕ). IsLeast (drop size xs) c.args.from (c.args.to + 1) c.least_within.result) c.deref.ensures.value
+    (subst (λ (xs : List ℕ). IsLeast xs c.args.from (c.args.to + 1) c.least_within.result) (rest-is c.deref.result.now size) c.least_within.ensures)
 
 pub returns-clause-above : goal.returns-clause-above
 returns-clause-above c = λ k low high.

@@ -23,8 +23,8 @@ least-is : (c : goal.After-least_within) → IsLeast c.args.self.now c.args.from
 least-is c =
     let numbers = c.self.inside.numbers.items in
     let count = front-length numbers c.args.self.now c.self.inside.count c.self.view_is c.self.invariant.0.counted in
-    front-least numbers c.args.self.now c.self.inside.count c.args.from c.args.to c.least_within.result c.self.view_is (omega arith)
-    (subst (λ (xs : List ℕ). IsLeast xs (0 + c.args.from) (0 + c.args.to + 1) c.least_within.result) c.deref.ensures.value c.least_within.ensures)
+    front-least numbers c.args.self.now c.self.inside.count c.args.from (c.args.to + 1) c.least_within.result c.self.view_is (omega arith)
+    (subst (λ (xs : List ℕ). IsLeast xs c.args.from (c.args.to + 1) c.least_within.result) c.deref.ensures.value c.least_within.ensures)
 
 pub returns-clause-value : goal.returns-clause-value
 returns-clause-value c = least-slice_range c.args.self.now c.args.from (c.args.to + 1) c.least_within.result (least-is c) (omega arith)
