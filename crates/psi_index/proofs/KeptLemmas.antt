@@ -7,9 +7,11 @@ use Rattle.psi_index.specs.Extremes.{IsFront, IsLeast, IsRising, IsValueList}
 use Rattle.psi_index.specs.LevelsKept.{AreComplements, AreStarts, IsSparse, IsTable}
 use Rattle.psi_index.proofs.JoiningLemmas.{least-same, length-slice_range, slice_index-slice_range}
 
+-- the values are as many as stand in front
 pub front-length : (numbers values : List ℕ) (count : ℕ) → take count numbers ≡ values → count ≤ length numbers → length values ≡ count
 front-length numbers values count is within = ap (λ (xs : List ℕ). length xs) (sym is) ∙ length-take-le {A = ℕ} count numbers within
 
+-- and each is the number at its place
 pub front-index : (numbers values : List ℕ) (count k : ℕ) → take count numbers ≡ values → k < count → slice_index values k ≡ slice_index numbers k
 front-index numbers values count k is small = subst (λ (xs : List ℕ). slice_index xs k ≡ slice_index numbers k) is (get_or-take {A = ℕ} count numbers k 0 small)
 
@@ -67,6 +69,7 @@ peaks-behind numbers values count base is fits room peaks =
           let most = peaks.above i k order (omega arith) in omega arith);
     }
 
+-- those from each place on, too
 pub troughs-behind : (numbers values : List ℕ) (count base : ℕ) → take count numbers ≡ values → count ≤ length numbers → base + count ≤ length numbers → HasTroughs numbers base count
     → AreTroughs values (slice_range numbers base (base + count))
 troughs-behind numbers values count base is fits room troughs =
@@ -88,14 +91,16 @@ pub sparse-kept : (numbers values starts : List ℕ) (count size front : ℕ) �
     → IsValueList values → ¬ IsRising values → IsFront values front → AreStarts count starts → IsSparse numbers 0 count → AreComplements numbers size count
     → IsSparse numbers size count → HasPeaks numbers (2 * size) count → HasTroughs numbers (2 * size + count) count
     → IsTable numbers starts count false × AreBounds numbers count (slice_index starts 16) false × IsFront (take count numbers) front
-sparse-kept numbers values starts count size front is last room valid falls front_is begin low turned high peaks troughs =
-    (record {
-      counted = omega arith;
-      valid = subst (λ (xs : List ℕ). IsValueList xs) (sym is) valid;
-      risen = subst (λ (xs : List ℕ). IsTrue false ↔ IsRising xs) (sym is) (search rules);
-      begun = λ _. begin;
-      turned = λ _. subst (λ n. AreComplements numbers n count) last turned;
-      least = λ _. low;
-      most = λ _. subst (λ n. IsSparse numbers n count) last high;
-    }, subst (λ n. AreBounds numbers count n false) last (record { room = λ _. room; up_to = λ _. peaks; from_on = λ _. troughs; }),
-    subst (λ (xs : List ℕ). IsFront xs front) (sym is) front_is)
+sparse-kept numbers values starts count size front is last room valid falls front_is begin low turned high peaks troughs = (
+  record {
+    counted = omega arith;
+    valid = subst (λ (xs : List ℕ). IsValueList xs) (sym is) valid;
+    risen = subst (λ (xs : List ℕ). IsTrue false ↔ IsRising xs) (sym is) (search rules);
+    begun = λ _. begin;
+    turned = λ _. subst (λ n. AreComplements numbers n count) last turned;
+    least = λ _. low;
+    most = λ _. subst (λ n. IsSparse numbers n count) last high;
+  },
+  subst (λ n. AreBounds numbers count n false) last (record { room = λ _. room; up_to = λ _. peaks; from_on = λ _. troughs }),
+  subst (λ (xs : List ℕ). IsFront xs front) (sym is) front_is,
+)

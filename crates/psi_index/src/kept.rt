@@ -78,7 +78,7 @@ impl Kept {
     {
         let count = values.len() as u16;
         let starts = level_starts(count);
-        let size = starts[16] as usize;
+        let size = starts[STARTS - 1] as usize;
         let mut numbers = values;
         numbers.resize(2 * (size + count as usize), 0)?;
         fill(&mut numbers, &starts, size, count);
@@ -126,7 +126,7 @@ impl Kept {
         if self.rises {
             return self.at(from);
         }
-        least_within(&self.numbers, &self.starts, self.count, from, to)
+        least_within(&self.numbers, &self.starts, from, to)
     }
 
     // The greatest of them.
@@ -140,8 +140,8 @@ impl Kept {
         if self.rises {
             return self.at(to);
         }
-        let high = &self.numbers[self.starts[16] as usize..];
-        u32::MAX - least_within(high, &self.starts, self.count, from, to)
+        let high = &self.numbers[self.starts[STARTS - 1] as usize..];
+        u32::MAX - least_within(high, &self.starts, from, to)
     }
 
     // For each place a number that no value up to it is above: the greatest of them.
@@ -151,7 +151,7 @@ impl Kept {
         if self.rises {
             return self.values();
         }
-        let first = 2 * self.starts[16] as usize;
+        let first = 2 * self.starts[STARTS - 1] as usize;
         &self.numbers[first..first + self.count as usize]
     }
 
@@ -163,7 +163,7 @@ impl Kept {
             return self.values();
         }
         let count = self.count as usize;
-        let first = 2 * self.starts[16] as usize + count;
+        let first = 2 * self.starts[STARTS - 1] as usize + count;
         &self.numbers[first..first + count]
     }
 

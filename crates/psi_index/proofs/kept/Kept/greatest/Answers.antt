@@ -23,9 +23,14 @@ least_within-requires-clause-sparse c =
     let size = slice_index c.self.inside.starts 16 in
     let numbers = c.self.inside.numbers.items in
     let room = c.self.invariant.1.room c.if-self.false in
-    subst (λ (xs : List ℕ). IsSparse xs 0 c.self.inside.count) (sym (rest-is c.deref.result.now size))
-    (subst (λ (xs : List ℕ). IsSparse (drop size xs) 0 c.self.inside.count) (sym c.deref.ensures.value)
-    (sparse-behind numbers size c.self.inside.count (c.self.invariant.0.most c.if-self.false) (omega arith)))
+    let count = front-length numbers c.args.self.now c.self.inside.count c.self.view_is c.self.invariant.0.counted in (
+      c.self.inside.count,
+      c.self.invariant.0.begun c.if-self.false,
+      subst (λ (xs : List ℕ). IsSparse xs 0 c.self.inside.count) (sym (rest-is c.deref.result.now size))
+          (subst (λ (xs : List ℕ). IsSparse (drop size xs) 0 c.self.inside.count) (sym c.deref.ensures.value)
+          (sparse-behind numbers size c.self.inside.count (c.self.invariant.0.most c.if-self.false) (omega arith))),
+      omega arith,
+    )
 
 -- the least complement of the stretch
 least-is : (c : goal.After-least_within) → IsLeast (drop (slice_index c.self.inside.starts 16) c.self.inside.numbers.items) c.args.from (c.args.to + 1) c.least_within.result

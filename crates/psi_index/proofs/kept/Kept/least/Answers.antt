@@ -1,7 +1,8 @@
 -- Answers in the proof of `Kept::least`.
-use Rattle.std.proofs.Common.{ℕ, ◌+◌, List, slice_index, ◌∙◌, subst, arith}
+use Rattle.std.proofs.Common.{ℕ, ◌+◌, List, slice_index, ◌∙◌, subst, arith, sym}
 use Rattle.psi_index.specs.Extremes.{IsLeast, IsRising}
 use Rattle.psi_index.proofs.JoiningLemmas.{least-slice_range}
+use Rattle.psi_index.specs.LevelsKept.{IsSparse}
 use Rattle.psi_index.proofs.KeptLemmas.{front-least, front-length}
 use Rattle.psi_index.proofs.RisingLemmas.{rising-order, rising-least}
 use Rattle.psi_index.proofs.kept.Kept.least.Goals as goal
@@ -17,6 +18,15 @@ returns-then-self-clause-below c = λ k low high.
     let rising : IsRising c.args.self.now = subst (λ (xs : List ℕ). IsRising xs) c.self.view_is (c.self.invariant.0.risen.0 c.if-self.true) in
     let order = rising-order c.args.self.now c.args.from k rising low (omega arith) in
     omega (arith, c.at.ensures)
+
+pub least_within-requires-clause-sparse : goal.least_within-requires-clause-sparse
+least_within-requires-clause-sparse c =
+    let count = front-length c.self.inside.numbers.items c.args.self.now c.self.inside.count c.self.view_is c.self.invariant.0.counted in (
+      c.self.inside.count,
+      c.self.invariant.0.begun c.if-self.false,
+      subst (λ (xs : List ℕ). IsSparse xs 0 c.self.inside.count) (sym c.deref.ensures.value) (c.self.invariant.0.least c.if-self.false),
+      omega arith,
+    )
 
 -- the least value of the stretch
 least-is : (c : goal.After-least_within) → IsLeast c.args.self.now c.args.from (c.args.to + 1) c.least_within.result
