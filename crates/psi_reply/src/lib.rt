@@ -25,7 +25,7 @@ pub use closed::closed_ending;
 pub use couple::couple_ending;
 pub use ending::Ending;
 pub use exact::exact_ending;
-pub use replay::replay_ending;
+pub use replay::{replay_ending, verdict_ending};
 pub use report::report_ending;
 pub use reward::reward_ending;
 pub use sample::sample_ending;

@@ -1,7 +1,8 @@
 //! `replay NET LOG`: the verdict of a network on a log.
 
-ghost use Rattle.std.specs.Prelude.{◌≡◌};
+ghost use Rattle.std.specs.Prelude.{◌≡◌, ℕ, List};
 ghost use Rattle.psi_log_words.specs.Refusal.{Gives};
+ghost use Rattle.psi_model.specs.Network.{Network};
 ghost use Rattle.psi_replay.specs.Passes.{replayed};
 ghost use Rattle.psi_replay.specs.declared.answers.Verdict.TheVariants.{Accepted};
 ghost use Rattle.psi_reply.specs.Replay.{judgement};
@@ -43,16 +44,23 @@ fn verdict_on(alloc: Global, net: &Net, text: &[u8]) -> Result<Verdict, LogError
     replay_text(alloc, &system, text)
 }
 
-/// The work for a replay, on the bytes of a log file: they are read as a log, and the log is judged, in one pass. The
-/// horizon and the state of one that is accepted, the first line that is refused or breaks a rule, with its cause, or
-/// want of memory.
+/// The work for a replay that gave this verdict: the horizon and the state of a log that is accepted, the first line that
+/// is refused or breaks a rule, with its cause, or want of memory.
 #[tactic(auto, using(crate::proofs::ReplayingLemmas::verdict_replied, crate::proofs::ReplayingLemmas::refusal_replied))]
-pub fn replay_ending<'w>(alloc: Global, net: &Net, text: &[u8]) -> Ending<'w>
-    ensures { EndsWith (ending_of result) (replay_reply net.now text.now) }
+pub fn verdict_ending<'w>(alloc: Global, verdict: Result<Verdict, LogError>) -> Ending<'w>
+    ensures { (net : Network) (text : List ℕ) → Gives (λ given. given) verdict (replayed (judgement net) text) → EndsWith (ending_of result) (replay_reply net text) }
 {
-    match verdict_on(alloc, net, text) {
+    match verdict {
         Ok(verdict) => tell(alloc, verdict),
         Err(LogError::Refused { line, cause }) => Ending::LogRefused { line, cause },
         Err(LogError::OutOfMemory) => Ending::OutOfMemory,
     }
+}
+
+/// The work for a replay, on the bytes of a log file that are in memory: they are read as a log, and the log is judged,
+/// in one pass. It is that for the verdict, as in [`verdict_ending`].
+pub fn replay_ending<'w>(alloc: Global, net: &Net, text: &[u8]) -> Ending<'w>
+    ensures { EndsWith (ending_of result) (replay_reply net.now text.now) }
+{
+    verdict_ending(alloc, verdict_on(alloc, net, text))
 }

@@ -1,13 +1,13 @@
 //! Reading the files that a command names.
 
-ghost use Rattle.std.specs.Prelude.{◌≡◌, ◌≤◌, ◌++◌, ℕ, List, [], ◌∷◌, IfOk, IfErr};
+ghost use Rattle.std.specs.Prelude.{◌≡◌, ◌≤◌, ◌++◌, ℕ, List, [], ◌∷◌, IfOk, IfErr, OnOk};
 ghost use Rattle.psi_command.specs.Command.{net_file, log_file};
 ghost use Rattle.psi_program.specs.Ending.{HasRead};
 ghost use Rattle.psi_run.specs.Reads.{read_of};
 ghost use Rattle.psi_reply.specs.Ended.{ending_of};
 ghost use Rattle.psi_run.specs.Files.{IsNetAt, IsNoNet, IsTextAt, IsNoText};
 
-use psi_io::{Shelf, ShelfFault};
+use psi_io::{Consumer, Shelf, ShelfFault};
 use psi_log_text::MOST_LOG_BYTES;
 use psi_net::{Net, NetError, net_of};
 use psi_net_document::MOST_NET_BYTES;
@@ -46,24 +46,27 @@ pub(crate) fn network_at<'w, F: Shelf>(
     }
 }
 
-/// The bytes of the log in the file of this name; of a longer file than a log may be, no more than show that it is
-/// too long. Where there are none, a read of the file failed in this call, or there was not enough memory.
-pub(crate) fn log_bytes<'w, F: Shelf>(
-    alloc: Global,
+/// Hands the bytes of the log in the file of this name to what has taken none yet; of a longer file than a log may be, no
+/// more than show that it is too long. Where it takes not all, a read of the file failed in this call, or there was not
+/// enough memory.
+pub(crate) fn feed_log<'w, F: Shelf, C: Consumer>(
     shelf: &mut F,
     name: &'w str,
-) -> Result<Vec<u8>, Ending<'w>>
-    ensures text { IfOk result (λ bytes. IsTextAt (F.told shelf.old) name.now bytes.items) }
+    to: &mut C,
+) -> Result<(), Ending<'w>>
+    requires { C.taken to.old ≡ [] }
+    ensures text { OnOk result (IsTextAt (F.told shelf.old) name.now (C.taken to.new)) }
     ensures none { IfErr result (IsNoText (record { told = F.told shelf.old; asked_before = F.asked shelf.old; asked_after = F.asked shelf.new; faults_before = F.faults shelf.old; faults_after = F.faults shelf.new })
         name.now) }
+    ensures setting { C.setting to.new ≡ C.setting to.old }
     // Where the shelf gives the file, no read of it failed, and no count rose.
     ensures read { F.gives shelf.old name.now → IfErr result (λ ending. HasRead (ending_of ending)) }
     ensures spared { F.gives shelf.old name.now → F.faults shelf.new ≡ F.faults shelf.old }
     // The file is read once, with its limit.
     ensures asked { F.asked shelf.new ≡ F.asked shelf.old ++ read_of (log_file name.now) ∷ [] }
 {
-    match shelf.read(alloc, name, MOST_LOG_BYTES) {
-        Ok(bytes) => Ok(bytes),
+    match shelf.feed(name, MOST_LOG_BYTES, to) {
+        Ok(()) => Ok(()),
         Err(ShelfFault::Failed) => Err(Ending::LogUnread(name)),
         Err(ShelfFault::OutOfMemory) => Err(Ending::OutOfMemory),
     }

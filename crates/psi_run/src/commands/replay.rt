@@ -1,4 +1,4 @@
-//! `replay NET LOG`: the reading of the log.
+//! `replay NET LOG`: the reading of the log, which is judged as it comes.
 
 ghost use Rattle.std.specs.Prelude.{◌≡◌, ◌++◌, ℕ, List, [], ◌∷◌, Ok};
 ghost use Rattle.psi_command.specs.Command.{replay, log_file};
@@ -8,13 +8,14 @@ ghost use Rattle.psi_run.specs.Reads.{read_of};
 ghost use Rattle.psi_run.specs.Ending.{IsEnding};
 ghost use Rattle.psi_run.specs.Files.{IsNetAt};
 
-use crate::files::log_bytes;
+use crate::files::feed_log;
 use psi_io::Shelf;
 use psi_net::Net;
-use psi_reply::{Ending, replay_ending};
+use psi_replay::StreamReplay;
+use psi_reply::{Ending, verdict_ending};
 use std::alloc::Global;
 
-/// The work for a replay: the log is read and judged.
+/// The work for a replay: the log is read and judged, piece by piece.
 pub(crate) fn work<'w, F: Shelf>(
     alloc: Global,
     shelf: &mut F,
@@ -28,8 +29,10 @@ pub(crate) fn work<'w, F: Shelf>(
     ensures spared { F.gives shelf.old log.now → F.faults shelf.new ≡ F.faults shelf.old }
     ensures asked { F.asked shelf.new ≡ F.asked shelf.old ++ read_of (log_file log.now) ∷ [] }
 {
-    match log_bytes(alloc, shelf, log) {
-        Ok(bytes) => replay_ending(alloc, net, bytes.as_slice()),
+    let system = net.system();
+    let mut replay = StreamReplay::new(alloc, &system);
+    match feed_log(shelf, log, &mut replay) {
+        Ok(()) => verdict_ending(alloc, replay.verdict()),
         Err(ending) => ending,
     }
 }

@@ -1,15 +1,32 @@
 -- Answers in the proof of `replay::work`.
+use Rattle.std.proofs.Common.{ap, ◌∙◌}
+use Rattle.psi_reply.proofs.ReplayingLemmas.{replayed_by}
 use Rattle.psi_run.proofs.ReplayingLemmas.{no_text, on_text}
 use Rattle.psi_run.proofs.SparingLemmas.{ends-read}
 use Rattle.psi_run.proofs.ReadFilesLemmas.{read_last}
 use Rattle.psi_run.proofs.commands.replay.work.Goals as goal
 
 pub returns-in-Ok-clause-ending : goal.returns-in-Ok-clause-ending
-returns-in-Ok-clause-ending g c name at = let ends = rw c.as_slice.ensures.value at c.replay_ending.ensures in
-    on_text _ name c.args.log.now c.args.net.now c.in-Ok.bytes.items _ at c.in-Ok.ensures.text ends
+returns-in-Ok-clause-ending g c name at =
+    let made = c.system-system.ensures in
+    let text = c.feed_log.new.to.taken in
+    let same = c.in-Ok.ensures.setting ∙ ap (λ r. r.system) c.new-replay.ensures in
+    let gives = rw same at c.verdict.ensures in
+    let ends = c.verdict_ending.ensures c.args.net.now text
+    (replayed_by _ c.system-system.result c.args.net.now text c.verdict.result made.kept
+    (record { caps = made.caps; functions = made.functions; rates = made.rates; limit = made.limit; split = made.split }) gives) in
+    on_text _ name c.args.log.now c.args.net.now text _ at c.in-Ok.ensures.text ends
 
 pub returns-in-Ok-clause-read : goal.returns-in-Ok-clause-read
-returns-in-Ok-clause-read g c given = ends-read _ _ c.replay_ending.ensures
+returns-in-Ok-clause-read g c given =
+    let made = c.system-system.ensures in
+    let text = c.feed_log.new.to.taken in
+    let same = c.in-Ok.ensures.setting ∙ ap (λ r. r.system) c.new-replay.ensures in
+    let gives = rw same at c.verdict.ensures in
+    let ends = c.verdict_ending.ensures c.args.net.now text
+    (replayed_by _ c.system-system.result c.args.net.now text c.verdict.result made.kept
+    (record { caps = made.caps; functions = made.functions; rates = made.rates; limit = made.limit; split = made.split }) gives) in
+    ends-read _ _ ends
 
-pub returns-in-Err-clause-ending : goal.returns-in-Err-clause-ending
-returns-in-Err-clause-ending g c name at = no_text _ name c.args.log.now c.args.net.now c.in-Err.ending at c.in-Err.ensures.none (read_last _ _ c.in-Err.ensures.asked)
+pub returns-clause-ending : goal.returns-clause-ending
+returns-clause-ending g c name at = no_text _ name c.args.log.now c.args.net.now c.in-Err.ending at c.in-Err.ensures.none (read_last _ _ c.in-Err.ensures.asked)
