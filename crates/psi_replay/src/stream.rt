@@ -87,6 +87,10 @@ fn read_on<E: EventLaw>(
         Err(error) => return Err(error),
     };
     let stands = !rest.is_empty();
+    if rest == lines {
+        // Nothing was read: all stays where it is.
+        return Ok((progress, stands));
+    }
     spare.clear();
     spare.extend_from_slice(rest)?;
     spare.extend_from_slice(behind)?;
