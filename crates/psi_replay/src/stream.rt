@@ -120,7 +120,7 @@ impl<'s, 'n, E: EventLaw> StreamReplay<'s, 'n, E> {
     /// # Errors
     ///
     /// The first line of the text that isn't as the grammar of logs has it, with its first cause, as `psi_log::Cause`
-    /// has them; `OutOfMemory`, and no clause says when that is. It is where a piece was refused for want of memory.
+    /// has them; `OutOfMemory`, and no clause says when that is.
     pub fn verdict(self) -> Result<Verdict, LogError>
         ensures { Gives (λ v. v) result (replayed (judged_under E.function self.entry.system) self.entry.taken) }
     {
@@ -168,8 +168,8 @@ impl<'s, 'n, E: EventLaw> StreamReplay<'s, 'n, E> {
     }
 }
 
-// How many times lines are still tried, where one stands that wasn't read or where none does: behind the first step it
-// will not be read by going on.
+// How many times lines are still tried, where one stands that wasn't read, or none does. Once the lines before the steps
+// are read, one that stands will not be read by going on.
 fn tries_left(tries: u8, stands: bool, progress: &Progress) -> u8 {
     if !stands {
         return tries;
