@@ -39,25 +39,19 @@ greatest_of-above (x ∷ []) (suc k) small = absurd (omega arith)
 greatest_of-above (x ∷ y ∷ ys) zero small = omega arith
 greatest_of-above (x ∷ y ∷ ys) (suc k) small = let rest = greatest_of-above (y ∷ ys) k (omega arith) in omega arith
 
--- a stretch's greatest value is the greatest number of the list of its values
-pub greatest-slice_range : (values : List ℕ) (first past m : ℕ) → past ≤ length values → ((k : ℕ) → first ≤ k → k < past → slice_index values k ≤ m)
-    → (k : ℕ) × (first ≤ k) × (k < past) × (slice_index values k ≡ m) → m ≡ greatest_of (slice_range values first past)
-greatest-slice_range values first past m within above found =
-    let xs : List ℕ = slice_range values first past in
-    let count : length xs ≡ past - first = length-slice_range values first past (omega arith) within in
-    let here = slice_index-slice_range values first past (found.0 - first) (omega arith) in
-    let same = ap (λ j. slice_index values j) (let e : first + (found.0 - first) ≡ found.0 = omega arith in e) in
-    let most = greatest_of-above xs (found.0 - first) (omega arith) in
-    let least = greatest_of-below xs m (omega arith) (λ k small.
-    (let at = slice_index-slice_range values first past k (omega arith) in let high = above (first + k) (omega arith) (omega arith) in omega arith)) in
-    omega arith
-
 -- the last value of a stretch is its greatest
 pub rising-greatest : (values : List ℕ) (first last : ℕ) → IsRising values → first ≤ last → last < length values
     → slice_index values last ≡ greatest_of (slice_range values first (last + 1))
 rising-greatest values first last rising order within =
-    greatest-slice_range values first (last + 1) (slice_index values last) (omega arith)
-    (λ k low less. rising-order values k last rising (omega arith) within) (last, order, omega arith, refl)
+    let xs : List ℕ = slice_range values first (last + 1) in
+    let count : length xs ≡ last + 1 - first = length-slice_range values first (last + 1) (omega arith) (omega arith) in
+    let here = slice_index-slice_range values first (last + 1) (last - first) (omega arith) in
+    let same = ap (λ j. slice_index values j) (let e : first + (last - first) ≡ last = omega arith in e) in
+    let above = greatest_of-above xs (last - first) (omega arith) in
+    let below = greatest_of-below xs (slice_index values last) (omega arith) (λ k small.
+    (let at = slice_index-slice_range values first (last + 1) k (omega arith) in
+    let most = rising-order values (first + k) last rising (omega arith) within in omega arith)) in
+    omega arith
 
 -- values that rise bound one another
 pub rising-peaks : (values : List ℕ) → IsRising values → ArePeaks values values

@@ -38,6 +38,11 @@ pub record IsLeast (values : List ℕ) (first past m : ℕ) : Type 0 where
   pub below : (k : ℕ) → first ≤ k → k < past → m ≤ slice_index values k
   pub reached : (k : ℕ) × (first ≤ k) × (k < past) × (slice_index values k ≡ m)
 
+-- for each stretch of this width, by its first place, its least value
+pub record AreLeast (values : List ℕ) (width : ℕ) (entries : List ℕ) : Type 0 where
+  pub count : length entries + width ≡ length values + 1
+  pub each : (i : ℕ) → i + width ≤ length values → IsLeast values i (i + width) (slice_index entries i)
+
 -- what is left of the greatest number of 32 bits
 abbrev pub complement : ℕ → ℕ
 complement value = 2 ^ 32 - 1 - value

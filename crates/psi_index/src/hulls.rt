@@ -1,34 +1,32 @@
 //! The greatest value up to each place of a list, and the least from it on.
 
-ghost use Rattle.std.specs.Prelude.{◌≡◌, ℕ, ◌+◌, ◌<◌, ◌≤◌, length, slice_index};
-ghost use Rattle.psi_index.specs.BoundsKept.{HasPeaks, HasTroughs};
+ghost use Rattle.std.specs.Prelude.{IfOk};
+ghost use Rattle.psi_index.specs.BoundsKept.{ArePeaks, AreTroughs};
 
-// The greatest of the first values up to each of their places, from the place `base` on.
-pub(crate) fn fill_peaks(numbers: &mut [u32], base: usize, count: usize)
-    requires behind { count ≤ base }
-    requires room { base + count ≤ length numbers.old }
-    ensures peaks { HasPeaks numbers.new base count }
-    ensures before { (k : ℕ) → k < base → slice_index numbers.new k ≡ slice_index numbers.old k }
-    ensures len { length numbers.new ≡ length numbers.old }
+use std::alloc::{AllocError, Global};
+
+// The greatest value up to each place.
+pub(crate) fn peaks_of(alloc: Global, values: &[u32]) -> Result<Vec<u32>, AllocError>
+    ensures { IfOk result (λ peaks. ArePeaks values.now peaks.items) }
 {
+    let mut peaks = Vec::from_slice(alloc, values)?;
     let mut peak = 0;
-    for i in 0..count {
-        peak = peak.max(numbers[i]);
-        numbers[base + i] = peak;
+    for i in 0..values.len() {
+        peak = peak.max(values[i]);
+        peaks[i] = peak;
     }
+    Ok(peaks)
 }
 
-// The least of the first values from each of their places on, from the place `base` on.
-pub(crate) fn fill_troughs(numbers: &mut [u32], base: usize, count: usize)
-    requires behind { count ≤ base }
-    requires room { base + count ≤ length numbers.old }
-    ensures troughs { HasTroughs numbers.new base count }
-    ensures before { (k : ℕ) → k < base → slice_index numbers.new k ≡ slice_index numbers.old k }
-    ensures len { length numbers.new ≡ length numbers.old }
+// The least value from each place on.
+pub(crate) fn troughs_of(alloc: Global, values: &[u32]) -> Result<Vec<u32>, AllocError>
+    ensures { IfOk result (λ troughs. AreTroughs values.now troughs.items) }
 {
+    let mut troughs = Vec::from_slice(alloc, values)?;
     let mut trough = u32::MAX;
-    for i in (0..count).rev() {
-        trough = trough.min(numbers[i]);
-        numbers[base + i] = trough;
+    for i in (0..values.len()).rev() {
+        trough = trough.min(values[i]);
+        troughs[i] = trough;
     }
+    Ok(troughs)
 }

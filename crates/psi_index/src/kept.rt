@@ -1,31 +1,33 @@
 //! What a table keeps beside its values.
 
-ghost use Rattle.std.specs.Prelude.{◌≡◌, ℕ, ◌+◌, ◌*◌, ◌<◌, ◌≤◌, ◌↔◌, IsTrue, IfOk, length, slice_index, take};
-ghost use Rattle.psi_index.specs.Extremes.{IsFront, IsRising, IsValueList, greatest_of, least_of, stretch};
-ghost use Rattle.psi_index.specs.BoundsKept.{ArePeaks, AreTroughs, HasPeaks, HasTroughs};
-ghost use Rattle.psi_index.specs.LevelsKept.{AreComplements, AreStarts, HoldsLevels, IsSparse};
+ghost use Rattle.std.specs.Prelude.{◌≡◌, ℕ, ◌<◌, ◌≤◌, ◌↔◌, IsTrue, IfOk, length, map, slice_index};
+ghost use Rattle.psi_index.specs.Extremes.{IsFront, IsRising, IsValueList, complement, greatest_of, least_of, stretch};
+ghost use Rattle.psi_index.specs.BoundsKept.{ArePeaks, AreTroughs};
 
 use crate::OutOfMemory;
-use crate::hulls::{fill_peaks, fill_troughs};
-use crate::level::{STARTS, fill_levels, level_starts};
+use crate::hulls::{peaks_of, troughs_of};
+use crate::level::{Level, levels_of};
 use crate::minima::least_within;
+use std::alloc::{AllocError, Global};
 use std::marker::Model;
 
-// The values of a table, how many they are, whether they rise, and how many stand before the first that falls. Where
-// they don't rise, their levels stand behind them, and behind these their complements with their levels, in as many
-// places, the greatest value up to each place and the least from it on. `starts` is where the levels begin, and last how
-// many places the values and their levels take. It is seen as the list of the values.
+// The values of a table and, where they don't rise, their levels, their complements and the levels of these, the
+// greatest value up to each place and the least from it on; and how many stand before the first that falls. It is
+// seen as the list of the values.
 #[derive(Drop, Debug)]
 pub(crate) struct Kept {
-    numbers: Vec<u32>,
-    starts: [u32; STARTS],
-    count: u16,
-    front: u16,
+    values: Vec<u32>,
+    low: Vec<Level>,
+    complements: Vec<u32>,
+    high: Vec<Level>,
+    peaks: Vec<u32>,
+    troughs: Vec<u32>,
     rises: bool,
+    front: u16,
 }
 
 impl Model for Kept {
-    ghost use Rattle.std.specs.Prelude.{ℕ, List, slice_index, take};
+    ghost use Rattle.std.specs.Prelude.{ℕ, List};
 
     ghost Value = { List ℕ };
 
@@ -33,61 +35,66 @@ impl Model for Kept {
     ghost use Rattle.psi_index.specs.LevelsKept.{IsTable};
     ghost use Rattle.psi_index.specs.BoundsKept.{AreBounds};
 
-    ghost view = { λ kept. take kept.count kept.numbers.items };
+    ghost view = { λ kept. kept.values.items };
 
-    ghost invariant = { λ kept. IsTable kept.numbers.items kept.starts kept.count kept.rises × AreBounds kept.numbers.items kept.count (slice_index kept.starts 16) kept.rises × IsFront (take kept.count kept.numbers.items) kept.front };
+    ghost invariant = { λ kept. IsTable kept.values.items kept.low.items kept.complements.items kept.high.items kept.rises × AreBounds kept.values.items kept.peaks.items kept.troughs.items kept.rises × IsFront kept.values.items kept.front };
 }
 
 impl Kept {
     // What a table of these values keeps.
-    pub(crate) fn of(values: Vec<u32>) -> Result<Kept, OutOfMemory>
+    pub(crate) fn of(alloc: Global, values: Vec<u32>) -> Result<Kept, OutOfMemory>
         requires some { 1 ≤ length values.items }
         requires few { length values.items ≤ 65535 }
         ensures { IfOk result (λ kept. kept ≡ values.items) }
     {
         let front = rising_front(&values);
         if front == values.len() {
-            Ok(Kept::rising(values))
+            Ok(Kept::rising(alloc, values))
         } else {
-            Kept::sparse(values, front as u16)
+            Kept::sparse(alloc, values, front as u16)
         }
     }
 
     // Of values that rise.
-    fn rising(values: Vec<u32>) -> Kept
+    fn rising(alloc: Global, values: Vec<u32>) -> Kept
         requires valid { IsValueList values.items }
         requires rises { IsRising values.items }
         ensures { result ≡ values.items }
     {
-        let count = values.len() as u16;
+        let front = values.len() as u16;
         Kept {
-            numbers: values,
-            starts: [0; STARTS],
-            count,
-            front: count,
+            values,
+            low: Vec::new(alloc),
+            complements: Vec::new(alloc),
+            high: Vec::new(alloc),
+            peaks: Vec::new(alloc),
+            troughs: Vec::new(alloc),
             rises: true,
+            front,
         }
     }
 
     // Of values that don't, and so many before the first that falls.
-    fn sparse(values: Vec<u32>, front: u16) -> Result<Kept, OutOfMemory>
+    fn sparse(alloc: Global, values: Vec<u32>, front: u16) -> Result<Kept, OutOfMemory>
         requires valid { IsValueList values.items }
         requires falls { ¬ IsRising values.items }
         requires front { IsFront values.items front }
         ensures { IfOk result (λ kept. kept ≡ values.items) }
     {
-        let count = values.len() as u16;
-        let starts = level_starts(count);
-        let size = starts[STARTS - 1] as usize;
-        let mut numbers = values;
-        numbers.resize(2 * (size + count as usize), 0)?;
-        fill(&mut numbers, &starts, size, count);
+        let low = levels_of(alloc, &values)?;
+        let complements = complements(alloc, &values)?;
+        let high = levels_of(alloc, &complements)?;
+        let peaks = peaks_of(alloc, &values)?;
+        let troughs = troughs_of(alloc, &values)?;
         Ok(Kept {
-            numbers,
-            starts,
-            count,
-            front,
+            values,
+            low,
+            complements,
+            high,
+            peaks,
+            troughs,
             rises: false,
+            front,
         })
     }
 
@@ -95,7 +102,7 @@ impl Kept {
     pub(crate) fn values(&self) -> &[u32]
         ensures { result.now ≡ self.now }
     {
-        &self.numbers[..self.count as usize]
+        self.values.as_slice()
     }
 
     // The number of values.
@@ -103,7 +110,7 @@ impl Kept {
         ensures value { result ≡ length self.now }
         ensures valid { IsValueList self.now }
     {
-        self.count
+        self.values.len() as u16
     }
 
     // The value at a place.
@@ -112,7 +119,7 @@ impl Kept {
         requires { i < length self.now }
         ensures { result ≡ slice_index self.now i }
     {
-        self.numbers[i as usize]
+        self.values[i as usize]
     }
 
     // The least of the values at the places from `from` to `to`, both included.
@@ -126,7 +133,7 @@ impl Kept {
         if self.rises {
             return self.at(from);
         }
-        least_within(&self.numbers, &self.starts, from, to)
+        least_within(&self.values, &self.low, from, to)
     }
 
     // The greatest of them.
@@ -140,8 +147,7 @@ impl Kept {
         if self.rises {
             return self.at(to);
         }
-        let high = &self.numbers[self.starts[STARTS - 1] as usize..];
-        u32::MAX - least_within(high, &self.starts, from, to)
+        u32::MAX - least_within(&self.complements, &self.high, from, to)
     }
 
     // For each place a number that no value up to it is above: the greatest of them.
@@ -149,10 +155,10 @@ impl Kept {
         ensures { ArePeaks self.now result.now }
     {
         if self.rises {
-            return self.values();
+            &self.values
+        } else {
+            &self.peaks
         }
-        let first = 2 * self.starts[STARTS - 1] as usize;
-        &self.numbers[first..first + self.count as usize]
     }
 
     // For each place a number that no value from it on is below: the least of them.
@@ -160,11 +166,10 @@ impl Kept {
         ensures { AreTroughs self.now result.now }
     {
         if self.rises {
-            return self.values();
+            &self.values
+        } else {
+            &self.troughs
         }
-        let count = self.count as usize;
-        let first = 2 * self.starts[STARTS - 1] as usize + count;
-        &self.numbers[first..first + count]
     }
 
     // Whether no value is below the one before it.
@@ -182,40 +187,11 @@ impl Kept {
     }
 }
 
-// All that a table keeps of the first values beside them.
-fn fill(numbers: &mut [u32], starts: &[u32; STARTS], size: usize, count: u16)
-    requires starts { AreStarts count starts.now }
-    requires some { 1 ≤ count }
-    requires levels { HoldsLevels count size }
-    requires behind { count ≤ size }
-    requires room { 2 * (size + count) ≤ length numbers.old }
-    ensures len { length numbers.new ≡ length numbers.old }
-    ensures same { (k : ℕ) → k < count → slice_index numbers.new k ≡ slice_index numbers.old k }
-    ensures low { IsSparse numbers.new 0 count }
-    ensures turned { AreComplements numbers.new size count }
-    ensures high { IsSparse numbers.new size count }
-    ensures peaks { HasPeaks numbers.new (2 * size) count }
-    ensures troughs { HasTroughs numbers.new (2 * size + count) count }
+// The complement of each value.
+fn complements(alloc: Global, values: &[u32]) -> Result<Vec<u32>, AllocError>
+    ensures { IfOk result (λ made. made.items ≡ map complement values.now) }
 {
-    let places = count as usize;
-    fill_levels(numbers, starts, 0, count);
-    fill_complements(numbers, size, places);
-    fill_levels(numbers, starts, size, count);
-    fill_peaks(numbers, 2 * size, places);
-    fill_troughs(numbers, 2 * size + places, places);
-}
-
-// The complements of the first values, from the place `base` on.
-fn fill_complements(numbers: &mut [u32], base: usize, count: usize)
-    requires behind { count ≤ base }
-    requires room { base + count ≤ length numbers.old }
-    ensures turned { AreComplements numbers.new base count }
-    ensures before { (k : ℕ) → k < base → slice_index numbers.new k ≡ slice_index numbers.old k }
-    ensures len { length numbers.new ≡ length numbers.old }
-{
-    for i in 0..count {
-        numbers[base + i] = u32::MAX - numbers[i];
-    }
+    values.iter().map(|value| u32::MAX - *value).collect(alloc)
 }
 
 // How many values stand before the first that is below the one before it: all where there is none.

@@ -1,50 +1,57 @@
-//! The levels of a sparse table: the least value of each stretch of one length, one level behind the other.
+//! One level of a sparse table: the least value of each stretch of one length.
 
-ghost use Rattle.std.specs.Prelude.{◌≡◌, ℕ, ◌+◌, ◌-◌, ◌<◌, ◌≤◌, length, min, slice_index};
-ghost use Rattle.psi_index.specs.LevelsKept.{AreStarts, HoldsLevels, IsSparse};
+ghost use Rattle.std.specs.Prelude.{ℕ, ◌+◌, ◌^◌, ◌≤◌, length, IfOk};
+ghost use Rattle.psi_index.specs.Extremes.{AreLeast};
+ghost use Rattle.psi_index.specs.LevelsKept.{AreLevels, IsJoined};
 
-// How many exponents a table has starts for: the last is where the levels of 65,535 values end.
-pub(crate) const STARTS: usize = 17;
+use std::alloc::{AllocError, Global};
 
-// How many entries stand before those of the stretches of 2 to the power of each exponent, of so many values. Before the
-// last stand all.
-pub(crate) fn level_starts(count: u16) -> [u32; STARTS]
-    ensures { AreStarts count result }
-{
-    let places = count as u32 + 1;
-    let mut starts = [0; STARTS];
-    for exponent in 0..STARTS - 1 {
-        starts[exponent + 1] = starts[exponent] + places.saturating_sub(1 << exponent);
-    }
-    starts
+// The least value of each stretch of one length, by the stretch's first place.
+#[derive(Drop, Debug)]
+pub(crate) struct Level {
+    pub least: Vec<u32>,
 }
 
-// The levels of the lengths 2, 4, 8 and so on, up to the number of the values, behind the values at the places from
-// `base` on.
-pub(crate) fn fill_levels(numbers: &mut [u32], starts: &[u32; STARTS], base: usize, count: u16)
-    requires starts { AreStarts count starts.now }
-    requires some { 1 ≤ count }
-    requires room { (size : ℕ) × HoldsLevels count size × (base + size ≤ length numbers.old) }
-    ensures sparse { IsSparse numbers.new base count }
-    ensures before { (k : ℕ) → k < base + count → slice_index numbers.new k ≡ slice_index numbers.old k }
-    ensures len { length numbers.new ≡ length numbers.old }
+// The levels of the lengths 2, 4, 8 and so on, up to the number of the values.
+pub(crate) fn levels_of(alloc: Global, values: &[u32]) -> Result<Vec<Level>, AllocError>
+    requires some { 1 ≤ length values.now }
+    requires few { length values.now ≤ 65535 }
+    ensures levels { IfOk result (λ levels. AreLevels values.now levels.items) }
+    ensures enough { IfOk result (λ levels. (e : ℕ) → 2 ^ e ≤ length values.now → e ≤ length levels.items) }
 {
-    for exponent in 0..count.ilog2() as usize {
-        let first = base + starts[exponent] as usize;
-        let past = base + starts[exponent + 1] as usize;
-        join(numbers, first, past, 1 << exponent);
+    let count = values.len().ilog2();
+    let mut levels = Vec::with_capacity(alloc, count as usize)?;
+    for made in 0..count {
+        let level = next_level(alloc, values, &levels)?;
+        levels.push(level)?;
+    }
+    Ok(levels)
+}
+
+// The level of stretches twice as long as those of the last one, or of two places where there is none yet.
+fn next_level(alloc: Global, values: &[u32], levels: &[Level]) -> Result<Level, AllocError>
+    requires few { length values.now ≤ 65535 }
+    requires levels { AreLevels values.now levels.now }
+    requires room { 2 ^ (length levels.now + 1) ≤ length values.now }
+    ensures { IfOk result (λ level. AreLeast values.now (2 ^ (length levels.now + 1)) level.least.items) }
+{
+    let half = 1 << levels.len();
+    match levels.last() {
+        None => joined(alloc, values, half),
+        Some(halves) => joined(alloc, &halves.least, half),
     }
 }
 
-// Behind the entries from `first` on and before `past` the lesser of each and the one `half` places on.
-fn join(numbers: &mut [u32], first: usize, past: usize, half: usize)
-    requires some { first + half ≤ past }
-    requires room { past + (past - first - half) ≤ length numbers.old }
-    ensures joined { (i : ℕ) → first + i + half < past → slice_index numbers.new (past + i) ≡ min (slice_index numbers.old (first + i)) (slice_index numbers.old (first + i + half)) }
-    ensures before { (k : ℕ) → k < past → slice_index numbers.new k ≡ slice_index numbers.old k }
-    ensures len { length numbers.new ≡ length numbers.old }
+// The level of stretches of twice `half` places, each made of two of those of `half` places.
+fn joined(alloc: Global, halves: &[u32], half: usize) -> Result<Level, AllocError>
+    requires { half ≤ length halves.now }
+    ensures { IfOk result (λ level. IsJoined halves.now half level.least.items) }
 {
-    for i in 0..past - first - half {
-        numbers[past + i] = numbers[first + i].min(numbers[first + i + half]);
+    let count = halves.len() - half;
+    let mut least = Vec::from_slice(alloc, &halves[..count])?;
+    let later = &halves[half..];
+    for i in 0..count {
+        least[i] = least[i].min(later[i]);
     }
+    Ok(Level { least })
 }

@@ -38,7 +38,7 @@ impl IndexTable {
         requires few { length values.items ≤ 65535 }
         ensures { IfOk result (λ table. table ≡ values.items) }
     {
-        let kept = Kept::of(values)?;
+        let kept = Kept::of(alloc, values)?;
         let kept = Rc::new(alloc, kept)?;
         Ok(IndexTable { kept })
     }
