@@ -18,6 +18,10 @@ use std::marker::Model;
 // The most bytes of a log.
 const MOST: usize = 33_554_432;
 
+// How many bytes are pending at least where lines of them are read before the end: to begin with them and to leave them
+// takes some time.
+const BATCH: usize = 32_768;
+
 // How many times a text is tried that doesn't begin as a log does. The lines before the steps are short, so the first
 // pieces have them.
 const TRIES: u8 = 64;
@@ -92,6 +96,8 @@ fn read_on<E: EventLaw>(
         return Ok((progress, stands));
     }
     spare.clear();
+    // As much as is there already, so that it grows by the same lengths.
+    spare.reserve(pending.capacity())?;
     spare.extend_from_slice(rest)?;
     spare.extend_from_slice(behind)?;
     std::mem::swap(pending, spare);
@@ -198,7 +204,7 @@ impl<'s, 'n, E: EventLaw> Consumer for StreamReplay<'s, 'n, E> {
     fn take(&mut self, piece: &[u8]) -> Result<(), OutOfMemory> {
         self.keep(piece)?;
         let lines = lines_end(piece);
-        if lines == 0 {
+        if lines == 0 || self.pending.len() < BATCH {
             return Ok(());
         }
         self.read_lines(piece.len() - lines)

@@ -13,7 +13,7 @@ returns-clause-left g c taken held =
     let rest = c.in-Ok.read.1.now in
     let whole : c.args.pending.now.items ≡ c.split_at.result.0.now ++ behind = sym c.deref.ensures.value ∙ c.split_at.ensures.by_index.0 in
     let kept : c.swap.new.x.items ≡ rest ++ behind =
-    rw (c.swap.ensures.x_after, c.in_ok-extend_from_slice-2.ensures.items, c.in_ok-extend_from_slice.ensures.items, c.clear.ensures.items) refl in
+    rw (c.swap.ensures.x_after, c.in_ok-extend_from_slice-2.ensures.items, c.in_ok-extend_from_slice.ensures.items, c.reserve.ensures.items, c.clear.ensures.items) refl in
     subst (λ (t : List ℕ). IsProgress function system taken t c.in-Ok.read.0) (sym kept)
     (c.in-Ok.ensures.left taken behind (subst (λ (t : List ℕ). IsProgress function system taken t c.args.progress) whole held))
 
