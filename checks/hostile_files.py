@@ -290,6 +290,7 @@ def logs():
     yield "short moves of a queue of a great network", great, short_log(32, 65_535, there_and_back)
     for steps in (0, 1_048_577, 2_097_153):
         yield f"spaces behind {steps} short steps", one_event(1, 1, 0), spaced_log(steps)
+    yield "spaces, and a great network", great, spaced_log(0)
     yield "sets of a state", one_event(1, 1, 0), filled_log(1, 1, ["set 0"])
     zeros = "set " + state(12, 0)
     yield "sets of a state of 12 queues", one_event(12, 1, 0), filled_log(12, 1, [zeros])
