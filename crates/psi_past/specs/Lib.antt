@@ -3,4 +3,5 @@ pub mod ChaCha20
 pub mod Seeded
 pub mod SeedWord
 pub mod Filled
+pub mod Keeping
 pub mod Drawn

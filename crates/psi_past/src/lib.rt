@@ -4,16 +4,22 @@
 //! and has to meet the same random word at the same time on each run. A [`Past`] is that fixed
 //! choice: one word of 32 bits for each place, where the event of time -t is drawn from the word
 //! at place t - 1. [`SeedPast`] has the words of a seed and a stream, [`ListPast`] those of a list,
-//! and [`Windowed`] those of another past, for who reads them backwards.
+//! [`Windowed`] those of another past, for who reads them backwards, and [`Kept`] those of another past
+//! that were drawn, so that a longer run meets them again.
 #![tactic(auto)]
 
 mod drawing;
+mod kept;
 mod list;
 mod past;
 mod seed;
 mod windowed;
 
+pub use kept::Kept;
 pub use list::ListPast;
 pub use past::Past;
 pub use seed::SeedPast;
 pub use windowed::Windowed;
+
+/// There was no memory: the only way in which a call with this error fails.
+pub use std::alloc::AllocError as OutOfMemory;
