@@ -11,6 +11,7 @@ use Rattle.psi_pool.specs.declared.nodes.Node.{Node}
 use Rattle.psi_pool.specs.declared.table.Table.{Table}
 use Rattle.psi_pool.specs.BucketsKept.{bucket}
 use Rattle.psi_pool.specs.Pooled.{Pooled}
+use Rattle.psi_pool.specs.Paced.{Paced}
 use Rattle.psi_pool.specs.NodesKept.{node_at, states, IsLinked, AreLinked, HoldSet}
 use Rattle.psi_pool.specs.TablesKept.{held, IsTable, IsPool}
 use Rattle.psi_pool.proofs.SortingLemmas.{insert_state-there, ascending-short}
@@ -171,7 +172,7 @@ table-short t ok =
     omega arith
 
 -- so a pool has no more states than it has room for
-pub pool-few : (t : Table) (most room : ℕ) (p : Pooled) → IsPool t most room → record { most = most; states = ascending (held t) } ≡ p → length p.states ≤ p.most
+pub pool-few : {pace : Paced} (t : Table) (most room : ℕ) (p : Pooled) → IsPool t most room pace → record { most = most; states = ascending (held t); pace = pace } ≡ p → length p.states ≤ p.most
 pool-few t most room p kept is =
     let fits = kept.table.fits in
     let count = kept.count in
@@ -179,12 +180,12 @@ pool-few t most room p kept is =
     subst (λ (q : Pooled). length q.states ≤ q.most) is (omega arith)
 
 -- and lists them in their order
-pub pool-rising : (t : Table) (most : ℕ) (p : Pooled) → record { most = most; states = ascending (held t) } ≡ p → IsRising p.states
+pub pool-rising : {pace : Paced} (t : Table) (most : ℕ) (p : Pooled) → record { most = most; states = ascending (held t); pace = pace } ≡ p → IsRising p.states
 pool-rising t most p is = subst (λ (q : Pooled). IsRising q.states) is (ascending-rising (held t))
 
 -- where the set may take a state that isn't there, a node is free
-pub table-free : (t old : Table) (most : ℕ) (p : Pooled) (x : List ℕ) → IsTable t → t.is_linked ≡ true → HaveSame (held t) (held old)
-    → record { most = most; states = ascending (held old) } ≡ p → length t.nodes.items ≡ most → (length p.states < p.most) ⊎ In x p.states
+pub table-free : {pace : Paced} (t old : Table) (most : ℕ) (p : Pooled) (x : List ℕ) → IsTable t → t.is_linked ≡ true → HaveSame (held t) (held old)
+    → record { most = most; states = ascending (held old); pace = pace } ≡ p → length t.nodes.items ≡ most → (length p.states < p.most) ⊎ In x p.states
     → (t.len < length t.nodes.items) ⊎ In x (held t)
 table-free t old most p x ok linked same is count fits =
     let mosts : most ≡ p.most = ap (λ (q : Pooled). q.most) is in
@@ -204,10 +205,10 @@ table-full t old ok linked same room =
     omega arith
 
 -- the states of a set are those of the nodes in use
-pub seen : (xs : List (List ℕ)) (most : ℕ) (p : Pooled) (x : List ℕ) → record { most = most; states = ascending xs } ≡ p → In x xs → In x p.states
+pub seen : {pace : Paced} (xs : List (List ℕ)) (most : ℕ) (p : Pooled) (x : List ℕ) → record { most = most; states = ascending xs; pace = pace } ≡ p → In x xs → In x p.states
 seen xs most p x is member = subst (λ (q : Pooled). In x q.states) is (In-ascending x xs member)
 
-pub told-fresh : (xs ys : List (List ℕ)) (most : ℕ) (p : Pooled) (x : List ℕ) (new : Bool) → HaveSame xs ys → record { most = most; states = ascending ys } ≡ p
+pub told-fresh : {pace : Paced} (xs ys : List (List ℕ)) (most : ℕ) (p : Pooled) (x : List ℕ) (new : Bool) → HaveSame xs ys → record { most = most; states = ascending ys; pace = pace } ≡ p
     → IsTrue new ↔ (In x xs → ⊥) → IsTrue new ↔ (In x p.states → ⊥)
 told-fresh xs ys most p x new same is told = (
   λ yes member. told.0 yes (same.back x (In-of_ascending x ys (subst (λ (q : Pooled). In x q.states) (sym is) member))),
@@ -233,3 +234,10 @@ seek-absent xs x found told empty member = (let yes : found ≡ true = told.1 me
 -- a set that holds the images
 pub states-stepped : (f : List ℕ → List ℕ) (old now : List (List ℕ)) → HaveSame now (map f old) → ascending now ≡ image f (ascending old)
 states-stepped f old now same = ascending-members now (map f old) same ∙ sym (image-ascending f old)
+
+-- where as many nodes are in use as states are listed, none has a state that another has
+pub table-once : (t old : Table) (count : ℕ) → t.len ≡ count → count ≡ length (ascending (held old)) → HaveSame (held t) (held old)
+    → t.len ≡ length (ascending (held t))
+table-once t old count used listed same =
+    let sets = ap (λ (xs : List (List ℕ)). length xs) (ascending-members (held t) (held old) same) in
+    omega arith

@@ -1,7 +1,9 @@
 -- What the nodes of a set and their buckets keep, and what a pool keeps.
 use Rattle.std.specs.Prelude.{◌≡◌, ℕ, ◌+◌, ◌*◌, ◌≤◌, List, IsTrue, length}
 use Rattle.psi_pool.specs.declared.table.Table.{Table}
+use Rattle.psi_state.specs.Sets.{ascending}
 use Rattle.psi_pool.specs.NodesKept.{states, AreLinked}
+use Rattle.psi_pool.specs.Paced.{Paced, IsPace}
 
 -- the states of the nodes in use, in the order of these
 abbrev pub held : Table → List (List ℕ)
@@ -16,8 +18,11 @@ pub record IsTable (t : Table) : Type 0 where
   pub fits : t.len ≤ length t.nodes.items
   pub links : IsTrue t.is_linked → AreLinked t.used t.nodes.items t.heads.items t.len
 
--- what a pool keeps: a table for as many states as it has room for, and room to list them all
-pub record IsPool (t : Table) (most room : ℕ) : Type 0 where
+-- what a pool keeps: a table for as many states as it has room for, and room to list them all; and where all steps of the pace are left, as many nodes are
+-- in use as there are states
+pub record IsPool (t : Table) (most room : ℕ) (pace : Paced) : Type 0 where
   pub table : IsTable t
   pub count : length t.nodes.items ≡ most
   pub listed : most ≤ room
+  pub paced : IsPace pace
+  pub once : pace.left ≡ pace.every → t.len ≡ length (ascending (held t))

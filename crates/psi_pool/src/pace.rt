@@ -1,7 +1,7 @@
 //! When repeats are taken out of a list of states.
 
 ghost use Rattle.std.specs.Prelude.{◌≡◌, ◌-◌, ◌*◌, ◌/◌, ◌<◌, ◌≤◌, ◌↔◌, min, max, IsTrue};
-ghost use Rattle.psi_pool.specs.Paced.{counts_of};
+ghost use Rattle.psi_pool.specs.Paced.{counts_of, begun};
 
 use std::marker::Model;
 
@@ -40,6 +40,14 @@ impl Pace {
             every: LEAST,
             left: LEAST,
         }
+    }
+
+    /// Begins to count: not all of the steps are left. It does nothing where that is so already.
+    #[inline]
+    pub fn begin(&mut self)
+        ensures { self.new ≡ begun self.old }
+    {
+        self.left = self.left.min(self.every.saturating_sub(1));
     }
 
     /// Counts a step, and answers whether repeats are to be taken out after it.

@@ -9,6 +9,7 @@ ghost use Rattle.psi_state.specs.Members.{In};
 ghost use Rattle.psi_state.specs.Sets.{insert_state, ascending, image, single};
 ghost use Rattle.psi_state.specs.Ascending.{IsRising, HaveSame};
 ghost use Rattle.psi_pool.specs.TablesKept.{held, IsTable};
+ghost use Rattle.psi_pool.specs.Paced.{counts_of, begun, IsPace, CountsStep};
 ghost use Rattle.psi_pool.specs.contracts.pool.Pool.{the_row};
 
 use crate::OutOfMemory;
@@ -23,13 +24,14 @@ use std::marker::Model;
 // After how many merges of its nodes a set that isn't in order yet is sorted.
 const MERGES: u8 = 3;
 
-/// A set of at most `most` states, seen as the lexicographically ascending list of them.
+/// A set of at most `most` states, seen as the lexicographically ascending list of them, and the count of the steps
+/// after which nodes are given back.
 ///
 /// All its memory is taken by `reserve`: one vector of nodes, linked by index, the heads of the buckets, and
 /// room for the list of the states. No other call takes memory. The work of a step grows with the number of
-/// states, not with the room for them: it moves each on. States that became one may stand several times until
+/// states, not with the room for them: it moves each on. States that became one may stand in several nodes until
 /// the next links, which come after 4 to 1,024 steps: these pass over four buckets for each state, and look for
-/// each among those of its bucket. The hash is fixed, so a network can be made whose states share one bucket,
+/// each among those of its bucket. Where all steps of the count are left, each state stands in one node. The hash is fixed, so a network can be made whose states share one bucket,
 /// and then the work of the links grows with the square of their number.
 #[derive(Drop)]
 pub struct Pool {
@@ -47,9 +49,9 @@ impl Model for Pool {
 
     ghost Value = { Pooled };
 
-    ghost view = { λ p. record { most = p.most; states = ascending (held p.table) } };
+    ghost view = { λ p. record { most = p.most; states = ascending (held p.table); pace = p.pace } };
 
-    ghost invariant = { λ p. IsPool p.table p.most (vec_capacity p.order) };
+    ghost invariant = { λ p. IsPool p.table p.most (vec_capacity p.order) p.pace };
 }
 
 impl Pool {
@@ -59,7 +61,7 @@ impl Pool {
     pub fn reserve(alloc: Global, most: u16) -> Result<Pool, OutOfMemory>
         requires least { 1 ≤ most }
         requires most { most ≤ 4096 }
-        ensures { IfOk result (λ pool. pool ≡ record { most = most; states = [] }) }
+        ensures { IfOk result (λ pool. pool ≡ record { most = most; states = []; pace = counts_of 4 }) }
     {
         let table = Table::reserve(alloc, most)?;
         let order = Vec::with_capacity(alloc, most as usize)?;
@@ -97,7 +99,7 @@ impl Pool {
 
     /// Takes all states out; the room stays.
     pub fn clear(&mut self)
-        ensures { self.new ≡ record { most = self.old.most; states = [] } }
+        ensures { self.new ≡ record { most = self.old.most; states = []; pace = counts_of 4 } }
     {
         self.table.clear();
         self.pace = Pace::start();
@@ -117,6 +119,7 @@ impl Pool {
         ensures states { self.new.states ≡ insert_state x self.old.states }
         ensures most { self.new.most ≡ self.old.most }
         ensures fresh { IsTrue result ↔ (In x self.old.states → ⊥) }
+        ensures pace { self.new.pace ≡ self.old.pace }
     {
         self.table.link();
         self.table.put(x)
@@ -129,16 +132,22 @@ impl Pool {
         requires room { length self.old.states < self.old.most }
         ensures states { self.new.states ≡ insert_state x self.old.states }
         ensures most { self.new.most ≡ self.old.most }
+        ensures pace { self.new.pace ≡ begun self.old.pace }
     {
         self.table.push(x);
+        self.pace.begin();
     }
 
     /// Moves each state on by the event: the set becomes its image. States that the event makes one are
     /// one from then on. All states have to be within the event's capacities.
+    ///
+    /// The step is counted. Once no step of the count is left, it gives back the nodes of states that became one, and
+    /// the count begins again with 4 to 1,024 steps.
     pub fn step<E: EventLaw>(&mut self, e: &E)
         requires below { (x : List ℕ) → In x self.old.states → IsBelow x (E.capacities e.now) }
         ensures states { self.new.states ≡ image (E.function e.now) self.old.states }
         ensures most { self.new.most ≡ self.old.most }
+        ensures pace { CountsStep self.old.pace self.new.pace }
     {
         self.table.move_on(e);
         link_when_due(&mut self.table, &mut self.pace);
@@ -172,6 +181,7 @@ fn list_all(table: &mut Table, order: &mut Vec<State>)
     ensures table { IsTable table.new }
     ensures members { HaveSame (held table.new) (held table.old) }
     ensures room { length table.new.nodes.items ≡ length table.old.nodes.items }
+    ensures count { table.new.len ≡ length order.new.items }
 {
     for _merge in 0..MERGES {
         if table.list(order) {
@@ -181,14 +191,18 @@ fn list_all(table: &mut Table, order: &mut Vec<State>)
     table.sort(order);
 }
 
-// Links the nodes anew where there are several and it is time to.
+// Links the nodes anew when it is time to: from then on each state stands in one of them.
 fn link_when_due(table: &mut Table, pace: &mut Pace)
-    requires { IsTable table.old }
+    requires table { IsTable table.old }
+    requires pace { IsPace pace.old }
     ensures table { IsTable table.new }
     ensures members { HaveSame (held table.new) (held table.old) }
     ensures room { length table.new.nodes.items ≡ length table.old.nodes.items }
+    ensures counted { CountsStep pace.old pace.new }
+    ensures pace { IsPace pace.new }
+    ensures once { pace.new.left ≡ pace.new.every → table.new.len ≡ length (ascending (held table.new)) }
 {
-    if table.len > 1 && pace.is_due() {
+    if pace.is_due() {
         let before = table.len;
         table.link();
         pace.adapt(before, table.len);

@@ -107,6 +107,7 @@ impl Table {
         ensures table { IsTable self.new }
         ensures members { HaveSame (held self.new) (x ∷ held self.old) }
         ensures room { length self.new.nodes.items ≡ length self.old.nodes.items }
+        ensures linked { self.new.is_linked ≡ true }
         ensures fresh { IsTrue result ↔ (In x (held self.old) → ⊥) }
     {
         let home = bucket_of(&x, self.used as usize);
@@ -179,6 +180,7 @@ impl Table {
         ensures members { HaveSame (held self.new) (held self.old) }
         ensures room { length self.new.nodes.items ≡ length self.old.nodes.items }
         ensures states { IsTrue result → out.new.items ≡ ascending (held self.old) }
+        ensures count { IsTrue result → self.new.len ≡ length out.new.items }
         ensures capacity { vec_capacity out.new ≡ vec_capacity out.old }
     {
         let aside = list_first(self.nodes.as_mut_slice(), self.len as usize, out);
@@ -195,6 +197,7 @@ impl Table {
         ensures members { HaveSame (held self.new) (held self.old) }
         ensures room { length self.new.nodes.items ≡ length self.old.nodes.items }
         ensures states { out.new.items ≡ ascending (held self.old) }
+        ensures count { self.new.len ≡ length out.new.items }
         ensures capacity { vec_capacity out.new ≡ vec_capacity out.old }
     {
         self.link();

@@ -7,7 +7,7 @@ use psi_event::{EventLaw, Idle};
 use psi_index::IndexTable;
 use psi_io::{MemorySink, Sink, StdSink, write_all};
 use psi_net::Net;
-use psi_past::{ListPast, Past, SeedPast, Windowed};
+use psi_past::{Kept, ListPast, Past, SeedPast, Windowed};
 use psi_pool::Pool;
 use psi_region::Region;
 use std::alloc::Global;
@@ -21,18 +21,31 @@ pub(crate) fn make(alloc: Global, calls: bool, net: &Net) -> Option<()> {
     make_sinks(alloc, calls)
 }
 
-// The words of a seed, of a list and of another past by windows.
+// The words of a seed, of a list and of another past, by windows and kept.
 fn make_words(alloc: Global, calls: bool) -> Option<()> {
     let words = [3, 1, 4].to_vec(alloc).ok()?;
     let mut list = ListPast::new(words);
     let mut past = Windowed::new(SeedPast::new(0, 0));
+    let Ok(mut kept) = Kept::reserve(alloc, SeedPast::new(0, 0), 8) else {
+        return None;
+    };
     if calls {
+        keep(&mut kept);
         read(&mut list);
         read(&mut past);
         past.replace(SeedPast::new(1, 1));
         read(&mut past);
     }
     Some(())
+}
+
+fn keep(kept: &mut Kept<SeedPast>)
+    requires { kept.old.most ≡ 8 }
+{
+    kept.extend_to(5);
+    let _word = kept.at(4);
+    kept.replace(SeedPast::new(1, 1));
+    kept.extend_to(8);
 }
 
 fn read<P: Past>(past: &mut P) {
@@ -84,7 +97,8 @@ fn make_sets<E: EventLaw>(alloc: Global, calls: bool, event: &E) -> Option<()> {
 
 #[tactic(auto, using(crate::proofs::WithinLemmas::one_below))]
 fn call_pool<E: EventLaw>(pool: &mut Pool, event: &E)
-    requires { pool.old ≡ record { most = 8; states = [] } }
+    requires most { pool.old.most ≡ 8 }
+    requires empty { pool.old.states ≡ [] }
 {
     let full = event.caps();
     let _new = pool.insert(full);

@@ -4,7 +4,7 @@ use Rattle.psi_state.specs.Sets.{insert_state}
 use Rattle.psi_state.proofs.AscendingLemmas.{ascending-members}
 use Rattle.psi_pool.specs.Pooled.{Pooled}
 use Rattle.psi_pool.specs.TablesKept.{held}
-use Rattle.psi_pool.proofs.KeepingLemmas.{table-free, told-fresh}
+use Rattle.psi_pool.proofs.KeepingLemmas.{table-free, table-length, told-fresh}
 use Rattle.psi_pool.proofs.pool.Pool.insert.Goals as goal
 
 pub put-requires-clause-room : goal.put-requires-clause-room
@@ -22,3 +22,12 @@ pub returns-clause-fresh : goal.returns-clause-fresh
 returns-clause-fresh c =
     told-fresh (held c.link.new.self) (held c.self.inside.table) c.self.inside.most c.args.self.now c.args.x c.put.result c.link.ensures.members c.self.view_is
     c.put.ensures.fresh
+
+pub invariant_of-self : goal.invariant_of-self
+invariant_of-self c = record {
+  table = c.put.ensures.table;
+  count = c.put.ensures.room ∙ (c.link.ensures.room ∙ c.self.invariant.count);
+  listed = c.self.invariant.listed;
+  paced = c.self.invariant.paced;
+  once = λ whole. table-length c.put.new.self c.put.ensures.table c.put.ensures.linked;
+}
