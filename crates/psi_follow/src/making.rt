@@ -35,7 +35,7 @@ pub fn plan_of<'n, E: PiecewiseLaw + RouteLaw, P: Past + Drop>(
     ensures { IfOk result (λ plan. plan ≡ record { system = system.entry; past = past; run = None }) }
 {
     let way = way_of(alloc, &system)?;
-    Plan::new(alloc, system, past, way)
+    Plan::following(alloc, system, past, way)
 }
 
 /// The way to follow the network's runs: by the corners where each event is monotone, and otherwise by regions, each on packed

@@ -23,7 +23,7 @@ use crate::runs::{ending, follow_word};
 use psi_event::EventLaw;
 use psi_past::{Past, Windowed};
 use psi_rate::{Answers, Numbers, System, first_answer_near, outcome_of};
-use psi_region::{Follower, Region};
+use psi_region::{Course, Follower, Region, Regions};
 use psi_state::{Bounds, Outcome, State, Step};
 use std::alloc::Global;
 use std::marker::Model;
@@ -36,10 +36,10 @@ struct Progress {
 }
 
 /// A network with the past that its samples are drawn from, the room for the numbers of the events of the
-/// greatest horizon's words and for a split region, and the follower of its runs.
+/// greatest horizon's words and for a split region, and the follower of its runs: regions, unless another is given.
 ///
 /// It is seen as the network, the past, and the run that was begun, if one was.
-pub struct Plan<'n, E: EventLaw, P: Past + Drop, F: Follower + Drop> {
+pub struct Plan<'n, E: EventLaw, P: Past + Drop, F: Follower + Drop = Regions<'n, E>> {
     system: System<'n, E>,
     // Read backwards where a run goes step by step.
     past: Windowed<P>,
@@ -82,13 +82,28 @@ impl<'n, E: EventLaw, P: Past + Drop, F: Follower + Drop> Drop for Plan<'n, E, P
     }
 }
 
-impl<'n, E: EventLaw, P: Past + Drop, F: Follower + Drop> Plan<'n, E, P, F> {
-    /// The plan to sample the network from this past, whose runs this follower follows: it stands for the network. It takes
-    /// the room for the numbers of the events of the greatest horizon, 2 to the power `limit` of 2 bytes each, and for a region
-    /// of `split` states. No other call takes memory.
+impl<'n, E: EventLaw, P: Past + Drop> Plan<'n, E, P, Regions<'n, E>> {
+    /// Makes the plan to sample the network from this past, for events of any kind: its runs are followed by regions,
+    /// through the events themselves. It allocates room for the numbers of the events of the greatest horizon, 2 bytes for
+    /// each of its 2 to the power `limit` steps, and for two regions of `split` states. No other call allocates.
     ///
-    /// `OutOfMemory` is the answer where there is no memory for it; no clause says when that is.
-    pub fn new(
+    /// Returns `OutOfMemory` if an allocation fails; no clause says when that is.
+    pub fn new(alloc: Global, system: System<'n, E>, past: P) -> Result<Plan<'n, E, P>, OutOfMemory>
+        ensures { IfOk result (λ plan. plan ≡ record { system = system.entry; past = past; run = None }) }
+    {
+        let course = Course::new(system.caps(), system.events(), system.split());
+        let regions = Regions::reserve(alloc, course)?;
+        Plan::following(alloc, system, past, regions)
+    }
+}
+
+impl<'n, E: EventLaw, P: Past + Drop, F: Follower + Drop> Plan<'n, E, P, F> {
+    /// Makes the plan to sample the network from this past, whose runs this follower follows: it stands for the network. It
+    /// allocates room for the numbers of the events of the greatest horizon, 2 bytes for each of its 2 to the power `limit`
+    /// steps, and for a region of `split` states. No other call allocates.
+    ///
+    /// Returns `OutOfMemory` if an allocation fails; no clause says when that is.
+    pub fn following(
         alloc: Global,
         system: System<'n, E>,
         past: P,

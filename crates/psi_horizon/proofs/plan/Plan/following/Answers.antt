@@ -1,9 +1,9 @@
--- Answers in the proof of `Plan::new`.
+-- Answers in the proof of `Plan::following`.
 use Rattle.std.proofs.Common.{◌≡◌, ◌*◌, ◌^◌, ◌%◌, ap, ◌∙◌, subst}
 use Rattle.psi_rate.proofs.DoublingLemmas.{shift-power}
 use Rattle.psi_region.specs.Region.{Regional}
 use Rattle.psi_rate.specs.Keeping.{KeepsNumbers}
-use Rattle.psi_horizon.proofs.plan.Plan.new.Goals as goal
+use Rattle.psi_horizon.proofs.plan.Plan.following.Goals as goal
 
 pub invariant_of-result : goal.invariant_of-result
 invariant_of-result g c =
