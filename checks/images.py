@@ -120,6 +120,24 @@ FOUR = (
 )
 
 
+# Small events that are worked out by hand: one that moves a queue to a floor above its guard and one to a ceiling below
+# it, a negative customer and a fork, and routes by a table that rises and by one that falls.
+WORKED_ONE = {"a": 5}, {"a": 1}, [guarded(a=(0, 2, 0, 5, 5)), guarded(a=(3, 5, 0, 0, 1))]
+WORKED_BITS = (
+    {"a": 1, "b": 1},
+    {"a": 1, "b": 1},
+    [{"kind": "negative", "from": "a", "on": "b"}, {"kind": "fork", "to": ["a", "b"]}],
+)
+WORKED_KEYS = (
+    {"a": 2, "b": 2},
+    {"a": 1, "b": 1},
+    [
+        {"kind": "index", "to": ["a", "b"], "table": [[0, 1], [0, 1]]},
+        {"kind": "index", "to": ["a", "b"], "table": [[5, 0], [3, 3]]},
+    ],
+)
+
+
 def drawn_routes(caps, count):
     """So many events that go by drawn tables to the first two of three queues, in either order."""
     first, last, origin = caps
@@ -148,6 +166,9 @@ def networks():
     """The networks by their names."""
     yield from (("two-queues", TWO), ("three-queues", THREE), ("three-servers", SERVERS))
     yield "four-queues", FOUR
+    yield "worked-one", WORKED_ONE
+    yield "worked-bits", WORKED_BITS
+    yield "worked-keys", WORKED_KEYS
     caps = {"a": 6, "b": 4, "c": 1}
     yield "drawn-routes", (caps, dict.fromkeys(caps, 1), list(drawn_routes(caps, 24)))
     for sizes in all_kinds.CAPACITIES:

@@ -23,6 +23,7 @@
 //! | `two-queues.table`, `three-*.table` | events of every kind on networks of twelve states, some by several servers |
 //! | `four-queues.table` | events that name three or four queues |
 //! | `drawn-routes.table` | routes by tables that are drawn, on seventy states |
+//! | `worked-*.table` | a few events of one and two queues that are worked out by hand |
 //! | `kinds-*.table` | every kind of event on one to three small queues, by each source and many lists of targets |
 #![tactic(auto)]
 
