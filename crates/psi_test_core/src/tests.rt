@@ -7,7 +7,6 @@ mod keys;
 mod logs;
 mod lowering;
 mod plans;
-mod pools;
 mod queues;
 mod refusals;
 mod reports;

@@ -2,7 +2,7 @@
 use Rattle.std.proofs.Common.{◌≡◌, ℕ, List}
 use Rattle.psi_state.specs.State.{IsBelow}
 use Rattle.psi_state.specs.Members.{In}
-use Rattle.psi_test_core.proofs.tests.pools.fill.Given as goal
+use Rattle.psi_test_rows.proofs.tests.pools.fill.Given as goal
 
 abbrev pub invariant-loop-x : goal.invariant-loop-x
 invariant-loop-x l = record {

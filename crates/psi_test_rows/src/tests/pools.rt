@@ -1,33 +1,16 @@
 //! A full set, worked by hand, and what a step gives back.
 
-ghost use Rattle.std.specs.Prelude.{◌≡◌, ◌≤◌, ◌∷◌, [], ℕ, List};
+ghost use Rattle.std.specs.Prelude.{◌≡◌, ◌≤◌, ◌∷◌, [], ℕ, List, IfOk};
 ghost use Rattle.psi_state.specs.State.{AreCapacities, IsBelow};
 ghost use Rattle.psi_state.specs.Members.{In};
 
-use super::queues::joining;
+use super::states::{both, first, pair, room_for_each};
 use psi_event::EventLaw;
+use psi_kinds::{Event, Kind, KindRefusal, lower};
 use psi_pool::Pool;
 use psi_state::{Bounds, State};
+use std::alloc::Global;
 use std::test::Fail;
-
-// Two queues that hold `first` and `second` customers.
-fn pair(first: u16, second: u16) -> State
-    ensures { result ≡ first ∷ second ∷ [] }
-{
-    let mut x = State::zero(2);
-    x.set(0, first);
-    x.set(1, second);
-    x
-}
-
-// Two queues with room for `most` customers each.
-fn capacities(most: u16) -> State
-    requires { 1 ≤ most }
-    ensures value { result ≡ most ∷ most ∷ [] }
-    ensures valid { AreCapacities result }
-{
-    pair(most, most)
-}
 
 // Puts the state in where there is room.
 fn put(pool: &mut Pool, x: State, caps: &State, most: u16) -> bool
@@ -67,11 +50,11 @@ fn fill(pool: &mut Pool, caps: &State, most: u16)
 
 #[test]
 fn states_that_become_one_leave_room(rt: HostRuntime) -> Result<(), Fail> {
-    let caps = capacities(1);
+    let caps = room_for_each(1);
     let mut pool = Pool::reserve(rt.alloc(), 4)?;
     fill(&mut pool, &caps, 4);
     assert_eq!(rt; pool.len(), 4);
-    moved(&mut pool, &joining(caps, 0, 1)?, &caps);
+    moved(&mut pool, &joining(rt.alloc(), 1)?, &caps);
     assert_eq!(rt; pool.len(), 2);
     assert_eq!(rt; pool.walk(), [pair(1, 0), pair(1, 1)].as_slice());
     assert!(rt; !put(&mut pool, pair(1, 0), &caps, 4));
@@ -86,5 +69,55 @@ fn states_that_become_one_leave_room(rt: HostRuntime) -> Result<(), Fail> {
     let last = pair(0, 1);
     assert!(rt; pool.contains(&last));
     assert!(rt; !pool.insert(last));
+    Ok(())
+}
+
+// One customer joins the first of two queues with room for `most` customers each, where there is room.
+fn joining(alloc: Global, most: u16) -> Result<Event, KindRefusal>
+    requires { 1 ≤ most }
+    ensures { IfOk result (λ event. ⟦<Event as EventLaw>⟧.capacities event ≡ most ∷ most ∷ []) }
+{
+    lower(alloc, room_for_each(most), &Kind::Arrival { to: first() })
+}
+
+// One customer joins each of two queues with room for one customer each, where both have room.
+fn forking(alloc: Global) -> Result<Event, KindRefusal>
+    ensures { IfOk result (λ event. ⟦<Event as EventLaw>⟧.capacities event ≡ 1 ∷ 1 ∷ []) }
+{
+    let fork = Kind::Fork {
+        from: None,
+        to: both(),
+    };
+    lower(alloc, room_for_each(1), &fork)
+}
+
+#[test]
+fn a_fork_makes_two_states_one(rt: HostRuntime) -> Result<(), Fail> {
+    let caps = room_for_each(1);
+    let mut pool = Pool::reserve(rt.alloc(), 4)?;
+    fill(&mut pool, &caps, 4);
+    moved(&mut pool, &forking(rt.alloc())?, &caps);
+    assert_eq!(rt; pool.len(), 3);
+    assert_eq!(rt;
+        pool.walk(),
+        [pair(0, 1), pair(1, 0), pair(1, 1)].as_slice()
+    );
+    assert!(rt; !put(&mut pool, pair(0, 1), &caps, 4));
+    assert!(rt; put(&mut pool, pair(0, 0), &caps, 4));
+    Ok(())
+}
+
+#[test]
+fn a_set_of_4096_states_moves_on(rt: HostRuntime) -> Result<(), Fail> {
+    let caps = room_for_each(63);
+    let mut pool = Pool::reserve(rt.alloc(), 4096)?;
+    fill(&mut pool, &caps, 4096);
+    assert_eq!(rt; pool.len(), 4096);
+    moved(&mut pool, &joining(rt.alloc(), 63)?, &caps);
+    assert_eq!(rt; pool.len(), 4032);
+    let states = pool.walk();
+    assert_eq!(rt; states.len(), 4032);
+    assert_eq!(rt; states.first().copied(), Some(pair(1, 0)));
+    assert_eq!(rt; states.last().copied(), Some(pair(63, 63)));
     Ok(())
 }

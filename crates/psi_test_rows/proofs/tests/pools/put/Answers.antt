@@ -1,6 +1,6 @@
 -- Answers in the proof of `pools::put`.
 use Rattle.psi_pool.proofs.WithinLemmas.{within-inserted}
-use Rattle.psi_test_core.proofs.tests.pools.put.Goals as goal
+use Rattle.psi_test_rows.proofs.tests.pools.put.Goals as goal
 
 pub returns-then-len-most-clause-below : goal.returns-then-len-most-clause-below
 returns-then-len-most-clause-below c =

@@ -1,7 +1,7 @@
 -- Answers in the proof of `pools::fill`.
 use Rattle.std.proofs.Common.{◌∙◌}
 use Rattle.psi_pool.proofs.WithinLemmas.{within-box, within-next, within-first}
-use Rattle.psi_test_core.proofs.tests.pools.fill.Goals as goal
+use Rattle.psi_test_rows.proofs.tests.pools.fill.Goals as goal
 
 pub loop-x-init : goal.loop-x-init
 loop-x-init c = record {

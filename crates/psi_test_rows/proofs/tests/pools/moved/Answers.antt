@@ -1,6 +1,6 @@
 -- Answers in the proof of `pools::moved`.
 use Rattle.psi_pool.proofs.WithinLemmas.{within-moved}
-use Rattle.psi_test_core.proofs.tests.pools.moved.Goals as goal
+use Rattle.psi_test_rows.proofs.tests.pools.moved.Goals as goal
 
 pub returns-clause-below : goal.returns-clause-below
 returns-clause-below g c =
