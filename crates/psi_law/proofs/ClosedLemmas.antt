@@ -25,11 +25,10 @@ use Rattle.psi_closed.proofs.RunsLemmas.{outcome-reached, outcome-decides, outco
 use Rattle.psi_model.specs.Network.{Network, caps_of, rates_of, functions_of}
 use Rattle.psi_model.specs.Valid.{IsNetwork, IsAccepted}
 use Rattle.psi_law.specs.Counting.{Words}
-use Rattle.psi_law.specs.Chains.{Chain}
+use Rattle.psi_law.specs.Chains.{Chain, IsChain}
 use Rattle.psi_law.specs.Statements.{LooksAtFirst}
 use Rattle.psi_law.specs.Networks.{closed_chain, closed_sample, network_total_chain, network_total_sample}
-use Rattle.psi_law.proofs.ChainLemmas.{IsChain}
-use Rattle.psi_law.proofs.LawLemmas.{Reaches}
+use Rattle.psi_law.specs.Samples.{Reaches}
 use Rattle.psi_law.proofs.LawfulLemmas.{IsLawful, lawful}
 use Rattle.psi_law.proofs.OutcomeLemmas.{outcome-reaches, outcome-looks}
 
@@ -58,11 +57,13 @@ module _ (caps : List ℕ) (k : ℕ) (functions : List (List ℕ → List ℕ)) 
 
   total-chain : AreRates rates → length rates ≡ length functions → IsChain chain_on_total
   total-chain rated count = (let some = total-some caps k fits.fits in record {
+    finite = record {
+      some = (some.0, In-total_states caps k some.0 some.1);
+      distinct = rising-distinct (total_states caps k) (total_states-rising caps k);
+      keeps = λ e d small. record { each = λ x member. In-total_states caps k (slice_index_or functions e d x) ((keeps e d small).each x (In-of_total_states caps k x member)) };
+    };
     rated = rated;
     same_count = count;
-    distinct = rising-distinct (total_states caps k) (total_states-rising caps k);
-    some = (some.0, In-total_states caps k some.0 some.1);
-    keeps = λ e d small. record { each = λ x member. In-total_states caps k (slice_index_or functions e d x) ((keeps e d small).each x (In-of_total_states caps k x member)) };
   })
 
   -- the samples of this total with a limit

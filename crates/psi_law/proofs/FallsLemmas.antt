@@ -7,11 +7,11 @@ use Rattle.psi_state.proofs.SetsLemmas.{single-image, single-each, In-image}
 use Rattle.psi_rate.specs.Composition.{picked}
 use Rattle.psi_law.specs.Counting.{Words, sum_below, after, sum_pasts}
 use Rattle.psi_law.specs.Wheel.{word_count}
-use Rattle.psi_law.specs.Chains.{Chain, end_of}
+use Rattle.psi_law.specs.Chains.{Chain, IsChain, end_of}
 use Rattle.psi_law.specs.Samples.{are_apart, apart}
 use Rattle.psi_law.specs.Statements.{ApartFalls}
 use Rattle.psi_law.proofs.SumsLemmas.{one_if, at_most_one, sum-same, sum-times, sum_below-is, sum_pasts-is}
-use Rattle.psi_law.proofs.ChainLemmas.{IsChain, end_of-keeps, end_of-first}
+use Rattle.psi_law.proofs.ChainLemmas.{end_of-keeps, end_of-first}
 
 -- the n newest words of one past, and before them those of another
 joined : ℕ → Words → Words → Words
@@ -62,8 +62,8 @@ apart-falls chain is = λ n k.
     let order = (sum_pasts-is word_count n).order (λ p. sum_pasts word_count k (λ q. both (joined n p q))) (λ p. apart chain k * newer p)
     (λ p. (let inner = (sum_pasts-is word_count k).order (λ q. both (joined n p q)) (λ q. newer p * older q)
     (λ q. apart-image (end_of chain p n) (end_of chain q k) (end_of chain (joined n p q) (n + k))
-    (single (image (end_of chain p n) chain.states)) (single (image (end_of chain q k) chain.states)) is.some.0 chain.states is.some.1
-    (λ x member. end_of-keeps chain q k x is member) (end_of-joined chain n k p q) refl refl) in
+    (single (image (end_of chain p n) chain.states)) (single (image (end_of chain q k) chain.states)) is.finite.some.0 chain.states is.finite.some.1
+    (λ x member. end_of-keeps chain q k x is.finite member) (end_of-joined chain n k p q) refl refl) in
     let out = sum-times (sum_pasts word_count k) (sum_pasts-is word_count k) (newer p) older in
     let turn : apart chain k * newer p ≡ newer p * apart chain k = omega arith in
     omega arith)) in

@@ -8,6 +8,8 @@ pub mod BalanceLemmas
 pub mod LawLemmas
 pub mod FallsLemmas
 pub mod OnlyLemmas
+pub mod EliminationLemmas
+pub mod ExistenceLemmas
 pub mod LawfulLemmas
 pub mod OutcomeLemmas
 pub mod NetworkLemmas

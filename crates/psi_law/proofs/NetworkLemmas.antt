@@ -27,11 +27,10 @@ use Rattle.psi_model.specs.Network.{Network, caps_of, rates_of, functions_of}
 use Rattle.psi_model.specs.Valid.{IsNetwork, IsAccepted}
 use Rattle.psi_model.proofs.QueueLemmas.{capacities_kept}
 use Rattle.psi_law.specs.Counting.{Words}
-use Rattle.psi_law.specs.Chains.{Chain}
+use Rattle.psi_law.specs.Chains.{Chain, IsChain}
 use Rattle.psi_law.specs.Statements.{UnmetIsApart, LooksAtFirst}
 use Rattle.psi_law.specs.Networks.{chain_of, sample_of, network_chain, network_sample}
-use Rattle.psi_law.proofs.ChainLemmas.{IsChain}
-use Rattle.psi_law.proofs.LawLemmas.{Reaches}
+use Rattle.psi_law.specs.Samples.{Reaches}
 use Rattle.psi_law.proofs.LawfulLemmas.{IsLawful, lawful}
 use Rattle.psi_law.proofs.OutcomeLemmas.{outcome-reaches, outcome-looks, unmet-apart}
 
@@ -57,11 +56,13 @@ module _ (caps : List ℕ) (functions : List (List ℕ → List ℕ)) (rates : L
 
   all-chain : AreRates rates → length rates ≡ length functions → IsChain chain_on_all
   all-chain rated count = record {
+    finite = record {
+      some = (caps, In-caps caps);
+      distinct = rising-distinct (all_states caps) (box-rising (zeros caps) caps);
+      keeps = λ e d small. record { each = λ x member. In-all_states caps (slice_index_or functions e d x) ((closed e d small).each x (In-of_all_states caps x member)) };
+    };
     rated = rated;
     same_count = count;
-    distinct = rising-distinct (all_states caps) (box-rising (zeros caps) caps);
-    some = (caps, In-caps caps);
-    keeps = λ e d small. record { each = λ x member. In-all_states caps (slice_index_or functions e d x) ((closed e d small).each x (In-of_all_states caps x member)) };
   }
 
   -- the samples of these capacities with a split number and a limit

@@ -12,12 +12,11 @@ use Rattle.psi_rate.proofs.PowersLemmas.{pow-order}
 use Rattle.psi_rate.proofs.OutcomesLemmas.{outcome_within-is, outcome_within-only, meeting-reached}
 use Rattle.psi_law.specs.Counting.{Words, sum_pasts}
 use Rattle.psi_law.specs.Wheel.{word_count}
-use Rattle.psi_law.specs.Samples.{is_unmet, are_apart}
+use Rattle.psi_law.specs.Samples.{Reaches, is_unmet, are_apart}
 use Rattle.psi_law.proofs.SumsLemmas.{one_if, sum-same, sum_pasts-is}
-use Rattle.psi_law.specs.Chains.{Chain}
+use Rattle.psi_law.specs.Chains.{Chain, IsChain}
 use Rattle.psi_law.specs.Statements.{UnmetIsApart, LooksAtFirst}
-use Rattle.psi_law.proofs.ChainLemmas.{Own, IsChain}
-use Rattle.psi_law.proofs.LawLemmas.{Reaches}
+use Rattle.psi_law.proofs.ChainLemmas.{Own}
 
 -- what a set reaches from an outcome's horizon on, it reaches from 2^limit steps before time zero on
 met-reached : (S : List ℕ → Type 0) (f : Functions) (run : ℕ → Option (List ℕ)) (limit : ℕ) (o : Outcome) → IsOutcome run limit o → ReachesFrom S f o
@@ -75,9 +74,9 @@ met-last : (chain : Chain) (past : Words) (limit t : ℕ) (s : List ℕ) → IsC
 met-last chain past limit t s is met =
     let f = function_at chain.functions chain.rates past in
     let order : t ≤ 2 ^ limit = (let power = met.power in let o = pow-order met.exponent limit met.within in omega arith) in
-    let reached = meeting-reached (Own chain) f chain.states t s (function_at-keeping (Own chain) chain.functions chain.rates past is.keeps) (λ x own. own) met.answer in
+    let reached = meeting-reached (Own chain) f chain.states t s (function_at-keeping (Own chain) chain.functions chain.rates past is.finite.keeps) (λ x own. own) met.answer in
     let last : meeting_from f chain.states (2 ^ limit) ≡ Some s =
-    single-image (compose f (2 ^ limit)) s is.some.0 chain.states is.some.1 (λ x own. reached.each x (2 ^ limit) own order) in
+    single-image (compose f (2 ^ limit)) s is.finite.some.0 chain.states is.finite.some.1 (λ x own. reached.each x (2 ^ limit) own order) in
     ap (λ (o : Option (List ℕ)). is_none o) last
 
 -- so where outcomes are those of all states' meetings, those that aren't met are of the pasts that leave states apart

@@ -2,6 +2,7 @@
 pub mod Counting
 pub mod Wheel
 pub mod Chains
+pub mod Elimination
 pub mod Samples
 pub mod Networks
 pub mod Statements

@@ -4,8 +4,13 @@ use Rattle.psi_state.specs.declared.Outcome.{Outcome}
 use Rattle.psi_state.specs.Members.{In}
 use Rattle.psi_law.specs.Counting.{Words}
 use Rattle.psi_law.specs.Wheel.{word_count}
-use Rattle.psi_law.specs.Chains.{Chain, whole, IsBalanced, IsStationary}
+use Rattle.psi_law.specs.Chains.{Chain, IsFinite, whole, IsBalanced, IsStationary, IsStationaryDistribution}
+use Rattle.psi_law.specs.Elimination.{stationary_weight}
 use Rattle.psi_law.specs.Samples.{unmet, HasLaw, HasMean, apart}
+
+-- every finite chain has a stationary distribution: the weights that elimination finds (Grassmann, Taksar and Heyman 1985)
+abbrev pub EliminationIsStationary : Type 0
+EliminationIsStationary = (chain : Chain) → IsFinite chain → IsStationaryDistribution chain (stationary_weight chain)
 
 module _ (chain : Chain) where
   -- weights that balance are stationary

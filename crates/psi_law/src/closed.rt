@@ -9,6 +9,8 @@ ghost use Rattle.psi_closed.specs.Planned.{AreMoves, IsClosedSample};
 ghost use Rattle.psi_closed.specs.Planned.{closed_functions as moves_by_time};
 ghost use Rattle.psi_model.specs.Network.{caps_of, rates_of, functions_of};
 ghost use Rattle.psi_law.specs.Counting.{Words};
+ghost use Rattle.psi_law.specs.Chains.{IsChain};
+ghost use Rattle.psi_law.specs.Samples.{Reaches, HasStationaryLaw};
 ghost use Rattle.psi_law.specs.Networks.{closed_chain, closed_sample, network_total_chain, network_total_sample};
 ghost use Rattle.psi_law.specs.Statements.{BalanceStays, BalanceIsLaw, ApartFalls, BalanceIsOne, BalanceIsMean, LooksAtFirst};
 
@@ -24,8 +26,11 @@ pub fn law_of_closed_samples(caps: State, moves: &[Move], wheel: &Wheel, limit: 
     requires fits { IsTotal caps total }
     requires moves { AreMoves caps moves.now }
     requires same_count { length moves.now ≡ length wheel.now }
+    ensures chain { IsChain (closed_chain caps total moves.now wheel.now) }
+    ensures reaches { Reaches (closed_chain caps total moves.now wheel.now) (closed_sample caps total moves.now wheel.now limit) (2 ^ limit) }
     ensures balance { BalanceStays (closed_chain caps total moves.now wheel.now) }
     ensures law { BalanceIsLaw (closed_chain caps total moves.now wheel.now) (closed_sample caps total moves.now wheel.now limit) (2 ^ limit) }
+    ensures stationary { HasStationaryLaw (closed_sample caps total moves.now wheel.now limit) (2 ^ limit) (closed_chain caps total moves.now wheel.now) }
     ensures falls { ApartFalls (closed_chain caps total moves.now wheel.now) }
     ensures one { BalanceIsOne (closed_chain caps total moves.now wheel.now) }
     ensures mean { BalanceIsMean (closed_chain caps total moves.now wheel.now) (closed_sample caps total moves.now wheel.now limit) (2 ^ limit) }
@@ -41,8 +46,11 @@ pub fn law_of_closed_samples(caps: State, moves: &[Move], wheel: &Wheel, limit: 
 pub fn law_of_closed_network(net: &Net, total: u16)
     requires fits { IsTotal (caps_of net.now) total }
     requires moves { All (λ event. IsSome (move_of event.kind)) net.now.events }
+    ensures chain { IsChain (network_total_chain net.now total) }
+    ensures reaches { Reaches (network_total_chain net.now total) (network_total_sample net.now total) (2 ^ net.now.limit) }
     ensures balance { BalanceStays (network_total_chain net.now total) }
     ensures law { BalanceIsLaw (network_total_chain net.now total) (network_total_sample net.now total) (2 ^ net.now.limit) }
+    ensures stationary { HasStationaryLaw (network_total_sample net.now total) (2 ^ net.now.limit) (network_total_chain net.now total) }
     ensures falls { ApartFalls (network_total_chain net.now total) }
     ensures one { BalanceIsOne (network_total_chain net.now total) }
     ensures mean { BalanceIsMean (network_total_chain net.now total) (network_total_sample net.now total) (2 ^ net.now.limit) }

@@ -7,6 +7,8 @@ ghost use Rattle.psi_event.specs.Law.{IsMonotone};
 ghost use Rattle.psi_horizon.specs.Sample.{IsSample};
 ghost use Rattle.psi_model.specs.Network.{caps_of, rates_of, functions_of};
 ghost use Rattle.psi_law.specs.Counting.{Words};
+ghost use Rattle.psi_law.specs.Chains.{IsChain};
+ghost use Rattle.psi_law.specs.Samples.{Reaches, HasStationaryLaw};
 ghost use Rattle.psi_law.specs.Networks.{chain_of, sample_of, network_chain, network_sample};
 ghost use Rattle.psi_law.specs.Statements.{BalanceStays, BalanceIsLaw, ApartFalls, BalanceIsOne, BalanceIsMean, UnmetIsApart, LooksAtFirst};
 
@@ -24,8 +26,11 @@ use psi_rate::System;
 /// at most `split` states, the samples that aren't met are those of such lists (`monotone`, `small`). What is counted are
 /// the samples with all that is promised of one (`sample`), and later words have no part in them (`words`).
 pub fn law_of_samples<E: EventLaw>(system: &System<'_, E>)
+    ensures chain { IsChain (chain_of E.function system.now) }
+    ensures reaches { Reaches (chain_of E.function system.now) (sample_of E.function system.now) (2 ^ system.now.limit) }
     ensures balance { BalanceStays (chain_of E.function system.now) }
     ensures law { BalanceIsLaw (chain_of E.function system.now) (sample_of E.function system.now) (2 ^ system.now.limit) }
+    ensures stationary { HasStationaryLaw (sample_of E.function system.now) (2 ^ system.now.limit) (chain_of E.function system.now) }
     ensures falls { ApartFalls (chain_of E.function system.now) }
     ensures one { BalanceIsOne (chain_of E.function system.now) }
     ensures mean { BalanceIsMean (chain_of E.function system.now) (sample_of E.function system.now) (2 ^ system.now.limit) }
@@ -44,8 +49,11 @@ pub fn law_of_samples<E: EventLaw>(system: &System<'_, E>)
 
 /// The same of the samples that the command `sample` prints of a network, whose events do what their kinds say.
 pub fn law_of_network(net: &Net)
+    ensures chain { IsChain (network_chain net.now) }
+    ensures reaches { Reaches (network_chain net.now) (network_sample net.now) (2 ^ net.now.limit) }
     ensures balance { BalanceStays (network_chain net.now) }
     ensures law { BalanceIsLaw (network_chain net.now) (network_sample net.now) (2 ^ net.now.limit) }
+    ensures stationary { HasStationaryLaw (network_sample net.now) (2 ^ net.now.limit) (network_chain net.now) }
     ensures falls { ApartFalls (network_chain net.now) }
     ensures one { BalanceIsOne (network_chain net.now) }
     ensures mean { BalanceIsMean (network_chain net.now) (network_sample net.now) (2 ^ net.now.limit) }
