@@ -34,12 +34,12 @@ value-most (Met t y) z value high below at = (let e : value z ≡ value y = ap v
 value-most (NotMet l) z value high below at = omega arith
 
 -- a number between what is told of the pasts of each state is between the sums by the weights
-under-weighted : (chain : Chain) (weight told : List ℕ → ℕ) (c : ℕ) → ((x : List ℕ) → Own chain x → c ≤ told x) → whole chain weight * c ≤ weighted chain weight told
+pub under-weighted : (chain : Chain) (weight told : List ℕ → ℕ) (c : ℕ) → ((x : List ℕ) → Own chain x → c ≤ told x) → whole chain weight * c ≤ weighted chain weight told
 under-weighted chain weight told c under =
     let out = sum_by-out chain.states weight c in
     let order = sum_by-order chain.states (λ x. weight x * c) (λ x. weight x * told x) (λ x member. mul-le-mul_left (weight x) (under x member)) in omega arith
 
-over-weighted : (chain : Chain) (weight told : List ℕ → ℕ) (c : ℕ) → ((x : List ℕ) → Own chain x → told x ≤ c) → weighted chain weight told ≤ whole chain weight * c
+pub over-weighted : (chain : Chain) (weight told : List ℕ → ℕ) (c : ℕ) → ((x : List ℕ) → Own chain x → told x ≤ c) → weighted chain weight told ≤ whole chain weight * c
 over-weighted chain weight told c over =
     let out = sum_by-out chain.states weight c in
     let order = sum_by-order chain.states (λ x. weight x * told x) (λ x. weight x * c) (λ x member. mul-le-mul_left (weight x) (over x member)) in omega arith

@@ -5,10 +5,11 @@ use Rattle.psi_law.specs.Counting.{Words}
 use Rattle.psi_law.specs.Chains.{Chain, IsChain}
 use Rattle.psi_law.specs.Elimination.{stationary_weight}
 use Rattle.psi_law.specs.Samples.{Reaches, HasStationaryLaw}
-use Rattle.psi_law.specs.Statements.{BalanceStays, BalanceIsLaw, ApartFalls, BalanceIsOne, BalanceIsMean, LooksAtFirst}
+use Rattle.psi_law.specs.Statements.{BalanceStays, BalanceIsLaw, ApartFalls, MixesAsCoupled, BalanceIsOne, BalanceIsMean, LooksAtFirst}
 use Rattle.psi_law.proofs.BalanceLemmas.{balanced-stationary}
 use Rattle.psi_law.proofs.LawLemmas.{law-is, mean-is}
 use Rattle.psi_law.proofs.FallsLemmas.{apart-falls}
+use Rattle.psi_law.proofs.MixingLemmas.{chain-mixes}
 use Rattle.psi_law.proofs.OnlyLemmas.{balance-one}
 use Rattle.psi_law.proofs.ExistenceLemmas.{elimination-stationary}
 
@@ -19,6 +20,7 @@ pub record IsLawful (chain : Chain) (sample : Words → Outcome) (n : ℕ) : Typ
   pub law : BalanceIsLaw chain sample n
   pub stationary : HasStationaryLaw sample n chain
   pub falls : ApartFalls chain
+  pub mixing : MixesAsCoupled chain
   pub one : BalanceIsOne chain
   pub mean : BalanceIsMean chain sample n
   pub words : LooksAtFirst sample n
@@ -35,7 +37,8 @@ lawful chain sample n is reaches looks = (let found = elimination-stationary cha
     distribution = found;
     law = law-is chain (stationary_weight chain) sample n (balanced-stationary chain (stationary_weight chain) is found.balanced) reaches;
   };
-  falls = apart-falls chain is;
+  falls = apart-falls chain is.finite;
+  mixing = chain-mixes chain is;
   one = balance-one chain is;
   mean = λ weight value low high balanced above below. mean-is chain weight value low high sample n is balanced reaches above below;
   words = looks;

@@ -6,7 +6,10 @@ pub mod PowersLemmas
 pub mod ChainLemmas
 pub mod BalanceLemmas
 pub mod LawLemmas
+pub mod JoinedLemmas
 pub mod FallsLemmas
+pub mod MixingLemmas
+pub mod CoalescenceLemmas
 pub mod OnlyLemmas
 pub mod EliminationLemmas
 pub mod ExistenceLemmas

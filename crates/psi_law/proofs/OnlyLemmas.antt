@@ -99,6 +99,6 @@ part-under chain weight other n first second falls some s member =
 
 pub balance-one : (chain : Chain) → IsChain chain → BalanceIsOne chain
 balance-one chain is = λ weight other n first second some s member.
-    (let under = part-under chain weight other n (balanced-stationary chain weight is first) (balanced-stationary chain other is second) (apart-falls chain is) some s member in
-    let over = part-under chain other weight n (balanced-stationary chain other is second) (balanced-stationary chain weight is first) (apart-falls chain is) some s member in
+    (let under = part-under chain weight other n (balanced-stationary chain weight is first) (balanced-stationary chain other is second) (apart-falls chain is.finite) some s member in
+    let over = part-under chain other weight n (balanced-stationary chain other is second) (balanced-stationary chain weight is first) (apart-falls chain is.finite) some s member in
     omega arith)

@@ -1,5 +1,5 @@
 -- Counting the pasts by the samples that they give, and those after which not all states have met.
-use Rattle.std.specs.Prelude.{◌≡◌, ℕ, ◌+◌, ◌*◌, ◌^◌, ◌≤◌, List, Bool, true, false, is_none}
+use Rattle.std.specs.Prelude.{◌≡◌, ℕ, ◌+◌, ◌*◌, ◌^◌, ◌≤◌, List, Bool, true, false, Option, is_none}
 use Rattle.psi_state.specs.declared.Outcome.{Outcome}
 use Rattle.psi_state.specs.declared.Outcome.TheVariants.{Met, NotMet}
 use Rattle.psi_state.specs.Members.{In}
@@ -65,3 +65,7 @@ are_apart chain n past = is_none (meeting_from (function_at chain.functions chai
 -- how many pasts of n words leave states apart
 abbrev pub apart : Chain → ℕ → ℕ
 apart chain n = count_pasts word_count n (are_apart chain n)
+
+-- how many pasts of n words have a run of n steps that doesn't end with one state, by how the run of each past ends: that haven't coalesced (Propp and Wilson 1996)
+abbrev pub uncoalesced : (Words → ℕ → Option (List ℕ)) → ℕ → ℕ
+uncoalesced ending n = count_pasts word_count n (λ past. is_none (ending past n))
