@@ -13,8 +13,12 @@ pub mod CoalescenceLemmas
 pub mod OnlyLemmas
 pub mod EliminationLemmas
 pub mod ExistenceLemmas
+pub mod SignedLemmas
+pub mod CouplingLemmas
+pub mod ValueLemmas
 pub mod LawfulLemmas
 pub mod OutcomeLemmas
 pub mod NetworkLemmas
 pub mod ClosedLemmas
+pub mod NetworkAnswerLemmas
 mod Worked

@@ -38,7 +38,7 @@ use Rattle.psi_law.proofs.LawfulLemmas.{IsLawful, lawful}
 use Rattle.psi_law.proofs.OutcomeLemmas.{outcome-reaches, outcome-looks, unmet-apart}
 
 -- a run looks at the functions of its own steps alone
-follow-first : (split : ℕ) (f g : Functions) (t : ℕ) (a : Area) → ((k : ℕ) → k < t → f (suc k) ≡ g (suc k)) → follow split f t a ≡ follow split g t a
+pub follow-first : (split : ℕ) (f g : Functions) (t : ℕ) (a : Area) → ((k : ℕ) → k < t → f (suc k) ≡ g (suc k)) → follow split f t a ≡ follow split g t a
 follow-first split f g zero a same = refl
 follow-first split f g (suc t) a same =
     follow-first split f g t (step split (f (suc t)) a) (λ k small. same k (omega arith))
@@ -156,7 +156,7 @@ system-lawful capacities function system fit closed =
     fit.some_split fit.rated (fit.same_count ∙ sym (length-map system.events function))
 
 -- and those of a network
-network-closed : (net : Network) → IsNetwork net → All (IsClosed (caps_of net)) (functions_of net)
+pub network-closed : (net : Network) → IsNetwork net → All (IsClosed (caps_of net)) (functions_of net)
 network-closed net kept =
     All-map (IsClosed (caps_of net)) (λ e. do_kind (caps_of net) e.kind) net.events
     (λ k d small. (let is : IsAccepted (caps_of net) (slice_index_or net.events k d).kind = kept.kinds k d small in

@@ -53,6 +53,13 @@ outcome-first run other limit (Met t s) agree is = record {
 }
 outcome-first run other limit (NotMet l) agree is = (is.0, none-first run other limit (suc limit) agree (omega arith) is.1)
 
+-- pasts with the same words have the same functions
+pub function_at-same : (functions : List (List ℕ → List ℕ)) (rates : List ℕ) (past other : Words) (n : ℕ) → ((k : ℕ) → k < n → past k ≡ other k)
+    → (k : ℕ) → k < n → function_at functions rates past (suc k) ≡ function_at functions rates other (suc k)
+function_at-same functions rates past other n same k small =
+    let e : suc k - 1 ≡ k = omega arith in
+    ap (λ i. picked functions rates (past i)) e ∙ (ap (λ word. picked functions rates word) (same k small) ∙ ap (λ i. picked functions rates (other i)) (sym e))
+
 -- so outcomes of runs that look at the functions of their own steps alone look at the first 2^limit words alone
 pub outcome-looks : (run : Functions → ℕ → Option (List ℕ)) (functions : List (List ℕ → List ℕ)) (rates : List ℕ) (limit : ℕ)
     → ((f g : Functions) (t : ℕ) → ((k : ℕ) → k < t → f (suc k) ≡ g (suc k)) → run f t ≡ run g t)
@@ -62,10 +69,8 @@ outcome-looks run functions rates limit looks = λ past other same.
     let g = function_at functions rates other in
     outcome_within-only (run g) limit (outcome_within (run f) limit)
     (outcome-first (run f) (run g) limit (outcome_within (run f) limit)
-    (λ k most. looks f g (2 ^ k)
-    (λ j small. (let order = pow-order k limit most in
-    let e : suc j - 1 ≡ j = omega arith in
-    ap (λ i. picked functions rates (past i)) e ∙ (ap (λ w. picked functions rates w) (same j (omega arith)) ∙ ap (λ i. picked functions rates (other i)) (sym e)))))
+    (λ k most. (let order = pow-order k limit most in
+    looks f g (2 ^ k) (function_at-same functions rates past other (2 ^ k) (λ j small. same j (omega arith)))))
     (outcome_within-is (run f) limit)))
 
 -- where all states have met at one of the horizons, they have at the greatest one

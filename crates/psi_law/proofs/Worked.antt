@@ -1,7 +1,8 @@
 -- The definitions on small inputs, worked out by hand and computed by the checker. The modulus of each network is 4, so pasts are
 -- counted of the words below 4.
-use Rattle.std.proofs.Common.{◌≡◌, ℕ, zero, suc, ◌+◌, ◌<◌, ◌≤◌, ◌^◌, ◌*◌, List, [], ◌∷◌, map, slice_index, nat_eq, inl, inr, ap, sym, ◌∙◌, refl, arith}
+use Rattle.std.proofs.Common.{◌≡◌, ℕ, zero, suc, ◌+◌, ◌<◌, ◌≤◌, ◌^◌, ◌*◌, List, [], ◌∷◌, map, slice_index, nat_eq, is_none, inl, inr, ap, sym, ◌∙◌, refl, arith}
 use Rattle.std.specs.Prelude.{codes}
+use Rattle.std.specs.List.{sum_by}
 use Rattle.std.proofs.Math.Nat.{le_of_mul-le-mul_left}
 use Rattle.std.proofs.lemmas.Bool.{cases_lt}
 use Rattle.std.proofs.lemmas.List.Elements.{All-nil, All-cons}
@@ -24,11 +25,12 @@ use Rattle.psi_model.specs.Network.{Network}
 use Rattle.psi_model.specs.Valid.{IsNetwork, IsQueue, IsAccepted}
 use Rattle.psi_model.specs.declared.entries.Queue.{Queue}
 use Rattle.psi_model.specs.declared.entries.NamedEvent.{NamedEvent}
-use Rattle.psi_law.specs.Counting.{Words, sum_below, count_below, sum_pasts, count_pasts}
+use Rattle.psi_law.specs.Elimination.{Matrix, censored, rate_between, stationary_weight}
+use Rattle.psi_law.specs.Counting.{Words, distance, sum_below, count_below, sum_pasts, count_pasts}
 use Rattle.psi_law.specs.Wheel.{word_count, words_for}
-use Rattle.psi_law.specs.Chains.{Chain, function_of, is_same, end_of, pasts_between, whole, weighted, flow_to, IsBalanced}
+use Rattle.psi_law.specs.Chains.{Chain, function_of, is_same, end_of, pasts_between, whole, weighted, flow_to, IsBalanced, IsStationaryDistribution}
 use Rattle.psi_law.specs.Samples.{HasLaw, HasMean, is_met_in, is_unmet, value_met, met_in, unmet, sum_met, are_apart, apart}
-use Rattle.psi_law.specs.Networks.{network_chain, network_sample, closed_chain, closed_sample, network_total_chain, network_total_sample}
+use Rattle.psi_law.specs.Networks.{network_chain, network_ending, network_sample, closed_chain, closed_sample, network_total_chain, network_total_ending, network_total_sample}
 use Rattle.psi_law.proofs.SumsLemmas.{one_if}
 use Rattle.psi_law.proofs.WheelLemmas.{IsShare, share, sum-words, wheel-exact}
 use Rattle.psi_law.proofs.LawfulLemmas.{IsLawful}
@@ -118,6 +120,67 @@ first-lawful limit most = (network-lawful (first limit) (first-kept limit most))
 
 first-law : (limit : ℕ) → limit ≤ 22 → HasLaw (network_sample (first limit)) (2 ^ limit) (network_chain (first limit)) halves
 first-law limit most = (first-lawful limit most).law halves (first-balanced limit)
+
+-- elimination finds these weights: of the states 0, 1 and 2, state 0 first
+first-eliminated : map (stationary_weight (network_chain (first 18))) (network_chain (first 18)).states ≡ 4 ∷ 2 ∷ 1 ∷ []
+unfolding sum_below do_kind
+first-eliminated = refl
+
+-- the rates between them, and those of the chain while it is not in state 0
+abbrev rate_rows : Matrix → List (List ℕ) → List (List ℕ)
+rate_rows q xs = map (λ x. map (λ y. q x y) xs) xs
+
+first-rated : rate_rows (rate_between (network_chain (first 18))) (network_chain (first 18)).states ≡ (2 ∷ 1 ∷ 0 ∷ []) ∷ (2 ∷ 0 ∷ 1 ∷ []) ∷ (0 ∷ 2 ∷ 1 ∷ []) ∷ []
+unfolding sum_below do_kind
+first-rated = refl
+
+first-censored : rate_rows (censored (0 ∷ []) ((1 ∷ []) ∷ (2 ∷ []) ∷ []) (rate_between (network_chain (first 18)))) ((1 ∷ []) ∷ (2 ∷ []) ∷ []) ≡ (2 ∷ 1 ∷ []) ∷ (2 ∷ 1 ∷ []) ∷ []
+unfolding sum_below do_kind
+first-censored = refl
+
+-- weights of a stationary distribution are 4, 2 and 1 times a number that is not 0
+first-ratios : (limit : ℕ) (weight : List ℕ → ℕ) → IsStationaryDistribution (network_chain (first limit)) weight
+    → (0 < weight (2 ∷ [])) × ((weight (1 ∷ []) ≡ 2 * weight (2 ∷ [])) × (weight (0 ∷ []) ≡ 4 * weight (2 ∷ [])))
+unfolding sum_below do_kind
+first-ratios limit weight is =
+    let none : 0 + 1 * 0 + 2 * (0 + weight (0 ∷ []) + weight (1 ∷ [])) ≡ 3 * weight (0 ∷ []) = is.balanced.each (0 ∷ []) (inl refl) in
+    let full : 0 + 1 * (0 + weight (1 ∷ []) + weight (2 ∷ [])) + 2 * 0 ≡ 3 * weight (2 ∷ []) = is.balanced.each (2 ∷ []) (inr (inr (inl refl))) in
+    let some : 0 < 0 + weight (0 ∷ []) + weight (1 ∷ []) + weight (2 ∷ []) = is.some in
+    (omega arith, (omega arith, omega arith))
+
+-- so are those whose law the samples have
+first-stationary : (limit : ℕ) → limit ≤ 22 → (weight : List ℕ → ℕ)
+    × ((0 < weight (2 ∷ [])) × ((weight (0 ∷ []) ≡ 4 * weight (2 ∷ [])) × HasLaw (network_sample (first limit)) (2 ^ limit) (network_chain (first limit)) weight))
+first-stationary limit most =
+    let found = (first-lawful limit most).stationary in
+    let ratios = first-ratios limit found.weight found.distribution in
+    (found.weight, (ratios.0, (ratios.1.1, found.law)))
+
+-- weights that are all 0 balance, and are no distribution
+zero-balanced : (limit : ℕ) → IsBalanced (network_chain (first limit)) (λ x. 0)
+unfolding sum_below do_kind
+zero-balanced limit = balanced-by (network_chain (first limit)) (λ x. 0) refl
+
+zero-none : (limit : ℕ) → IsStationaryDistribution (network_chain (first limit)) (λ x. 0) → ⊥
+zero-none limit is = (let some : 0 < 0 = is.some in absurd (omega (arith, some)))
+
+-- a chain has none without a state, with one that stands twice, and where a function leaves its states
+empty-none : (weight : List ℕ → ℕ) → IsStationaryDistribution (record { functions = []; rates = []; states = [] }) weight → ⊥
+empty-none weight is = (let some : 0 < 0 = is.some in absurd (omega (arith, some)))
+
+twice-none : (weight : List ℕ → ℕ) → IsStationaryDistribution (record { functions = (λ x. x) ∷ []; rates = 1 ∷ []; states = (0 ∷ []) ∷ (0 ∷ []) ∷ [] }) weight → ⊥
+unfolding sum_below
+twice-none weight is =
+    let w = weight (0 ∷ []) in
+    let led : 0 + 1 * (0 + w + w) ≡ 1 * w = is.balanced.each (0 ∷ []) (inl refl) in
+    let some : 0 < 0 + w + w = is.some in absurd (omega (arith, led, some))
+
+left-none : (weight : List ℕ → ℕ) → IsStationaryDistribution (record { functions = (λ x. 1 ∷ []) ∷ []; rates = 1 ∷ []; states = (0 ∷ []) ∷ [] }) weight → ⊥
+unfolding sum_below
+left-none weight is =
+    let w = weight (0 ∷ []) in
+    let led : 0 + 1 * 0 ≡ 1 * w = is.balanced.each (0 ∷ []) (inl refl) in
+    let some : 0 < 0 + w = is.some in absurd (omega (arith, led, some))
 
 -- and their means of the customers, who are 2 at most
 first-room : (x : List ℕ) → In x (network_chain (first 18)).states → slice_index x 0 ≤ 2
@@ -270,6 +333,31 @@ between-counted = refl
 apart-counted : map (λ n. count_pasts 4 n (are_apart (network_chain (first 18)) n)) (1 ∷ 2 ∷ 4 ∷ []) ≡ 4 ∷ 11 ∷ 69 ∷ []
 unfolding sum_below do_kind event_of least_power
 apart-counted = refl
+
+-- and those whose region run hasn't coalesced: 11 is at most 4 * 4, and 69 at most 11 * 11
+uncoalesced-counted : map (λ n. count_pasts 4 n (λ past. is_none (network_ending (first 18) past n))) (1 ∷ 2 ∷ 4 ∷ []) ≡ 4 ∷ 11 ∷ 69 ∷ []
+unfolding sum_below do_kind event_of least_power step
+uncoalesced-counted = refl
+
+-- of the closed network those in which the two events alternate: 1 * 3 + 3 * 1 of two words, and 1 * 3 * 1 + 3 * 1 * 3 of three
+rounds-uncoalesced : map (λ n. count_pasts 4 n (λ past. is_none (network_total_ending rounds 2 past n))) (1 ∷ 2 ∷ 3 ∷ []) ≡ 4 ∷ 6 ∷ 12 ∷ []
+unfolding sum_below do_kind total_states all_arcs held_states closed_run event_of least_power
+rounds-uncoalesced = refl
+
+-- after one and two words the distances from 4, 2 and 1 parts of 7, summed over all states, of each start: at most 2 * 7 * 4 = 56 and 2 * 7 * 11 = 154
+abbrev distances : ℕ → List ℕ
+distances n = map (λ x. sum_by (λ y. distance (7 * count_pasts 4 n (λ past. is_same (end_of (network_chain (first 18)) past n x) y)) (halves y * 4 ^ n))
+    (network_chain (first 18)).states) (network_chain (first 18)).states
+
+mixing-counted : map distances (1 ∷ 2 ∷ []) ≡ (10 ∷ 6 ∷ 32 ∷ []) ∷ (26 ∷ 16 ∷ 72 ∷ []) ∷ []
+unfolding sum_below do_kind event_of least_power
+mixing-counted = refl
+
+-- after no word, the start at state 2 is at a distance of 6 and 6 parts of 7, and all states are apart: the bound of 2 * 7 can't be halved
+mixing-first : (sum_by (λ y. distance (7 * count_pasts 4 0 (λ past. is_same (end_of (network_chain (first 18)) past 0 (2 ∷ [])) y)) (halves y)) (network_chain (first 18)).states ≡ 12)
+    × (count_pasts 4 0 (are_apart (network_chain (first 18)) 0) ≡ 1)
+unfolding sum_below do_kind event_of least_power
+mixing-first = (refl, refl)
 
 -- ---- samples
 

@@ -5,4 +5,6 @@ pub mod Chains
 pub mod Elimination
 pub mod Samples
 pub mod Networks
+pub mod Couplings
+pub mod Values
 pub mod Statements

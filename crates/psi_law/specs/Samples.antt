@@ -1,11 +1,11 @@
 -- Counting the pasts by the samples that they give, and those after which not all states have met.
-use Rattle.std.specs.Prelude.{◌≡◌, ℕ, ◌+◌, ◌*◌, ◌^◌, ◌≤◌, List, Bool, true, false, Option, is_none}
+use Rattle.std.specs.Prelude.{◌≡◌, ℕ, ℤ, pos, ◌+ℤ◌, ◌*ℤ◌, ◌≤ℤ◌, ◌+◌, ◌*◌, ◌^◌, ◌≤◌, List, Bool, true, false, Option, is_none}
 use Rattle.psi_state.specs.declared.Outcome.{Outcome}
 use Rattle.psi_state.specs.declared.Outcome.TheVariants.{Met, NotMet}
 use Rattle.psi_state.specs.Members.{In}
 use Rattle.psi_rate.specs.Composition.{function_at}
 use Rattle.psi_rate.specs.Outcomes.{meeting_from}
-use Rattle.psi_law.specs.Counting.{Words, sum_pasts, count_pasts}
+use Rattle.psi_law.specs.Counting.{Words, signed, sum_pasts, count_pasts}
 use Rattle.psi_law.specs.Wheel.{word_count}
 use Rattle.psi_law.specs.Chains.{Chain, is_same, end_of, whole, weighted, IsStationaryDistribution}
 
@@ -57,6 +57,11 @@ module _ (sample : Words → Outcome) (n : ℕ) where
   pub record HasMean (chain : Chain) (weight value : List ℕ → ℕ) (low high : ℕ) : Type 0 where
     pub least : whole chain weight * (sum_met value + low * unmet) ≤ weighted chain weight value * word_count ^ n
     pub most : weighted chain weight value * word_count ^ n ≤ whole chain weight * (sum_met value + high * unmet)
+
+  -- the same of values that may be negative
+  pub record HasSignedMean (chain : Chain) (weight : List ℕ → ℕ) (value : List ℕ → ℤ) (low high : ℤ) : Type 0 where
+    pub least : (pos (whole chain weight) *ℤ (signed sum_met value +ℤ (low *ℤ pos unmet))) ≤ℤ (signed (weighted chain weight) value *ℤ pos (word_count ^ n))
+    pub most : (signed (weighted chain weight) value *ℤ pos (word_count ^ n)) ≤ℤ (pos (whole chain weight) *ℤ (signed sum_met value +ℤ (high *ℤ pos unmet)))
 
 -- whether a past leaves states apart: the runs from all states of a chain, from n steps before time zero on, end in more than one state, and so haven't coalesced (Propp and Wilson 1996)
 abbrev pub are_apart : Chain → ℕ → Words → Bool

@@ -1,5 +1,5 @@
 -- What is proved of chains and their samples, each a clause of this crate's functions.
-use Rattle.std.specs.Prelude.{◌≡◌, ℕ, suc, ◌+◌, ◌*◌, ◌^◌, ◌<◌, ◌≤◌, List, Option}
+use Rattle.std.specs.Prelude.{◌≡◌, ℕ, suc, ℤ, ◌≤ℤ◌, ◌+◌, ◌*◌, ◌^◌, ◌<◌, ◌≤◌, List, Option}
 use Rattle.std.specs.List.{sum_by}
 use Rattle.psi_state.specs.declared.Outcome.{Outcome}
 use Rattle.psi_state.specs.Members.{In}
@@ -8,7 +8,7 @@ use Rattle.psi_law.specs.Counting.{Words, distance}
 use Rattle.psi_law.specs.Wheel.{word_count}
 use Rattle.psi_law.specs.Chains.{Chain, IsFinite, whole, pasts_between, IsBalanced, IsStationary, IsStationaryDistribution}
 use Rattle.psi_law.specs.Elimination.{stationary_weight}
-use Rattle.psi_law.specs.Samples.{unmet, HasLaw, HasMean, apart, uncoalesced}
+use Rattle.psi_law.specs.Samples.{unmet, HasLaw, HasMean, HasSignedMean, apart, uncoalesced}
 
 -- every finite chain has a stationary distribution: the weights that elimination finds (Grassmann, Taksar and Heyman 1985)
 abbrev pub EliminationIsStationary : Type 0
@@ -45,6 +45,12 @@ module _ (chain : Chain) where
         → ((x : List ℕ) → In x chain.states → low ≤ value x) → ((x : List ℕ) → In x chain.states → value x ≤ high)
         → HasMean sample n chain weight value low high
 
+    -- and so of each value that may be negative
+    abbrev pub BalanceIsSignedMean : Type 0
+    BalanceIsSignedMean = (weight : List ℕ → ℕ) (value : List ℕ → ℤ) (low high : ℤ) → IsBalanced chain weight
+        → ((x : List ℕ) → In x chain.states → low ≤ℤ value x) → ((x : List ℕ) → In x chain.states → value x ≤ℤ high)
+        → HasSignedMean sample n chain weight value low high
+
     -- as many pasts of n words give a sample that isn't met as leave states apart
     abbrev pub UnmetIsApart : Type 0
     UnmetIsApart = unmet sample n ≡ apart chain n
@@ -67,6 +73,6 @@ module _ (ending : Words → ℕ → Option (List ℕ)) where
   abbrev pub LimitSquares : Type 0
   LimitSquares = (limit : ℕ) → unmet (samples_within (suc limit)) (2 ^ suc limit) ≤ unmet (samples_within limit) (2 ^ limit) * unmet (samples_within limit) (2 ^ limit)
 
--- pasts whose first n words are the same have the same sample
-abbrev pub LooksAtFirst : (Words → Outcome) → ℕ → Type 0
+-- pasts whose first n words are the same have the same sample, or another answer
+abbrev pub LooksAtFirst : {A : Type 0} → (Words → A) → ℕ → Type 0
 LooksAtFirst sample n = (past other : Words) → ((k : ℕ) → k < n → past k ≡ other k) → sample past ≡ sample other

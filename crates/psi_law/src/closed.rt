@@ -12,7 +12,7 @@ ghost use Rattle.psi_law.specs.Counting.{Words};
 ghost use Rattle.psi_law.specs.Chains.{IsChain};
 ghost use Rattle.psi_law.specs.Samples.{Reaches, HasStationaryLaw};
 ghost use Rattle.psi_law.specs.Networks.{closed_chain, moves_ending, closed_sample, network_total_chain, network_total_ending, network_total_sample};
-ghost use Rattle.psi_law.specs.Statements.{BalanceStays, BalanceIsLaw, BalanceIsOne, BalanceIsMean, ApartFalls, MixesAsCoupled, UncoalescedFalls, UnmetIsUncoalesced, LimitSquares, LooksAtFirst};
+ghost use Rattle.psi_law.specs.Statements.{BalanceStays, BalanceIsLaw, BalanceIsOne, BalanceIsMean, BalanceIsSignedMean, ApartFalls, MixesAsCoupled, UncoalescedFalls, UnmetIsUncoalesced, LimitSquares, LooksAtFirst};
 
 use psi_kinds::Move;
 use psi_model::Net;
@@ -35,6 +35,7 @@ pub fn law_of_closed_samples(caps: State, moves: &[Move], wheel: &Wheel, limit: 
     ensures mixing { MixesAsCoupled (closed_chain caps total moves.now wheel.now) }
     ensures one { BalanceIsOne (closed_chain caps total moves.now wheel.now) }
     ensures mean { BalanceIsMean (closed_chain caps total moves.now wheel.now) (closed_sample caps total moves.now wheel.now limit) (2 ^ limit) }
+    ensures signed_mean { BalanceIsSignedMean (closed_chain caps total moves.now wheel.now) (closed_sample caps total moves.now wheel.now limit) (2 ^ limit) }
     ensures runs { UncoalescedFalls (moves_ending caps total moves.now wheel.now) }
     ensures unmet { UnmetIsUncoalesced (moves_ending caps total moves.now wheel.now) }
     ensures square { LimitSquares (moves_ending caps total moves.now wheel.now) }
@@ -59,6 +60,7 @@ pub fn law_of_closed_network(net: &Net, total: u16)
     ensures mixing { MixesAsCoupled (network_total_chain net.now total) }
     ensures one { BalanceIsOne (network_total_chain net.now total) }
     ensures mean { BalanceIsMean (network_total_chain net.now total) (network_total_sample net.now total) (2 ^ net.now.limit) }
+    ensures signed_mean { BalanceIsSignedMean (network_total_chain net.now total) (network_total_sample net.now total) (2 ^ net.now.limit) }
     ensures runs { UncoalescedFalls (network_total_ending net.now total) }
     ensures unmet { UnmetIsUncoalesced (network_total_ending net.now total) }
     ensures square { LimitSquares (network_total_ending net.now total) }

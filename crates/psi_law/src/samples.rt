@@ -10,7 +10,7 @@ ghost use Rattle.psi_law.specs.Counting.{Words};
 ghost use Rattle.psi_law.specs.Chains.{IsChain};
 ghost use Rattle.psi_law.specs.Samples.{Reaches, HasStationaryLaw};
 ghost use Rattle.psi_law.specs.Networks.{chain_of, ending_of, sample_of, network_chain, network_ending, network_sample};
-ghost use Rattle.psi_law.specs.Statements.{BalanceStays, BalanceIsLaw, BalanceIsOne, BalanceIsMean, ApartFalls, MixesAsCoupled, UnmetIsApart, UncoalescedFalls, UnmetIsUncoalesced, LimitSquares, LooksAtFirst};
+ghost use Rattle.psi_law.specs.Statements.{BalanceStays, BalanceIsLaw, BalanceIsOne, BalanceIsMean, BalanceIsSignedMean, ApartFalls, MixesAsCoupled, UnmetIsApart, UncoalescedFalls, UnmetIsUncoalesced, LimitSquares, LooksAtFirst};
 
 use psi_event::EventLaw;
 use psi_model::Net;
@@ -45,6 +45,7 @@ pub fn law_of_samples<E: EventLaw>(system: &System<'_, E>)
     ensures mixing { MixesAsCoupled (chain_of E.function system.now) }
     ensures one { BalanceIsOne (chain_of E.function system.now) }
     ensures mean { BalanceIsMean (chain_of E.function system.now) (sample_of E.function system.now) (2 ^ system.now.limit) }
+    ensures signed_mean { BalanceIsSignedMean (chain_of E.function system.now) (sample_of E.function system.now) (2 ^ system.now.limit) }
     ensures runs { UncoalescedFalls (ending_of E.function system.now) }
     ensures unmet { UnmetIsUncoalesced (ending_of E.function system.now) }
     ensures square { LimitSquares (ending_of E.function system.now) }
@@ -72,6 +73,7 @@ pub fn law_of_network(net: &Net)
     ensures mixing { MixesAsCoupled (network_chain net.now) }
     ensures one { BalanceIsOne (network_chain net.now) }
     ensures mean { BalanceIsMean (network_chain net.now) (network_sample net.now) (2 ^ net.now.limit) }
+    ensures signed_mean { BalanceIsSignedMean (network_chain net.now) (network_sample net.now) (2 ^ net.now.limit) }
     ensures runs { UncoalescedFalls (network_ending net.now) }
     ensures unmet { UnmetIsUncoalesced (network_ending net.now) }
     ensures square { LimitSquares (network_ending net.now) }
