@@ -1,12 +1,16 @@
 -- The definitions on small inputs, worked out by hand and computed by the checker. The modulus of each network is 4, so pasts are
 -- counted of the words below 4.
-use Rattle.std.proofs.Common.{◌≡◌, ℕ, zero, suc, ◌+◌, ◌<◌, ◌≤◌, ◌^◌, ◌*◌, List, [], ◌∷◌, map, slice_index, nat_eq, is_none, inl, inr, ap, sym, ◌∙◌, refl, arith}
+use Rattle.std.proofs.Common.{◌≡◌, ℕ, zero, suc, ◌+◌, ◌<◌, ◌≤◌, ◌^◌, ◌*◌, ℤ, pos, negsuc, List, [], ◌∷◌, map, slice_index, nat_eq, is_none, inl, inr, ap, sym, ◌∙◌, refl, arith}
 use Rattle.std.specs.Prelude.{codes}
 use Rattle.std.specs.List.{sum_by}
 use Rattle.std.proofs.Math.Nat.{le_of_mul-le-mul_left}
 use Rattle.std.proofs.lemmas.Bool.{cases_lt}
 use Rattle.std.proofs.lemmas.List.Elements.{All-nil, All-cons}
 use Rattle.psi_state.specs.declared.Outcome.{Outcome}
+use Rattle.psi_state.specs.declared.Outcome.TheVariants.{Met}
+use Rattle.psi_reward.specs.declared.kinds.RewardKind.{RewardKind}
+use Rattle.psi_reward.specs.declared.kinds.RewardKind.TheVariants.{Linear, Above}
+use Rattle.psi_reward.specs.Worth.{worth_of}
 use Rattle.psi_state.specs.Members.{In}
 use Rattle.psi_route.specs.declared.Full.{Full}
 use Rattle.psi_route.specs.declared.Full.TheVariants.{Lost, Stay}
@@ -18,6 +22,10 @@ use Rattle.psi_kinds.specs.Moves.{moved}
 use Rattle.psi_kinds.specs.Refusals.{refusal_of}
 use Rattle.psi_rate.specs.Rates.{AreRates, total, least_power, event_of}
 use Rattle.psi_rate.specs.Doubling.{first_answer}
+use Rattle.psi_rate.specs.Least.{least_answer}
+use Rattle.psi_couple.specs.declared.answers.Coupled.TheVariants.{At}
+use Rattle.psi_couple.specs.Coupling.{coupled_within}
+use Rattle.psi_couple.specs.Valuing.{valued_within}
 use Rattle.psi_rate.specs.Outcomes.{outcome_within}
 use Rattle.psi_region.specs.Region.{step}
 use Rattle.psi_closed.specs.Closed.{total_states, all_arcs, held_states, closed_run}
@@ -26,11 +34,13 @@ use Rattle.psi_model.specs.Valid.{IsNetwork, IsQueue, IsAccepted}
 use Rattle.psi_model.specs.declared.entries.Queue.{Queue}
 use Rattle.psi_model.specs.declared.entries.NamedEvent.{NamedEvent}
 use Rattle.psi_law.specs.Elimination.{Matrix, censored, rate_between, stationary_weight}
-use Rattle.psi_law.specs.Counting.{Words, distance, sum_below, count_below, sum_pasts, count_pasts}
+use Rattle.psi_law.specs.Counting.{Words, distance, signed, sum_below, count_below, sum_pasts, count_pasts}
 use Rattle.psi_law.specs.Wheel.{word_count, words_for}
 use Rattle.psi_law.specs.Chains.{Chain, function_of, is_same, end_of, pasts_between, whole, weighted, flow_to, IsBalanced, IsStationaryDistribution}
 use Rattle.psi_law.specs.Samples.{HasLaw, HasMean, is_met_in, is_unmet, value_met, met_in, unmet, sum_met, are_apart, apart}
 use Rattle.psi_law.specs.Networks.{network_chain, network_ending, network_sample, closed_chain, closed_sample, network_total_chain, network_total_ending, network_total_sample}
+use Rattle.psi_law.specs.Couplings.{network_coupling, coupled_outcome}
+use Rattle.psi_law.specs.Values.{network_value, is_value, is_unvalued, weight_valued}
 use Rattle.psi_law.proofs.SumsLemmas.{one_if}
 use Rattle.psi_law.proofs.WheelLemmas.{IsShare, share, sum-words, wheel-exact}
 use Rattle.psi_law.proofs.LawfulLemmas.{IsLawful}
@@ -389,3 +399,54 @@ closed-words = refl
 rounds-words : tally (network_total_sample rounds 2) 2 (network_total_chain rounds 2).states ≡ 6 ∷ 1 ∷ 0 ∷ 9 ∷ []
 unfolding sum_below do_kind total_states all_arcs held_states closed_run event_of least_power outcome_within first_answer
 rounds-words = refl
+
+-- ---- which word is the newest
+
+-- the past with the words of a list, the newest first
+abbrev newest_first : List ℕ → Words
+newest_first words place = slice_index words place
+
+-- after an idle word two services empty the queue, and the newest word brings a customer; with the words in the other order, an arrival comes first, and the queue is empty in the end
+order-matters : (network_sample (first 2) (newest_first (0 ∷ 1 ∷ 1 ∷ 3 ∷ [])) ≡ Met 4 (1 ∷ [])) × (network_sample (first 2) (newest_first (3 ∷ 1 ∷ 1 ∷ 0 ∷ [])) ≡ Met 4 (0 ∷ []))
+unfolding do_kind event_of least_power outcome_within first_answer step
+order-matters = (refl, refl)
+
+-- ---- couplings
+
+-- two services and an idle word couple at 3, a horizon that a sample doesn't try
+coupled-three : network_coupling (first 2) (newest_first (3 ∷ 1 ∷ 1 ∷ 0 ∷ [])) ≡ At 3 (0 ∷ [])
+unfolding do_kind event_of least_power coupled_within least_answer step
+coupled-three = refl
+
+-- the couplings of two words: as many of each state as samples
+two-coupled : tally (λ past. coupled_outcome (network_coupling (first 1) past)) 2 (network_chain (first 1)).states ≡ 11 ∷ 4 ∷ 0 ∷ 1 ∷ []
+unfolding sum_below do_kind event_of least_power coupled_within least_answer step
+two-coupled = refl
+
+-- ---- values
+
+-- whether the queue is busy, under two words: an arrival as the newest word tells that it is (4 pasts), and so does one before an idle word (1); two services tell that it is not
+-- (4); in the other 7 pasts it may be either
+abbrev busy : RewardKind
+busy = Above (0 ∷ []) 0
+
+values-counted : count_pasts 4 2 (λ past. is_unvalued (network_value (first 1) busy past))
+    ∷ map (λ v. count_pasts 4 2 (λ past. is_value v (network_value (first 1) busy past))) (pos 0 ∷ pos 1 ∷ []) ≡ 7 ∷ 4 ∷ 5 ∷ []
+unfolding sum_below do_kind event_of least_power valued_within first_answer step
+values-counted = refl
+
+-- of the weight of 7, the busy states have 3: 7 * 5 is at most 3 * 16, and this at most 7 * (5 + 7)
+busy-weighed : map (λ v. weight_valued (network_chain (first 1)) halves (worth_of busy) v) (pos 0 ∷ pos 1 ∷ []) ≡ 4 ∷ 3 ∷ []
+busy-weighed = refl
+
+-- each customer costs 1: the samples of four words are worth -100, and all states by their weights -4; with u = 69 of 256 pasts, 7 * (-100 - 2 * 69) is at most -4 * 256,
+-- and this at most 7 * -100
+abbrev cost : RewardKind
+cost = Linear (0 ∷ []) (negsuc 0 ∷ [])
+
+cost-counted : signed (λ g. sum_pasts 4 4 (λ past. value_met g (network_sample (first 2) past))) (worth_of cost) ≡ negsuc 99
+unfolding sum_below do_kind event_of least_power outcome_within first_answer step
+cost-counted = refl
+
+cost-weighed : signed (weighted (network_chain (first 2)) halves) (worth_of cost) ≡ negsuc 3
+cost-weighed = refl
