@@ -1,15 +1,14 @@
 -- The least coupling of a past: how it agrees with the sample, and which words it looks at.
-use Rattle.std.specs.Prelude.{◌≡◌, ℕ, zero, suc, ℤ, ◌*◌, ◌^◌, ◌<◌, ◌≤◌, List, [], ◌∷◌, Option, Some, None, refl}
-use Rattle.std.proofs.Common.{inl, inr, ap, sym, ◌∙◌, subst, arith}
+use Rattle.std.specs.Prelude.{◌≡◌, ℕ, zero, suc, ◌*◌, ◌^◌, ◌<◌, ◌≤◌, List, Option, Some, None, refl}
+use Rattle.std.proofs.Common.{inl, inr, sym, ◌∙◌, arith}
 use Rattle.std.proofs.Math.Nat.{pow-succ'}
 use Rattle.std.proofs.lemmas.Bool.{cases_lt}
 use Rattle.psi_state.specs.declared.Outcome.{Outcome}
 use Rattle.psi_state.specs.declared.Outcome.TheVariants.{Met, NotMet}
-use Rattle.psi_rate.specs.Doubling.{first_answer, IsFirst, HasNone, IsLasting, TellsFirst}
-use Rattle.psi_rate.specs.Least.{least_answer, IsLeast, HasNoneBelow, TellsLeast}
+use Rattle.psi_rate.specs.Doubling.{HasNone, IsLasting}
+use Rattle.psi_rate.specs.Least.{least_answer, HasNoneBelow, TellsLeast}
 use Rattle.psi_rate.specs.Outcomes.{outcome_within, IsOutcome}
 use Rattle.psi_rate.proofs.PowersLemmas.{pow-order}
-use Rattle.psi_rate.proofs.DoublingLemmas.{first_answer-tells}
 use Rattle.psi_rate.proofs.LeastLemmas.{least_answer-tells}
 use Rattle.psi_rate.proofs.OutcomesLemmas.{outcome_within-is}
 use Rattle.psi_couple.specs.declared.answers.Coupled.{Coupled}

@@ -7,13 +7,13 @@ use borrow.Author.Differences.{up, down}
 use Rattle.psi_state.specs.declared.Outcome.{Outcome}
 use Rattle.psi_state.specs.declared.Outcome.TheVariants.{Met, NotMet}
 use Rattle.psi_state.specs.Members.{In}
-use Rattle.psi_law.specs.Counting.{Words, positive, negative, signed, sum_below, after, sum_pasts}
+use Rattle.psi_law.specs.Counting.{Words, positive, negative, sum_below, sum_pasts}
 use Rattle.psi_law.specs.Wheel.{word_count}
 use Rattle.psi_law.specs.Chains.{Chain, IsChain, end_of, whole, weighted}
-use Rattle.psi_law.specs.Samples.{Reaches, is_unmet, value_met, unmet, sum_met, HasSignedMean}
+use Rattle.psi_law.specs.Samples.{Reaches, is_unmet, value_met, unmet, sum_met}
 use Rattle.psi_law.specs.Statements.{BalanceIsMean, BalanceIsSignedMean}
 use Rattle.psi_law.proofs.SumsLemmas.{one_if, sum-same, sum-times, sum_below-is, sum_pasts-is, sum_by-out, sum_below-constant}
-use Rattle.psi_law.proofs.ChainLemmas.{Own, end_of-keeps}
+use Rattle.psi_law.proofs.ChainLemmas.{end_of-keeps}
 use Rattle.psi_law.proofs.BalanceLemmas.{weighted-is, weighted-same}
 
 -- ---- integers

@@ -1,31 +1,27 @@
 -- The first value of a past: what it reaches, how it agrees with the sample, and its law.
-use Rattle.std.specs.Prelude.{◌≡◌, ℕ, suc, ℤ, ◌+◌, ◌*◌, ◌^◌, ◌<◌, ◌≤◌, List, [], ◌∷◌, filter, Bool, Option, Some, None, refl}
-use Rattle.std.specs.List.{sum_by}
+use Rattle.std.specs.Prelude.{◌≡◌, ℕ, suc, ℤ, ◌+◌, ◌*◌, ◌^◌, ◌<◌, ◌≤◌, List, [], ◌∷◌, Option, Some, None, refl}
 use Rattle.std.specs.Ordering.{int_eq}
-use Rattle.std.proofs.Common.{inl, inr, ap, sym, ◌∙◌, subst, arith}
+use Rattle.std.proofs.Common.{inl, inr, ap, sym, ◌∙◌, arith}
 use Rattle.std.proofs.lemmas.Bool.{cases_lt}
 use Rattle.psi_state.specs.declared.Outcome.{Outcome}
 use Rattle.psi_state.specs.declared.Outcome.TheVariants.{Met, NotMet}
 use Rattle.psi_state.specs.State.{IsBelow}
-use Rattle.psi_rate.specs.Composition.{Functions, compose, AreClosed}
-use Rattle.psi_rate.specs.Doubling.{first_answer, IsFirst, HasNone, TellsFirst}
-use Rattle.psi_rate.specs.Outcomes.{outcome_within, IsOutcome}
+use Rattle.psi_rate.specs.Composition.{Functions, AreClosed}
+use Rattle.psi_rate.specs.Doubling.{first_answer, HasNone, TellsFirst}
+use Rattle.psi_rate.specs.Outcomes.{IsOutcome}
 use Rattle.psi_rate.proofs.PowersLemmas.{pow-order}
 use Rattle.psi_rate.proofs.DoublingLemmas.{first_answer-tells}
-use Rattle.psi_rate.proofs.OutcomesLemmas.{outcome_within-is}
-use Rattle.psi_region.specs.Region.{Area}
 use Rattle.psi_horizon.specs.Runs.{region_at, ending_at}
 use Rattle.psi_horizon.proofs.RunsLemmas.{ending-reached}
 use Rattle.psi_couple.specs.declared.answers.Valued.{Valued}
 use Rattle.psi_couple.specs.declared.answers.Valued.TheVariants.{At, NotAt}
-use Rattle.psi_couple.specs.Valuing.{common_value, value_at, valued_of, valued_within, IsValued, IsValueReached}
+use Rattle.psi_couple.specs.Valuing.{common_value, value_at, valued_of, valued_within, IsValued}
 use Rattle.psi_couple.proofs.ValuingLemmas.{common_value-same, value-reached, valued_within-only}
 use Rattle.psi_law.specs.Counting.{Words, sum_pasts}
 use Rattle.psi_law.specs.Wheel.{word_count}
-use Rattle.psi_law.specs.Chains.{Chain, IsChain, end_of, whole, weighted, IsBalanced}
+use Rattle.psi_law.specs.Chains.{Chain, IsChain, end_of, weighted}
 use Rattle.psi_law.specs.Values.{is_value, is_unvalued, weight_valued, valued_at, unvalued, BalanceIsValueLaw, ReachesValue, AgreesValued}
 use Rattle.psi_law.proofs.SumsLemmas.{one_if, at_most_one, sum_pasts-is, sum_by-filter}
-use Rattle.psi_law.proofs.ChainLemmas.{Own}
 use Rattle.psi_law.proofs.BalanceLemmas.{weighted-pasts}
 use Rattle.psi_law.proofs.LawLemmas.{under-weighted, over-weighted}
 use Rattle.psi_law.proofs.CouplingLemmas.{some-none}
@@ -58,9 +54,9 @@ pub value-agrees : (value : List ℕ → ℤ) (split : ℕ) (caps : List ℕ) (f
     → IsValued (value_at value split f caps) limit v → IsOutcome (ending_at split f caps) limit o → AgreesValued value v o
 value-agrees value split caps f limit (At h w) (Met t s) z below closed first met = (
   (let valued = value-reached value split caps f h w closed first.answer in
-  let reached = ending-reached split caps f t s closed met.answer in
-  let late : ℕ = h + t in
-  sym (valued.each z late below (omega arith)) ∙ ap value (reached.each z late below (omega arith))),
+      let reached = ending-reached split caps f t s closed met.answer in
+      let late : ℕ = h + t in
+      sym (valued.each z late below (omega arith)) ∙ ap value (reached.each z late below (omega arith))),
   elim (cases_lt t h) [
     | inl less ↦
         (let own = one-valued value split caps f t s met.answer in

@@ -1,6 +1,6 @@
 -- The definitions on small inputs, worked out by hand and computed by the checker. The modulus of each network is 4, so pasts are
 -- counted of the words below 4.
-use Rattle.std.proofs.Common.{◌≡◌, ℕ, zero, suc, ◌+◌, ◌<◌, ◌≤◌, ◌^◌, ◌*◌, ℤ, pos, negsuc, List, [], ◌∷◌, map, slice_index, nat_eq, is_none, inl, inr, ap, sym, ◌∙◌, refl, arith}
+use Rattle.std.proofs.Common.{◌≡◌, ℕ, zero, suc, ◌+◌, ◌<◌, ◌≤◌, ◌^◌, ◌*◌, pos, negsuc, List, [], ◌∷◌, map, slice_index, nat_eq, is_none, inl, inr, ap, sym, ◌∙◌, refl, arith}
 use Rattle.std.specs.Prelude.{codes}
 use Rattle.std.specs.List.{sum_by}
 use Rattle.std.proofs.Math.Nat.{le_of_mul-le-mul_left}

@@ -11,7 +11,7 @@ use Rattle.psi_kinds.specs.Moves.{move_of}
 use Rattle.psi_rate.proofs.PowersLemmas.{pow-order}
 use Rattle.psi_arcs.specs.Walks.{customers}
 use Rattle.psi_closed.specs.Diagram.{IsTotal}
-use Rattle.psi_model.specs.Network.{Network, caps_of}
+use Rattle.psi_model.specs.Network.{Network, caps_of, rates_of}
 use Rattle.psi_model.specs.declared.entries.NamedEvent.{NamedEvent}
 use Rattle.psi_model.specs.Valid.{IsNetwork}
 use Rattle.psi_net_document.specs.declared.refusals.NetRefusal.{NetRefusal}
@@ -28,6 +28,7 @@ use Rattle.psi_reply.proofs.ClosingLemmas.{moves-of_none}
 use Rattle.psi_reply.specs.Reply.{Reply, value_reply, outcome_reply, closed_reply, total_reply}
 use Rattle.psi_run.specs.Reply.{reply_to, reply_of, judged_reply}
 use Rattle.psi_law.specs.Networks.{network_sample, network_total_sample}
+use Rattle.psi_law.proofs.WheelLemmas.{wheel-exact}
 use Rattle.psi_law.proofs.WordsLemmas.{seed_word-small}
 use Rattle.psi_law.proofs.NetworkLemmas.{network-lawful}
 use Rattle.psi_law.proofs.NetworkAnswerLemmas.{coupling-lawful, values-lawful}
@@ -80,6 +81,9 @@ samples-counted = λ bytes net read.
       };
       couplings = (coupling-lawful net kept).law;
       values = values-lawful net kept;
+      wheel = wheel-exact (rates_of net) kept.rates;
+      monotone = all.monotone;
+      small = all.small;
       words = words-counted net kept;
       printed = λ told name seed stream is. replies-counted told name bytes net seed stream is read;
     })
@@ -131,6 +135,7 @@ closed-samples-counted = λ bytes net total read none fits.
         square = all.square;
         words = laws.words;
       };
+      wheel = wheel-exact (rates_of net) kept.rates;
       words = words-counted net kept;
       printed = λ told name seed stream is.
           closed-reply told name bytes net seed stream total is read ∙ ap (λ (r : Reply). Some r) (total-counted net seed stream total none fits);

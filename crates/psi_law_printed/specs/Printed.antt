@@ -1,10 +1,11 @@
 -- The network of a file has the law of samples, and what is printed of a seed and a stream is the sample that is counted there.
-use Rattle.std.specs.Prelude.{◌≡◌, ℕ, ◌^◌, ◌<◌, List, Option, Some, None, Ok}
+use Rattle.std.specs.Prelude.{◌≡◌, ℕ, ◌^◌, ◌<◌, ◌≤◌, List, length, All, Option, Some, None, Ok}
 use Rattle.psi_past.specs.SeedWord.{seed_word}
 use Rattle.psi_reward.specs.declared.kinds.RewardKind.{RewardKind}
 use Rattle.psi_reward.specs.Worth.{worth_of}
 use Rattle.psi_closed.specs.Diagram.{IsTotal}
-use Rattle.psi_model.specs.Network.{Network, caps_of}
+use Rattle.psi_event.specs.Law.{IsMonotone}
+use Rattle.psi_model.specs.Network.{Network, caps_of, rates_of, functions_of}
 use Rattle.psi_net.specs.Reading.{network_of}
 use Rattle.psi_command.specs.Command.{sample, couple, reward, closed}
 use Rattle.psi_program.specs.Reply.{text_reply}
@@ -16,14 +17,15 @@ use Rattle.psi_reply.specs.Closed.{first_other}
 use Rattle.psi_reply.specs.Reply.{outcome_reply}
 use Rattle.psi_run.specs.Reply.{reply_to}
 use Rattle.psi_law.specs.Counting.{Words}
-use Rattle.psi_law.specs.Wheel.{word_count}
+use Rattle.psi_law.specs.Wheel.{word_count, IsExact}
 use Rattle.psi_law.specs.Chains.{Chain}
 use Rattle.psi_state.specs.declared.Outcome.{Outcome}
+use Rattle.psi_state.specs.State.{all_states}
 use Rattle.psi_law.specs.Samples.{HasStationaryLaw}
 use Rattle.psi_law.specs.Networks.{network_chain, network_ending, network_sample, network_total_chain, network_total_ending, network_total_sample}
 use Rattle.psi_law.specs.Couplings.{network_coupling, coupled_outcome}
 use Rattle.psi_law.specs.Values.{network_value, BalanceIsValueLaw}
-use Rattle.psi_law.specs.Statements.{BalanceStays, BalanceIsLaw, BalanceIsOne, BalanceIsMean, BalanceIsSignedMean, ApartFalls, MixesAsCoupled, UncoalescedFalls, UnmetIsUncoalesced, LimitSquares, LooksAtFirst}
+use Rattle.psi_law.specs.Statements.{BalanceStays, BalanceIsLaw, BalanceIsOne, BalanceIsMean, BalanceIsSignedMean, ApartFalls, MixesAsCoupled, UncoalescedFalls, UnmetIsUncoalesced, LimitSquares, UnmetIsApart, LooksAtFirst}
 
 -- a chain and the samples of all pasts, of which n words count, have the law of samples; their runs end so
 pub record HaveLaws (chain : Chain) (samples : Words → Outcome) (n : ℕ) (ending : Words → ℕ → Option (List ℕ)) : Type 0 where
@@ -59,6 +61,9 @@ pub record IsCounted (bytes : List ℕ) (net : Network) : Type 0 where
   pub samples : HaveLaws (network_chain net) (network_sample net) (2 ^ net.limit) (network_ending net)
   pub couplings : BalanceIsLaw (network_chain net) (λ past. coupled_outcome (network_coupling net past)) (2 ^ net.limit)
   pub values : (kind : RewardKind) → BalanceIsValueLaw (network_value net kind) (2 ^ net.limit) (network_chain net) (worth_of kind)
+  pub wheel : IsExact (rates_of net)
+  pub monotone : All (IsMonotone (caps_of net)) (functions_of net) → UnmetIsApart (network_chain net) (network_sample net) (2 ^ net.limit)
+  pub small : length (all_states (caps_of net)) ≤ net.split → UnmetIsApart (network_chain net) (network_sample net) (2 ^ net.limit)
   pub words : AreCountedWords (2 ^ net.limit)
   pub printed : (told : List ℕ → Option (List ℕ)) (name : List ℕ) (seed stream : ℕ) → told name ≡ Some bytes → RepliesAreCounted told name net seed stream
 
@@ -68,6 +73,7 @@ SamplesAreCounted = (bytes : List ℕ) (net : Network) → network_of bytes ≡ 
 -- the same of a closed network whose queues can hold so many customers, 256 at most
 pub record IsClosedCounted (bytes : List ℕ) (net : Network) (total : ℕ) : Type 0 where
   pub samples : HaveLaws (network_total_chain net total) (network_total_sample net total) (2 ^ net.limit) (network_total_ending net total)
+  pub wheel : IsExact (rates_of net)
   pub words : AreCountedWords (2 ^ net.limit)
   pub printed : (told : List ℕ → Option (List ℕ)) (name : List ℕ) (seed stream : ℕ) → told name ≡ Some bytes
       → reply_to (Ok (closed name seed stream total)) told ≡ Some (outcome_reply (network_total_sample net total (seed_word seed stream)))
