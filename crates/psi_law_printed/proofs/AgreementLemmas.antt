@@ -85,8 +85,8 @@ module _ (net : Network) (kept : IsNetwork net) (seed stream : ℕ) where
       let caps = caps_of net in
       let t = is.log.header.horizon in
       let reached = is.certifies.reached in
-      let own = subst (λ s. IsReached (functions_by_time net s is.log.header.stream) caps t is.log.final) is.seed reached in
-      let other = subst (λ s. IsReached (functions_by_time net seed s) caps t is.log.final) is.stream own in
+      let own = subst (λ s. IsReached (functions_by_time net s is.log.header.stream) caps t is.log.final) is.same_seed reached in
+      let other = subst (λ s. IsReached (functions_by_time net seed s) caps t is.log.final) is.same_stream own in
       (t, subst (λ (x : List ℕ). IsReached (functions_by_time net seed stream) caps t x) is.final other)
 
   -- each state that is given

@@ -92,7 +92,7 @@ samples-counted = λ bytes net read.
 
 some-from : {A : Type 0} (o : Option A) (a : A) → o ≡ Some a → IsSome o
 some-from None a same = absurd cc
-some-from (Some b) a same = tt
+some-from (Some b) a same = refl
 
 moves-some : (events : List NamedEvent) (moves : List Move) → map (λ event. move_of event.kind) events ≡ map Some moves → All (λ event. IsSome (move_of event.kind)) events
 moves-some [] moves same = All-nil (λ event. IsSome (move_of event.kind))

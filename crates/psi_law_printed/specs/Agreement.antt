@@ -34,8 +34,8 @@ module _ (net : Network) (seed stream : ℕ) where
   -- a log of this seed and stream that is accepted has this final state
   pub record IsLogged (state : List ℕ) : Type 0 where
     pub log : Certificate
-    pub seed : log.header.seed ≡ seed
-    pub stream : log.header.stream ≡ stream
+    pub same_seed : log.header.seed ≡ seed
+    pub same_stream : log.header.stream ≡ stream
     pub certifies : Certifies net log
     pub final : log.final ≡ state
 
