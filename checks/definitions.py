@@ -16,7 +16,7 @@ LANGUAGE = set(
 )
 SIGNS = set("→ × ¬ ⊥ = : . ←".split())
 WORD = re.compile(r"(?!λ)[^\W\d]\w*(?:\.\w+)*")
-TOKEN = re.compile(r"(?<=[\w)])\.\w+|" + WORD.pattern + r"|\d\w*|\[\]|[^\s\w(){}\[\];,]+")
+TOKEN = re.compile(r"(?<=[\w)])\.\w+|" + WORD.pattern + r"|\d\w*|\[\]|[^\s\w(){}\[\];,]+ℤ?")
 ITEM = re.compile(r"(?:abbrev |unfoldable )?(?:pub )?(?:record |data )?(\S+)(?= )")
 
 

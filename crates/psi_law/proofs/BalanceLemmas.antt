@@ -9,10 +9,10 @@ use Rattle.psi_rate.specs.Composition.{picked, Keeps}
 use Rattle.psi_rate.proofs.PowersLemmas.{least_power-is}
 use Rattle.psi_law.specs.Counting.{sum_below, after, sum_pasts}
 use Rattle.psi_law.specs.Wheel.{word_count}
-use Rattle.psi_law.specs.Chains.{Chain, function_of, is_same, end_of, weighted, weight_to, IsBalanced, IsStationary}
+use Rattle.psi_law.specs.Chains.{Chain, IsChain, function_of, is_same, end_of, weighted, weight_to, IsBalanced, IsStationary}
 use Rattle.psi_law.proofs.SumsLemmas.{one_if, IsSum, sum-same, sum-times, sum_below-is, sum_by-is, sum_pasts-is, sum_by-swap, sum_by-same, sum_by-filter, sum_by-at}
 use Rattle.psi_law.proofs.WheelLemmas.{share, sum-words}
-use Rattle.psi_law.proofs.ChainLemmas.{Own, IsChain, is_same-itself, function_of-idle, function_of-keeps, end_of-first}
+use Rattle.psi_law.proofs.ChainLemmas.{Own, is_same-itself, function_of-idle, function_of-keeps, end_of-first}
 
 -- the sum over the states by their weights is a way to sum
 pub weighted-is : (chain : Chain) (weight : List ℕ → ℕ) → IsSum (weighted chain weight)
@@ -42,7 +42,7 @@ module _ (chain : Chain) (weight : List ℕ → ℕ) (is : IsChain chain) where
   weighted-regroup f h keeps =
       let at : ℕ → List ℕ → List ℕ → ℕ = λ n x y. n * one_if (is_same (f x) y) in
       weighted-same chain weight (λ x. h (f x)) (λ x. sum_by (λ y. at (h y) x y) chain.states)
-      (λ x member. sym (sum_by-at chain.states (λ y. is_same (f x) y) (f x) h (is_same-itself (f x)) (λ y so. sym (same-from_eq (f x) y so)) is.distinct (keeps.each x member)))
+      (λ x member. sym (sum_by-at chain.states (λ y. is_same (f x) y) (f x) h (is_same-itself (f x)) (λ y so. sym (same-from_eq (f x) y so)) is.finite.distinct (keeps.each x member)))
       ∙ (weighted-swap (λ (g : List ℕ → ℕ). sum_by g chain.states) (sum_by-is chain.states) chain weight (λ x y. at (h y) x y)
       ∙ sum_by-same chain.states (λ y. weighted chain weight (λ x. at (h y) x y)) (λ y. h y * weight_to chain weight f y)
       (λ y member. sum-times (weighted chain weight) (weighted-is chain weight) (h y) (λ x. one_if (is_same (f x) y))
@@ -62,7 +62,7 @@ module _ (chain : Chain) (weight : List ℕ → ℕ) (is : IsChain chain) where
       -- each event's sum, by the states that it leads to
       ∙ (sum-same (sum_below n) below (λ e. weighted chain weight (λ x. rate e * h (function_of chain e x))) (λ e. sum_by (λ y. h y * (rate e * to e y)) chain.states)
       (λ e. sum-times (weighted chain weight) (weighted-is chain weight) (rate e) (λ x. h (function_of chain e x))
-      ∙ (ap (λ k. rate e * k) (weighted-regroup (function_of chain e) h (function_of-keeps chain e is))
+      ∙ (ap (λ k. rate e * k) (weighted-regroup (function_of chain e) h (function_of-keeps chain e is.finite))
       ∙ (sym (sum-times (λ (g : List ℕ → ℕ). sum_by g chain.states) over (rate e) (λ y. h y * to e y))
       ∙ sum_by-same chain.states (λ y. rate e * (h y * to e y)) (λ y. h y * (rate e * to e y)) (λ y member. omega arith))))
       ∙ (sym (sum_by-swap (sum_below n) below chain.states (λ y e. h y * (rate e * to e y)))
@@ -124,6 +124,6 @@ module _ (chain : Chain) (weight : List ℕ → ℕ) (is : IsChain chain) where
   balanced-stationary balanced = record {
     each = λ n y member.
         weighted-pasts n (λ z. one_if (is_same z y)) balanced
-        ∙ (ap (λ k. word_count ^ n * k) (sum_by-at chain.states (λ x. is_same x y) y weight (is_same-itself y) (λ x so. same-from_eq x y so) is.distinct member)
+        ∙ (ap (λ k. word_count ^ n * k) (sum_by-at chain.states (λ x. is_same x y) y weight (is_same-itself y) (λ x so. same-from_eq x y so) is.finite.distinct member)
         ∙ omega arith);
   }

@@ -1,16 +1,15 @@
 -- What is true of the chain of every network, and its runs.
-use Rattle.std.specs.Prelude.{◌≡◌, ℕ, zero, suc, ◌-◌, List, length, All, true, refl}
+use Rattle.std.specs.Prelude.{◌≡◌, ℕ, zero, suc, ◌-◌, List, length, true, refl}
 use Rattle.std.proofs.Common.{inl, inr, ap, sym, ◌∙◌, subst, arith}
 use Rattle.std.proofs.lemmas.Bool.{cases_lt, cases_Bool}
 use Rattle.std.proofs.lemmas.List.{get_or_past}
 use Rattle.psi_state.specs.Members.{In}
-use Rattle.psi_state.specs.Ascending.{IsDistinct}
 use Rattle.psi_state.proofs.StatesLemmas.{apart-from_eq}
-use Rattle.psi_rate.specs.Rates.{AreRates, event_of}
+use Rattle.psi_rate.specs.Rates.{event_of}
 use Rattle.psi_rate.specs.Composition.{picked, function_at, compose, Keeps}
 use Rattle.psi_rate.proofs.CompositionLemmas.{compose-keeps}
 use Rattle.psi_law.specs.Counting.{Words}
-use Rattle.psi_law.specs.Chains.{Chain, function_of, is_same, end_of}
+use Rattle.psi_law.specs.Chains.{Chain, IsFinite, IsChain, function_of, is_same, end_of}
 
 pub is_same-itself : (x : List ℕ) → is_same x x ≡ true
 is_same-itself x = elim (cases_Bool (is_same x x)) [
@@ -22,19 +21,12 @@ is_same-itself x = elim (cases_Bool (is_same x x)) [
 abbrev pub Own : Chain → List ℕ → Type 0
 Own chain x = In x chain.states
 
--- what is true of the chain of every network: its rates make a wheel, there are as many functions, no state stands twice, there is one, and each function keeps the states
-pub record IsChain (chain : Chain) : Type 0 where
-  pub rated : AreRates chain.rates
-  pub same_count : length chain.rates ≡ length chain.functions
-  pub distinct : IsDistinct chain.states
-  pub some : (x : List ℕ) × In x chain.states
-  pub keeps : All (Keeps (Own chain)) chain.functions
-
--- idle keeps them too
+-- idle changes nothing
 pub function_of-idle : (chain : Chain) → IsChain chain → function_of chain (length chain.rates) ≡ (λ x. x)
 function_of-idle chain is = (let count = is.same_count in get_or_past chain.functions (length chain.rates) (λ x. x) (omega (arith, count)))
 
-pub function_of-keeps : (chain : Chain) (e : ℕ) → IsChain chain → Keeps (Own chain) (function_of chain e)
+-- the function of every event, idle among them, keeps the states
+pub function_of-keeps : (chain : Chain) (e : ℕ) → IsFinite chain → Keeps (Own chain) (function_of chain e)
 function_of-keeps chain e is =
     elim (cases_lt e (length chain.functions)) [
       | inl small ↦ is.keeps e (λ x. x) small
@@ -44,7 +36,7 @@ function_of-keeps chain e is =
     ]
 
 -- and so does every run
-pub end_of-keeps : (chain : Chain) (past : Words) (n : ℕ) (x : List ℕ) → IsChain chain → Own chain x → Own chain (end_of chain past n x)
+pub end_of-keeps : (chain : Chain) (past : Words) (n : ℕ) (x : List ℕ) → IsFinite chain → Own chain x → Own chain (end_of chain past n x)
 end_of-keeps chain past n x is member =
     compose-keeps (Own chain) (function_at chain.functions chain.rates past)
     (record { each = λ t. function_of-keeps chain (event_of chain.rates (past (t - 1))) is }) n x member

@@ -1,7 +1,7 @@
 -- The chain and the samples of events on the states of a total.
-use Rattle.std.specs.Prelude.{◌≡◌, ℕ, zero, suc, ◌^◌, ◌<◌, ◌↔◌, List, length, map, slice_index_or, All, Option, Some, None, IsSome, refl}
-use Rattle.std.proofs.Common.{ap, sym, ◌∙◌, subst, arith}
-use Rattle.std.proofs.lemmas.List.{length-map}
+use Rattle.std.specs.Prelude.{◌≡◌, ℕ, zero, suc, ◌+◌, ◌^◌, ◌<◌, ◌↔◌, List, [], ◌∷◌, length, take, map, slice_index, slice_index_or, All, Option, Some, None, IsSome, refl}
+use Rattle.std.proofs.Common.{inl, inr, ap, sym, ◌∙◌, subst, arith}
+use Rattle.std.proofs.lemmas.List.{length-map, ext_get_or}
 use Rattle.std.proofs.lemmas.List.Elements.{All-map}
 use Rattle.psi_state.specs.declared.Outcome.{Outcome}
 use Rattle.psi_state.specs.Sets.{image, single}
@@ -11,25 +11,27 @@ use Rattle.psi_kinds.specs.Kinds.{do_kind}
 use Rattle.psi_kinds.specs.Moves.{moved, move_of}
 use Rattle.psi_kinds.proofs.MoveLemmas.{move-is, move-does}
 use Rattle.psi_rate.specs.Rates.{AreRates}
-use Rattle.psi_rate.specs.Composition.{Functions, function_at, Keeps}
+use Rattle.psi_rate.specs.Composition.{Functions, function_at, compose, Keeps, AreKeeping}
 use Rattle.psi_rate.specs.Outcomes.{outcome_within}
 use Rattle.psi_rate.proofs.OutcomesLemmas.{outcome_within-is, outcome_within-only}
 use Rattle.psi_rate.proofs.FunctionsLemmas.{function_at-keeping}
-use Rattle.psi_closed.specs.Closed.{IsOfTotal, total_states, arc_hull, closed_after, closed_run, closed_ending}
+use Rattle.psi_arcs.specs.Walks.{customers}
+use Rattle.psi_closed.specs.Closed.{IsOfTotal, total_states, all_arcs, arc_hull, closed_after, closed_run, closed_ending}
 use Rattle.psi_closed.specs.Diagram.{IsTotal}
 use Rattle.psi_closed.specs.Planned.{AreMoves, IsClosedSample}
-use Rattle.psi_closed.proofs.ArcsLemmas.{In-total_states, In-of_total_states, total_states-rising}
+use Rattle.psi_closed.proofs.ArcsLemmas.{arc, In-of_all_arcs, held-rising, In-total_states, In-of_total_states, total_states-rising}
 use Rattle.psi_closed.proofs.DiagramLemmas.{total-some}
+use Rattle.psi_closed.proofs.HullLemmas.{hull-has, hull-of, hull-arcs}
 use Rattle.psi_closed.proofs.MovesLemmas.{moved-keeps}
-use Rattle.psi_closed.proofs.RunsLemmas.{outcome-reached, outcome-decides, outcome-of}
+use Rattle.psi_closed.proofs.RunsLemmas.{rising-same_each, single-member, run-each, endings-last, outcome-reached, outcome-decides, outcome-of}
 use Rattle.psi_model.specs.Network.{Network, caps_of, rates_of, functions_of}
 use Rattle.psi_model.specs.Valid.{IsNetwork, IsAccepted}
 use Rattle.psi_law.specs.Counting.{Words}
-use Rattle.psi_law.specs.Chains.{Chain}
-use Rattle.psi_law.specs.Statements.{LooksAtFirst}
+use Rattle.psi_law.specs.Chains.{Chain, IsChain}
+use Rattle.psi_law.specs.Statements.{UncoalescedFalls, UnmetIsUncoalesced, LimitSquares, LooksAtFirst}
 use Rattle.psi_law.specs.Networks.{closed_chain, closed_sample, network_total_chain, network_total_sample}
-use Rattle.psi_law.proofs.ChainLemmas.{IsChain}
-use Rattle.psi_law.proofs.LawLemmas.{Reaches}
+use Rattle.psi_law.specs.Samples.{Reaches}
+use Rattle.psi_law.proofs.CoalescenceLemmas.{single-list, AreRuns, uncoalesced-falls, unmet-uncoalesced, limit-squares}
 use Rattle.psi_law.proofs.LawfulLemmas.{IsLawful, lawful}
 use Rattle.psi_law.proofs.OutcomeLemmas.{outcome-reaches, outcome-looks}
 
@@ -45,9 +47,53 @@ ending-first : (caps : List ℕ) (k : ℕ) (f g : Functions) (t : ℕ) → ((j :
 unfolding closed_run
 ending-first caps k f g t same = ap (λ (xs : List (List ℕ)). single xs) (after-first caps k f g t (total_states caps k) same)
 
+-- the older steps of a run come first
+after-append : (caps : List ℕ) (k : ℕ) (f : Functions) (n d : ℕ) (xs : List (List ℕ))
+    → closed_after caps k f (n + d) xs ≡ closed_after caps k f n (closed_after caps k (λ i. f (n + i)) d xs)
+after-append caps k f n zero xs = (let e : n + zero ≡ n = omega arith in ap (λ m. closed_after caps k f m xs) e)
+after-append caps k f n (suc d) xs =
+    let e : n + suc d ≡ suc (n + d) = omega arith in
+    ap (λ m. closed_after caps k f m xs) e
+    ∙ (after-append caps k f n d (arc_hull caps k (image (f (suc (n + d))) xs))
+    ∙ ap (λ m. closed_after caps k f n (closed_after caps k (λ i. f (n + i)) d (arc_hull caps k (image (f m) xs)))) (sym e))
+
+-- the arc hull of one state is that state: another state with its arcs has the same number in each queue
+hull-one : (caps : List ℕ) (k : ℕ) (y : List ℕ) → IsOfTotal caps k y → arc_hull caps k (y ∷ []) ≡ y ∷ []
+hull-one caps k y is =
+    rising-same_each (arc_hull caps k (y ∷ [])) y y (held-rising caps k (all_arcs (y ∷ []))) (hull-has caps k (y ∷ []) y is (inl refl))
+    (λ x member.
+    (let own = hull-of caps k (y ∷ []) x member in
+    ext_get_or 0 x y (own.within.same_length ∙ sym is.within.same_length)
+    (λ i small.
+    (let before = customers (take i x) in
+    let found = In-of_all_arcs (y ∷ []) (arc i before (slice_index x i))
+    (hull-arcs caps k (y ∷ []) x i before (slice_index x i) member (record { place = small; sum = refl; own = refl })) in
+    let same : found.0 ≡ y = elim found.1 [ inl here ↦ here | inr past ↦ absurd past ] in
+    sym found.2.own ∙ ap (λ (z : List ℕ). slice_index z i) same))))
+
+-- so a run of one state stays one
+after-one : (caps : List ℕ) (k : ℕ) (f : Functions) (t : ℕ) (s : List ℕ) → AreKeeping (IsOfTotal caps k) f → IsOfTotal caps k s → closed_after caps k f t (s ∷ []) ≡ compose f t s ∷ []
+after-one caps k f zero s keeps is = refl
+after-one caps k f (suc t) s keeps is =
+    let next = (keeps.each (suc t)).each s is in
+    ap (λ (xs : List (List ℕ)). closed_after caps k f t xs) (hull-one caps k (f (suc t) s) next) ∙ after-one caps k f t (f (suc t) s) keeps next
+
+one-older : (caps : List ℕ) (k : ℕ) (f : Functions) (n d : ℕ) (s : List ℕ) → AreKeeping (IsOfTotal caps k) f → closed_ending caps k (λ i. f (n + i)) d ≡ Some s
+    → closed_ending caps k f (n + d) ≡ Some (compose f n s)
+unfolding closed_run
+one-older caps k f n d s keeps met =
+    let older = closed_after caps k (λ i. f (n + i)) d (total_states caps k) in
+    let one = single-list older s met in
+    let own = run-each caps k (λ i. f (n + i)) d s (single-member older s met) in
+    ap (λ (xs : List (List ℕ)). single xs)
+    (after-append caps k f n d (total_states caps k) ∙ (ap (λ (xs : List (List ℕ)). closed_after caps k f n xs) one ∙ after-one caps k f n s keeps own))
+
 -- all that is proved of events, on the states of a total, and of their samples
 pub record IsLawfulOnTotal (caps : List ℕ) (k : ℕ) (functions : List (List ℕ → List ℕ)) (rates : List ℕ) (limit : ℕ) (chain : Chain) (sample : Words → Outcome) : Type 0 where
   pub laws : IsLawful chain sample (2 ^ limit)
+  pub runs : UncoalescedFalls (λ past. closed_ending caps k (function_at functions rates past))
+  pub unmet : UnmetIsUncoalesced (λ past. closed_ending caps k (function_at functions rates past))
+  pub square : LimitSquares (λ past. closed_ending caps k (function_at functions rates past))
   pub promised : (past : Words) (o : Outcome) → IsClosedSample caps k (function_at functions rates past) limit o ↔ (o ≡ sample past)
 
 -- functions that keep the states of a total, with rates of a wheel
@@ -58,11 +104,13 @@ module _ (caps : List ℕ) (k : ℕ) (functions : List (List ℕ → List ℕ)) 
 
   total-chain : AreRates rates → length rates ≡ length functions → IsChain chain_on_total
   total-chain rated count = (let some = total-some caps k fits.fits in record {
+    finite = record {
+      some = (some.0, In-total_states caps k some.0 some.1);
+      distinct = rising-distinct (total_states caps k) (total_states-rising caps k);
+      keeps = λ e d small. record { each = λ x member. In-total_states caps k (slice_index_or functions e d x) ((keeps e d small).each x (In-of_total_states caps k x member)) };
+    };
     rated = rated;
     same_count = count;
-    distinct = rising-distinct (total_states caps k) (total_states-rising caps k);
-    some = (some.0, In-total_states caps k some.0 some.1);
-    keeps = λ e d small. record { each = λ x member. In-total_states caps k (slice_index_or functions e d x) ((keeps e d small).each x (In-of_total_states caps k x member)) };
   })
 
   -- the samples of this total with a limit
@@ -75,8 +123,18 @@ module _ (caps : List ℕ) (k : ℕ) (functions : List (List ℕ → List ℕ)) 
         outcome-reaches (IsOfTotal caps k) chain_on_total (λ f. closed_ending caps k f) limit (In-of_total_states caps k)
         (λ past o is. outcome-reached caps k (function_at functions rates past) (function_at-keeping (IsOfTotal caps k) functions rates past keeps) limit o is)
 
+    total-runs : AreRuns functions rates (λ f. closed_ending caps k f)
+    total-runs = record {
+      looks = λ f g t same. ending-first caps k f g t same;
+      last = λ past.
+          (let some = total-some caps k fits.fits in
+          endings-last caps k (function_at functions rates past) (function_at-keeping (IsOfTotal caps k) functions rates past keeps) some.0 some.1);
+      older = λ past n d s met.
+          (compose (function_at functions rates past) n s, one-older caps k (function_at functions rates past) n d s (function_at-keeping (IsOfTotal caps k) functions rates past keeps) met);
+    }
+
     total-looks : LooksAtFirst total_sample (2 ^ limit)
-    total-looks = outcome-looks (λ f. closed_ending caps k f) functions rates limit (λ f g t same. ending-first caps k f g t same)
+    total-looks = outcome-looks (λ f. closed_ending caps k f) functions rates limit total-runs.looks
 
     -- they are the samples that a closed plan promises
     total-samples : (past : Words) (o : Outcome) → IsClosedSample caps k (function_at functions rates past) limit o ↔ (o ≡ total_sample past)
@@ -98,6 +156,9 @@ module _ (caps : List ℕ) (k : ℕ) (functions : List (List ℕ → List ℕ)) 
     total-lawful : AreRates rates → length rates ≡ length functions → IsLawfulOnTotal caps k functions rates limit chain_on_total total_sample
     total-lawful rated count = record {
       laws = lawful chain_on_total total_sample (2 ^ limit) (total-chain rated count) total-reaches total-looks;
+      runs = uncoalesced-falls functions rates (λ f. closed_ending caps k f) total-runs;
+      unmet = unmet-uncoalesced functions rates (λ f. closed_ending caps k f) total-runs;
+      square = limit-squares functions rates (λ f. closed_ending caps k f) total-runs;
       promised = total-samples;
     }
 

@@ -7,10 +7,10 @@ use Rattle.psi_state.specs.declared.Outcome.TheVariants.{Met, NotMet}
 use Rattle.psi_state.specs.Members.{In}
 use Rattle.psi_law.specs.Counting.{Words, sum_pasts}
 use Rattle.psi_law.specs.Wheel.{word_count}
-use Rattle.psi_law.specs.Chains.{Chain, is_same, end_of, whole, weighted, pasts_between, IsBalanced, IsStationary}
-use Rattle.psi_law.specs.Samples.{is_met_in, is_unmet, value_met, met_in, unmet, sum_met, HasLaw, HasMean}
+use Rattle.psi_law.specs.Chains.{Chain, IsChain, is_same, end_of, whole, weighted, pasts_between, IsBalanced, IsStationary}
+use Rattle.psi_law.specs.Samples.{Reaches, is_met_in, is_unmet, value_met, met_in, unmet, sum_met, HasLaw, HasMean}
 use Rattle.psi_law.proofs.SumsLemmas.{one_if, at_most_one, sum-times, sum_pasts-is, sum_by-order, sum_by-out}
-use Rattle.psi_law.proofs.ChainLemmas.{Own, IsChain, end_of-keeps}
+use Rattle.psi_law.proofs.ChainLemmas.{Own, end_of-keeps}
 use Rattle.psi_law.proofs.BalanceLemmas.{weighted-pasts}
 
 -- where an outcome is met, it is in z
@@ -33,17 +33,13 @@ value-most : (o : Outcome) (z : List ℕ) (value : List ℕ → ℕ) (high : ℕ
 value-most (Met t y) z value high below at = (let e : value z ≡ value y = ap value (at t y refl) in omega arith)
 value-most (NotMet l) z value high below at = omega arith
 
--- where the sample of a past is met, the run of each state from n steps before time zero on ends in its state
-pub record Reaches (chain : Chain) (sample : Words → Outcome) (n : ℕ) : Type 0 where
-  pub each : (past : Words) (x : List ℕ) → Own chain x → MeetsAt (end_of chain past n x) (sample past)
-
 -- a number between what is told of the pasts of each state is between the sums by the weights
-under-weighted : (chain : Chain) (weight told : List ℕ → ℕ) (c : ℕ) → ((x : List ℕ) → Own chain x → c ≤ told x) → whole chain weight * c ≤ weighted chain weight told
+pub under-weighted : (chain : Chain) (weight told : List ℕ → ℕ) (c : ℕ) → ((x : List ℕ) → Own chain x → c ≤ told x) → whole chain weight * c ≤ weighted chain weight told
 under-weighted chain weight told c under =
     let out = sum_by-out chain.states weight c in
     let order = sum_by-order chain.states (λ x. weight x * c) (λ x. weight x * told x) (λ x member. mul-le-mul_left (weight x) (under x member)) in omega arith
 
-over-weighted : (chain : Chain) (weight told : List ℕ → ℕ) (c : ℕ) → ((x : List ℕ) → Own chain x → told x ≤ c) → weighted chain weight told ≤ whole chain weight * c
+pub over-weighted : (chain : Chain) (weight told : List ℕ → ℕ) (c : ℕ) → ((x : List ℕ) → Own chain x → told x ≤ c) → weighted chain weight told ≤ whole chain weight * c
 over-weighted chain weight told c over =
     let out = sum_by-out chain.states weight c in
     let order = sum_by-order chain.states (λ x. weight x * told x) (λ x. weight x * c) (λ x member. mul-le-mul_left (weight x) (over x member)) in omega arith
@@ -85,7 +81,7 @@ mean-is chain weight value low high sample n is balanced reaches above below =
           (λ x own.
           (let e = both low in
           let order = pasts.order (λ past. value_met value (sample past) + low * one_if (is_unmet (sample past))) (λ past. value (end_of chain past n x))
-          (λ past. value-least (sample past) (end_of chain past n x) value low (above (end_of chain past n x) (end_of-keeps chain past n x is own)) (reaches.each past x own)) in
+          (λ past. value-least (sample past) (end_of chain past n x) value low (above (end_of chain past n x) (end_of-keeps chain past n x is.finite own)) (reaches.each past x own)) in
           omega arith)) in
           omega arith);
       most =
@@ -93,7 +89,7 @@ mean-is chain weight value low high sample n is balanced reaches above below =
           (λ x own.
           (let e = both high in
           let order = pasts.order (λ past. value (end_of chain past n x)) (λ past. value_met value (sample past) + high * one_if (is_unmet (sample past)))
-          (λ past. value-most (sample past) (end_of chain past n x) value high (below (end_of chain past n x) (end_of-keeps chain past n x is own)) (reaches.each past x own)) in
+          (λ past. value-most (sample past) (end_of chain past n x) value high (below (end_of chain past n x) (end_of-keeps chain past n x is.finite own)) (reaches.each past x own)) in
           omega arith)) in
           omega arith);
     }

@@ -1,6 +1,7 @@
 -- The chain and the samples of events on all states.
-use Rattle.std.specs.Prelude.{◌≡◌, ℕ, zero, suc, ◌^◌, ◌<◌, ◌≤◌, ◌↔◌, List, length, map, slice_index_or, All, refl}
+use Rattle.std.specs.Prelude.{◌≡◌, ℕ, zero, suc, ◌+◌, ◌^◌, ◌<◌, ◌≤◌, ◌↔◌, List, [], ◌∷◌, length, map, slice_index_or, nat_le, All, Bool, true, Some, refl}
 use Rattle.std.proofs.Common.{ap, sym, ◌∙◌, subst, arith}
+use Rattle.std.proofs.lemmas.Bool.{le-leb, or_right}
 use Rattle.std.proofs.lemmas.List.{length-map}
 use Rattle.std.proofs.lemmas.List.Elements.{All-map}
 use Rattle.psi_state.specs.declared.Outcome.{Outcome}
@@ -13,38 +14,67 @@ use Rattle.psi_event.specs.Law.{IsClosed, IsMonotone}
 use Rattle.psi_kinds.specs.Kinds.{do_kind}
 use Rattle.psi_kinds.proofs.ClosingLemmas.{kind-closed}
 use Rattle.psi_rate.specs.Rates.{AreRates}
-use Rattle.psi_rate.specs.Composition.{Parts, Functions, function_at, Below}
+use Rattle.psi_rate.specs.Composition.{Parts, Functions, function_at, compose, Below}
 use Rattle.psi_rate.specs.System.{IsSystem}
 use Rattle.psi_rate.specs.Outcomes.{meeting_at, outcome_within, IsOutcome}
 use Rattle.psi_rate.proofs.OutcomesLemmas.{outcome_within-is, outcome_within-only}
 use Rattle.psi_rate.proofs.FunctionsLemmas.{function_at-closed}
 use Rattle.psi_region.specs.Region.{Area, start, step}
+use Rattle.psi_region.proofs.RegionLemmas.{step-split}
 use Rattle.psi_horizon.specs.Runs.{follow, ending_at}
 use Rattle.psi_horizon.specs.Sample.{IsSample}
-use Rattle.psi_horizon.proofs.RunsLemmas.{outcome-reached}
+use Rattle.psi_horizon.proofs.RunsLemmas.{endings-last, outcome-reached}
 use Rattle.psi_horizon.proofs.SampleLemmas.{sample-is}
 use Rattle.psi_model.specs.Network.{Network, caps_of, rates_of, functions_of}
 use Rattle.psi_model.specs.Valid.{IsNetwork, IsAccepted}
 use Rattle.psi_model.proofs.QueueLemmas.{capacities_kept}
 use Rattle.psi_law.specs.Counting.{Words}
-use Rattle.psi_law.specs.Chains.{Chain}
-use Rattle.psi_law.specs.Statements.{UnmetIsApart, LooksAtFirst}
+use Rattle.psi_law.specs.Chains.{Chain, IsChain}
+use Rattle.psi_law.specs.Statements.{UncoalescedFalls, UnmetIsUncoalesced, LimitSquares, UnmetIsApart, LooksAtFirst}
 use Rattle.psi_law.specs.Networks.{chain_of, sample_of, network_chain, network_sample}
-use Rattle.psi_law.proofs.ChainLemmas.{IsChain}
-use Rattle.psi_law.proofs.LawLemmas.{Reaches}
+use Rattle.psi_law.specs.Samples.{Reaches}
+use Rattle.psi_law.proofs.CoalescenceLemmas.{single-list, AreRuns, uncoalesced-falls, unmet-uncoalesced, limit-squares}
 use Rattle.psi_law.proofs.LawfulLemmas.{IsLawful, lawful}
 use Rattle.psi_law.proofs.OutcomeLemmas.{outcome-reaches, outcome-looks, unmet-apart}
 
 -- a run looks at the functions of its own steps alone
-follow-first : (split : ℕ) (f g : Functions) (t : ℕ) (a : Area) → ((k : ℕ) → k < t → f (suc k) ≡ g (suc k)) → follow split f t a ≡ follow split g t a
+pub follow-first : (split : ℕ) (f g : Functions) (t : ℕ) (a : Area) → ((k : ℕ) → k < t → f (suc k) ≡ g (suc k)) → follow split f t a ≡ follow split g t a
 follow-first split f g zero a same = refl
 follow-first split f g (suc t) a same =
     follow-first split f g t (step split (f (suc t)) a) (λ k small. same k (omega arith))
     ∙ ap (λ (h : List ℕ → List ℕ). follow split g t (step split h a)) (same t (omega arith))
 
+-- the older steps of a run come first
+follow-append : (split : ℕ) (f : Functions) (n k : ℕ) (a : Area) → follow split f (n + k) a ≡ follow split f n (follow split (λ i. f (n + i)) k a)
+follow-append split f n zero a = (let e : n + zero ≡ n = omega arith in ap (λ m. follow split f m a) e)
+follow-append split f n (suc k) a =
+    let e : n + suc k ≡ suc (n + k) = omega arith in
+    ap (λ m. follow split f m a) e
+    ∙ (follow-append split f n k (step split (f (suc (n + k))) a)
+    ∙ ap (λ m. follow split f n (follow split (λ i. f (n + i)) k (step split (f m) a))) (sym e))
+
+-- a region of one state stays one
+follow-one : (split : ℕ) (f : Functions) (t : ℕ) (b : Bool) (s : List ℕ) → 1 ≤ split → (follow split f t (record { is_split = b; states = s ∷ [] })).states ≡ compose f t s ∷ []
+follow-one split f zero b s some = refl
+follow-one split f (suc t) b s some =
+    ap (λ (a : Area). (follow split f t a).states)
+    (step-split split (f (suc t)) (record { is_split = b; states = s ∷ [] }) (or_right b (nat_le 1 split) (le-leb 1 split some)))
+    ∙ follow-one split f t true (f (suc t) s) some
+
+one-older : (split : ℕ) (caps : List ℕ) (f : Functions) (n k : ℕ) (s : List ℕ) → 1 ≤ split → ending_at split (λ i. f (n + i)) caps k ≡ Some s
+    → ending_at split f caps (n + k) ≡ Some (compose f n s)
+one-older split caps f n k s some met =
+    let a = follow split (λ i. f (n + i)) k (start caps) in
+    ap (λ (b : Area). single b.states) (follow-append split f n k (start caps))
+    ∙ (ap (λ (xs : List (List ℕ)). single (follow split f n (record { is_split = a.is_split; states = xs })).states) (single-list a.states s met)
+    ∙ ap (λ (xs : List (List ℕ)). single xs) (follow-one split f n a.is_split s some))
+
 -- all that is proved of events, on all states of these capacities, and of their samples
 pub record IsLawfulOnAll (caps : List ℕ) (functions : List (List ℕ → List ℕ)) (rates : List ℕ) (split limit : ℕ) (chain : Chain) (sample : Words → Outcome) : Type 0 where
   pub laws : IsLawful chain sample (2 ^ limit)
+  pub runs : UncoalescedFalls (λ past. ending_at split (function_at functions rates past) caps)
+  pub unmet : UnmetIsUncoalesced (λ past. ending_at split (function_at functions rates past) caps)
+  pub square : LimitSquares (λ past. ending_at split (function_at functions rates past) caps)
   pub monotone : All (IsMonotone caps) functions → UnmetIsApart chain sample (2 ^ limit)
   pub small : length (all_states caps) ≤ split → UnmetIsApart chain sample (2 ^ limit)
   pub promised : (past : Words) (o : Outcome) → IsSample caps functions rates limit split past o ↔ (o ≡ sample past)
@@ -57,11 +87,13 @@ module _ (caps : List ℕ) (functions : List (List ℕ → List ℕ)) (rates : L
 
   all-chain : AreRates rates → length rates ≡ length functions → IsChain chain_on_all
   all-chain rated count = record {
+    finite = record {
+      some = (caps, In-caps caps);
+      distinct = rising-distinct (all_states caps) (box-rising (zeros caps) caps);
+      keeps = λ e d small. record { each = λ x member. In-all_states caps (slice_index_or functions e d x) ((closed e d small).each x (In-of_all_states caps x member)) };
+    };
     rated = rated;
     same_count = count;
-    distinct = rising-distinct (all_states caps) (box-rising (zeros caps) caps);
-    some = (caps, In-caps caps);
-    keeps = λ e d small. record { each = λ x member. In-all_states caps (slice_index_or functions e d x) ((closed e d small).each x (In-of_all_states caps x member)) };
   }
 
   -- the samples of these capacities with a split number and a limit
@@ -74,9 +106,15 @@ module _ (caps : List ℕ) (functions : List (List ℕ → List ℕ)) (rates : L
         outcome-reaches (Below caps) chain_on_all (λ f. ending_at split f caps) limit (In-of_all_states caps)
         (λ past o is. outcome-reached split caps (function_at functions rates past) limit o (function_at-closed caps functions rates past closed) is)
 
-    all-looks : LooksAtFirst all_sample (2 ^ limit)
-    all-looks = outcome-looks (λ f. ending_at split f caps) functions rates limit
-        (λ f g t same. ap (λ (a : Area). single a.states) (follow-first split f g t (start caps) same))
+    all-runs : 1 ≤ split → AreRuns functions rates (λ f. ending_at split f caps)
+    all-runs some = record {
+      looks = λ f g t same. ap (λ (a : Area). single a.states) (follow-first split f g t (start caps) same);
+      last = λ past. endings-last split caps (function_at functions rates past) (function_at-closed caps functions rates past closed);
+      older = λ past n k s met. (compose (function_at functions rates past) n s, one-older split caps (function_at functions rates past) n k s some met);
+    }
+
+    all-looks : 1 ≤ split → LooksAtFirst all_sample (2 ^ limit)
+    all-looks some = outcome-looks (λ f. ending_at split f caps) functions rates limit (all-runs some).looks
 
     -- they are the samples that a plan promises
     all-samples : (past : Words) (o : Outcome) → IsSample caps functions rates limit split past o ↔ (o ≡ all_sample past)
@@ -92,9 +130,12 @@ module _ (caps : List ℕ) (functions : List (List ℕ → List ℕ)) (rates : L
         → UnmetIsApart chain_on_all all_sample (2 ^ limit)
     all-unmet rated count meets = unmet-apart chain_on_all all_sample limit (all-chain rated count) meets
 
-    all-lawful : AreRates rates → length rates ≡ length functions → IsLawfulOnAll caps functions rates split limit chain_on_all all_sample
-    all-lawful rated count = record {
-      laws = lawful chain_on_all all_sample (2 ^ limit) (all-chain rated count) all-reaches all-looks;
+    all-lawful : 1 ≤ split → AreRates rates → length rates ≡ length functions → IsLawfulOnAll caps functions rates split limit chain_on_all all_sample
+    all-lawful some rated count = record {
+      laws = lawful chain_on_all all_sample (2 ^ limit) (all-chain rated count) all-reaches (all-looks some);
+      runs = uncoalesced-falls functions rates (λ f. ending_at split f caps) (all-runs some);
+      unmet = unmet-uncoalesced functions rates (λ f. ending_at split f caps) (all-runs some);
+      square = limit-squares functions rates (λ f. ending_at split f caps) (all-runs some);
       monotone = λ monotone. all-unmet rated count (λ past. ((all-samples past (all_sample past)).1 refl).monotone monotone);
       small = λ few. all-unmet rated count (λ past. ((all-samples past (all_sample past)).1 refl).small few);
       promised = all-samples;
@@ -112,10 +153,10 @@ pub system-lawful : {E : Type 0} (capacities : E → List ℕ) (function : E →
     → IsLawfulOnAll system.caps (map function system.events) system.rates system.split system.limit (chain_of function system) (sample_of function system)
 system-lawful capacities function system fit closed =
     all-lawful system.caps (map function system.events) system.rates (system-closed capacities function system fit closed) system.split system.limit
-    fit.rated (fit.same_count ∙ sym (length-map system.events function))
+    fit.some_split fit.rated (fit.same_count ∙ sym (length-map system.events function))
 
 -- and those of a network
-network-closed : (net : Network) → IsNetwork net → All (IsClosed (caps_of net)) (functions_of net)
+pub network-closed : (net : Network) → IsNetwork net → All (IsClosed (caps_of net)) (functions_of net)
 network-closed net kept =
     All-map (IsClosed (caps_of net)) (λ e. do_kind (caps_of net) e.kind) net.events
     (λ k d small. (let is : IsAccepted (caps_of net) (slice_index_or net.events k d).kind = kept.kinds k d small in
@@ -123,5 +164,5 @@ network-closed net kept =
 
 pub network-lawful : (net : Network) → IsNetwork net → IsLawfulOnAll (caps_of net) (functions_of net) (rates_of net) net.split net.limit (network_chain net) (network_sample net)
 network-lawful net kept =
-    all-lawful (caps_of net) (functions_of net) (rates_of net) (network-closed net kept) net.split net.limit kept.rates
+    all-lawful (caps_of net) (functions_of net) (rates_of net) (network-closed net kept) net.split net.limit kept.some_split kept.rates
     (length-map net.events (λ e. e.rate) ∙ sym (length-map net.events (λ e. do_kind (caps_of net) e.kind)))

@@ -10,14 +10,13 @@ use Rattle.psi_rate.specs.Composition.{function_at, image_from}
 use Rattle.psi_rate.specs.Outcomes.{meeting_from}
 use Rattle.psi_law.specs.Counting.{Words, sum_pasts}
 use Rattle.psi_law.specs.Wheel.{word_count}
-use Rattle.psi_law.specs.Chains.{Chain, end_of, whole, IsStationary}
-use Rattle.psi_law.specs.Samples.{is_unmet, met_in, unmet, are_apart, apart}
+use Rattle.psi_law.specs.Chains.{Chain, IsChain, end_of, whole, IsStationary}
+use Rattle.psi_law.specs.Samples.{Reaches, is_unmet, met_in, unmet, are_apart, apart}
 use Rattle.psi_law.specs.Statements.{ApartFalls, BalanceIsOne}
 use Rattle.psi_law.proofs.SumsLemmas.{one_if, at_most_one, sum-same, sum_pasts-is}
 use Rattle.psi_law.proofs.PowersLemmas.{pow-times, less-times, vanishes}
-use Rattle.psi_law.proofs.ChainLemmas.{IsChain}
 use Rattle.psi_law.proofs.BalanceLemmas.{balanced-stationary}
-use Rattle.psi_law.proofs.LawLemmas.{Reaches, law-is}
+use Rattle.psi_law.proofs.LawLemmas.{law-is}
 use Rattle.psi_law.proofs.FallsLemmas.{apart-falls}
 
 -- so many words, j times
@@ -100,6 +99,6 @@ part-under chain weight other n first second falls some s member =
 
 pub balance-one : (chain : Chain) → IsChain chain → BalanceIsOne chain
 balance-one chain is = λ weight other n first second some s member.
-    (let under = part-under chain weight other n (balanced-stationary chain weight is first) (balanced-stationary chain other is second) (apart-falls chain is) some s member in
-    let over = part-under chain other weight n (balanced-stationary chain other is second) (balanced-stationary chain weight is first) (apart-falls chain is) some s member in
+    (let under = part-under chain weight other n (balanced-stationary chain weight is first) (balanced-stationary chain other is second) (apart-falls chain is.finite) some s member in
+    let over = part-under chain other weight n (balanced-stationary chain other is second) (balanced-stationary chain weight is first) (apart-falls chain is.finite) some s member in
     omega arith)

@@ -12,12 +12,11 @@ use Rattle.psi_rate.proofs.PowersLemmas.{pow-order}
 use Rattle.psi_rate.proofs.OutcomesLemmas.{outcome_within-is, outcome_within-only, meeting-reached}
 use Rattle.psi_law.specs.Counting.{Words, sum_pasts}
 use Rattle.psi_law.specs.Wheel.{word_count}
-use Rattle.psi_law.specs.Samples.{is_unmet, are_apart}
+use Rattle.psi_law.specs.Samples.{Reaches, is_unmet, are_apart}
 use Rattle.psi_law.proofs.SumsLemmas.{one_if, sum-same, sum_pasts-is}
-use Rattle.psi_law.specs.Chains.{Chain}
+use Rattle.psi_law.specs.Chains.{Chain, IsChain}
 use Rattle.psi_law.specs.Statements.{UnmetIsApart, LooksAtFirst}
-use Rattle.psi_law.proofs.ChainLemmas.{Own, IsChain}
-use Rattle.psi_law.proofs.LawLemmas.{Reaches}
+use Rattle.psi_law.proofs.ChainLemmas.{Own}
 
 -- what a set reaches from an outcome's horizon on, it reaches from 2^limit steps before time zero on
 met-reached : (S : List ℕ → Type 0) (f : Functions) (run : ℕ → Option (List ℕ)) (limit : ℕ) (o : Outcome) → IsOutcome run limit o → ReachesFrom S f o
@@ -54,6 +53,13 @@ outcome-first run other limit (Met t s) agree is = record {
 }
 outcome-first run other limit (NotMet l) agree is = (is.0, none-first run other limit (suc limit) agree (omega arith) is.1)
 
+-- pasts with the same words have the same functions
+pub function_at-same : (functions : List (List ℕ → List ℕ)) (rates : List ℕ) (past other : Words) (n : ℕ) → ((k : ℕ) → k < n → past k ≡ other k)
+    → (k : ℕ) → k < n → function_at functions rates past (suc k) ≡ function_at functions rates other (suc k)
+function_at-same functions rates past other n same k small =
+    let e : suc k - 1 ≡ k = omega arith in
+    ap (λ i. picked functions rates (past i)) e ∙ (ap (λ word. picked functions rates word) (same k small) ∙ ap (λ i. picked functions rates (other i)) (sym e))
+
 -- so outcomes of runs that look at the functions of their own steps alone look at the first 2^limit words alone
 pub outcome-looks : (run : Functions → ℕ → Option (List ℕ)) (functions : List (List ℕ → List ℕ)) (rates : List ℕ) (limit : ℕ)
     → ((f g : Functions) (t : ℕ) → ((k : ℕ) → k < t → f (suc k) ≡ g (suc k)) → run f t ≡ run g t)
@@ -63,10 +69,8 @@ outcome-looks run functions rates limit looks = λ past other same.
     let g = function_at functions rates other in
     outcome_within-only (run g) limit (outcome_within (run f) limit)
     (outcome-first (run f) (run g) limit (outcome_within (run f) limit)
-    (λ k most. looks f g (2 ^ k)
-    (λ j small. (let order = pow-order k limit most in
-    let e : suc j - 1 ≡ j = omega arith in
-    ap (λ i. picked functions rates (past i)) e ∙ (ap (λ w. picked functions rates w) (same j (omega arith)) ∙ ap (λ i. picked functions rates (other i)) (sym e)))))
+    (λ k most. (let order = pow-order k limit most in
+    looks f g (2 ^ k) (function_at-same functions rates past other (2 ^ k) (λ j small. same j (omega arith)))))
     (outcome_within-is (run f) limit)))
 
 -- where all states have met at one of the horizons, they have at the greatest one
@@ -75,9 +79,9 @@ met-last : (chain : Chain) (past : Words) (limit t : ℕ) (s : List ℕ) → IsC
 met-last chain past limit t s is met =
     let f = function_at chain.functions chain.rates past in
     let order : t ≤ 2 ^ limit = (let power = met.power in let o = pow-order met.exponent limit met.within in omega arith) in
-    let reached = meeting-reached (Own chain) f chain.states t s (function_at-keeping (Own chain) chain.functions chain.rates past is.keeps) (λ x own. own) met.answer in
+    let reached = meeting-reached (Own chain) f chain.states t s (function_at-keeping (Own chain) chain.functions chain.rates past is.finite.keeps) (λ x own. own) met.answer in
     let last : meeting_from f chain.states (2 ^ limit) ≡ Some s =
-    single-image (compose f (2 ^ limit)) s is.some.0 chain.states is.some.1 (λ x own. reached.each x (2 ^ limit) own order) in
+    single-image (compose f (2 ^ limit)) s is.finite.some.0 chain.states is.finite.some.1 (λ x own. reached.each x (2 ^ limit) own order) in
     ap (λ (o : Option (List ℕ)). is_none o) last
 
 -- so where outcomes are those of all states' meetings, those that aren't met are of the pasts that leave states apart

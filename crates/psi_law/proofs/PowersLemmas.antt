@@ -1,4 +1,4 @@
--- What stays below a part that falls like a power is nothing.
+-- What stays below a share that falls geometrically is nothing.
 use Rattle.std.specs.Prelude.{◌≡◌, ℕ, zero, suc, ◌+◌, ◌-◌, ◌*◌, ◌^◌, ◌<◌, ◌≤◌, refl}
 use Rattle.std.proofs.Common.{inl, inr, ap, arith}
 use Rattle.std.proofs.Math.Nat.{pow-zero, pow-succ', pow-le-pow_left, mul-le-mul_left, mul-le-mul_right, le_of_mul-le-mul_left, one-le-pow}

@@ -224,3 +224,13 @@ sum_below-at (suc n) e g small =
           let rest = sum_below-at n e g (elim (cases_lt e n) [ inl less ↦ less | inr more ↦ absurd (apart (omega arith)) ]) in
           let none = times-none (nat_eq n e) (g n) not_so in omega arith)
     ]
+
+-- a member's value is at most the sum
+pub sum_by-member : {A : Type 0} (xs : List A) (g : A → ℕ) (y : A) → In y xs → g y ≤ sum_by g xs
+sum_by-member [] g y member = absurd member
+sum_by-member (x ∷ xs) g y member =
+    let first = sum_by-cons g x xs in
+    elim member [
+      | inl here ↦ (let e : g y ≡ g x = ap g here in omega arith)
+      | inr there ↦ (let rest = sum_by-member xs g y there in omega arith)
+    ]

@@ -1,11 +1,16 @@
 -- The definitions on small inputs, worked out by hand and computed by the checker. The modulus of each network is 4, so pasts are
 -- counted of the words below 4.
-use Rattle.std.proofs.Common.{◌≡◌, ℕ, zero, suc, ◌+◌, ◌<◌, ◌≤◌, ◌^◌, ◌*◌, List, [], ◌∷◌, map, slice_index, nat_eq, inl, inr, ap, sym, ◌∙◌, refl, arith}
+use Rattle.std.proofs.Common.{◌≡◌, ℕ, zero, suc, ◌+◌, ◌<◌, ◌≤◌, ◌^◌, ◌*◌, pos, negsuc, List, [], ◌∷◌, map, slice_index, nat_eq, is_none, inl, inr, ap, sym, ◌∙◌, refl, arith}
 use Rattle.std.specs.Prelude.{codes}
+use Rattle.std.specs.List.{sum_by}
 use Rattle.std.proofs.Math.Nat.{le_of_mul-le-mul_left}
 use Rattle.std.proofs.lemmas.Bool.{cases_lt}
 use Rattle.std.proofs.lemmas.List.Elements.{All-nil, All-cons}
 use Rattle.psi_state.specs.declared.Outcome.{Outcome}
+use Rattle.psi_state.specs.declared.Outcome.TheVariants.{Met}
+use Rattle.psi_reward.specs.declared.kinds.RewardKind.{RewardKind}
+use Rattle.psi_reward.specs.declared.kinds.RewardKind.TheVariants.{Linear, Above}
+use Rattle.psi_reward.specs.Worth.{worth_of}
 use Rattle.psi_state.specs.Members.{In}
 use Rattle.psi_route.specs.declared.Full.{Full}
 use Rattle.psi_route.specs.declared.Full.TheVariants.{Lost, Stay}
@@ -17,6 +22,10 @@ use Rattle.psi_kinds.specs.Moves.{moved}
 use Rattle.psi_kinds.specs.Refusals.{refusal_of}
 use Rattle.psi_rate.specs.Rates.{AreRates, total, least_power, event_of}
 use Rattle.psi_rate.specs.Doubling.{first_answer}
+use Rattle.psi_rate.specs.Least.{least_answer}
+use Rattle.psi_couple.specs.declared.answers.Coupled.TheVariants.{At}
+use Rattle.psi_couple.specs.Coupling.{coupled_within}
+use Rattle.psi_couple.specs.Valuing.{valued_within}
 use Rattle.psi_rate.specs.Outcomes.{outcome_within}
 use Rattle.psi_region.specs.Region.{step}
 use Rattle.psi_closed.specs.Closed.{total_states, all_arcs, held_states, closed_run}
@@ -24,11 +33,14 @@ use Rattle.psi_model.specs.Network.{Network}
 use Rattle.psi_model.specs.Valid.{IsNetwork, IsQueue, IsAccepted}
 use Rattle.psi_model.specs.declared.entries.Queue.{Queue}
 use Rattle.psi_model.specs.declared.entries.NamedEvent.{NamedEvent}
-use Rattle.psi_law.specs.Counting.{Words, sum_below, count_below, sum_pasts, count_pasts}
+use Rattle.psi_law.specs.Elimination.{Matrix, censored, rate_between, stationary_weight}
+use Rattle.psi_law.specs.Counting.{Words, distance, signed, sum_below, count_below, sum_pasts, count_pasts}
 use Rattle.psi_law.specs.Wheel.{word_count, words_for}
-use Rattle.psi_law.specs.Chains.{Chain, function_of, is_same, end_of, pasts_between, whole, weighted, flow_to, IsBalanced}
+use Rattle.psi_law.specs.Chains.{Chain, function_of, is_same, end_of, pasts_between, whole, weighted, flow_to, IsBalanced, IsStationaryDistribution}
 use Rattle.psi_law.specs.Samples.{HasLaw, HasMean, is_met_in, is_unmet, value_met, met_in, unmet, sum_met, are_apart, apart}
-use Rattle.psi_law.specs.Networks.{network_chain, network_sample, closed_chain, closed_sample, network_total_chain, network_total_sample}
+use Rattle.psi_law.specs.Networks.{network_chain, network_ending, network_sample, closed_chain, closed_sample, network_total_chain, network_total_ending, network_total_sample}
+use Rattle.psi_law.specs.Couplings.{network_coupling, coupled_outcome}
+use Rattle.psi_law.specs.Values.{network_value, is_value, is_unvalued, weight_valued}
 use Rattle.psi_law.proofs.SumsLemmas.{one_if}
 use Rattle.psi_law.proofs.WheelLemmas.{IsShare, share, sum-words, wheel-exact}
 use Rattle.psi_law.proofs.LawfulLemmas.{IsLawful}
@@ -118,6 +130,67 @@ first-lawful limit most = (network-lawful (first limit) (first-kept limit most))
 
 first-law : (limit : ℕ) → limit ≤ 22 → HasLaw (network_sample (first limit)) (2 ^ limit) (network_chain (first limit)) halves
 first-law limit most = (first-lawful limit most).law halves (first-balanced limit)
+
+-- elimination finds these weights: of the states 0, 1 and 2, state 0 first
+first-eliminated : map (stationary_weight (network_chain (first 18))) (network_chain (first 18)).states ≡ 4 ∷ 2 ∷ 1 ∷ []
+unfolding sum_below do_kind
+first-eliminated = refl
+
+-- the rates between them, and those of the chain while it is not in state 0
+abbrev rate_rows : Matrix → List (List ℕ) → List (List ℕ)
+rate_rows q xs = map (λ x. map (λ y. q x y) xs) xs
+
+first-rated : rate_rows (rate_between (network_chain (first 18))) (network_chain (first 18)).states ≡ (2 ∷ 1 ∷ 0 ∷ []) ∷ (2 ∷ 0 ∷ 1 ∷ []) ∷ (0 ∷ 2 ∷ 1 ∷ []) ∷ []
+unfolding sum_below do_kind
+first-rated = refl
+
+first-censored : rate_rows (censored (0 ∷ []) ((1 ∷ []) ∷ (2 ∷ []) ∷ []) (rate_between (network_chain (first 18)))) ((1 ∷ []) ∷ (2 ∷ []) ∷ []) ≡ (2 ∷ 1 ∷ []) ∷ (2 ∷ 1 ∷ []) ∷ []
+unfolding sum_below do_kind
+first-censored = refl
+
+-- weights of a stationary distribution are 4, 2 and 1 times a number that is not 0
+first-ratios : (limit : ℕ) (weight : List ℕ → ℕ) → IsStationaryDistribution (network_chain (first limit)) weight
+    → (0 < weight (2 ∷ [])) × ((weight (1 ∷ []) ≡ 2 * weight (2 ∷ [])) × (weight (0 ∷ []) ≡ 4 * weight (2 ∷ [])))
+unfolding sum_below do_kind
+first-ratios limit weight is =
+    let none : 0 + 1 * 0 + 2 * (0 + weight (0 ∷ []) + weight (1 ∷ [])) ≡ 3 * weight (0 ∷ []) = is.balanced.each (0 ∷ []) (inl refl) in
+    let full : 0 + 1 * (0 + weight (1 ∷ []) + weight (2 ∷ [])) + 2 * 0 ≡ 3 * weight (2 ∷ []) = is.balanced.each (2 ∷ []) (inr (inr (inl refl))) in
+    let some : 0 < 0 + weight (0 ∷ []) + weight (1 ∷ []) + weight (2 ∷ []) = is.some in
+    (omega arith, (omega arith, omega arith))
+
+-- so are those whose law the samples have
+first-stationary : (limit : ℕ) → limit ≤ 22 → (weight : List ℕ → ℕ)
+    × ((0 < weight (2 ∷ [])) × ((weight (0 ∷ []) ≡ 4 * weight (2 ∷ [])) × HasLaw (network_sample (first limit)) (2 ^ limit) (network_chain (first limit)) weight))
+first-stationary limit most =
+    let found = (first-lawful limit most).stationary in
+    let ratios = first-ratios limit found.weight found.distribution in
+    (found.weight, (ratios.0, (ratios.1.1, found.law)))
+
+-- weights that are all 0 balance, and are no distribution
+zero-balanced : (limit : ℕ) → IsBalanced (network_chain (first limit)) (λ x. 0)
+unfolding sum_below do_kind
+zero-balanced limit = balanced-by (network_chain (first limit)) (λ x. 0) refl
+
+zero-none : (limit : ℕ) → IsStationaryDistribution (network_chain (first limit)) (λ x. 0) → ⊥
+zero-none limit is = (let some : 0 < 0 = is.some in absurd (omega (arith, some)))
+
+-- a chain has none without a state, with one that stands twice, and where a function leaves its states
+empty-none : (weight : List ℕ → ℕ) → IsStationaryDistribution (record { functions = []; rates = []; states = [] }) weight → ⊥
+empty-none weight is = (let some : 0 < 0 = is.some in absurd (omega (arith, some)))
+
+twice-none : (weight : List ℕ → ℕ) → IsStationaryDistribution (record { functions = (λ x. x) ∷ []; rates = 1 ∷ []; states = (0 ∷ []) ∷ (0 ∷ []) ∷ [] }) weight → ⊥
+unfolding sum_below
+twice-none weight is =
+    let w = weight (0 ∷ []) in
+    let led : 0 + 1 * (0 + w + w) ≡ 1 * w = is.balanced.each (0 ∷ []) (inl refl) in
+    let some : 0 < 0 + w + w = is.some in absurd (omega (arith, led, some))
+
+left-none : (weight : List ℕ → ℕ) → IsStationaryDistribution (record { functions = (λ x. 1 ∷ []) ∷ []; rates = 1 ∷ []; states = (0 ∷ []) ∷ [] }) weight → ⊥
+unfolding sum_below
+left-none weight is =
+    let w = weight (0 ∷ []) in
+    let led : 0 + 1 * 0 ≡ 1 * w = is.balanced.each (0 ∷ []) (inl refl) in
+    let some : 0 < 0 + w = is.some in absurd (omega (arith, led, some))
 
 -- and their means of the customers, who are 2 at most
 first-room : (x : List ℕ) → In x (network_chain (first 18)).states → slice_index x 0 ≤ 2
@@ -271,6 +344,31 @@ apart-counted : map (λ n. count_pasts 4 n (are_apart (network_chain (first 18))
 unfolding sum_below do_kind event_of least_power
 apart-counted = refl
 
+-- and those whose region run hasn't coalesced: 11 is at most 4 * 4, and 69 at most 11 * 11
+uncoalesced-counted : map (λ n. count_pasts 4 n (λ past. is_none (network_ending (first 18) past n))) (1 ∷ 2 ∷ 4 ∷ []) ≡ 4 ∷ 11 ∷ 69 ∷ []
+unfolding sum_below do_kind event_of least_power step
+uncoalesced-counted = refl
+
+-- of the closed network those in which the two events alternate: 1 * 3 + 3 * 1 of two words, and 1 * 3 * 1 + 3 * 1 * 3 of three
+rounds-uncoalesced : map (λ n. count_pasts 4 n (λ past. is_none (network_total_ending rounds 2 past n))) (1 ∷ 2 ∷ 3 ∷ []) ≡ 4 ∷ 6 ∷ 12 ∷ []
+unfolding sum_below do_kind total_states all_arcs held_states closed_run event_of least_power
+rounds-uncoalesced = refl
+
+-- after one and two words the distances from 4, 2 and 1 parts of 7, summed over all states, of each start: at most 2 * 7 * 4 = 56 and 2 * 7 * 11 = 154
+abbrev distances : ℕ → List ℕ
+distances n = map (λ x. sum_by (λ y. distance (7 * count_pasts 4 n (λ past. is_same (end_of (network_chain (first 18)) past n x) y)) (halves y * 4 ^ n))
+    (network_chain (first 18)).states) (network_chain (first 18)).states
+
+mixing-counted : map distances (1 ∷ 2 ∷ []) ≡ (10 ∷ 6 ∷ 32 ∷ []) ∷ (26 ∷ 16 ∷ 72 ∷ []) ∷ []
+unfolding sum_below do_kind event_of least_power
+mixing-counted = refl
+
+-- after no word, the start at state 2 is at a distance of 6 and 6 parts of 7, and all states are apart: the bound of 2 * 7 can't be halved
+mixing-first : (sum_by (λ y. distance (7 * count_pasts 4 0 (λ past. is_same (end_of (network_chain (first 18)) past 0 (2 ∷ [])) y)) (halves y)) (network_chain (first 18)).states ≡ 12)
+    × (count_pasts 4 0 (are_apart (network_chain (first 18)) 0) ≡ 1)
+unfolding sum_below do_kind event_of least_power
+mixing-first = (refl, refl)
+
 -- ---- samples
 
 -- how many pasts of n words give a sample that is met in each state of the list, and how many give none
@@ -301,3 +399,54 @@ closed-words = refl
 rounds-words : tally (network_total_sample rounds 2) 2 (network_total_chain rounds 2).states ≡ 6 ∷ 1 ∷ 0 ∷ 9 ∷ []
 unfolding sum_below do_kind total_states all_arcs held_states closed_run event_of least_power outcome_within first_answer
 rounds-words = refl
+
+-- ---- which word is the newest
+
+-- the past with the words of a list, the newest first
+abbrev newest_first : List ℕ → Words
+newest_first words place = slice_index words place
+
+-- after an idle word two services empty the queue, and the newest word brings a customer; with the words in the other order, an arrival comes first, and the queue is empty in the end
+order-matters : (network_sample (first 2) (newest_first (0 ∷ 1 ∷ 1 ∷ 3 ∷ [])) ≡ Met 4 (1 ∷ [])) × (network_sample (first 2) (newest_first (3 ∷ 1 ∷ 1 ∷ 0 ∷ [])) ≡ Met 4 (0 ∷ []))
+unfolding do_kind event_of least_power outcome_within first_answer step
+order-matters = (refl, refl)
+
+-- ---- couplings
+
+-- two services and an idle word couple at 3, a horizon that a sample doesn't try
+coupled-three : network_coupling (first 2) (newest_first (3 ∷ 1 ∷ 1 ∷ 0 ∷ [])) ≡ At 3 (0 ∷ [])
+unfolding do_kind event_of least_power coupled_within least_answer step
+coupled-three = refl
+
+-- the couplings of two words: as many of each state as samples
+two-coupled : tally (λ past. coupled_outcome (network_coupling (first 1) past)) 2 (network_chain (first 1)).states ≡ 11 ∷ 4 ∷ 0 ∷ 1 ∷ []
+unfolding sum_below do_kind event_of least_power coupled_within least_answer step
+two-coupled = refl
+
+-- ---- values
+
+-- whether the queue is busy, under two words: an arrival as the newest word tells that it is (4 pasts), and so does one before an idle word (1); two services tell that it is not
+-- (4); in the other 7 pasts it may be either
+abbrev busy : RewardKind
+busy = Above (0 ∷ []) 0
+
+values-counted : count_pasts 4 2 (λ past. is_unvalued (network_value (first 1) busy past))
+    ∷ map (λ v. count_pasts 4 2 (λ past. is_value v (network_value (first 1) busy past))) (pos 0 ∷ pos 1 ∷ []) ≡ 7 ∷ 4 ∷ 5 ∷ []
+unfolding sum_below do_kind event_of least_power valued_within first_answer step
+values-counted = refl
+
+-- of the weight of 7, the busy states have 3: 7 * 5 is at most 3 * 16, and this at most 7 * (5 + 7)
+busy-weighed : map (λ v. weight_valued (network_chain (first 1)) halves (worth_of busy) v) (pos 0 ∷ pos 1 ∷ []) ≡ 4 ∷ 3 ∷ []
+busy-weighed = refl
+
+-- each customer costs 1: the samples of four words are worth -100, and all states by their weights -4; with u = 69 of 256 pasts, 7 * (-100 - 2 * 69) is at most -4 * 256,
+-- and this at most 7 * -100
+abbrev cost : RewardKind
+cost = Linear (0 ∷ []) (negsuc 0 ∷ [])
+
+cost-counted : signed (λ g. sum_pasts 4 4 (λ past. value_met g (network_sample (first 2) past))) (worth_of cost) ≡ negsuc 99
+unfolding sum_below do_kind event_of least_power outcome_within first_answer step
+cost-counted = refl
+
+cost-weighed : signed (weighted (network_chain (first 2)) halves) (worth_of cost) ≡ negsuc 3
+cost-weighed = refl

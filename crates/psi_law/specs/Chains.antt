@@ -1,10 +1,11 @@
 -- The Markov chain of a network, and weights of its states that balance.
-use Rattle.std.specs.Prelude.{◌≡◌, ℕ, ◌*◌, ◌^◌, List, length, filter, slice_index, slice_index_or, Bool, nat_eq}
+use Rattle.std.specs.Prelude.{◌≡◌, ℕ, ◌*◌, ◌^◌, ◌<◌, List, length, filter, slice_index, slice_index_or, All, Bool, nat_eq}
 use Rattle.std.specs.List.{sum_by}
 use Rattle.std.specs.Cmp.Lexicographic.{pointwise}
 use Rattle.psi_state.specs.Members.{In}
-use Rattle.psi_rate.specs.Rates.{total}
-use Rattle.psi_rate.specs.Composition.{function_at, compose}
+use Rattle.psi_state.specs.Ascending.{IsDistinct}
+use Rattle.psi_rate.specs.Rates.{AreRates, total}
+use Rattle.psi_rate.specs.Composition.{function_at, compose, Keeps}
 use Rattle.psi_law.specs.Counting.{Words, sum_below, count_pasts}
 use Rattle.psi_law.specs.Wheel.{word_count}
 
@@ -13,6 +14,18 @@ pub record Chain : Type 0 where
   pub functions : List (List ℕ → List ℕ)
   pub rates : List ℕ
   pub states : List (List ℕ)
+
+-- a finite chain: it has a state, no state stands twice in its list, and each function maps its states to its states
+pub record IsFinite (chain : Chain) : Type 0 where
+  pub some : (x : List ℕ) × In x chain.states
+  pub distinct : IsDistinct chain.states
+  pub keeps : All (Keeps (λ x. In x chain.states)) chain.functions
+
+-- the chain of a network: a finite chain with a rate for each function, and the rates are those of a wheel
+pub record IsChain (chain : Chain) : Type 0 where
+  pub finite : IsFinite chain
+  pub rated : AreRates chain.rates
+  pub same_count : length chain.rates ≡ length chain.functions
 
 -- the function of an event; idle, whose number is the count of the events, changes nothing
 abbrev pub function_of : Chain → ℕ → List ℕ → List ℕ
@@ -51,6 +64,11 @@ module _ (chain : Chain) (weight : List ℕ → ℕ) where
   -- the weights balance: at each state, what the events lead to it is what they lead away; the equations of the stationary law (Levin, Peres and Wilmer 2009)
   pub record IsBalanced : Type 0 where
     pub each : (y : List ℕ) → In y chain.states → flow_to y ≡ total chain.rates * weight y
+
+  -- the weights are a stationary distribution in whole numbers: they balance, and their sum is not 0; a state's probability is its weight divided by the sum
+  pub record IsStationaryDistribution : Type 0 where
+    pub balanced : IsBalanced
+    pub some : 0 < whole
 
   -- the weights are stationary: over all pasts of n words, as much weight is led to y as y has
   pub record IsStationary : Type 0 where

@@ -3,10 +3,14 @@
 //! drawn is no part of it.
 #![tactic(auto)]
 
+mod answers;
+mod chain;
 mod closed;
 mod samples;
 mod wheel;
 
+pub use answers::{law_of_couplings, law_of_values};
+pub use chain::law_of_chains;
 pub use closed::{law_of_closed_network, law_of_closed_samples};
 pub use samples::{law_of_network, law_of_samples};
 pub use wheel::law_of_wheel;

@@ -1,0 +1,4 @@
+-- The lemmas of this crate.
+mod FileLemmas
+mod AgreementLemmas
+mod PrintedLemmas

@@ -1,0 +1,142 @@
+-- What is printed of the network of a file is what is counted.
+use Rattle.std.specs.Prelude.{◌≡◌, ℕ, ◌^◌, ◌<◌, ◌≤◌, List, [], ◌∷◌, map, All, Option, Some, None, IsSome, Result, Ok, option_and_then, nat_le, if◌then◌else◌, Bool, refl}
+use Rattle.std.proofs.Common.{ap, ◌∙◌, arith}
+use Rattle.std.proofs.lemmas.Bool.{le-leb}
+use Rattle.std.proofs.lemmas.List.Elements.{All-nil, All-cons}
+use Rattle.psi_state.specs.declared.Outcome.{Outcome}
+use Rattle.psi_past.specs.SeedWord.{seed_word}
+use Rattle.psi_reward.specs.declared.kinds.RewardKind.{RewardKind}
+use Rattle.psi_kinds.specs.declared.moves.Move.{Move}
+use Rattle.psi_kinds.specs.Moves.{move_of}
+use Rattle.psi_rate.proofs.PowersLemmas.{pow-order}
+use Rattle.psi_arcs.specs.Walks.{customers}
+use Rattle.psi_closed.specs.Diagram.{IsTotal}
+use Rattle.psi_model.specs.Network.{Network, caps_of, rates_of}
+use Rattle.psi_model.specs.declared.entries.NamedEvent.{NamedEvent}
+use Rattle.psi_model.specs.Valid.{IsNetwork}
+use Rattle.psi_net_document.specs.declared.refusals.NetRefusal.{NetRefusal}
+use Rattle.psi_net.specs.Reading.{network_of}
+use Rattle.psi_command.specs.declared.status.Status.TheVariants.{NoSuchTotal}
+use Rattle.psi_command.specs.Command.{Command, sample, couple, reward, closed}
+use Rattle.psi_program.specs.Reply.{line_reply}
+use Rattle.psi_answers.specs.Lines.{no_total_line}
+use Rattle.psi_reply.specs.Sample.{functions_by_time, sampled}
+use Rattle.psi_reply.specs.Couple.{endings, coupling}
+use Rattle.psi_reply.specs.Reward.{values, valuation, kind_named}
+use Rattle.psi_reply.specs.Closed.{first_other, closed_endings, closed_sampled}
+use Rattle.psi_reply.proofs.ClosingLemmas.{moves-of_none}
+use Rattle.psi_reply.specs.Reply.{Reply, value_reply, outcome_reply, closed_reply, total_reply}
+use Rattle.psi_run.specs.Reply.{reply_to, reply_of, judged_reply}
+use Rattle.psi_law.specs.Networks.{network_sample, network_total_sample}
+use Rattle.psi_law.proofs.WheelLemmas.{wheel-exact}
+use Rattle.psi_law.proofs.WordsLemmas.{seed_word-small}
+use Rattle.psi_law.proofs.NetworkLemmas.{network-lawful}
+use Rattle.psi_law.proofs.NetworkAnswerLemmas.{coupling-lawful, values-lawful}
+use Rattle.psi_law.proofs.ClosedLemmas.{kinds-lawful}
+use Rattle.psi_law_printed.specs.Printed.{AreCountedWords, RepliesAreCounted, SamplesAreCounted, ClosedSamplesAreCounted}
+use Rattle.psi_law_printed.proofs.FileLemmas.{read-kept}
+
+-- the words of a seed and a stream that a network looks at
+words-counted : (net : Network) → IsNetwork net → AreCountedWords (2 ^ net.limit)
+words-counted net kept = λ seed stream place small.
+    (let most = pow-order net.limit 36 (let limit = kept.limit in omega arith) in seed_word-small seed stream place (omega arith))
+
+-- the reply to a command that reads one file, where the file holds these bytes and they are the network's
+file-reply : (reply : Network → Option Reply) (told : Option (List ℕ)) (bytes : List ℕ) (net : Network) → told ≡ Some bytes → network_of bytes ≡ Ok net
+    → option_and_then (λ (held : List ℕ). judged_reply reply (network_of held)) told ≡ reply net
+file-reply reply told bytes net is read =
+    ap (λ (o : Option (List ℕ)). option_and_then (λ (held : List ℕ). judged_reply reply (network_of held)) o) is
+    ∙ ap (λ (r : Result Network NetRefusal). judged_reply reply r) read
+
+replies-counted : (told : List ℕ → Option (List ℕ)) (name bytes : List ℕ) (net : Network) (seed stream : ℕ) → told name ≡ Some bytes → network_of bytes ≡ Ok net
+    → RepliesAreCounted told name net seed stream
+unfolding reply_to sampled coupling endings valuation values functions_by_time
+replies-counted told name bytes net seed stream is read = record {
+  sample = file-reply (reply_of (sample name seed stream) told) (told name) bytes net is read;
+  couple = file-reply (reply_of (couple name seed stream) told) (told name) bytes net is read;
+  reward = λ of kind named.
+      file-reply (reply_of (reward name seed stream of) told) (told name) bytes net is read
+      ∙ ap (λ (k : Option RewardKind). Some (value_reply net seed stream k)) named;
+}
+
+pub samples-counted : SamplesAreCounted
+samples-counted = λ bytes net read.
+    (let kept = read-kept bytes net read in
+    let all = network-lawful net kept in
+    let laws = all.laws in
+    record {
+      samples = record {
+        stationary = laws.stationary;
+        law = laws.law;
+        mean = laws.mean;
+        signed_mean = laws.signed_mean;
+        balance = laws.balance;
+        one = laws.one;
+        falls = laws.falls;
+        mixing = laws.mixing;
+        runs = all.runs;
+        unmet = all.unmet;
+        square = all.square;
+        words = laws.words;
+      };
+      couplings = (coupling-lawful net kept).law;
+      values = values-lawful net kept;
+      wheel = wheel-exact (rates_of net) kept.rates;
+      monotone = all.monotone;
+      small = all.small;
+      words = words-counted net kept;
+      printed = λ told name seed stream is. replies-counted told name bytes net seed stream is read;
+    })
+
+-- ---- closed networks
+
+some-from : {A : Type 0} (o : Option A) (a : A) → o ≡ Some a → IsSome o
+some-from None a same = absurd cc
+some-from (Some b) a same = refl
+
+moves-some : (events : List NamedEvent) (moves : List Move) → map (λ event. move_of event.kind) events ≡ map Some moves → All (λ event. IsSome (move_of event.kind)) events
+moves-some [] moves same = All-nil (λ event. IsSome (move_of event.kind))
+moves-some (event ∷ events) [] same = absurd cc
+moves-some (event ∷ events) (m ∷ ms) same =
+    let head : move_of event.kind ≡ Some m = cc in
+    let rest : map (λ e. move_of e.kind) events ≡ map Some ms = cc in
+    All-cons (λ e. IsSome (move_of e.kind)) event events (some-from (move_of event.kind) m head) (moves-some events ms rest)
+
+total-counted : (net : Network) (seed stream total : ℕ) → first_other net ≡ None → IsTotal (caps_of net) total
+    → closed_reply net seed stream total (first_other net) ≡ outcome_reply (network_total_sample net total (seed_word seed stream))
+unfolding closed_sampled closed_endings functions_by_time
+total-counted net seed stream total none fits =
+    ap (λ (o : Option ℕ). closed_reply net seed stream total o) none
+    ∙ ap (λ (b : Bool). if b then outcome_reply (closed_sampled net seed stream total) else line_reply NoSuchTotal no_total_line) (le-leb total (customers (caps_of net)) fits.fits)
+
+closed-reply : (told : List ℕ → Option (List ℕ)) (name bytes : List ℕ) (net : Network) (seed stream total : ℕ) → told name ≡ Some bytes → network_of bytes ≡ Ok net
+    → reply_to (Ok (closed name seed stream total)) told ≡ Some (closed_reply net seed stream total (first_other net))
+unfolding reply_to
+closed-reply told name bytes net seed stream total is read = file-reply (reply_of (closed name seed stream total) told) (told name) bytes net is read
+
+pub closed-samples-counted : ClosedSamplesAreCounted
+closed-samples-counted = λ bytes net total read none fits.
+    (let kept = read-kept bytes net read in
+    let moves = moves-of_none net none in
+    let all = kinds-lawful net total kept (moves-some net.events moves.0 moves.1) fits in
+    let laws = all.laws in
+    record {
+      samples = record {
+        stationary = laws.stationary;
+        law = laws.law;
+        mean = laws.mean;
+        signed_mean = laws.signed_mean;
+        balance = laws.balance;
+        one = laws.one;
+        falls = laws.falls;
+        mixing = laws.mixing;
+        runs = all.runs;
+        unmet = all.unmet;
+        square = all.square;
+        words = laws.words;
+      };
+      wheel = wheel-exact (rates_of net) kept.rates;
+      words = words-counted net kept;
+      printed = λ told name seed stream is.
+          closed-reply told name bytes net seed stream total is read ∙ ap (λ (r : Reply). Some r) (total-counted net seed stream total none fits);
+    })
