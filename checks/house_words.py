@@ -5,9 +5,9 @@ Counts in the pages that a newcomer reads first the words that this project's En
 prints each with its place and with what to write instead. The last line has the count; the exit
 status is 1 where it is not 0.
 
-Only prose counts: blocks and pieces of code, quotations, and the targets of links are left out, since
-they show what a program prints or what stands elsewhere. Each entry of WORDS has a sentence that it
-has to find; one that does not find it is reported as well.
+Only prose counts: blocks and pieces of code, quotations, and the targets of links are left out,
+since they show what a program prints or what stands elsewhere. Each entry of WORDS has a sentence
+that it has to find; one that does not find it is reported as well.
 """
 
 import bisect
@@ -39,9 +39,11 @@ WORDS = (
     (r"\bwant of memory\b|\bgrowths? of memory\b", "out of memory", "it ends for want of memory"),
     (r"\btakes? (?:no |its )?memory\b|\btakes none\b", "allocates", "a step takes no memory"),
     (r"\bbehind\b", "after", "it stands behind the name"),
-    (r"\b(?:line|one|step|row|report|call|section) before\b", "preceding", "it needs the one before"),
+    (r"\b(?:line|one|step|row|report|call|section) before\b", "preceding",
+     "it needs the one before"),
     (r"\banew\b", "again", "all is proved anew"),
-    (r"\b(?:tells?|told|telling|says?|said)\b", "reports, prints, returns, means", "a line tells it"),
+    (r"\b(?:tells?|told|telling|says?|said)\b", "reports, prints, returns, means",
+     "a line tells it"),
     (r"\bcom(?:es?|ing) of\b|\bcame of\b", "results from; happens when", "what comes of a read"),
     (r"\bso many\b|\bas many as there are\b", "that many; N", "it has no row for so many"),
     (r"\bin(?:to)? the place of\b", "instead of", "it stands in the place of the other"),
@@ -80,7 +82,8 @@ def prose_of(text, end):
 def found_in(prose):
     """The words to avoid in a prose, each with its line and what to write instead. A phrase may go
     over the end of a line, so the words stand in one line, and `begins` has where each begins."""
-    placed = [(line, word) for line, text in enumerate(prose.splitlines(), 1) for word in text.split()]
+    lines = enumerate(prose.splitlines(), 1)
+    placed = [(line, word) for line, text in lines for word in text.split()]
     begins = [0, *itertools.accumulate(len(word) + 1 for _, word in placed)]
     joined = " ".join(word for _, word in placed)
     for form, instead, _ in WORDS:
