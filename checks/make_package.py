@@ -46,7 +46,7 @@ TOOLS = (
 )
 # The folders of python/ that are packed.
 MODULES = "psi", "psi_tools"
-DOCUMENTS = "README.md", "CITATION.cff", "docs"
+DOCUMENTS = "README.md", "CITATION.cff", "SECURITY.md", "docs"
 DEPENDS = (
     "python3 (>= 3.11)", "python3-numpy", "python3-scipy", "python3-pandas", "python3-matplotlib",
     "parallel",

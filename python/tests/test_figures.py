@@ -6,7 +6,9 @@ import math
 import re
 import subprocess
 
+import numpy
 import pytest
+import scipy.stats
 from conftest import TOP
 
 GUIDE = (TOP / "docs/FORMATS.md").read_text()
@@ -24,19 +26,23 @@ def in_time(found):
     return 1 - sum(math.exp(-mean) * mean**i / math.factorial(i) for i in range(many + 1))
 
 
+def law():
+    """The probability of each number of callers."""
+    weights = [1.0]
+    for number in range(PLACES):
+        weights.append(weights[-1] * COME / (SERVED * min(number + 1, SERVERS)))
+    return [weight / sum(weights) for weight in weights]
+
+
 def means_of_law():
     """The mean of each row of the report, by the law."""
-    law = [1.0]
-    for number in range(PLACES):
-        law.append(law[-1] * COME / (SERVED * min(number + 1, SERVERS)))
-    law = [weight / sum(law) for weight in law]
     rewards = {
         "calls": lambda n: n, "busy": lambda n: min(n, SERVERS),
         "waiting": lambda n: max(0, n - SERVERS), "lost": lambda n: n == PLACES,
         "all-busy": lambda n: n >= SERVERS, "soon": lambda n: 10**6 * in_time(n),
     }
     return {
-        name: sum(share * reward(n) for n, share in enumerate(law))
+        name: sum(share * reward(n) for n, share in enumerate(law()))
         for name, reward in rewards.items()
     }
 
@@ -63,12 +69,28 @@ def figures(mean):
 def test_the_table_is_that_of_the_report_and_of_the_law(program):
     rows = [[cell.strip() for cell in line.split("|")[3:5]] for line in PART.splitlines()
             if line.startswith("| ") and not line.startswith("| Figure")]
-    here, law = figures(means_of_report(program)), figures(means_of_law())
+    here, wanted_figures = figures(means_of_report(program)), figures(means_of_law())
     assert len(rows) == len(here)
-    for shown, value, wanted in zip(rows, here, law):
+    for shown, value, wanted in zip(rows, here, wanted_figures):
         places = len(shown[0].partition(".")[2])
         assert shown == [f"{value:.{places}f}", f"{wanted:.{places}f}"]
         assert value == pytest.approx(wanted, rel=0.07)
+
+
+def test_the_interval_of_a_quotient_holds_it():
+    """The minutes of waiting, of 20 reports of 500 samples each that are drawn from the law."""
+    repetitions, reports, samples = 400, 20, 500
+    found = numpy.random.default_rng(1).choice(PLACES + 1, (repetitions, reports, samples), p=law())
+    a = numpy.maximum(0, found - SERVERS).mean(axis=2)
+    b = COME * (found < PLACES).mean(axis=2)
+    r = a.mean(axis=1) / b.mean(axis=1)
+    d = a - r[:, None] * b
+    quantile = float(re.search(r"interval is r ± ([\d.]+) √\(v / 20\) / B", " ".join(GUIDE.split()))[1])
+    assert quantile == round(scipy.stats.t.ppf(0.975, reports - 1), 3)
+    half = quantile * numpy.sqrt((d**2).sum(axis=1) / 19 / 20) / b.mean(axis=1)
+    truth = figures(means_of_law())[5]
+    held = (abs(r - truth) <= half).mean()
+    assert 0.92 <= held <= 0.98, held
 
 
 def test_the_rates_and_rewards_are_those_of_the_file():

@@ -75,7 +75,8 @@ def test_help_and_version(tool, name):
     status, out, error = tool(f"psi-{name}", "--help")
     assert (status, error) == (0, "")
     assert out.startswith(f"usage: psi-{name} ") and "--version" in out
-    assert tool(f"psi-{name}", "--version") == (0, f"psi-{name} 0.1.0\n", "")
+    version = re.search(r'^version: "([^"]*)"', (TOP / "CITATION.cff").read_text(), re.M)[1]
+    assert tool(f"psi-{name}", "--version") == (0, f"psi-{name} {version}\n", "")
 
 
 # The tools that are no commands of the package, with words that are right but for a file.
