@@ -6,7 +6,7 @@ python/psi_tools/mean_values.py has all of it.
 import sys
 
 import packaged  # noqa: F401
-from psi_tools.mean_values import main, means_of, rates_of  # noqa: F401
+from psi_tools.commands import start
 
 if __name__ == "__main__":
-    sys.exit(main(sys.argv[1:]))
+    sys.exit(start("mean_values", "mean_values"))

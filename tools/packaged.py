@@ -1,6 +1,7 @@
 """Puts the package that stands in python/ on Python's path, for the tools that are made of it."""
 
-import pathlib
+import os
 import sys
 
-sys.path.insert(0, str(pathlib.Path(__file__).resolve().parent.parent / "python"))
+TOP = os.path.dirname(os.path.dirname(os.path.realpath(__file__)))
+sys.path.insert(0, os.path.join(TOP, "python"))

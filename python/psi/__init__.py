@@ -28,16 +28,18 @@ from psi_tools.closed import samples_of
 from psi_tools.draws import blocks_of, reports_of, size_of
 from psi_tools.law import RECORD, law_of
 from psi_tools.merging import together
-from psi_tools.networks import Network, network_of
+from psi_tools.networks import Network, data_of, network_of
 from psi_tools.plotting.read_exact import Shrinking, read_exact
 from psi_tools.program import Psi, Refused
-from psi_tools.told import Told
+from psi_tools.told import Told, WrongArgument, level_argument, whole_argument
 
 __all__ = [
-    "Network", "NotCoupled", "Refused", "Shrinking", "Told", "Uncoupled", "__version__", "check",
-    "closed", "couple", "draw_log", "exact", "law", "log", "means", "replay", "report", "reward",
-    "samples", "use",
+    "FewSamples", "Network", "NotCoupled", "Refused", "Shrinking", "Told", "Uncoupled",
+    "WrongArgument", "__version__", "check", "closed", "couple", "draw_log", "exact", "law", "log",
+    "means", "replay", "report", "reward", "samples", "use",
 ]
+
+GREATEST, MOST_COUNT = 2**64 - 1, 2**36
 
 _said = {"path": None, "jobs": None}
 
@@ -50,8 +52,13 @@ class Uncoupled(UserWarning):
     """Some streams weren't coupled: what is told of the others is biased."""
 
 
+class FewSamples(UserWarning):
+    """Few samples carry a mean, so that its interval is wide, and more streams help."""
+
+
 def use(path=None, jobs=None):
     """Says which program draws, and on how many processors; None is what is there."""
+    jobs = None if jobs is None else whole_argument("jobs", jobs, 1, 1_024)
     _said.update(path=path, jobs=jobs)
 
 
@@ -59,16 +66,29 @@ def _psi():
     return Psi(_said["path"], _said["jobs"])
 
 
-def _warn(uncoupled, many):
+def _streams(seed: int, first: int, count: int) -> tuple[int, int, int]:
+    """A seed, a first stream and how many streams there are, which are looked at."""
+    seed = whole_argument("seed", seed, 0, GREATEST)
+    count = whole_argument("count", count, 1, MOST_COUNT)
+    return seed, whole_argument("first", first, 0, GREATEST - count + 1), count
+
+
+def _stream(seed: int, stream: int) -> tuple[int, int]:
+    """A seed and a stream, which are looked at."""
+    return (whole_argument("seed", seed, 0, GREATEST),
+            whole_argument("stream", stream, 0, GREATEST))
+
+
+def _warn(uncoupled, many, more="the others are biased"):
     """Warns where streams weren't coupled."""
     if uncoupled:
-        said = f"{uncoupled:,} of {many:,} streams weren't coupled; the others are biased"
+        said = f"{uncoupled:,} of {many:,} streams weren't coupled; {more}"
         warnings.warn(said, Uncoupled, stacklevel=3)
 
 
 def check(net):
     """What `psi check` prints of a network, as text: its queues, its events and their marks."""
-    return _psi().ask("check", network_of(net).data).out
+    return _psi().ask("check", data_of(net)).out
 
 
 def report(net, seed=0, first=0, count=1_000):
@@ -76,9 +96,9 @@ def report(net, seed=0, first=0, count=1_000):
     columns item, name and value, a row for each record, as `psi report` prints them. Sums are in
     customers, or in the reward's unit; horizons in steps; values are whole, and Python's own where
     they have more than 64 bits. There may be more than 65,536 streams."""
-    psi = _psi()
+    seed, first, count = _streams(seed, first, count)
     blocks = blocks_of(first, count, size_of(count))
-    reports = reports_of(psi, network_of(net).data, seed, blocks)
+    reports = reports_of(_psi(), data_of(net), seed, blocks)
     whole = reports[0]
     for other in reports[1:]:
         whole = together(whole, other)
@@ -92,14 +112,22 @@ def report(net, seed=0, first=0, count=1_000):
 
 
 def means(net, seed=0, first=0, count=10_000, level=0.95):
-    """The means over the samples of so many streams: a DataFrame with a row for each queue, in
+    """The means over the samples of `count` streams: a DataFrame with a row for each queue, in
     customers, and each reward, in its unit, by their names in two levels, 'queue' or 'reward'
-    first. The columns are mean; half, low and high, of an interval by Student's t over 20 batches
-    or more, that holds the stationary mean in `level` of all repetitions; least and greatest."""
-    psi = _psi()
+    first. The columns are mean; half, low and high, of a confidence interval for the stationary
+    mean at the confidence level `level`; least and greatest. The values of 20 batches or more have
+    Student's t, and an end also reckons with a large value that did not come; a row of two values
+    has the interval of Clopper and Pearson. `half` is half of the width: where `low` and `high` are
+    not symmetric, they say more. Streams that aren't coupled widen an interval by the least and the
+    greatest that the row may have (warning Uncoupled); FewSamples warns where a few samples carry
+    a mean."""
+    seed, first, count = _streams(seed, first, count)
+    level, data = level_argument(level), data_of(net)
     blocks = blocks_of(first, count, size_of(count))
-    batches = batches_of(reports_of(psi, network_of(net).data, seed, blocks))
-    _warn(batches.uncoupled, count)
+    batches = batches_of(reports_of(_psi(), data, seed, blocks)).of_network(network_of(net))
+    _warn(batches.uncoupled, count, "the means are of the others, and biased; intervals are wider")
+    for line in batches.carried():
+        warnings.warn(line, FewSamples, stacklevel=2)
     rows, names = [], []
     for row in batches.rows:
         mean = batches.mean(row, level)
@@ -111,11 +139,14 @@ def means(net, seed=0, first=0, count=10_000, level=0.95):
 
 
 def law(net, name, seed=0, first=0, count=10_000, reward=False):
-    """The law of a queue's customers or of a reward over the samples of so many streams: a
+    """The distribution of a queue's customers or of a reward over the samples of `count` streams: a
     DataFrame with a row for each value that came, by the value. The columns are count, in samples;
     probability, low and high; at_most, the probability of no greater value, at_most_low and
     at_most_high. Each interval holds its probability in 95 % of all repetitions, or more often."""
-    found = law_of(_psi(), network_of(net), name, seed, first, count, reward, "psi.law")
+    seed, first, count = _streams(seed, first, count)
+    psi, net = _psi(), network_of(net)
+    psi.ask("check", net.data)
+    found = law_of(psi, net, name, seed, first, count, reward, "psi.law")
     _warn(found.unknown, found.many)
     records = found.records()
     return pandas.DataFrame(records, columns=RECORD).set_index("value")
@@ -133,11 +164,13 @@ def samples(net, seed=0, first=0, count=1_000, keep=False):
 def closed(net, total, seed=0, first=0, count=1_000, keep=False):
     """The samples of a closed network that holds `total` customers, 0 to 256, as `samples` gives
     those of others."""
+    total = whole_argument("total", total, 0, 256)
     return _states("closed", network_of(net), seed, first, count, keep, (total,))
 
 
 def _states(command, net, seed, first, count, keep, more):
     """The states of a command of each stream, as rows."""
+    seed, first, count = _streams(seed, first, count)
     psi, data = _psi(), net.data
     size = max(1, min(64, count // psi.jobs))
 
@@ -169,7 +202,8 @@ def couple(net, seed, stream):
 
 def _pair(command, net, seed, stream, form):
     """A horizon and a state that a command prints."""
-    answer = _psi().ask(command, network_of(net).data, seed, stream, statuses=(0, 1))
+    seed, stream = _stream(seed, stream)
+    answer = _psi().ask(command, data_of(net), seed, stream, statuses=(0, 1))
     if answer.status:
         raise NotCoupled(answer.out.strip(), 1)
     horizon, state = re.fullmatch(form, answer.out).groups()
@@ -179,7 +213,8 @@ def _pair(command, net, seed, stream, form):
 def reward(net, seed, stream, name):
     """The least of the horizons 1, 2, 4, .. steps at which all runs have one value of a reward at
     time zero, and this value, in the reward's unit."""
-    answer = _psi().ask("reward", network_of(net).data, seed, stream, name, statuses=(0, 1))
+    seed, stream = _stream(seed, stream)
+    answer = _psi().ask("reward", data_of(net), seed, stream, name, statuses=(0, 1))
     if answer.status:
         raise NotCoupled(answer.out.strip(), 1)
     horizon, value = re.fullmatch(r"reward-met (\d+)\nvalue (\S+)\n", answer.out).groups()
@@ -190,14 +225,15 @@ def exact(net, seed, stream, exponent):
     """What all states of a small network become in the last 2^exponent steps: a Shrinking, whose
     `images` has the number of states left by the number of steps, whose `constant` is the least
     horizon at which all have met in `state`, and whose `region` is that of the region run."""
-    data = network_of(net).data
-    answer = _psi().ask("exact", data, seed, stream, exponent, statuses=(0, 1))
+    seed, stream = _stream(seed, stream)
+    answer = _psi().ask("exact", data_of(net), seed, stream, exponent, statuses=(0, 1))
     return read_exact(answer.out.encode())
 
 
 def log(net, seed, stream):
     """The certificate of a sample, as text: `replay` checks it, whoever wrote it."""
-    answer = _psi().ask("sample", network_of(net).data, seed, stream, "log", statuses=(0, 1))
+    seed, stream = _stream(seed, stream)
+    answer = _psi().ask("sample", data_of(net), seed, stream, "log", statuses=(0, 1))
     if answer.status:
         raise NotCoupled(answer.out.strip(), 1)
     return answer.out
@@ -211,7 +247,7 @@ def replay(net, log):
         path = os.path.join(room, "log")
         with open(path, "w", encoding="utf-8", newline="") as file:
             file.write(log)
-        answer = _psi().ask("replay", network_of(net).data, path)
+        answer = _psi().ask("replay", data_of(net), path)
     horizon, state = re.fullmatch(r"accepted (\d+)\nstate (\S+)\n", answer.out).groups()
     return int(horizon), tuple(map(int, state.split(",")))
 
@@ -220,8 +256,9 @@ def draw_log(log, net=None, title=""):
     """A picture of a log, as matplotlib's Figure: where all states may be, until one is left."""
     from psi_tools.plotting.draw_coupling import draw_coupling
     from psi_tools.plotting.read_log import read_log
+    from psi_tools.plotting.style import laid_out
 
     found = read_log(log.encode())
     if net is not None:
         found.names = network_of(net).queues
-    return draw_coupling(found, title)
+    return laid_out(draw_coupling(found, title))

@@ -5,7 +5,12 @@ import os
 
 from psi_tools import merging
 from psi_tools.blocks import FILE, Folder, digest_of
-from psi_tools.intervals import LEVEL, mean_of_batches, share_of
+from psi_tools.intervals import (
+    LEVEL, NO_MEAN, Mean, Span, carried_by_few, carriers, mean_of_batches, mean_of_two, share_of,
+    spread_of,
+)
+from psi_tools.networks import Network
+from psi_tools.spans import guessed_span, spans_of
 from psi_tools.told import Told
 
 REWARD = "reward-"
@@ -27,32 +32,65 @@ class Row:
 @dataclasses.dataclass
 class Batches:
     """Reports of one network: of each how many samples it has, how many are met, and how many at
-    each horizon, in steps; and a row for each queue and reward."""
+    each horizon, in steps; and a row for each queue and reward. Where the network is known, `spans`
+    has what each row may be."""
 
     samples: list[int]
     met: list[int]
     horizons: list[dict[int, int]]
     rows: list[Row]
+    spans: dict[tuple[str, str], Span] = dataclasses.field(default_factory=dict)
 
     @property
-    def uncoupled(self):
+    def lost(self) -> list[int]:
+        """How many samples of each batch aren't coupled."""
+        return [number - met for number, met in zip(self.samples, self.met)]
+
+    @property
+    def uncoupled(self) -> int:
         """How many samples of all aren't coupled."""
-        return sum(self.samples) - sum(self.met)
+        return sum(self.lost)
 
-    def mean(self, row, level=LEVEL):
-        """The mean of a row over the samples that are met. Where all values are 0 or 1 it is a
-        share, whose interval holds it also where one of the two is rare."""
-        if row.least is not None and 0 <= row.least and row.greatest <= 1:
-            return share_of(sum(row.sums), sum(self.met), level)
-        return mean_of_batches(row.sums, self.met, level)
+    def of_network(self, net: Network) -> "Batches":
+        """The same batches, of a network that is known: what isn't coupled, and what didn't come,
+        is reckoned with in all intervals."""
+        return dataclasses.replace(self, spans=spans_of(net, self.rows))
 
-    def row(self, sort, name):
+    def span(self, row: Row) -> Span | None:
+        """What the values of a row may be; none where no sample is met."""
+        return self.spans.get((row.sort, row.name)) or guessed_span(row)
+
+    def mean(self, row: Row, level: float = LEVEL) -> Mean:
+        """The mean of a row over the samples that are met. Where a row has two values it is a
+        share, whose interval holds it also where one of the two is rare. What isn't coupled widens
+        an interval; where the network isn't known, there is none then."""
+        span = self.span(row)
+        if span is None:
+            return NO_MEAN
+        if span.two and (not self.uncoupled or self.spans):
+            return mean_of_two(row.sums, self.met, span, self.lost, level)
+        if not self.spans and self.uncoupled:
+            span = dataclasses.replace(span, least=None, greatest=None)
+        return mean_of_batches(row.sums, self.met, level, span, self.lost)
+
+    def row(self, sort: str, name: str) -> Row | None:
         """The row of a queue or a reward, none where there isn't one."""
         return next((row for row in self.rows if (row.sort, row.name) == (sort, name)), None)
 
-    def share(self, counts, level=LEVEL):
+    def share(self, counts: list[int], level: float = LEVEL) -> Mean:
         """The share of all samples that some are, by their number in each batch."""
-        return share_of(sum(counts), sum(self.samples), level)
+        return share_of(sum(counts), sum(self.samples), level=level)
+
+    def carried(self, names: list[str] | None = None) -> list[str]:
+        """The lines that tell which means few samples carry, of all rows or of some."""
+        lines = []
+        for row in self.rows:
+            spread, span = spread_of(row.sums, self.met), self.span(row)
+            if spread is None or span is None or span.two or names and row.name not in names:
+                continue
+            number = carriers(spread.mean, spread.error, spread.many, row.least)
+            lines.append(carried_by_few(row.name, number, spread.many))
+        return [line for line in lines if line]
 
 
 def batches_of(reports):
@@ -99,24 +137,32 @@ def read_report(data, path):
     return report
 
 
-def read_files(paths):
-    """The batches of some files, each a report."""
-    reports = []
+def read_files(paths: list[str]) -> Batches:
+    """The batches of some files, each a report of other streams."""
+    reports, files, texts = [], {}, set()
     for path in paths:
         try:
             with open(path, "rb") as file:
-                data = file.read(merging.MOST_BYTES + 1)
+                data, known = file.read(merging.MOST_BYTES + 1), os.fstat(file.fileno())
         except (OSError, ValueError) as fault:
             said = getattr(fault, "strerror", None) or fault
             raise Told(f"{path} can't be read: {said}", 6) from None
+        first = files.setdefault((known.st_dev, known.st_ino), path)
+        if len(files) == len(reports):
+            raise Told(f"{path} is the same file as {first}: each report is one of other streams")
         reports.append(read_report(as_printed(data), path))
-    return batches_of(reports)
+        texts.add(data)
+    found = batches_of(reports)
+    varies = any(row.least != row.greatest for row in found.rows)
+    if len(reports) > 1 and len(texts) == 1 and varies:
+        raise Told("all reports are the same text: each is to be one of other streams")
+    return found
 
 
 def read_folder(path):
     """The batches of a folder of psi-many, its blocks, and how many blocks there are to be."""
     folder = Folder(path)
-    if not (folder.path / "bound").is_file() or not folder.blocks.is_dir():
+    if not folder.is_bound() or not folder.blocks.is_dir():
         raise Told(f"{path} is no folder of psi-many")
     try:
         folder.read_bound()
@@ -135,17 +181,23 @@ def read_folder(path):
             raise Told(f"{file} isn't of as many samples as its block")
     if not reports:
         raise Told(f"{path} has no finished block yet")
-    return batches_of(reports), -(-folder.count // folder.size)
+    batches, net = batches_of(reports), folder.bound_network()
+    return batches.of_network(net) if net else batches, -(-folder.count // folder.size)
 
 
-def read_any(paths):
-    """The batches of reports, or of a folder of psi-many; and how many there are to be."""
+def read_any(paths: list[str], net: Network | None = None) -> tuple[Batches, int]:
+    """The batches of reports, or of a folder of psi-many, whose network may be given; and how many
+    there are to be."""
     folders = [path for path in paths if os.path.isdir(path)]
     if folders and len(paths) > 1:
         raise Told("a folder of psi-many is given alone, or some reports are")
-    if folders:
-        return read_folder(folders[0])
-    return read_files(paths), len(paths)
+    batches, wanted = read_folder(folders[0]) if folders else (read_files(paths), len(paths))
+    if net is None:
+        return batches, wanted
+    rows = [(row.sort, row.name) for row in batches.rows]
+    if rows != [*(("", name) for name in net.queues), *((REWARD, name) for name in net.rewards)]:
+        raise Told("the reports aren't of this network: its queues or rewards differ")
+    return batches.of_network(net), wanted
 
 
 def interval_or_none(batches, row):

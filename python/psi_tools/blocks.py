@@ -6,11 +6,18 @@ import hashlib
 import os
 import pathlib
 import re
+import stat
 
+from psi_tools import files
 from psi_tools.networks import Network
 from psi_tools.told import Told
 
 UNWRITTEN = 7
+# What stands in the file `lock` of a folder that is psi-many's own, and what is a number of those
+# lines that a folder is bound to.
+MARK, NUMBERS = b"a folder of psi-many\n", ("seed", "first", "count", "block", "closed")
+# What a folder may have at its top where a call was stopped before it was bound.
+BEGUN = {"lock", "blocks", "net.toml"}
 MOST_BLOCKS = 1_048_576
 # So many blocks are made at least, while there are streams: as many values as an interval asks for.
 LEAST_BLOCKS = 20
@@ -46,18 +53,59 @@ def names_of(text, count):
     return names if len(rows) == len(names) * (3 if met else 1) else None
 
 
-def write_whole(path, text):
+def write_whole(path: pathlib.Path, text: bytes) -> None:
     """Writes a file under another name first, so that under its own it is never cut short."""
-    part = path.with_name(f"part.{os.uname().nodename}.{os.getpid()}.{path.name}")
+    front = f"part.{os.uname().nodename}.{os.getpid()}."
     try:
-        with open(part, "wb") as file:
-            file.write(text)
-            file.flush()
-            os.fsync(file.fileno())
-        part.rename(path)
+        files.replace(str(path), text, front, f".{path.name}")
     except OSError as fault:
-        # Folder.tidy removes what is left of it.
+        # Folder.tidy removes what a kill leaves of it.
         raise Told(f"{path} can't be written: {fault.strerror or fault}", UNWRITTEN) from None
+
+
+def is_left(name: str) -> bool:
+    """Whether a file's name is that of what a call has begun to write, and will not end: one of
+    this machine whose process is gone."""
+    parts = name.split(".")
+    if parts[0] != "part" or len(parts) < 3:
+        return False
+    node = os.uname().nodename
+    rest = name.removeprefix(f"part.{node}.").split(".")
+    if not name.startswith(f"part.{node}.") or not rest[0].isdigit():
+        return False
+    return int(rest[0]) == os.getpid() or not os.path.exists(f"/proc/{rest[0]}")
+
+
+def sealed(lines: str) -> str:
+    """What a folder is bound to, with a last line that tells whether it is as it was written."""
+    return f"{lines}digest {digest_of(lines.encode())[:16]}\n"
+
+
+def read_sealed(path: pathlib.Path) -> dict[str, str] | None:
+    """What a file says that a folder is bound to; none where it isn't as it was written. A file of
+    an earlier version has no line `digest`."""
+    try:
+        text = path.read_bytes().decode()
+    except (OSError, UnicodeDecodeError):
+        return None
+    lines, mark, _ = text.rpartition("digest ")
+    pairs = [line.partition(" ")[::2] for line in text.splitlines()]
+    bound = dict(pairs)
+    if mark and sealed(lines) != text or not text.endswith("\n") or len(bound) < len(pairs):
+        return None
+    return bound if all(bound[key].isdigit() for key in NUMBERS if key in bound) else None
+
+
+def bound_in(folder: pathlib.Path) -> tuple[dict[str, str] | None, bool]:
+    """What a folder is bound to, none where that can't be read, and whether its file is damaged, so
+    that it is the copy that has it."""
+    own, copy = (read_sealed(folder / name) for name in ("bound", "bound.copy"))
+    is_damaged = copy is not None and (own is None or "digest" not in own)
+    found = copy if is_damaged else own
+    wanted = {"network", "seed", "first", "count", "block"}
+    if found is None or not wanted <= {*found} or not int(found["block"]):
+        return None, is_damaged
+    return {key: value for key, value in found.items() if key != "digest"}, is_damaged
 
 
 class Folder:
@@ -67,24 +115,83 @@ class Folder:
     text is as it was written.
     """
 
-    def __init__(self, path):
-        self.path = pathlib.Path(path).resolve()
+    def __init__(self, path: str | os.PathLike):
+        self.is_damaged = self.is_restored = False
+        try:
+            self.path = pathlib.Path(path).resolve()
+        except (OSError, RuntimeError, ValueError) as fault:
+            said = getattr(fault, "strerror", None) or fault
+            raise Told(f"{path} is no folder: {said}") from None
         self.net, self.blocks = self.path / "net.toml", self.path / "blocks"
 
-    def lock(self):
-        """Makes the folder, and keeps other calls from it as long as this one runs."""
-        files = {*os.listdir(self.path)} if self.path.exists() else set()
-        if files - {"lock", "blocks", "net.toml"} and "bound" not in files:
-            raise Told(f"{self.path} isn't a folder of psi-many")
-        self.blocks.mkdir(parents=True, exist_ok=True)
-        self.locked = open(self.path / "lock", "wb")
+    def lock(self) -> None:
+        """Makes the folder, and keeps other calls from it as long as this one runs. It refuses a
+        folder that is neither empty nor psi-many's own, and one with a link in it."""
+        self.look()
+        path = self.path / "lock"
+        try:
+            self.path.mkdir(parents=True, exist_ok=True)
+            flags = os.O_RDWR | os.O_CREAT | os.O_NOFOLLOW | os.O_CLOEXEC
+            self.locked = open(os.open(path, flags, 0o666), "r+b", buffering=0)
+        except OSError as fault:
+            said = fault.strerror or fault
+            raise Told(f"{fault.filename or path} can't be written: {said}", UNWRITTEN) from None
         try:
             fcntl.flock(self.locked, fcntl.LOCK_EX | fcntl.LOCK_NB)
         except BlockingIOError:
             raise Told(f"another psi-many is at work in {self.path}") from None
         except OSError as fault:
+            raise Told(f"{path} can't be locked: {fault.strerror or fault}", UNWRITTEN) from None
+        self.begin(path)
+        self.tidy_left()
+
+    def begin(self, path: pathlib.Path) -> None:
+        """Marks the folder as psi-many's own, before anything else is made in it."""
+        try:
+            # An empty file is one that a full disk or a kill has left, or of an earlier version.
+            if os.fstat(self.locked.fileno()).st_size < len(MARK):
+                rest = MARK
+                while rest:
+                    number = os.pwrite(self.locked.fileno(), rest, len(MARK) - len(rest))
+                    rest = rest[number:]
+            self.blocks.mkdir(exist_ok=True)
+        except OSError as fault:
             said = fault.strerror or fault
-            raise Told(f"{self.path}/lock can't be locked: {said}", UNWRITTEN) from None
+            raise Told(f"{fault.filename or path} can't be written: {said}", UNWRITTEN) from None
+
+    def look(self) -> None:
+        """Refuses a folder that isn't psi-many's to write in."""
+        try:
+            entries = [*os.scandir(self.path)]
+            if self.blocks.is_dir() and not self.blocks.is_symlink():
+                entries += os.scandir(self.blocks)
+        except FileNotFoundError:
+            return
+        except OSError as fault:
+            raise Told(f"{self.path} is no folder: {fault.strerror or fault}") from None
+        links = [entry.path for entry in entries if entry.is_symlink()]
+        if links:
+            raise Told(f"{links[0]} is a link, which a folder of psi-many has none of")
+        names = {entry.name for entry in entries if os.path.dirname(entry.path) == str(self.path)}
+        if names and not self.is_own(names):
+            raise Told(f"{self.path} isn't a folder of psi-many, and isn't empty")
+
+    def is_own(self, names: set[str]) -> bool:
+        """Whether a folder with some files is psi-many's: it is bound, or begins to be."""
+        if bound_in(self.path)[0]:
+            return True
+        try:
+            is_plain = stat.S_ISREG(os.lstat(self.path / "lock").st_mode)
+            mark = (self.path / "lock").read_bytes() if is_plain else None
+        except OSError:
+            return False
+        if mark == MARK:
+            return all(name in BEGUN or name.startswith("part.") for name in names)
+        return mark is not None and MARK.startswith(mark) and names == {"lock"}
+
+    def is_bound(self) -> bool:
+        """Whether a file says what the folder is bound to."""
+        return any((self.path / name).exists() for name in ("bound", "bound.copy"))
 
     def bind(self, net, wanted, size, fitting):
         """Binds a new folder to a call, whose blocks have `size` streams, or as many as are fitting
@@ -92,10 +199,13 @@ class Folder:
         streams, to which the others are added. Gives how many it was bound to before.
         """
         wanted = {"network": digest_of(net), **wanted}
-        if not (self.path / "bound").exists():
+        if not self.is_bound():
             write_whole(self.net, net)
             self.write_bound({**wanted, "block": size or fitting})
         self.read_bound()
+        if self.is_damaged:
+            self.write_bound(self.bound)
+            self.is_restored = True
         before, count = self.count, wanted["count"]
         if size:
             wanted["block"] = size
@@ -115,27 +225,36 @@ class Folder:
             self.read_bound()
         return before
 
-    def write_bound(self, bound):
-        """Writes what the folder is bound to."""
-        lines = "".join(f"{key} {value}\n" for key, value in bound.items())
-        write_whole(self.path / "bound", lines.encode())
+    def write_bound(self, bound: dict) -> None:
+        """Writes what the folder is bound to, and a copy for the case that the file is damaged."""
+        lines = sealed("".join(f"{key} {value}\n" for key, value in bound.items()))
+        for name in ("bound", "bound.copy"):
+            write_whole(self.path / name, lines.encode())
 
-    def read_bound(self):
-        """Reads what the folder is bound to."""
-        lines = (self.path / "bound").read_text().splitlines()
-        self.bound = dict(line.partition(" ")[::2] for line in lines)
-        try:
-            keys = ("seed", "first", "count", "block")
-            self.seed, self.first, self.count, self.size = (int(self.bound[key]) for key in keys)
-            self.total = int(self.bound["closed"]) if "closed" in self.bound else None
-        except (KeyError, ValueError):
-            raise Told(f"{self.path / 'bound'} isn't as psi-many wrote it") from None
+    def read_bound(self) -> None:
+        """Reads what the folder is bound to; where the file is damaged, the copy has it."""
+        bound, self.is_damaged = bound_in(self.path)
+        if bound is None:
+            raise Told(f"{self.path / 'bound'} isn't as psi-many wrote it")
+        self.bound = bound
+        keys = ("seed", "first", "count", "block")
+        self.seed, self.first, self.count, self.size = (int(bound[key]) for key in keys)
+        self.total = int(bound["closed"]) if "closed" in bound else None
 
     def network(self):
         """The network, as its copy says it."""
         if not hasattr(self, "read"):
             self.read = Network.read(self.net)
         return self.read
+
+    def bound_network(self) -> Network | None:
+        """The network, where its copy is the one that the folder is bound to."""
+        try:
+            data = self.net.read_bytes()
+        except OSError:
+            return None
+        is_own = digest_of(data) == self.bound.get("network")
+        return Network.parse(data, self.net) if is_own else None
 
     def all_blocks(self):
         return [self.block(number) for number in range(-(-self.count // self.size))]
@@ -159,10 +278,20 @@ class Folder:
                 found.setdefault(int(named[1]), []).append(file)
         return found
 
-    def tidy(self):
+    def tidy(self) -> None:
         """Removes what calls that were killed have begun to write."""
-        for file in (*self.blocks.glob("part.*"), *self.path.glob("merged.*")):
+        for file in (*self.blocks.glob("part.*"), *self.path.glob("part.*")):
             file.unlink(missing_ok=True)
+        for file in self.path.glob("merged.*"):
+            file.unlink(missing_ok=True)
+
+    def tidy_left(self) -> None:
+        """Removes what a full disk or a kill has left, but for what tasks elsewhere may write."""
+        for file in self.path.glob("part.*"):
+            file.unlink(missing_ok=True)
+        for file in self.blocks.glob("part.*"):
+            if is_left(file.name):
+                file.unlink(missing_ok=True)
 
     def finished(self):
         """The files of the blocks that are whole and of one network, by number. Others are removed:

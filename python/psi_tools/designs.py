@@ -6,7 +6,7 @@ import itertools
 import re
 from decimal import Decimal
 
-from psi_tools.networks import MOST_EVENTS, MOST_RATE, MOST_TOTAL
+from psi_tools.networks import MOST_EVENTS, MOST_RATE, MOST_TOTAL, Network
 from psi_tools.told import Told
 
 # What may differ: in which table it stands, and the least and the greatest value.
@@ -14,7 +14,12 @@ KEYS = {
     "rate": ("event", 1, MOST_RATE), "capacity": ("queue", 1, 65_535), "servers": ("queue", 1, 64),
     "size": ("event", 1, 65_535), "amount": ("event", 1, 65_535), "level": ("reward", 0, 65_535),
 }
-WORD = re.compile(r"([A-Za-z0-9_-]{1,32})\.([a-z]+)=(.+)")
+# What may differ in a part of a guarded event, with the least and the greatest value: the name is
+# the event's and the queue's, with a point between.
+PARTS = {key: ("part", 0, 65_535) for key in ("least", "most", "floor", "ceiling")}
+KEYS |= PARTS
+NAME = r"[A-Za-z0-9_-]{1,32}"
+WORD = re.compile(rf"({NAME}(?:\.{NAME})?)\.([a-z]+)=(.+)")
 RANGE = re.compile(r"(\d+)\.\.(\d+)(?:\.\.(\d+))?")
 DECIMAL = re.compile(r"\d{1,12}(?:\.\d{1,6})?")
 MOST_DESIGNS = 256
@@ -25,7 +30,7 @@ class Design:
     """A network, and the values of the keys by which it differs from the others, in their order."""
 
     values: tuple
-    net: object
+    net: Network
 
 
 def values_of(word, text):
@@ -47,24 +52,77 @@ def values_of(word, text):
     return values
 
 
-def keys_of(words, net):
+def keys_of(words: list[str], net: Network) -> dict[tuple[str, str], list[Decimal]]:
     """The keys of the words, each a name and a key of the network, with its values."""
     found = {}
     for word in words:
         parts = WORD.fullmatch(word)
-        if not parts or parts[2] not in KEYS:
+        if not parts or parts[2] not in KEYS or ("." in parts[1]) != (parts[2] in PARTS):
             raise Told(
                 f"{word} isn't NAME.KEY=VALUES, as desk.servers=2,3, with KEY one of "
-                + ", ".join(KEYS)
+                f"{', '.join(key for key in KEYS if key not in PARTS)}; nor EVENT.QUEUE.KEY=VALUES "
+                f"with KEY one of {', '.join(PARTS)}"
             )
         name, key, text = parts.groups()
-        section = KEYS[key][0]
-        if name not in [table["name"] for table in net.table[section]]:
-            raise Told(f"{word}: the network has no {section} {name}")
+        if table_of(net, name, key) is None:
+            raise Told(f"{word}: the network has no {KEYS[key][0]} {name}")
         if (name, key) in found:
             raise Told(f"{name}.{key} is given twice")
         found[name, key] = values_of(word, text)
     return found
+
+
+def table_of(net: Network, name: str, key: str) -> dict | None:
+    """The table of a network in which a key's value stands, none where there isn't one."""
+    if key not in PARTS:
+        tables = net.table[KEYS[key][0]]
+        return next((table for table in tables if table["name"] == name), None)
+    event, queue = name.split(".")
+    for table in net.table["event"]:
+        if table["name"] == event:
+            return next((part for part in table.get("part", []) if part["queue"] == queue), None)
+    return None
+
+
+def depends(net: Network, queue: str, told: list[str]) -> list[tuple[str, tuple[str, str] | None]]:
+    """What goes by a queue's servers or its capacity, in words, and the name and key by which it
+    can be swept, or none: guards, floors and ceilings of parts, tables, and levels of rewards. Of
+    the rewards only those matter that are told of, all where `told` is empty."""
+    found = []
+    for event in net.table["event"]:
+        for part in event.get("part", []):
+            names = [key for key in PARTS if key in part and part["queue"] == queue]
+            found += [
+                (f"{key} = {part[key]} of event {event['name']}", (f"{event['name']}.{queue}", key))
+                for key in names
+            ]
+        if event["kind"] == "index" and queue in event["to"]:
+            found.append((f"the table of event {event['name']}", None))
+    for reward in net.table["reward"]:
+        name = reward["name"]
+        if queue not in reward["queues"] or told and name not in told:
+            continue
+        if reward["kind"] == "above":
+            found.append((f"level = {reward['level']} of reward {name}", (name, "level")))
+        if reward["kind"] == "table":
+            found.append((f"the table of reward {name}", None))
+    return found
+
+
+def look_at_bounds(words: list[str], net: Network, together: bool, told: list[str]) -> None:
+    """Refuses a sweep of the servers or the capacity of a queue by whose number something else goes
+    that would stay as it is, unless that is swept together with it."""
+    keys = keys_of(words, net)
+    for name, key in keys:
+        if key not in ("servers", "capacity"):
+            continue
+        for said, own in depends(net, name, told):
+            if not (together and own in keys):
+                way = f"sweep {'.'.join(own)} with it, --together, " if own else ""
+                raise Told(
+                    f"{said} goes by {name} and would stay as it is while {name}.{key} differs: "
+                    f"{way}compare files, or say --anyway"
+                )
 
 
 def scale_of(found):
@@ -129,16 +187,15 @@ def changed(net, keys, row, scale):
     for event in made.table["event"]:
         event["rate"] *= scale
     for (name, key), value in zip(keys, row):
-        section, least, most = KEYS[key]
+        _, least, most = KEYS[key]
         number = int(value * (scale if key == "rate" else 1))
         if not least <= number <= most:
             raise Told(f"{name}.{key}: {value} is out of {least} to {most}")
-        table = next(table for table in made.table[section] if table["name"] == name)
-        table[key] = number
+        table_of(made, name, key)[key] = number
     return made
 
 
-def aligned(designs):
+def aligned(designs: list[Design]) -> tuple[list[Design], str | None]:
     """The same designs with idle events, so that each event has the same numbers in all of them, as
     far as its rate goes; and why that can't be, or none.
 
@@ -146,16 +203,17 @@ def aligned(designs):
     where a rate differs, each event behind it would be chosen by other words. Here each event has
     as many numbers as it needs in any design, and what a design doesn't need of them is idle: so
     all have the same modulus, too, and the same words choose the same events but where a rate is
-    less.
+    less. Events of one name are the same event; one that a design doesn't have is idle there.
     """
     nets = [design.net for design in designs]
-    totals = [
-        [event["rate"] * net.servers_of(event) for event in net.table["event"]] for net in nets
-    ]
-    slots = [max(column) for column in zip(*totals)]
-    padded = [with_idle(net, own, slots) for net, own in zip(nets, totals)]
+    names, slots = common_events(nets), {}
+    for net in nets:
+        for event in net.table["event"]:
+            total = event["rate"] * net.servers_of(event)
+            slots[event["name"]] = max(slots.get(event["name"], 0), total)
+    padded = [with_idle(net, names, slots) for net in nets]
     why = None
-    if sum(slots) > MOST_TOTAL:
+    if sum(slots.values()) > MOST_TOTAL:
         why = f"the rates of all designs together would add up to more than {MOST_TOTAL:,}"
     if any(count_of(net) > MOST_EVENTS for net in padded):
         why = f"with idle events there would be more than {MOST_EVENTS:,} events"
@@ -164,15 +222,33 @@ def aligned(designs):
     return [Design(design.values, net) for design, net in zip(designs, padded)], None
 
 
-def with_idle(net, totals, slots):
-    """A network in which each event is followed by idle ones that fill its slot."""
+def common_events(nets: list[Network]) -> list[str]:
+    """The names of the events of all networks, in an order that is near that of each: a name that
+    is new stands behind the one that it follows in its own network."""
+    names = []
+    for net in nets:
+        place = 0
+        for event in net.table["event"]:
+            if event["name"] in names:
+                place = names.index(event["name"]) + 1
+            else:
+                names.insert(place, event["name"])
+                place += 1
+    return names
+
+
+def with_idle(net: Network, names: list[str], slots: dict[str, int]) -> Network:
+    """A network with events in the order of some names, each followed by idle ones that fill its
+    slot."""
     made = copy.copy(net)
-    names = {event["name"] for event in net.table["event"]}
-    unused = (name for name in map("idle-{}".format, itertools.count(1)) if name not in names)
+    own = {event["name"]: event for event in net.table["event"]}
+    unused = (name for name in map("idle-{}".format, itertools.count(1)) if name not in slots)
     events = []
-    for event, total, slot in zip(net.table["event"], totals, slots):
-        events.append(event)
-        rest = slot - total
+    for name in names:
+        rest = slots[name]
+        if name in own:
+            events.append(own[name])
+            rest -= own[name]["rate"] * net.servers_of(own[name])
         while rest > 0:
             rate = min(rest, MOST_RATE)
             # What is shifted by nothing stays as it is.
@@ -180,6 +256,7 @@ def with_idle(net, totals, slots):
             events.append({"kind": "guarded", "name": next(unused), "rate": rate, "part": part})
             rest -= rate
     made.table = {**net.table, "event": events}
+    made.heads = {**net.heads, "version": 2}
     return made
 
 

@@ -4,13 +4,15 @@ import collections
 import dataclasses
 
 from psi_tools import tables
-from psi_tools.batches import batches_of
+from psi_tools.batches import Batches, Row, batches_of
 from psi_tools.draws import blocks_of, reports_of, size_of
 from psi_tools.intervals import (
-    LEVEL, Mean, figures, probability, quantile, student, with_half,
+    LEVEL, Mean, Span, between, carried_by_few, carriers, ends_shown, figures, half_shown,
+    mean_of_values, probability, quantile,
 )
-from psi_tools.networks import MOST_REWARDS, checked, value_of
+from psi_tools.networks import MOST_REWARDS, Network, checked, value_of
 from psi_tools.program import Psi
+from psi_tools.spans import Spans
 from psi_tools.told import Told
 from psi_tools.words import (
     Progress, Words, add_form, add_picture, add_program, add_streams, give, last_stream_is_one,
@@ -29,42 +31,62 @@ of a reward. Each value that came has its probability and the ends of an interva
 
     psi-law desk.toml desk --count 100000 --picture desk.svg
 
-The samples of a queue, or of a reward of one queue, are drawn by psi report, with a reward for each
-level; those of a reward of several queues one by one, by psi reward. Where streams weren't coupled
-this is said first, and each interval is as wide as what they might hold makes it."""
+The samples of a queue, or of a reward of one queue, are drawn by psi report, with rewards that
+count the numbers of customers; those of a reward of several queues one by one, by psi reward. Where
+streams weren't coupled this is said first, and each interval is as wide as what they might hold
+makes it."""
+# A value of a reward's table is at most so great, so its sum over a block counts several numbers;
+# and so many signs the tables of one report have at most, as psi reads them for each block.
+MOST_VALUE, MOST_SIGNS = 10**9, 64_000
 
 
 @dataclasses.dataclass
 class Law:
-    """The law of a number over samples: `counts` has pairs of a value and how many samples have it,
-    ascending; of `unknown` more streams it isn't known, as they weren't coupled."""
+    """The distribution of a number over samples: `counts` has pairs of a value and how many samples
+    have it, ascending; of `unknown` more streams it isn't known, as they weren't coupled. `span`
+    has what the number may be."""
 
     name: str
     what: str
     counts: list[tuple[int, int]]
     unknown: int
-    ends: tuple[int | None, int | None] = (None, None)
+    span: Span
 
     @property
-    def known(self):
+    def known(self) -> int:
         """How many samples have a known value."""
         return sum(count for _, count in self.counts)
 
     @property
-    def many(self):
+    def many(self) -> int:
         """How many streams were drawn."""
         return self.known + self.unknown
 
-    def mean(self, level=LEVEL):
-        """The mean of the values that are known, with its interval by Student's t."""
-        many = self.known
-        if not many:
-            return Mean(None, None)
-        total = sum(value * count for value, count in self.counts)
-        if many < 2:
-            return Mean(total / many, None)
-        squares = sum(count * ((value * many - total) / many) ** 2 for value, count in self.counts)
-        return Mean(total / many, student(many - 1, level) * (squares / (many - 1) / many) ** 0.5)
+    @property
+    def ends(self) -> tuple[int, int]:
+        """The least and the greatest that the number may be."""
+        return self.span.least, self.span.greatest
+
+    def mean(self, level: float = LEVEL) -> Mean:
+        """The mean of the values that are known, with its interval: of two values that of a share,
+        else by the values themselves. What isn't known widens it."""
+        low, high = self.ends
+        if self.span.two and self.known and low < high:
+            count = sum(count for value, count in self.counts if value == high)
+            ends = probability(count, self.many, self.unknown, level)
+            mean = low + (high - low) * count / self.known
+            return between(mean, *(low + (high - low) * end for end in ends))
+        return mean_of_values(self.counts, self.span, self.unknown, level)
+
+    def carried(self) -> str | None:
+        """The line that tells that few samples carry the mean; none where many do, or where there
+        are two values alone."""
+        many, mean = self.known, self.mean().mean
+        if self.span.two or many < 2:
+            return None
+        squares = sum(count * (value - mean) ** 2 for value, count in self.counts)
+        error = (squares / (many - 1) / many) ** 0.5
+        return carried_by_few(self.name, carriers(mean, error, many, self.counts[0][0]), many)
 
     def records(self, level=LEVEL):
         """Each value with its probability and that of no greater value, and their intervals."""
@@ -101,63 +123,118 @@ def reader():
     return words
 
 
-def law_of(psi, net, name, seed=0, first=0, count=COUNT, is_reward=False, command=COMMAND):
-    """The law of a queue's customers or of a reward's value, over `count` streams of a seed."""
+def law_of(
+    psi: Psi, net: Network, name: str, seed: int = 0, first: int = 0, count: int = COUNT,
+    is_reward: bool = False, command: str = COMMAND,
+) -> Law:
+    """The distribution of a queue's customers or of a reward's value, over `count` streams of a
+    seed."""
     if name in net.queues and not is_reward:
-        place = net.queues.index(name)
-        counts, unknown = counts_of_queue(psi, net, place, seed, first, count, command)
-        ends = 0, net.capacities[place]
-        return Law(name, "customers", [*counts.items()], unknown, ends)
+        numbers, unknown = counts_of_queue(psi, net, name, seed, first, count, command)
+        span = Spans(net, seen_in(name, numbers)).of_queue(name)
+        return Law(name, "customers", [*numbers.items()], unknown, span)
     if name not in net.rewards:
         raise Told(f"the network has no {'' if is_reward else 'queue and no '}reward {name}")
     reward = net.table["reward"][net.rewards.index(name)]
     if len(reward["queues"]) > 1:
         counts, unknown = counts_of_reward(psi, net, name, seed, first, count, command)
-        return Law(name, "value", sorted(counts.items()), unknown)
-    place = net.queues.index(reward["queues"][0])
-    numbers, unknown = counts_of_queue(psi, net, place, seed, first, count, command)
+        return Law(name, "value", sorted(counts.items()), unknown, Spans(net, {}).of_reward(name))
+    [queue] = reward["queues"]
+    numbers, unknown = counts_of_queue(psi, net, queue, seed, first, count, command)
     counts = collections.Counter()
     for number, many in numbers.items():
         counts[value_of(reward, [number])] += many
-    values = [value_of(reward, [number]) for number in range(net.capacities[place] + 1)]
-    return Law(name, "value", sorted(counts.items()), unknown, (min(values), max(values)))
+    span = Spans(net, seen_in(queue, numbers)).of_reward(name)
+    return Law(name, "value", sorted(counts.items()), unknown, span)
 
 
-def counts_of_queue(psi, net, place, seed, first, count, command):
+def seen_in(queue: str, numbers: dict[int, int]) -> dict[str, tuple[int, int]]:
+    """The extremes of a queue, by its numbers that came."""
+    return {queue: (min(numbers), max(numbers))} if numbers else {}
+
+
+def counts_of_queue(
+    psi: Psi, net: Network, queue: str, seed: int, first: int, count: int, command: str
+) -> tuple[dict[int, int], int]:
     """How many samples hold each number of customers in a queue, ascending, and how many streams
-    aren't coupled: by reports of the same samples, each with a reward for each of 64 levels."""
+    aren't coupled: by reports of the same samples, each with rewards that count a range of numbers.
+    The first one has the least numbers, and the extremes, so the others have what is left."""
     blocks = blocks_of(first, count, size_of(count))
-    low, high = 0, net.capacities[place]
-    progress = Progress(command, len(blocks), "blocks")
-    batches = None
-    if high > MOST_REWARDS:
-        batches = drawn(psi, net, place, [], seed, blocks, progress)
-        low, high = batches.rows[place].least or 0, batches.rows[place].greatest or 0
-        progress.whole *= 1 + -(-(high - low) // MOST_REWARDS)
-    above = {}
-    for begin in range(low, max(high, low + 1), MOST_REWARDS):
-        levels = range(begin, min(high, begin + MOST_REWARDS))
-        batches = drawn(psi, net, place, levels, seed, blocks, progress)
-        for level, row in zip(levels, batches.rows[len(net.queues) :]):
-            above[level] = sum(row.sums)
+    counters = Counters(net, queue, blocks[0][1])
+    progress, found = Progress(command, len(blocks), "blocks"), {}
+    begin, end = 0, counters.capacity + 1
+    while begin < end:
+        batches = drawn(psi, counters.network(begin), seed, blocks, progress)
+        own, met = batches.row("", queue), sum(batches.met)
+        rows = batches.rows[len(net.queues) :]
+        found |= counters.counts(begin, rows, met - sum(found.values()))
+        # Where no stream is coupled there are no extremes, and nothing to count.
+        end = 0 if own.greatest is None else own.greatest + 1
+        begin = max(begin + counters.width, own.least or 0)
+        more = max(0, -(-(end - begin) // counters.width))
+        progress.whole = progress.before + len(blocks) * more
     progress.end()
-    met, counts = sum(batches.met), {}
-    before = met
-    for number in range(low, high + 1):
-        now = above.get(number, 0)
-        if before > now:
-            counts[number] = before - now
-        before = now
-    return counts, batches.uncoupled
+    return {number: found[number] for number in sorted(found) if found[number]}, batches.uncoupled
 
 
-def drawn(psi, net, place, levels, seed, blocks, progress):
-    """The batches of a network whose rewards tell whether a queue is above each of some levels."""
-    asked = net.copy()
-    asked.table["reward"] = []
-    for level in levels:
-        asked.reward(f"above-{level}", "above", [net.queues[place]], level=level)
-    found = reports_of(psi, asked.data, seed, blocks, progress.show)
+class Counters:
+    """Rewards whose sums over a block of samples count how many of them hold each number of
+    customers in a queue.
+
+    The table of a reward has 1 for the first of some numbers, and for each further one a value that
+    is greater by a factor above the size of a block: so its sum has a digit for each of them. Where
+    such tables would be long, a reward is `above` a level, and counts one number."""
+
+    def __init__(self, net: Network, queue: str, size: int):
+        self.net, self.queue, self.base = net, queue, size + 1
+        self.capacity = net.capacities[net.queues.index(queue)]
+        self.digits = 1
+        while self.base**self.digits <= MOST_VALUE:
+            self.digits += 1
+        tables = min(MOST_REWARDS, MOST_SIGNS // (3 * self.capacity + 50 * self.digits))
+        self.has_tables = tables * self.digits >= min(MOST_REWARDS, self.capacity + 1)
+        # So many numbers are counted by one report.
+        self.width = tables * self.digits if self.has_tables else MOST_REWARDS
+
+    def numbers(self, begin: int) -> range:
+        """The numbers that one report counts, from a number on."""
+        return range(begin, min(self.capacity + 1, begin + self.width))
+
+    def network(self, begin: int) -> Network:
+        """The network with the rewards that count from a number on."""
+        asked, numbers = self.net.copy(), self.numbers(begin)
+        asked.table["reward"] = []
+        if not self.has_tables:
+            for number in numbers:
+                level = min(number, 65_535)
+                asked.reward(f"above-{number}", "above", [self.queue], level=level)
+            return asked
+        for place in range(0, len(numbers), self.digits):
+            table = [0] * (self.capacity + 1)
+            for digit, number in enumerate(numbers[place : place + self.digits]):
+                table[number] = self.base**digit
+            asked.reward(f"count-{numbers[place]}", "table", [self.queue], table=[table])
+        return asked
+
+    def counts(self, begin: int, rows: list[Row], left: int) -> dict[int, int]:
+        """How many samples hold each number that a report counts, by its rows of rewards; `left`
+        samples hold these numbers or greater ones."""
+        numbers, found = self.numbers(begin), {}
+        for place, number in enumerate(numbers):
+            if self.has_tables:
+                sums, digit = rows[place // self.digits].sums, place % self.digits
+                found[number] = sum(total // self.base**digit % self.base for total in sums)
+            else:
+                above = sum(rows[place].sums)
+                found[number], left = left - above, above
+        return found
+
+
+def drawn(
+    psi: Psi, net: Network, seed: int, blocks: list[tuple[int, int]], progress: Progress
+) -> Batches:
+    """The batches of some blocks of a network."""
+    found = reports_of(psi, net.data, seed, blocks, progress.show)
     progress.before += len(blocks)
     return batches_of(found)
 
@@ -185,7 +262,7 @@ def value_of_stream(psi, data, name, seed, stream):
     return int(answer.out.split()[-1]) if answer.status == 0 else None
 
 
-def notes_of(law):
+def notes_of(law: Law) -> list[str]:
     """What has to be known before a probability is read."""
     if not law.unknown:
         return []
@@ -195,7 +272,16 @@ def notes_of(law):
     ]
 
 
-def text_of(law, words):
+def mean_line(law: Law) -> str:
+    """The line of the mean."""
+    mean = law.mean()
+    shown = figures(mean.mean, mean.half)
+    if mean.is_even:
+        shown += f" {half_shown(mean)}"
+    return "mean {}, {} to {}".format(shown, *ends_shown(mean))
+
+
+def text_of(law: Law, words) -> str:
     """The answer for people."""
     lines = notes_of(law)
     last = words.first + words.count - 1
@@ -206,10 +292,7 @@ def text_of(law, words):
         shown = [f"{each[key]:.5f}" for key in RECORD[2:]]
         rows.append((each["value"], each["count"], *shown))
     lines.append(tables.aligned(rows, right=range(8)).rstrip("\n"))
-    mean = law.mean()
-    if mean.half is not None:
-        ends = f"{figures(mean.low, mean.half)} to {figures(mean.high, mean.half)}"
-        lines.append(f"mean {with_half(mean)}, {ends}")
+    lines += [mean_line(law), *filter(None, [law.carried()])]
     rows = [("quantile", law.what, "from", "to")]
     for share, *ends in law.quantiles():
         rows.append((f"{share * 100:g} %", *("-" if end is None else end for end in ends)))
@@ -217,7 +300,7 @@ def text_of(law, words):
     return "".join(f"{line}\n" for line in lines)
 
 
-def answer_of(law, words):
+def answer_of(law: Law, words) -> str:
     """The answer in the form that is asked."""
     if words.format == "text":
         return text_of(law, words)
@@ -226,9 +309,11 @@ def answer_of(law, words):
         return tables.as_csv(records)
     mean = law.mean()
     keys = "share", "value", "low", "high"
+    notes = [*notes_of(law), *filter(None, [law.carried()])]
+    ends = {"mean": mean.mean, "half": mean.half, "low": mean.low, "high": mean.high}
     return tables.as_json({
-        "name": law.name, "samples": law.many, "unknown": law.unknown, "notes": notes_of(law),
-        "mean": {"mean": mean.mean, "half": mean.half}, "values": records,
+        "name": law.name, "samples": law.many, "unknown": law.unknown, "notes": notes,
+        "mean": ends, "values": records,
         "quantiles": [dict(zip(keys, each)) for each in law.quantiles()],
     })
 

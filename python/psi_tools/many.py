@@ -20,7 +20,7 @@ import signal
 import subprocess
 
 from psi_tools.blocks import LEAST_BLOCKS, MOST_BLOCKS, Folder, names_of, write_whole
-from psi_tools.program import MOST_BYTES, built_program, found_on_path
+from psi_tools.program import MOST_BYTES, TOP, built_program, found_on_path
 from psi_tools.told import Told
 from psi_tools.ways import ROUNDS, SHARE, SSH, Here, Hosts, Progress, Slurm, run_task
 from psi_tools.words import GREATEST, Words, give, look_at, number, run, tell
@@ -122,14 +122,14 @@ def merge(folder, files, program):
     return texts[0]
 
 
-def merger_of(words, psi):
+def merger_of(words, psi: str) -> str | None:
     """The program that merges: the one that the call says; else psi_merge, which is proved, where
-    it stands beside PSI, as psi-merge too, or is built beside its crate; else none, and
+    it stands beside PSI, as psi-merge too, or is built where these tools stand; else none, and
     merge_reports.py does it.
     """
     beside = pathlib.Path(psi).parent
     proved = [beside / name for name in ("psi_merge", "psi-merge")]
-    proved.append(beside.parent.parent / "psi_merge/out/psi_merge")
+    proved.append(TOP / "crates/psi_merge/out/psi_merge")
     found = [str(path) for path in proved if os.access(path, os.X_OK)]
     if words.merge or found:
         return program_of(words.merge or found[0])
@@ -266,6 +266,8 @@ def report(words):
     folder.lock()
     fitting = min(-(-words.count // (SHARE * way.slots)), words.count // LEAST_BLOCKS)
     before = folder.bind(net, numbers, words.block, max(1, min(MOST_STREAMS, fitting)))
+    if folder.is_restored:
+        tell(COMMAND, f"{folder.path / 'bound'} was damaged, and is made again from its copy")
     if before < words.count:
         tell(COMMAND, f"{folder.path} has {before} streams, and gets {words.count - before} more")
     files = draw_all(folder, way)

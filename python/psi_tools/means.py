@@ -1,28 +1,32 @@
 """psi-means: the means of reports with their intervals, by reports as batches."""
 
 from psi_tools import tables
-from psi_tools.batches import REWARD, read_any
-from psi_tools.intervals import LEAST_BATCHES, figures
-from psi_tools.told import Told
+from psi_tools.batches import REWARD, Batches, read_any
+from psi_tools.intervals import LEAST_BATCHES, Mean, ends_shown, figures, half_shown, with_interval
+from psi_tools.networks import Network
+from psi_tools.told import LEAST_LEVEL, MOST_LEVEL, Told
 from psi_tools.words import Words, add_form, give, look_at, run, tell
 
 COMMAND = "psi-means"
 ABOUT = """Prints the mean of every row of a report with its interval. Each report is a batch: their
 means are the values to which Student's t applies, so there are at least 20. Give 20 reports or more
-of one network over different streams, or the folder of one call of psi-many. Where all values are 0
-or 1 the mean is a share, and its interval that of Clopper and Pearson.
+of one network over different streams, or the folder of one call of psi-many. An end of an interval
+also reckons with a large value that did not come. A row of two values is a share, with the interval
+of Clopper and Pearson.
 
     psi-many desk.toml 0 0 100000 --out desk.csv
     psi-means desk.toml.0.0.100000.many
 
-Where streams weren't coupled this is said first: the means are of the others, and biased."""
+Where streams weren't coupled this is said first: the means are of the others, and biased. The
+intervals are as wide as the least and the greatest values make them that these streams may have; a
+folder knows them, and of reports --net tells them."""
 
 
 def words_of(arguments):
     """The words by their meaning."""
     words = reader().parse_args(arguments)
-    if not 50 <= words.level <= 99.99:
-        raise Told("--level is from 50 to 99.99")
+    if not LEAST_LEVEL <= words.level / 100 <= MOST_LEVEL:
+        raise Told(f"--level is from {100 * LEAST_LEVEL:g} to {100 * MOST_LEVEL:g}")
     return words
 
 
@@ -37,16 +41,25 @@ def reader():
         "--level", metavar="PERCENT", type=float, default=95.0,
         help="how often an interval holds its mean, in per cent; 95 where it isn't given",
     )
+    words.add_argument(
+        "--net", metavar="NET",
+        help="the network file of the reports, which tells what each row may be; a folder of "
+        "psi-many has it",
+    )
     add_form(words)
     return words
 
 
-def notes_of(batches, wanted):
+def notes_of(batches: Batches, wanted: int) -> list[str]:
     """What has to be known before a mean is read, each as one sentence."""
     samples, lost, notes = sum(batches.samples), batches.uncoupled, []
     if lost:
+        more = "the intervals hold what they may change"
+        if not batches.spans:
+            more = "--net NET gives intervals that hold what they may change"
         notes.append(
-            f"NOT COUPLED: {lost:,} of {samples:,} streams; the means are of the others, and biased"
+            f"NOT COUPLED: {lost:,} of {samples:,} streams; the means are of the others, and "
+            f"biased; {more}"
         )
     if len(batches.samples) < wanted:
         notes.append(
@@ -84,14 +97,12 @@ def text_of(batches, records, notes, level):
     sorts = {"mean": "queue", f"{REWARD}mean": "reward"}
     rows = [("", "", "mean", "", "from", "to", "least", "greatest")]
     for each in records:
-        half, mean = each["half"], each["mean"]
         if each["item"] not in sorts:
             continue
-        ends = [figures(each[end], half) if half is not None else "-" for end in ("low", "high")]
-        half = "-" if half is None else "± " + figures(half, half)
+        mean = mean_of(each)
         extremes = ["-" if each[end] is None else each[end] for end in ("least", "greatest")]
-        mean = figures(mean, each["half"])
-        rows.append((sorts[each["item"]], each["name"], mean, half, *ends, *extremes))
+        shown = figures(mean.mean, mean.half), half_shown(mean), *ends_shown(mean)
+        rows.append((sorts[each["item"]], each["name"], *shown, *extremes))
     lines.append(tables.aligned(rows, right=(2, 4, 5, 6, 7)).rstrip("\n"))
     lines.append("share of the samples that are met at a horizon, or not coupled")
     shares = [("met at", each["name"], share_of(each)) for each in records if is_horizon(each)]
@@ -102,31 +113,38 @@ def text_of(batches, records, notes, level):
     return "".join(f"{line}\n" for line in lines)
 
 
+def mean_of(each: dict) -> Mean:
+    """The mean of a row of the answer."""
+    ends = None if each["half"] is None else (each["low"], each["high"])
+    return Mean(each["mean"], each["half"], ends)
+
+
 def is_horizon(each):
     return each["item"] == "horizon"
 
 
-def share_of(each):
+def share_of(each: dict) -> str:
     """The share of a row as text."""
-    half = each["half"]
-    return figures(each["mean"], half) + (f" ± {figures(half, half)}" if half else "")
+    return with_interval(mean_of(each))
 
 
-def remarks(batches):
-    """What an interval means where all samples are alike."""
+def remarks(batches: Batches) -> list[str]:
+    """What an interval means where all samples are alike, or few carry a mean."""
     rows = [row for row in batches.rows if row.least is not None]
     alike = [row.name for row in rows if row.least == row.greatest]
-    if not alike:
-        return []
-    return [
-        f"all samples have the same value of {', '.join(alike)}: that others are rare is all that "
-        "the interval says"
-    ]
+    lines = batches.carried()
+    if alike:
+        lines.append(
+            f"all samples have the same value of {', '.join(alike)}: that others are rare is all "
+            "that the interval says"
+        )
+    return lines
 
 
 def answer(words):
     """The text of the answer."""
-    batches, wanted = read_any(words.reports)
+    net = Network.read(words.net) if words.net else None
+    batches, wanted = read_any(words.reports, net)
     count = len(batches.samples)
     if count < LEAST_BATCHES:
         raise Told(
@@ -135,6 +153,8 @@ def answer(words):
         )
     level = words.level / 100
     notes, records = notes_of(batches, wanted), [*records_of(batches, level)]
+    if words.format != "text":
+        notes += batches.carried()
     if words.format == "csv":
         return tables.as_csv(records), notes
     if words.format == "json":

@@ -5,6 +5,7 @@ customers whatever the other queues hold. Nothing is sampled here.
 """
 
 import collections
+import dataclasses
 import fractions
 import math
 
@@ -189,16 +190,33 @@ class Rows:
         return found
 
 
-def loads_of(net):
-    """The load of each queue: the rate at which customers come to it, as if nobody was lost or
-    stayed, beside that at which all its servers together serve. Customers go to the first queue of
-    a list, and by an index to each as often. Gives for each queue the rate in and the rate out."""
+@dataclasses.dataclass
+class Load:
+    """The flow of a queue, as rates: of customers that come, of the service of all its servers, and
+    at which customers who wait give up at most, where so many wait as there can."""
+
+    arrivals: float
+    service: float
+    giving_up: float
+
+    @property
+    def load(self) -> float | None:
+        """The rate at which customers come beside that of the service; none without a service."""
+        return self.arrivals / self.service if self.service else None
+
+
+def loads_of(net) -> list[Load]:
+    """The load of each queue: customers come as if nobody was lost, stayed or gave up, and go to
+    the first queue of a list, and by an index to each as often. A service event counts once a
+    server; what takes away customers who wait is told apart."""
     moves = Moves(net)
     count = len(net.queues)
-    outer, served = [0.0] * count, [0.0] * count
+    outer, served, leaving = [0.0] * count, [0.0] * count, [0.0] * count
     routes = collections.defaultdict(float)
+    waiting = abandonments(net)
     for event in net.table["event"]:
-        flows_of(moves, event, outer, served, routes)
+        taken = leaving if event["name"] in waiting else served
+        flows_of(moves, event, outer, taken, routes if taken is served else {})
     rates = outer[:]
     for _ in range(200):
         after = outer[:]
@@ -206,7 +224,28 @@ def loads_of(net):
             if served[source]:
                 after[target] += min(rates[source], served[source]) * rate / served[source]
         rates = after
-    return [*zip(rates, served)]
+    return [Load(*each) for each in zip(rates, served, leaving)]
+
+
+def abandonments(net) -> set[str]:
+    """The names of the events by which customers who wait give up: guarded ones that take one from
+    a queue of two or more, and have another rate than any service of the queue. Of the same rate it
+    is one more server."""
+    base, late = collections.defaultdict(set), []
+    for event in net.table["event"]:
+        if event["kind"] == "service":
+            base[event["from"]].add(event["rate"])
+        parts = event.get("part", [])
+        takes = [part for part in parts if part.get("shift", 0) < 0]
+        if len(takes) == 1 and len(parts) == 1 and takes[0].get("least", 0) > 1:
+            late.append((event, takes[0]["queue"]))
+        else:
+            for part in takes:
+                base[part["queue"]].add(event["rate"])
+    return {
+        event["name"] for event, queue in late
+        if base[queue] and event["rate"] not in base[queue]
+    }
 
 
 def flows_of(moves, event, outer, served, routes):
@@ -232,6 +271,6 @@ def flows_of(moves, event, outer, served, routes):
         served[place] += rate * many
     for place, many in targets:
         if sources:
-            routes[sources[0], place] += rate * many
+            routes[sources[0], place] = routes.get((sources[0], place), 0.0) + rate * many
         else:
             outer[place] += rate * many

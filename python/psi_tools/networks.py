@@ -1,6 +1,10 @@
 """Networks: built in Python or read from a file, written as TOML, and the values of rewards."""
 
 import copy
+import math
+import numbers
+from decimal import Decimal
+from fractions import Fraction
 
 from psi_tools import toml
 from psi_tools.program import Refused, read_file
@@ -13,16 +17,49 @@ OF_SERVERS = "service", "index", "negative", "fork"
 ORDER = "name", "kind", "rate", "from", "to"
 
 
-def written(value):
-    """A value in TOML."""
+def whole(value: object, where: str) -> int:
+    """The whole number that a value is; raises Told, with the key, where it is none."""
+    is_number = isinstance(value, (numbers.Real, Decimal)) and not isinstance(value, bool)
+    try:
+        made = int(value) if is_number else None
+    except (OverflowError, ValueError):
+        made = None
+    if made is None or made != value:
+        more = "; Network.scaled makes rates whole" if is_number and "rate" in where else ""
+        raise Told(f"{where} is {shown(value)}, which isn't a whole number{more}")
+    return made
+
+
+def shown(value: object) -> str:
+    """A value as a message has it, cut where it is long."""
+    text = str(value) if isinstance(value, (Fraction, Decimal)) else repr(value)
+    return text if len(text) <= 60 else text[:58] + ".."
+
+
+def written(value: object, where: str = "the value") -> str:
+    """A value in TOML; `where` says in messages what it is."""
     if isinstance(value, dict):
-        return "{ " + ", ".join(f"{key} = {written(item)}" for key, item in value.items()) + " }"
+        items = (f"{key} = {written(item, f'{key} in {where}')}" for key, item in value.items())
+        return "{ " + ", ".join(items) + " }"
     if isinstance(value, (list, tuple)):
-        return "[" + ", ".join(map(written, value)) + "]"
+        return "[" + ", ".join(written(item, f"a value of {where}") for item in value) + "]"
     if isinstance(value, str):
         signs = (sign if sign.isprintable() else f"\\u{ord(sign):04X}" for sign in value)
         return '"' + "".join(signs).replace('"', '\\"') + '"'
-    return str(int(value))
+    return str(whole(value, where))
+
+
+def fraction(value: object, where: str) -> Fraction:
+    """A rate as a fraction: a float is taken for the decimal number that Python prints of it."""
+    if isinstance(value, bool) or not isinstance(value, (numbers.Real, Decimal)):
+        raise Told(f"{where} is {shown(value)}, which isn't a number")
+    try:
+        made = Fraction(value if isinstance(value, numbers.Rational) else str(value))
+    except (ValueError, OverflowError):
+        made = Fraction(0)
+    if made <= 0:
+        raise Told(f"{where} is {shown(value)}, which isn't a number above 0")
+    return made
 
 
 def plain(value):
@@ -35,14 +72,16 @@ def plain(value):
 class Network:
     """A network of queues and events, as the tables of its file say it; docs/FORMATS.md has all.
 
-    Rates are whole numbers, in a unit of your choice. The parts are given in the order of the file:
+    Rates are whole numbers, in a unit of your choice; `scaled` makes others whole. The parts are
+    given in the order of the file:
 
         net = Network()
         net.queue("desk", capacity=10)
         net.event("come", "arrival", rate=4, to=["desk"])
         net.event("serve", "service", rate=5, source="desk")
 
-    What stands in it isn't judged before psi reads it.
+    What stands in it isn't judged before psi reads it, but for numbers that aren't whole. A network
+    that was read from a file and not changed since is handed to psi as the file's own bytes.
     """
 
     def __init__(self, *, limit=None, split=None, version=None):
@@ -50,6 +89,7 @@ class Network:
         self.table = {"queue": [], "event": [], "reward": []}
         heads = {"version": version, "limit": limit, "split": split}
         self.heads = {key: value for key, value in heads.items() if value is not None}
+        self.read_as: tuple[bytes, str] | None = None
 
     @classmethod
     def read(cls, path):
@@ -59,8 +99,9 @@ class Network:
     @classmethod
     def parse(cls, data, path="the network"):
         """The network of a file's bytes, or of its text."""
+        data = data.encode() if isinstance(data, str) else data
         try:
-            table = plain(toml.read(data.encode() if isinstance(data, str) else data))
+            table = plain(toml.read(data))
         except toml.Fault as fault:
             raise Told(f"{path}: {fault}", 3) from None
         net = cls()
@@ -69,6 +110,7 @@ class Network:
             if not all(isinstance(each, dict) for each in net.table[key] or []):
                 raise Told(f"{path}: {key} isn't an array of tables", 3)
         net.heads = table
+        net.read_as = data, repr((net.heads, net.table))
         return net
 
     def queue(self, name, capacity, servers=1):
@@ -90,6 +132,25 @@ class Network:
         `above` with a level."""
         self.table["reward"].append({"kind": kind, "name": name, "queues": queues, **keys})
         return self
+
+    def scaled(self) -> "Network":
+        """The same network with all rates multiplied by the least number that makes each of them
+        whole: the stationary distribution is the same. Rates may be ints, Fractions, Decimals, and
+        floats, which are taken for the decimal numbers that Python prints of them. Raises Told
+        where the format has no room for rates so great."""
+        made = self.copy()
+        events = made.table["event"]
+        rates = [fraction(event["rate"], f"the rate of {event['name']}") for event in events]
+        factor = Fraction(math.lcm(*(rate.denominator for rate in rates)))
+        for event, rate in zip(events, rates):
+            event["rate"] = int(rate * factor)
+        total = sum(event["rate"] * made.servers_of(event) for event in events)
+        if total > MOST_TOTAL or max((event["rate"] for event in events), default=1) > MOST_RATE:
+            raise Told(
+                f"rates would have to be multiplied by {factor}: a rate is at most {MOST_RATE:,}, "
+                f"and all are {MOST_TOTAL:,}, counted over servers"
+            )
+        return made
 
     def copy(self):
         """A network that can be changed by itself."""
@@ -128,12 +189,13 @@ class Network:
     def toml(self):
         """The text of the network's file."""
         heads = {"version": self.version(), **self.heads}
-        lines = [f"{key} = {written(value)}\n" for key, value in heads.items()]
+        lines = [f"{key} = {written(value, key)}\n" for key, value in heads.items()]
         for section, tables in self.table.items():
-            for table in tables:
+            for number, table in enumerate(tables, 1):
                 keys = sorted(table, key=lambda key: (ORDER + (key,)).index(key))
+                of = f"of {section} {shown(table.get('name', number))}"
                 lines.append(f"[[{section}]]\n")
-                lines += [f"{key} = {written(table[key])}\n" for key in keys]
+                lines += [f"{key} = {written(table[key], f'{key} {of}')}\n" for key in keys]
         return "".join(lines)
 
     def write(self, path):
@@ -142,14 +204,22 @@ class Network:
             file.write(self.toml())
 
     @property
-    def data(self):
-        """The bytes of the network's file."""
+    def data(self) -> bytes:
+        """The bytes of the network's file; of one that was read, and not changed since, its own."""
+        if self.read_as and self.read_as[1] == repr((self.heads, self.table)):
+            return self.read_as[0]
         return self.toml().encode()
 
 
 def network_of(net):
     """A network, of what a caller has: one itself, or the path of a file."""
     return net if isinstance(net, Network) else Network.read(net)
+
+
+def data_of(net) -> bytes:
+    """The bytes of a network's file, as psi is to read them: those of a path are the file's own,
+    whatever stands in it."""
+    return net.data if isinstance(net, Network) else read_file(net)
 
 
 def checked(psi, path):

@@ -14,7 +14,8 @@ from psi_tools.words import Words, give, look_at, number, run, tell
 COMMAND = "psi-new"
 ABOUT = """Writes a network file from a few words. Rates may be whole numbers, have places behind a
 point, or be fractions such as 1/3: they are made whole by a common factor, and how far they are off
-by that, if at all, is told and stands in the file's comment. Lists have commas between.
+by that, if at all, is told and stands in the file's comment; where one would be off by more than
+1 %, nothing is written. Lists have commas between.
 
     psi-new mmck --arrival 190 --service 1 --servers 200 --places 260 -o calls.toml
     psi-new line --arrival 0.8 --service 1,1.2,1 --places 4 -o line.toml
@@ -26,6 +27,8 @@ WIDTH = 98
 NAME, UNNAMED = re.compile(r"[A-Za-z0-9_.-]{1,60}\.toml"), "net.toml"
 # A report of so many streams is shown where the first one is met at such a horizon.
 SHOWN, MOST_STEPS = 1_000, 8_192
+# By so much of itself a rate may be off without being asked for.
+MOST_OFF = Fraction(1, 100)
 
 
 class Rate(Fraction):
@@ -132,6 +135,10 @@ def reader():
         kind.add_argument(
             "--psi", metavar="PSI", help="the built program, which has to take the file"
         )
+        kind.add_argument(
+            "--anyway", action="store_true",
+            help="write the file though a rate is off by more than 1 %% of itself",
+        )
     return words
 
 
@@ -178,6 +185,11 @@ def text_of(words):
     """The text of the file, and by how much a rate is off at most."""
     made = KINDS[words.kind][0](words)
     factor, off = models.made_whole(made.net)
+    if off > MOST_OFF and not words.anyway:
+        raise Told(
+            f"the format has no room for these rates: one would be off by {float(off):.1e} of "
+            "itself; give rates that are nearer to each other, or say --anyway"
+        )
     comment, net = comment_of(made, factor, off), made.net.toml()
     return comment + shown(words, (comment + net).encode()) + net, off
 

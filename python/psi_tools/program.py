@@ -1,5 +1,6 @@
 """Running psi: where it is, what it answers, and many answers side by side."""
 
+import atexit
 import concurrent.futures
 import dataclasses
 import os
@@ -63,6 +64,53 @@ def read_file(path):
         raise Told(f"{path} can't be read: {said}", UNREAD) from None
 
 
+class Guard:
+    """A shell that ends what this process has started once this process is gone, even by SIGKILL.
+
+    What is started joins the shell's group of processes. The shell reads a pipe whose other end is
+    open in this process alone, so it comes to the end of it when this process ends, however that
+    is, and ends the group. To start a process in a group costs nothing; to have it set
+    PR_SET_PDEATHSIG itself makes Python copy its own memory map for each."""
+
+    SCRIPT = "trap '' TERM; read -r line; kill -TERM 0"
+
+    def __init__(self):
+        self.shell, self.owner, self.lock = None, None, threading.Lock()
+
+    def group(self) -> int | None:
+        """The number of the group; none where there is no shell."""
+        with self.lock:
+            if self.owner != os.getpid() or self.shell is None or self.shell.poll() is not None:
+                self.start()
+            return self.shell and self.shell.pid
+
+    def start(self) -> None:
+        """Starts the shell, of which a process that was forked needs one of its own."""
+        nowhere, self.owner = subprocess.DEVNULL, os.getpid()
+        streams = {"stdin": subprocess.PIPE, "stdout": nowhere, "stderr": nowhere}
+        try:
+            call = ["/bin/sh", "-c", self.SCRIPT]
+            self.shell = subprocess.Popen(call, **streams, process_group=0)
+        except FileNotFoundError:
+            self.shell = None
+            return
+        atexit.register(self.end)
+
+    def end(self) -> None:
+        """Ends the shell, and what is left of the group."""
+        if self.shell is not None and self.owner == os.getpid():
+            self.shell.stdin.close()
+            self.shell.wait()
+
+
+GUARD = Guard()
+
+
+def started(words: list[str], **streams) -> subprocess.Popen:
+    """Starts a process that ends when this one does."""
+    return subprocess.Popen(words, **streams, process_group=GUARD.group())
+
+
 class Psi:
     """The built program. A network is handed to it as its text, which it reads as a file."""
 
@@ -71,17 +119,22 @@ class Psi:
         self.jobs = jobs or len(os.sched_getaffinity(0))
         self.running, self.guard, self.is_stopped = set(), threading.Lock(), False
 
-    def call(self, command, net, *words):
-        """The answer of a command of a network, whatever its status is."""
+    def call(self, command, net, *words, seconds=None):
+        """The answer of a command of a network, whatever its status is. Where it takes more than so
+        many seconds it is ended, and subprocess.TimeoutExpired is raised."""
         words = [self.path, command, "/dev/stdin", *map(str, words)]
         pipe = subprocess.PIPE
         with self.guard:
             if self.is_stopped:
                 raise KeyboardInterrupt
-            run = subprocess.Popen(words, stdin=pipe, stdout=pipe, stderr=pipe)
+            run = started(words, stdin=pipe, stdout=pipe, stderr=pipe)
             self.running.add(run)
         try:
-            out, line = run.communicate(net)
+            out, line = run.communicate(net, timeout=seconds)
+        except BaseException:
+            run.kill()
+            run.communicate()
+            raise
         finally:
             with self.guard:
                 self.running.discard(run)

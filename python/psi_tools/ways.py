@@ -21,7 +21,10 @@ SHARE, TASKS = 4, 100
 TRIES, ROUNDS, REST = 3, 3, 5
 POLL, TELL = 1, 10
 SSH = "ssh -o BatchMode=yes -o ConnectTimeout=10 -o ServerAliveInterval=5 -o ServerAliveCountMax=3"
-HOST = re.compile(r"(?:([1-9][0-9]*)/)?([^-\s/]\S*)")
+# A host: how many blocks at once, a user, and a name, an address, or `:` for this machine.
+HOST = re.compile(
+    r"(?:([1-9][0-9]{0,3})/)?(:|(?:\w[\w.-]{0,63}@)?[\w\[][\w.:\]-]{0,254})", re.ASCII
+)
 SET_UP = """set -e; cd; umask 077; mkdir -p .psi-many/{digest}; cd .psi-many
 part=part.$(uname -n).$$; mkdir "$part"; tar -xf - -C "$part"
 mv -f "$part/net.toml" "$part/psi" {digest}/; rmdir "$part"
@@ -188,10 +191,12 @@ class Hosts:
         return run_parallel(folder, blocks, progress, words, command, self.psi)
 
 
-def read_hosts(path):
+def read_hosts(path: str) -> list[tuple[int | None, str]]:
     """The hosts of a file, one a line: how many blocks at once, or none, and the name."""
     try:
-        text = pathlib.Path(path).read_text()
+        text = pathlib.Path(path).read_bytes().decode()
+    except UnicodeDecodeError:
+        raise Told(f"{path} is no text, and names no hosts") from None
     except (OSError, ValueError) as fault:
         said = getattr(fault, "strerror", None) or fault
         raise Told(f"{path} can't be read: {said}") from None
@@ -199,7 +204,9 @@ def read_hosts(path):
     found = [(line, HOST.fullmatch(line)) for line in lines if line]
     for line, host in found:
         if not host:
-            raise Told(f"the hosts' file has no host on the line {line}")
+            raise Told(f"the hosts' file has no host on the line {line[:80]}")
+    if not found:
+        raise Told(f"{path} names no hosts")
     return [(host[1] and int(host[1]), host[2]) for _, host in found]
 
 

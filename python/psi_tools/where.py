@@ -3,15 +3,16 @@
 import re
 
 from psi_tools import tables, toml
+from psi_tools.faults import misspelt, remark_on_value, table_at
 from psi_tools.program import MOST_BYTES, Psi, read_file
 from psi_tools.refusals import SENTENCES, place_of
 from psi_tools.told import Told, printable
 from psi_tools.words import Words, add_form, give, look_at, run
 
 COMMAND = "psi-where"
-ABOUT = """Tells what psi check refuses of a network file: the file, the line, the line's text, and
-the guide's sentence on what is wrong and what helps. Where the file is no TOML it tells what is
-wrong with it as such.
+ABOUT = """Tells what psi check refuses of a network file: the file, the line, the line's text, the
+value at fault with the bound that it passes or the name that was meant, and the guide's sentence on
+what is wrong and what helps. Where the file is no TOML it tells what is wrong with it as such.
 
     psi-where desk.toml
 
@@ -54,7 +55,14 @@ def line_of(data, found):
         return fault.line, fault.what
     if found["name"] == "NotToml":
         return None, "the line can't be told"
-    return place_of(document, found)
+    line, remark = place_of(document, found)
+    own = remark_on_value(document, found)
+    table = table_at(document, found)
+    if found["name"] == "MissingKey" and table is not None:
+        # A key that is misspelt is the line to look at, not the header of its table.
+        near = misspelt(table, found["key"], found)
+        line, remark = (table.places[near], None) if near else (line, remark)
+    return line, "; ".join(filter(None, [remark, own])) or None
 
 
 def text_of_line(data, line):
@@ -76,7 +84,7 @@ def text_of(path, data, found):
     place = printable(path)
     if found["line"] is not None:
         place += f":{found['line']}: {text_of_line(data, found['line'])}"
-    remark = f" ({found['remark']})" if found["remark"] else ""
+    remark = f" ({printable(found['remark'])})" if found["remark"] else ""
     head = f"{found['code']} {found['name']}, {subject(found)}{remark}"
     return f"{place}\n{head}\n{SENTENCES[found['name']]}\n"
 

@@ -6,10 +6,11 @@ import time
 
 from psi_tools import tables
 from psi_tools.batches import read_report
+from psi_tools.classes import classes_told
 from psi_tools.moves import Moves, loads_of
 from psi_tools.networks import checked
 from psi_tools.plotting.read_exact import read_exact
-from psi_tools.program import Psi
+from psi_tools.program import Psi, end_of
 from psi_tools.told import Told
 from psi_tools.words import GREATEST, Words, add_form, give, look_at, number, run
 
@@ -19,6 +20,7 @@ begin:
 
 - sums of customers that no event changes, so states with other sums never meet;
 - numbers of a queue that can't be left, and queues that only fill or only empty;
+- of small networks all classes of states that no event leaves;
 - events that aren't monotone, where boxes may stay wide;
 - the load of each queue: in balance the past has to be long;
 - at which horizons some streams are met, from a short limit on to longer ones, as long as it takes;
@@ -26,8 +28,8 @@ begin:
 
     psi-why desk.toml
 
-What it says of sums and numbers that can't be left holds for certain, and the status is 1 then: no
-stream couples. All else is what helps to see why."""
+What it says of sums, numbers and states that can't be left holds for certain, and the status is 1
+then: no stream couples. All else is what helps to see why."""
 BALANCE = 0.9, 1.1
 
 
@@ -129,15 +131,15 @@ def horizons_of(psi, net, words, limit):
         left = until - time.monotonic()
         if left <= 0:
             break
-        call = [psi.path, "report", "/dev/stdin", str(words.seed), "0", str(words.count)]
+        call = "report", tried.data, words.seed, 0, words.count
         try:
-            done = subprocess.run(call, input=tried.data, capture_output=True, timeout=left)
+            done = psi.call(*call, seconds=left)
         except subprocess.TimeoutExpired:
             break
-        if done.returncode:
-            said = done.stderr.decode(errors="replace").strip().removeprefix("psi: ")
-            raise Told(said or f"psi ended with {done.returncode}", done.returncode)
-        found.append((power, read_report(done.stdout, "what psi printed")))
+        if done.status:
+            said = done.line.removeprefix("psi: ")
+            raise Told(said or f"psi ended with {done.status}", end_of(done))
+        found.append((power, read_report(done.out.encode(), "what psi printed")))
         if found[-1][1].met == words.count:
             break
     return found
@@ -146,14 +148,13 @@ def horizons_of(psi, net, words, limit):
 def single_states(psi, net, words):
     """What all states of a small network become by themselves, as `exact` tells of the first
     stream, in words; nothing where there are too many states, or it takes too long."""
-    call = [psi.path, "exact", "/dev/stdin", str(words.seed), "0", str(EXPONENT)]
     try:
-        done = subprocess.run(call, input=net.data, capture_output=True, timeout=words.seconds)
+        done = psi.call("exact", net.data, words.seed, 0, EXPONENT, seconds=words.seconds)
     except subprocess.TimeoutExpired:
         return []
-    if done.returncode not in (0, 1):
+    if done.status not in (0, 1):
         return []
-    found = read_exact(done.stdout)
+    found = read_exact(done.out.encode())
     if found.constant is None:
         left = found.images[found.longest()]
         return [
@@ -168,16 +169,17 @@ def single_states(psi, net, words):
     ]
 
 
-def loads_told(net):
-    """The load of each queue as a row: its name, the rates in and out, and their quotient; there
-    are none where nobody comes from outside."""
-    if not any(rate for rate, _ in loads_of(net)):
+def loads_told(net) -> list[dict]:
+    """The load of each queue as a row: its name, the rates in and out, their quotient, and the rate
+    at which customers who wait give up at most; there are none where nobody comes from outside."""
+    loads = loads_of(net)
+    if not any(each.arrivals for each in loads):
         return []
-    rows = []
-    for name, (rate, served) in zip(net.queues, loads_of(net)):
-        load = rate / served if served else None
-        rows.append({"queue": name, "in": rate, "out": served, "load": load})
-    return rows
+    return [
+        {"queue": name, "in": each.arrivals, "out": each.service, "load": each.load,
+         "giving_up": each.giving_up}
+        for name, each in zip(net.queues, loads)
+    ]
 
 
 def advice(found, kept, upset, heads, limit, words, net):
@@ -218,7 +220,9 @@ def text_of(words, told):
     for row in told["loads"]:
         load = row["load"]
         remark = "nobody is served" if load is None else ""
-        if load is not None and BALANCE[0] <= load <= BALANCE[1]:
+        if row["giving_up"]:
+            remark = f"and customers who wait give up, at rate {row['giving_up']:g} at most"
+        elif load is not None and BALANCE[0] <= load <= BALANCE[1]:
             remark = "in balance: twice the places, four times the past"
         shown = "-" if load is None else f"{load:.3f}"
         rows.append((row["queue"], f"{row['in']:g}", f"{row['out']:g}", shown, remark))
@@ -244,6 +248,9 @@ def told_of(psi, words):
     never = never_met(net, moves)
     found = [] if never else horizons_of(psi, net, words, heads["limit"])
     is_met = bool(found) and found[-1][1].met == words.count
+    # What couples has one closed class alone.
+    if not never and not any(report.met for _, report in found):
+        never = classes_told(net)
     return {
         "never": never, "one_sided": [*one_sided(net, moves)], "upset": upset,
         "loads": loads_told(net), "limit": heads["limit"],

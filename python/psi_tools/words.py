@@ -6,16 +6,16 @@ but 0 has one line on standard error. The status of psi itself is handed on wher
 """
 
 import argparse
-import contextlib
 import errno
 import os
 import re
+import signal
 import sys
-import tempfile
 import threading
 import time
 
 from psi_tools import __version__
+from psi_tools.files import try_to_write, write_file
 from psi_tools.told import Told, printable
 
 GREATEST = 2**64 - 1
@@ -105,7 +105,7 @@ def last_stream_is_one(words):
         raise Told(f"the last stream would be above {GREATEST}")
 
 
-def look_at(path, option="-o"):
+def look_at(path: str | None, option: str = "-o") -> None:
     """Refuses a file that can't be written, before any work.
 
     It is left as it is, and where there is none none is made: another call may write it meanwhile.
@@ -119,22 +119,6 @@ def look_at(path, option="-o"):
         raise Told(f"{option} {path} can't be written: {said}", UNWRITTEN) from None
 
 
-def try_to_write(path):
-    """Fails as a write to the file would: opens it, or makes one without a name in its folder."""
-    with contextlib.suppress(FileNotFoundError):
-        os.stat(path)
-    if not path or path.endswith("/"):
-        raise OSError(0, os.strerror(errno.EISDIR if path else errno.ENOENT))
-    target = os.path.realpath(path)
-    if not os.path.exists(target):
-        tempfile.TemporaryFile(dir=os.path.dirname(target)).close()
-    elif os.path.isfile(target) or os.path.isdir(target):
-        open(target, "ab").close()
-    elif not os.access(target, os.W_OK):
-        # To open a pipe and to close it again would tell its reader that all is over.
-        raise OSError(0, os.strerror(errno.EACCES))
-
-
 def look_at_picture(path, forms=("svg", "png", "pdf")):
     """Refuses a picture whose form isn't known, or that can't be written, before any work."""
     if path is not None and path.rpartition(".")[2].lower() not in forms:
@@ -142,29 +126,14 @@ def look_at_picture(path, forms=("svg", "png", "pdf")):
     look_at(path, "--picture")
 
 
-def write(path, data):
-    """Writes the bytes of an answer to a file, whole or not at all under its name."""
+def write(path: str, data: bytes) -> None:
+    """Writes the bytes of an answer to a file, whole or not at all under its name, or to a stream
+    such as /dev/stdout."""
     try:
-        if os.path.lexists(path) and not os.path.isfile(path):
-            with open(path, "wb") as file:
-                file.write(data)
-            return
-        target = os.path.realpath(path)
-        part = os.path.join(os.path.dirname(target), f".{os.path.basename(target)}.{os.getpid()}")
-        try:
-            with open(part, "wb") as file:
-                file.write(data)
-                file.flush()
-                os.fsync(file.fileno())
-            if os.path.exists(target):
-                os.chmod(part, os.stat(target).st_mode & 0o777)
-            os.replace(part, target)
-        except BaseException:
-            if os.path.exists(part):
-                os.remove(part)
-            raise
-    except OSError as fault:
-        raise Told(f"{path} can't be written: {fault.strerror or fault}", UNWRITTEN) from None
+        write_file(path, data)
+    except (OSError, ValueError) as fault:
+        said = getattr(fault, "strerror", None) or fault
+        raise Told(f"{path} can't be written: {said}", UNWRITTEN) from None
 
 
 def give(text, path=None):
@@ -272,12 +241,30 @@ def tell(command, why):
     say(f"{command}: {printable(why)}")
 
 
+def stop_by(number: int, frame: object) -> None:
+    """Ends a command by a signal, with one line, and what it has started with it."""
+    raise Told("stopped", 128 + number)
+
+
+def take_signals() -> None:
+    """Has the signals that end a process end the command in order. Where a signal is ignored, as by
+    nohup, it stays so; in a thread other than the main one none is taken."""
+    if threading.current_thread() is not threading.main_thread():
+        return
+    for number in (signal.SIGTERM, signal.SIGHUP):
+        if signal.getsignal(number) == signal.SIG_DFL:
+            signal.signal(number, stop_by)
+    if signal.getsignal(signal.SIGINT) == signal.SIG_DFL:
+        signal.signal(signal.SIGINT, signal.default_int_handler)
+
+
 def run(command, work, arguments):
     """The exit status of a command's work, whatever ends it: no fault is a traceback."""
     fill_closed()
-    Pulse.begin(command)
     try:
         try:
+            take_signals()
+            Pulse.begin(command)
             status = work(arguments) or 0
         except SystemExit as ended:
             status = ended.code or 0
@@ -299,8 +286,7 @@ def run(command, work, arguments):
         tell(command, f"{fault}; tools/setup installs what it needs for /usr/bin/python3")
         status = 1
     except OSError as fault:
-        tell(command, f"{fault.filename or 'what was written'}: {fault.strerror or fault}")
-        status = UNWRITTEN
+        status = tell_fault(command, fault)
     except Exception as fault:
         # What nobody thought of is one line, too; the variable is for whoever mends it.
         if "PSI_TRACEBACK" in os.environ:
@@ -309,6 +295,15 @@ def run(command, work, arguments):
         status = 1
     silence(sys.stdout)
     return status
+
+
+def tell_fault(command: str, fault: OSError) -> int:
+    """One line on a fault of the system, and the status that it ends with."""
+    if fault.errno in (errno.EMFILE, errno.ENFILE):
+        tell(command, "too many files would be open at once; `ulimit -n` says how many may be")
+        return 1
+    tell(command, f"{fault.filename or 'what was written'}: {fault.strerror or fault}")
+    return UNWRITTEN
 
 
 def fill_closed():

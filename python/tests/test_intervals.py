@@ -7,7 +7,9 @@ from solving import means_of
 from psi_tools.batches import Batches, Row, batches_of
 from psi_tools.draws import blocks_of, reports_of
 from psi_tools.intervals import (
-    difference_of_batches, figures, mean_of_batches, probability, quantile, ranks, student,
+    ZERO_ONE, Mean, Span, carriers, difference_of_batches, difference_of_pairs, figures,
+    mean_of_batches, mean_of_values, probability, quantile, ranks, share_of, student,
+    student_and_unseen, with_interval,
 )
 from psi_tools.networks import Network
 from psi_tools.program import Psi
@@ -40,7 +42,8 @@ def test_a_rare_share_has_an_interval_though_none_came():
     batches = Batches([50] * 20, [50] * 20, [{}] * 20, rows)
     assert (batches.mean(rows[0]).low, batches.mean(rows[0]).mean) == (0, 0)
     assert batches.mean(rows[0]).high == pytest.approx(0.00368, abs=1e-5)
-    assert batches.mean(rows[1]).ends is None
+    # This one isn't a share: its interval is wider than that of three of a thousand.
+    assert batches.mean(rows[1]).high > 2 * probability(3, 1_000)[1]
 
 
 def test_great_sums_lose_nothing():
@@ -87,6 +90,95 @@ def test_quantiles_of_a_small_law():
     assert quantile(values, 0.5)[0] == 0
     assert quantile(values, 0.51)[0] == 1
     assert quantile(values, 0.9)[0] == 2
+
+
+def test_the_interval_by_values_of_a_share_is_that_of_clopper_and_pearson():
+    for count, many in ((0, 50), (1, 1_000), (7, 300), (150, 300), (300, 300)):
+        found = mean_of_values([(0, many - count), (1, count)], ZERO_ONE)
+        low, high = probability(count, many)
+        assert found.mean == count / many
+        assert found.low == pytest.approx(low, rel=0.03, abs=1e-9)
+        assert found.high == pytest.approx(high, rel=0.01)
+
+
+def test_the_interval_by_values_is_that_of_random_weights():
+    """The quantiles of the mean under weights of a Dirichlet law, drawn by numpy."""
+    values, counts, far = numpy.array([0.0, 1, 4, 30]), numpy.array([200, 60, 12, 2]), 50.0
+    draws = numpy.random.default_rng(5).dirichlet([*counts, 1], 400_000)
+    found = mean_of_values([*zip(values, counts)], Span(0, far, 0, far))
+    assert found.high == pytest.approx(numpy.quantile(draws @ [*values, far], 0.975), rel=0.01)
+    assert found.low == pytest.approx(numpy.quantile(draws @ [*values, 0.0], 0.025), rel=0.01)
+
+
+def test_students_t_and_what_did_not_come():
+    """Against draws of the sum, and against Clopper and Pearson where one of a thousand came."""
+    generator = numpy.random.default_rng(8)
+    for ratio in (0.0, 0.05, 0.4, 1, 4, 30):
+        sums = generator.standard_t(39, 400_000) + ratio * generator.exponential(size=400_000)
+        wanted = numpy.quantile(sums, 0.975)
+        assert student_and_unseen(39, ratio) == pytest.approx(wanted, rel=0.03)
+    assert student_and_unseen(19, 0.0, 0.9) == pytest.approx(student(19, 0.9))
+
+
+def test_none_of_many_is_told_as_a_share_is():
+    none = mean_of_batches([0] * 40, [25] * 40, span=Span(0, 1_000, 0, 1_000))
+    assert (none.mean, none.low) == (0, 0)
+    assert none.high == pytest.approx(1_000 * probability(0, 1_000)[1], rel=0.01)
+
+
+def test_what_is_not_coupled_counts_as_the_least_and_as_the_greatest():
+    span, sums, counts, lost = Span(0, 10, 0, 10), [30, 40] * 10, [10] * 20, [2] * 20
+    found = mean_of_batches(sums, counts, span=span, lost=lost)
+    low = mean_of_batches(sums, [12] * 20, span=span)
+    high = mean_of_batches([total + 20 for total in sums], [12] * 20, span=span)
+    assert (found.mean, found.low, found.high) == (3.5, low.low, high.high)
+    # Where the ends aren't known there is no interval.
+    open_span = Span(None, None, 0, 10)
+    assert mean_of_batches(sums, counts, span=open_span, lost=lost).half is None
+    by_values = mean_of_values([(3, 100), (4, 100)], span, 40)
+    assert by_values.low < 3.5 * 200 / 240 and by_values.high > (3.5 * 200 + 400) / 240
+    share = share_of(50, 100, 20)
+    assert (share.mean, share.low) == (50 / 80, probability(50, 100)[0])
+    assert share.high == probability(70, 100)[1]
+
+
+def test_a_difference_of_pairs_by_hand():
+    # Without a pair that differs, that of none of many on either side.
+    none = difference_of_pairs(0, 0, 1_000)
+    assert none.high == pytest.approx(probability(0, 1_000)[1], rel=0.01)
+    assert none.low == -none.high
+    # Else by the quantiles under random weights, as of any values.
+    found = difference_of_pairs(12, 2, 50)
+    draws = numpy.random.default_rng(2).dirichlet([2, 36, 12, 1], 400_000)
+    assert found.mean == pytest.approx(10 / 50)
+    assert found.high == pytest.approx(numpy.quantile(draws @ [-1, 0, 1, 1], 0.975), rel=0.01)
+    assert found.low == pytest.approx(numpy.quantile(draws @ [-1, 0, 1, -1], 0.025), rel=0.02)
+
+
+def test_a_difference_of_shares_in_batches():
+    spans = ZERO_ONE, ZERO_ONE
+    sums, others = [3, 2] * 20, [2, 2] * 20
+    found = difference_of_batches(sums, others, [50] * 40, [50] * 40, spans=spans)
+    pairs = difference_of_pairs(20, 0, 2_000)
+    assert found.mean == pytest.approx(20 / 2_000)
+    assert found.low <= pairs.low < pairs.high <= found.high
+    same = difference_of_batches(sums, sums, [50] * 40, [50] * 40, spans=spans)
+    assert same.mean == 0 and same.high == pytest.approx(probability(0, 2_000)[1], rel=0.01)
+    lost = [0] * 40, [5] * 40
+    wide = difference_of_batches(sums, others, [50] * 40, [45] * 40, spans=spans, lost=lost)
+    assert wide.low < found.low - 0.05 and wide.high >= found.high
+
+
+def test_samples_that_carry_a_mean():
+    # Ten of ten thousand have the whole sum: an error of 1 / 10 ** 0.5 of the mean.
+    assert carriers(1.0, 10**-0.5, 10_000, 0) == pytest.approx(10, rel=0.01)
+    assert carriers(5.0, 0.0, 100, 0) == 100
+
+
+def test_an_interval_is_shown_by_both_ends_where_it_is_not_even():
+    assert with_interval(Mean(1.0, 0.1)) == "1.00 ± 0.10"
+    assert with_interval(Mean(1.0, 0.2, (0.9, 1.3))) == "1.00 (0.90 to 1.30)"
+    assert with_interval(Mean(1.0, None)) == "1"
 
 
 def test_figures_have_the_places_of_their_interval():

@@ -92,6 +92,100 @@ def test_streams_that_are_not_coupled_are_told_first(tool, tmp_path, net):
     assert out.startswith("NOT COUPLED: ")
 
 
+RARE = """version = 1
+[[queue]]
+name = "desk"
+capacity = 4
+[[event]]
+name = "come"
+kind = "arrival"
+rate = 2
+to = ["desk"]
+[[event]]
+name = "serve"
+kind = "service"
+rate = 11
+from = "desk"
+[[reward]]
+name = "full"
+kind = "above"
+queues = ["desk"]
+level = 3
+[[reward]]
+name = "fine"
+kind = "table"
+queues = ["desk"]
+table = [[0, 0, 0, 0, 1000]]
+"""
+
+
+@pytest.mark.parametrize("name, unit", [("full", 1), ("fine", 1_000)])
+def test_the_mean_of_a_rare_reward_has_an_interval_though_none_came(tool, tmp_path, name, unit):
+    (tmp_path / "rare.toml").write_text(RARE)
+    law = [(2 / 11) ** n for n in range(5)]
+    wanted = unit * law[4] / sum(law)
+    call = ("psi-law", "rare.toml", name, "--count", 300)
+    mean = json.loads(tool(*call, "--format", "json")[1])["mean"]
+    assert mean["mean"] == 0 == mean["low"]
+    assert wanted < mean["high"] == pytest.approx(unit * (1 - 0.025 ** (1 / 300)), rel=1e-6)
+    line = next(line for line in tool(*call)[1].splitlines() if line.startswith("mean "))
+    assert "±" not in line and line.endswith(f" to {mean['high']:.{4 if unit == 1 else 1}f}")
+
+
+def test_streams_that_are_not_coupled_widen_the_mean(tool, tmp_path, net):
+    (tmp_path / net).write_text("limit = 10\n" + NET)
+    for name, least, greatest in (("near", 0, 3), ("cost", 0, 7), ("longest", 0, 70)):
+        call = ("psi-law", net, name, "--count", "200", "--format", "json")
+        found = json.loads(tool(*call)[1])
+        lost = found["unknown"]
+        total = sum(each["value"] * each["count"] for each in found["values"])
+        assert lost > 5
+        assert found["mean"]["low"] <= (total + lost * least) / 200
+        assert found["mean"]["high"] >= (total + lost * greatest) / 200
+
+
+def test_numbers_are_counted_by_tables_and_by_levels(psi, program, monkeypatch):
+    """The counts of a wide queue, each way, are those of the states."""
+    import psi_tools.law
+    from psi_tools.law import Counters, counts_of_queue
+    from psi_tools.program import Psi
+
+    net = psi.Network().queue("near", 3).queue("wide", 200, servers=60)
+    net.event("come", "arrival", 90, to=["wide"]).event("go", "service", 1, source="wide")
+    net.event("in", "arrival", 1, to=["near"]).event("out", "service", 1, source="near")
+    states = psi.samples(net, count=300)[:, 1]
+    wanted = dict(sorted(collections.Counter(states.tolist()).items()))
+    assert len(wanted) > 25
+    calls = []
+    for signs in (psi_tools.law.MOST_SIGNS, 0):
+        monkeypatch.setattr(psi_tools.law, "MOST_SIGNS", signs)
+        counters = Counters(net, "wide", 7)
+        assert counters.has_tables == (signs > 0)
+        drawn = psi_tools.law.drawn
+        monkeypatch.setattr(
+            psi_tools.law, "drawn", lambda *words: calls.append(signs) or drawn(*words)
+        )
+        found, unknown = counts_of_queue(Psi(program), net, "wide", 0, 0, 300, "test")
+        monkeypatch.setattr(psi_tools.law, "drawn", drawn)
+        assert (found, unknown) == (wanted, 0)
+    # One report has all numbers where tables count them; by levels it takes more.
+    assert calls.count(0) > 1 == len(calls) - calls.count(0)
+
+
+def test_the_cumulative_line_reaches_its_last_point(tool, tmp_path, net):
+    from psi_tools.intervals import Span
+    from psi_tools.law import Law
+    from psi_tools.plotting.draw_law import draw_law
+
+    for counts in ([(2, 50), (3, 30), (7, 20)], [(4, 9)]):
+        figure = draw_law(Law("near", "customers", counts, 0, Span(0, 9, 0, 9)), "")
+        [line] = [line for line in figure.axes[1].lines if line.get_gid() == "at-most"]
+        xs, ys = line.get_data()
+        assert (xs[0] < counts[0][0], ys[0]) == (True, 0)
+        assert (xs[-1] > counts[-1][0], ys[-1]) == (True, 1)
+        assert ys[list(xs).index(counts[-1][0])] == 1
+
+
 def test_names_that_are_not_there(tool, net):
     status, out, error = tool("psi-law", net, "middle")
     assert (status, out) == (2, "")

@@ -19,7 +19,7 @@ def test_a_folder_of_psi_many(tool, tmp_path, folder):
     blocks = sorted((tmp_path / folder / "blocks").iterdir())
     assert len(blocks) >= 20
     by_folder = tool("psi-means", folder, "--format", "csv")
-    by_files = tool("psi-means", *blocks, "--format", "csv")
+    by_files = tool("psi-means", *blocks, "--net", NET, "--format", "csv")
     assert by_folder == by_files
     assert by_folder[0] == 0
     report = tool("psi-many", NET, 5, 100, 2_000, "--folder", folder)[1]
@@ -32,7 +32,7 @@ def test_a_folder_of_psi_many(tool, tmp_path, folder):
         assert float(low) <= float(mean) <= float(high)
         assert float(high) - float(low) == pytest.approx(2 * float(half), abs=1e-12)
         if name == "jobs":
-            assert float(low) == pytest.approx(float(mean) - float(half), abs=1e-12)
+            assert float(low) == pytest.approx(float(mean) - float(half), abs=float(half) / 20)
 
 
 def test_text_and_json(tool, folder):
@@ -41,6 +41,37 @@ def test_text_and_json(tool, folder):
     assert out.startswith("2,000 samples in ")
     told = json.loads(tool("psi-means", folder, "--format", "json")[1])
     assert [row["name"] for row in told["rows"] if row["item"] == "mean"] == ["jobs", "broken"]
+
+
+def test_a_report_that_is_given_twice_is_refused(tool, tmp_path, folder):
+    blocks = sorted((tmp_path / folder / "blocks").iterdir())
+    status, out, error = tool("psi-means", *[blocks[0]] * 20)
+    assert (status, out) == (2, "") and "is the same file as" in error
+    (tmp_path / "link.csv").symlink_to(blocks[2])
+    status, out, error = tool("psi-means", *blocks, "link.csv")
+    assert (status, out) == (2, "") and "is the same file as" in error
+    copies = [tmp_path / f"copy-{place}.csv" for place in range(20)]
+    for copy in copies:
+        copy.write_bytes(blocks[0].read_bytes())
+    status, out, error = tool("psi-means", *copies)
+    assert (status, out) == (2, "")
+    assert error == "psi-means: all reports are the same text: each is to be one of other streams\n"
+
+
+def test_a_network_tells_what_is_not_coupled(tool, tmp_path):
+    net = TOP / "examples/short-past.toml"
+    tool("psi-many", net, 0, 0, 1_000, "--folder", "short")
+    blocks = sorted((tmp_path / "short/blocks").iterdir())
+    alone = json.loads(tool("psi-means", *blocks, "--format", "json")[1])
+    assert "--net NET gives intervals" in alone["notes"][0]
+    assert {row["low"] for row in alone["rows"] if row["item"].endswith("mean")} == {None}
+    known = tool("psi-means", *blocks, "--net", net, "--format", "json")[1]
+    assert known == tool("psi-means", "short", "--format", "json")[1]
+    for row in json.loads(known)["rows"]:
+        if row["item"].endswith("mean"):
+            assert row["low"] < row["mean"] < row["high"]
+    status, out, error = tool("psi-means", *blocks, "--net", NET)
+    assert (status, out) == (2, "") and "aren't of this network" in error
 
 
 def test_a_wider_level_is_wider(tool, folder):

@@ -71,6 +71,74 @@ def test_a_log_certifies_its_state(psi, program):
     assert len(psi.draw_log(log, file).axes) == 5
 
 
+def test_a_picture_of_a_log_leaves_the_process_as_it_was(psi, monkeypatch):
+    import logging
+
+    import matplotlib
+
+    file = EXAMPLES / "tandem-blocking.toml"
+    log = psi.log(file, 0, 0)
+    with matplotlib.rc_context({"font.size": 31, "axes.grid": True}), warnings.catch_warnings():
+        warnings.simplefilter("error", psi.Uncoupled)
+        before = dict(matplotlib.rcParams), [*warnings.filters]
+        level = logging.getLogger("matplotlib").level
+        figure = psi.draw_log(log, file)
+        assert (dict(matplotlib.rcParams), [*warnings.filters]) == before
+        assert logging.getLogger("matplotlib").level == level
+        with pytest.raises(psi.Uncoupled):
+            psi.report(EXAMPLES / "short-past.toml", 0, 0, 100)
+        # The picture has its own style all the same, whatever is set when it is drawn.
+        sizes = {text.get_fontsize() for axes in figure.axes for text in axes.get_xticklabels()}
+    assert sizes == {7}
+
+
+def test_no_picture_changes_what_matplotlib_is_set_to():
+    import importlib
+    import inspect
+
+    import matplotlib
+
+    from psi_tools.plotting import style
+
+    names = ("coupling", "exact", "forward", "law", "report", "sweep")
+    before = dict(matplotlib.rcParams)
+    for name in names:
+        draw = getattr(importlib.import_module(f"psi_tools.plotting.draw_{name}"), f"draw_{name}")
+        assert inspect.unwrap(draw) is not draw, name
+    style.styled(lambda: style.new_figure(2, "title"))()
+    assert dict(matplotlib.rcParams) == before
+
+
+def test_means_of_streams_that_are_not_coupled_are_wider(psi):
+    file = EXAMPLES / "short-past.toml"
+    with pytest.warns(psi.Uncoupled, match="intervals are wider"):
+        found = psi.means(file, count=1_000)
+    report = subprocess.run(
+        [psi._psi().path, "report", file, "0", "0", "1000"], capture_output=True, text=True
+    ).stdout
+    rows = {tuple(line.split(",")[:2]): int(line.split(",")[2]) for line in report.splitlines()[1:]}
+    lost = rows["uncoupled", "-"]
+    assert lost > 200
+    net = psi.Network.read(file)
+    capacity = dict(zip(net.queues, net.capacities))
+    for (sort, name), row in found.iterrows():
+        if sort == "queue":
+            total = rows["sum", name]
+            assert row["low"] <= total / 1_000
+            assert row["high"] >= min(capacity[name], (total + lost * capacity[name]) / 1_000)
+
+
+def test_few_samples_that_carry_a_mean_are_warned_of(psi):
+    net = psi.Network().queue("desk", 10)
+    net.event("come", "arrival", 2, to=["desk"]).event("serve", "service", 5, source="desk")
+    net.reward("cost", "table", ["desk"], table=[[4**n for n in range(11)]])
+    with pytest.warns(psi.FewSamples, match="few samples carry the mean of cost"):
+        found = psi.means(net, count=2_000)
+    law = [0.4**n for n in range(11)]
+    wanted = sum(p * 4**n for n, p in enumerate(law)) / sum(law)
+    assert found.loc["reward", "cost"]["low"] < wanted < found.loc["reward", "cost"]["high"]
+
+
 def test_other_commands(psi):
     assert psi.couple(EXAMPLES / "tandem-blocking.toml", 0, 0) == (39, (3, 2, 1))
     assert psi.reward(EXAMPLES / "shortest-queue.toml", 0, 0, "longest") == (128, 2)

@@ -155,6 +155,16 @@ def test_the_comment_of_what_does_not_couple(tool, program, tmp_path):
     assert (words, text) == ("sample net.toml 0 0", "#     not coupled within 262144\n")
 
 
+def test_rates_that_would_be_off_are_refused(tool, tmp_path):
+    words = "--arrival 999999999 --service 0.000000001 --places 3 -o net.toml".split()
+    status, out, error = tool("psi-new", "mm1k", *words)
+    assert (status, out) == (2, "") and not (tmp_path / "net.toml").exists()
+    assert error.startswith("psi-new: the format has no room for these rates: one would be off by ")
+    status, out, error = tool("psi-new", "mm1k", *words, "--anyway")
+    assert (status, out) == (0, "") and "off by at most" in error
+    assert (tmp_path / "net.toml").exists()
+
+
 def test_without_psi_nothing_is_shown(environment, tmp_path):
     words = "mm1k --arrival 1 --service 2 --places 3".split()
     # The package is read elsewhere, where no program is built.

@@ -5,7 +5,7 @@ import json
 import pytest
 from solving import means_of
 
-from psi_tools.designs import aligned, designs_of
+from psi_tools.designs import aligned, common_events, designs_of, look_at_bounds
 from psi_tools.networks import Network
 from psi_tools.told import Told
 
@@ -111,7 +111,7 @@ def test_words_that_are_not_right(word):
 
 
 def test_means_are_those_of_each_design(tool, tmp_path, net):
-    rows = rows_of(tool, net, "calls.servers=2,3", "--count", "20000")
+    rows = rows_of(tool, net, "calls.servers=2,3", "--count", "20000", "--anyway")
     for row in rows:
         solved = Network.parse(CALLS)
         solved.table["queue"][0]["servers"] = int(row["calls.servers"])
@@ -132,11 +132,12 @@ def test_a_tenth_of_the_samples_that_two_seeds_need(tool, net):
 
 
 def test_it_goes_on_where_it_was_stopped(tool, tmp_path, net):
-    rows_of(tool, net, "calls.capacity=10,12", "--count", "400", "--folder", "kept")
+    kept = ("--count", "400", "--folder", "kept", "--anyway")
+    rows_of(tool, net, "calls.capacity=10,12", *kept)
     before = {file: file.stat().st_mtime_ns for file in (tmp_path / "kept").rglob("*.csv")}
     removed = sorted(before)[3]
     removed.unlink()
-    rows = rows_of(tool, net, "calls.capacity=10,12,14", "--count", "400", "--folder", "kept")
+    rows = rows_of(tool, net, "calls.capacity=10,12,14", *kept)
     after = {file: file.stat().st_mtime_ns for file in (tmp_path / "kept").rglob("*.csv")}
     assert len(rows) == 6
     assert {f: t for f, t in after.items() if f in before and f != removed} == {
@@ -146,18 +147,189 @@ def test_it_goes_on_where_it_was_stopped(tool, tmp_path, net):
 
 
 def test_a_picture(tool, tmp_path, net):
-    words = ("calls.servers=2,3,4", "--count", "400", "--picture", "sweep.png")
+    words = ("calls.servers=2,3,4", "--count", "400", "--picture", "sweep.png", "--anyway")
     assert tool("psi-sweep", net, *words)[0] == 0
     assert (tmp_path / "sweep.png").read_bytes().startswith(b"\x89PNG")
 
 
 def test_more_streams_are_added(tool, tmp_path, net):
-    words = "calls.capacity=10,12", "--folder", "kept", "--count"
+    words = "calls.capacity=10,12", "--anyway", "--folder", "kept", "--count"
     rows_of(tool, net, *words, "400")
     before = {file: file.stat().st_mtime_ns for file in (tmp_path / "kept").rglob("*.csv")}
     rows = rows_of(tool, net, *words, "600")
     assert len(before) >= 40
     assert all(file.stat().st_mtime_ns == time for file, time in before.items())
-    fresh = rows_of(tool, net, "calls.capacity=10,12", "--count", "600")
+    fresh = rows_of(tool, net, "calls.capacity=10,12", "--anyway", "--count", "600")
     assert [row["mean"] for row in rows] == [row["mean"] for row in fresh]
     assert {row["samples"] for row in rows} == {600}
+
+
+ABANDONMENT = "--arrival 5 --service 2 --places 30 --patience 0.5".split()
+
+
+def solved_abandonment(servers):
+    """The mean number of calls and of those who wait, by the formula for birth and death."""
+    weights = [1.0]
+    for number in range(1, 31):
+        death = 2 * min(number, servers) + 0.5 * max(0, number - servers)
+        weights.append(weights[-1] * 5 / death)
+    total = sum(weights)
+    calls = sum(number * weight for number, weight in enumerate(weights)) / total
+    waiting = sum(max(0, n - servers) * weight for n, weight in enumerate(weights)) / total
+    return {"calls": calls, "waiting": waiting}
+
+
+def test_a_sweep_of_servers_is_refused_where_guards_go_by_them(tool, tmp_path):
+    for servers in (3, 4):
+        words = ("abandonment", *ABANDONMENT, "--servers", servers, "-o", f"{servers}.toml")
+        assert tool("psi-new", *words)[0] == 0
+    status, out, error = tool("psi-sweep", "3.toml", "calls.servers=3,4")
+    assert (status, out) == (2, "")
+    assert error.startswith(
+        "psi-sweep: least = 4 of event give-up-1 goes by calls and would stay as it is while "
+        "calls.servers differs: "
+    ), error
+    status, _, _ = tool("psi-sweep", "3.toml", "calls.servers=3,4", "--anyway", "--count", "100")
+    assert status == 0
+    # The files as they are have what the formula says.
+    status, out, error = tool(
+        "psi-sweep", "3.toml", "4.toml", "--count", "20000", "--format", "json"
+    )
+    assert (status, error) == (0, "")
+    rows = {(row["network"], row["name"]): row for row in json.loads(out)["rows"]}
+    for servers in (3, 4):
+        for name, wanted in solved_abandonment(servers).items():
+            row = rows[f"{servers}.toml", name]
+            assert abs(row["mean"] - wanted) < 1.5 * row["half"], (servers, name)
+    gap = rows["4.toml", "calls"]
+    wanted = solved_abandonment(4)["calls"] - solved_abandonment(3)["calls"]
+    assert abs(gap["difference"] - wanted) < 1.5 * gap["difference_half"]
+    # Common random numbers: the difference is known better than by samples drawn apart.
+    apart = (rows["3.toml", "calls"]["half"] ** 2 + gap["half"] ** 2) ** 0.5
+    assert gap["difference_half"] < apart / 2
+
+
+GUARDED = """version = 2
+[[queue]]
+name = "a"
+capacity = 6
+servers = 2
+[[event]]
+name = "in"
+kind = "arrival"
+rate = 3
+to = ["a"]
+[[event]]
+name = "out"
+kind = "service"
+rate = 2
+from = "a"
+"""
+PARTS = {
+    "least": '[[event]]\nkind = "guarded"\nname = "g"\nrate = 1\n'
+    'part = [{ queue = "a", least = 3, shift = -1 }]\n',
+    "most": '[[event]]\nkind = "guarded"\nname = "g"\nrate = 1\n'
+    'part = [{ queue = "a", most = 3, shift = 1 }]\n',
+    "floor": '[[event]]\nkind = "guarded"\nname = "g"\nrate = 1\n'
+    'part = [{ queue = "a", floor = 1, shift = -1 }]\n',
+    "ceiling": '[[event]]\nkind = "guarded"\nname = "g"\nrate = 1\n'
+    'part = [{ queue = "a", ceiling = 5, shift = 1 }]\n',
+    "level": '[[reward]]\nkind = "above"\nname = "full"\nqueues = ["a"]\nlevel = 5\n',
+    "the table": '[[reward]]\nkind = "table"\nname = "w"\nqueues = ["a"]\n'
+    "table = [[0, 0, 0, 1, 2, 3, 4]]\n",
+}
+
+
+@pytest.mark.parametrize("key", ["servers", "capacity"])
+@pytest.mark.parametrize("part", PARTS)
+def test_what_goes_by_a_queue_is_named(tool, tmp_path, part, key):
+    (tmp_path / "net.toml").write_text(GUARDED + PARTS[part])
+    values = {"servers": "2,3", "capacity": "5,6"}[key]
+    status, out, error = tool("psi-sweep", "net.toml", f"a.{key}={values}")
+    assert (status, out) == (2, "") and error.startswith(f"psi-sweep: {part} "), error
+    assert f"while a.{key} differs" in error
+    status, _, error = tool("psi-sweep", "net.toml", f"a.{key}={values}", "--anyway", "--count", 40)
+    assert status == 0, error
+    # A rate may differ all the same.
+    assert tool("psi-sweep", "net.toml", "in.rate=2,3", "--count", "40")[0] == 0
+
+
+def test_what_is_swept_together_is_not_refused():
+    net = Network.parse(GUARDED + PARTS["least"] + PARTS["level"])
+    words = ["a.servers=2,3", "g.a.least=3,4", "full.level=4,5"]
+    look_at_bounds(words, net, True, [])
+    look_at_bounds(words[:2], net, True, ["a"])
+    for some, together in ((words[:2], True), (words, False)):
+        with pytest.raises(Told, match="--anyway"):
+            look_at_bounds(some, net, together, [])
+    _, designs, _, _ = designs_of(words, net, together=True)
+    parts = [design.net.table["event"][2]["part"][0]["least"] for design in designs]
+    assert parts == [3, 4]
+
+
+def test_files_with_other_events_have_them_in_one_order():
+    nets = [Network().queue("a", 3) for _ in range(3)]
+    for net, names in zip(nets, (["x", "z"], ["x", "y", "z"], ["w", "x", "v", "z", "u"])):
+        for name in names:
+            net.event(name, "arrival", len(names), to=["a"])
+    names = common_events(nets)
+    assert sorted(names) == ["u", "v", "w", "x", "y", "z"]
+    for net in nets:
+        places = [names.index(event["name"]) for event in net.table["event"]]
+        assert places == sorted(places)
+
+
+def test_files_that_are_not_to_be_compared(tool, tmp_path, net):
+    (tmp_path / "same.toml").write_text("# the same\n" + CALLS)
+    status, out, error = tool("psi-sweep", net, "calls.capacity=10,12", "same.toml")
+    assert (status, out) == (2, "") and "files are compared as they are" in error
+    (tmp_path / "copy.toml").write_text(CALLS)
+    status, out, error = tool("psi-sweep", net, "copy.toml")
+    assert (status, out) == (2, "") and "copy.toml is the same network as calls.toml" in error
+    other = CALLS.replace('"calls"', '"lines"').replace('"full"', '"busy"')
+    (tmp_path / "other.toml").write_text(other)
+    rows = rows_of(tool, net, "other.toml", "--count", "400")
+    lacking = [row for row in rows if (row["network"], row["name"]) == ("calls.toml", "lines")]
+    assert [(row["mean"], row["low"], row["difference"]) for row in lacking] == [(None,) * 3]
+    status, out, error = tool("psi-sweep", net, "absent.toml")
+    assert (status, out) == (2, "") and "absent.toml isn't NAME.KEY=VALUES" in error
+
+
+def test_a_folder_has_one_size_of_blocks(tool, tmp_path, net):
+    words = "--folder", "kept", "--anyway", "--format", "csv", "--count"
+    first = tool("psi-sweep", net, "calls.capacity=10,12", *words, 40_000)
+    assert first[0] == 0
+    before = {file: file.stat().st_mtime_ns for file in (tmp_path / "kept").rglob("*.csv")}
+    # 40,960 streams would be blocks of 1,024, and 40,000 are blocks of 1,000.
+    status, out, error = tool("psi-sweep", net, "calls.capacity=10,12,14", *words, 40_960)
+    assert status == 0, error
+    after = {file: file.stat().st_mtime_ns for file in (tmp_path / "kept").rglob("*.csv")}
+    assert all(after.get(file) == time for file, time in before.items())
+    assert len(after) == 3 * 41
+    fresh = tool("psi-sweep", net, "calls.capacity=10,12,14", "--anyway", "--format", "csv",
+                 "--count", 40_960, "--folder", "fresh")[1]
+    means = [[line.split(",")[3] for line in text.splitlines()] for text in (out, fresh)]
+    assert means[0] == means[1]
+    status, _, error = tool("psi-sweep", net, "calls.capacity=10,12", *words, 40_000, "--seed", 1)
+    assert status == 2 and "of another call: seed 0, not 1" in error
+
+
+def test_both_ends_are_in_csv_and_text(tool, net):
+    words = ("calls.capacity=11,12", "full.level=10,11", "--together", "--count", "400")
+    status, out, error = tool("psi-sweep", net, *words, "--format", "csv")
+    assert (status, error) == (0, "")
+    head = out.splitlines()[0].split(",")
+    assert {"low", "high", "difference_low", "difference_high"} <= {*head}
+    for line in out.splitlines()[1:]:
+        row = dict(zip(head, line.split(",")))
+        assert float(row["low"]) <= float(row["mean"]) <= float(row["high"])
+        ends = float(row["difference_low"]), float(row["difference_high"])
+        assert ends[0] <= float(row["difference"]) <= ends[1]
+    text = tool("psi-sweep", net, *words)[1]
+    assert " to " in text and " ± " in text
+
+
+def test_rewards_that_are_not_told_may_go_by_the_queue(tool, net):
+    words = (net, "calls.capacity=11,12", "--count", "400")
+    assert tool("psi-sweep", *words)[0] == 2
+    assert tool("psi-sweep", *words, "--of", "calls")[0] == 0

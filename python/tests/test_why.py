@@ -1,11 +1,14 @@
 """psi-why: what keeps states apart is found, and what doesn't isn't."""
 
 import json
+import tomllib
 
+import plain_network
 import pytest
 from conftest import TOP
 
-from psi_tools.moves import Moves, loads_of
+from psi_tools.classes import closed_classes
+from psi_tools.moves import Load, Moves, loads_of
 from psi_tools.networks import Network
 from psi_tools.why import never_met
 
@@ -82,9 +85,85 @@ def test_what_is_told_never_to_couple_does_not(tool, tmp_path, text):
 
 def test_loads():
     net = Network.read(TOP / "examples/call-centre.toml")
-    assert loads_of(net) == [(5, 6)]
+    assert loads_of(net) == [Load(5, 6, 0)]
     net = Network.read(TOP / "examples/tandem-blocking.toml")
-    assert [rate > 0 and served > 0 for rate, served in loads_of(net)] == [True] * 3
+    assert [each.arrivals > 0 and each.service > 0 for each in loads_of(net)] == [True] * 3
+
+
+@pytest.mark.parametrize("servers, places, load", [(3, 30, 5 / 6), (100, 140, 150 / 200)])
+def test_the_load_counts_each_server_once_and_abandonment_apart(
+    tool, tmp_path, servers, places, load
+):
+    arrival = 5 if servers == 3 else 150
+    words = f"--arrival {arrival} --service 2 --servers {servers} --places {places} --patience 0.5"
+    assert tool("psi-new", "abandonment", *words.split(), "-o", "net.toml")[0] == 0
+    [found] = loads_of(Network.read(tmp_path / "net.toml"))
+    assert found.load == pytest.approx(load)
+    assert found.giving_up / found.arrivals == pytest.approx(0.5 * (places - servers) / arrival)
+    told = json.loads(tool("psi-why", "net.toml", "--format", "json", "--seconds", 1)[1])
+    assert told["loads"][0]["load"] == pytest.approx(load)
+
+
+def test_a_guarded_event_of_a_servers_rate_is_one_more_server():
+    net = Network(version=2).queue("a", 9, 2)
+    net.event("in", "arrival", 5, to=["a"]).event("out", "service", 2, source="a")
+    net.event("third", "guarded", 2, part=[{"queue": "a", "least": 3, "shift": -1}])
+    assert loads_of(net) == [Load(5, 6, 0)]
+
+
+# Two queues, and a switch that only turns where both are alike: each of their sums and numbers can
+# be left, and still there are two classes, that of an even and that of an odd state.
+SWAP = """version = 2
+limit = 6
+[[queue]]
+name = "a"
+capacity = 3
+[[queue]]
+name = "b"
+capacity = 3
+[[event]]
+name = "up"
+kind = "guarded"
+rate = 1
+part = [{ queue = "a", most = 2, shift = 1 }, { queue = "b", most = 2, shift = 1 }]
+[[event]]
+name = "down"
+kind = "guarded"
+rate = 1
+part = [{ queue = "a", least = 1, shift = -1 }, { queue = "b", least = 1, shift = -1 }]
+[[event]]
+name = "cross"
+kind = "guarded"
+rate = 1
+part = [{ queue = "a", least = 2, shift = -2 }, { queue = "b", most = 3, floor = 0 }]
+[[event]]
+name = "back"
+kind = "guarded"
+rate = 1
+part = [{ queue = "b", least = 2, shift = -2 }, { queue = "a", floor = 0 }]
+"""
+
+
+def test_closed_classes_of_small_networks_are_found(tool, tmp_path, program):
+    assert never_of(SWAP) == []
+    (tmp_path / "net.toml").write_text(SWAP)
+    classes = closed_classes(Network.parse(SWAP))
+    assert len(classes) == 2
+    # Each class is left by no event, as the plain program has them.
+    plain = plain_network.Network(tomllib.loads(SWAP))
+    for states in classes:
+        reached = {event.after(x) for event in plain.events for x in states}
+        assert reached <= {*states}
+    status, out, _ = tool("psi-why", "net.toml")
+    assert status == 1 and out.startswith("NEVER COUPLES: the states have 2 classes that no event")
+    report = tool("psi-many", "net.toml", 0, 0, 40)[1]
+    assert "\nmet,-,0\n" in report
+
+
+def test_what_couples_has_one_closed_class():
+    for file in sorted((TOP / "examples").glob("*.toml")):
+        found = closed_classes(Network.read(file))
+        assert found is None or (len(found) == 1) == (file.stem != "central-server"), file
 
 
 def test_horizons_are_those_of_the_report(tool, psi):

@@ -10,7 +10,7 @@ import sys
 
 sys.path.insert(0, str(pathlib.Path(__file__).resolve().parent.parent))
 import packaged  # noqa: E402, F401
-from psi_tools.closed import main  # noqa: E402
+from psi_tools.commands import start  # noqa: E402
 
 if __name__ == "__main__":
-    sys.exit(main(sys.argv[1:]))
+    sys.exit(start("closed", "closed_report"))

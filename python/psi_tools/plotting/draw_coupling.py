@@ -30,6 +30,7 @@ DOTS = 240, 1600
 LINE_WIDTHS = {1: 1.8, 2: 1.3, 4: 0.9}
 
 
+@style.styled
 def draw_coupling(log, title):
     """The figure of a log."""
     queues, columns = len(log.names), columns_of(len(log.names))

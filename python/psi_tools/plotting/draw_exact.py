@@ -9,6 +9,7 @@ from psi_tools.plotting import style
 LABEL_WIDTH = 48
 
 
+@style.styled
 def draw_exact(found, title):
     """The figure of a text."""
     figure = style.new_figure(3.6, title or "How the image of all states shrinks")

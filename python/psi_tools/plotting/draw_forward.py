@@ -12,6 +12,7 @@ BEGINNINGS = matplotlib.colors.LinearSegmentedColormap.from_list(
 )
 
 
+@style.styled
 def draw_forward(found, title):
     """The figure: a part for each number of steps, and one for the state in which all meet."""
     figure = style.new_figure(4.6, title or "Where forward runs end, and the law that is wanted")

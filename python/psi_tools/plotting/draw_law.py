@@ -9,6 +9,7 @@ from psi_tools.plotting import style
 MANY = 120
 
 
+@style.styled
 def draw_law(law, title):
     """The figure of a law."""
     figure = style.new_figure(4.2, title or f"The law of {law.name}")
@@ -44,19 +45,25 @@ def draw_probabilities(axes, law, records, values):
     text = f"{law.known:,} samples, intervals of 95 %"
     if mean.half is not None:
         axes.axvline(mean.mean, color=style.VERMILION, lw=1, ls=(0, (3, 2)), zorder=4)
-        text += f"; mean {style.mean(mean.mean)} ± {mean.half:.2g}"
+        text += f"; mean {style.mean(mean.mean)}"
+        ends = f", {style.mean(mean.low)} to {style.mean(mean.high)}"
+        text += f" ± {mean.half:.2g}" if mean.is_even else ends
     if law.unknown:
         text += f"; NOT COUPLED: {law.unknown:,} more, so it is biased"
     axes.set_title(text, loc="left", pad=3)
 
 
 def draw_shares(axes, law, records, values):
-    """How often the number is at most a value, with the quantiles."""
+    """How often the number is at most a value, with the quantiles. The line begins at 0 below the
+    least value, and goes on beyond the greatest, so that its last step is seen."""
+    margin = max(0.5, 0.02 * float(values[-1] - values[0]))
+    ends = numpy.concatenate([[values[0] - margin], values, [values[-1] + margin]])
     shares, low, high = (
-        [each[key] for each in records] for key in ("at_most", "at_most_low", "at_most_high")
+        numpy.array([0.0, *(each[key] for each in records), records[-1][key]])
+        for key in ("at_most", "at_most_low", "at_most_high")
     )
-    axes.fill_between(values, low, high, step="post", color=style.SKY, lw=0, alpha=0.6)
-    (line,) = axes.step(values, shares, where="post", color=style.BLUE, lw=1.2)
+    axes.fill_between(ends, low, high, step="post", color=style.SKY, lw=0, alpha=0.6)
+    (line,) = axes.step(ends, shares, where="post", color=style.BLUE, lw=1.2)
     line.set_gid("at-most")
     quantiles = [*law.quantiles((0.5, 0.9, 0.95, 0.99))]
     for share, value, *_ in quantiles:

@@ -55,6 +55,7 @@ class Rows:
         return (least, greatest - least) if greatest > least else (least - 0.5, 1)
 
 
+@style.styled
 def draw_report(named, title):
     """The figure of some reports, each with the path of its file."""
     reports = [report for _, report in named]

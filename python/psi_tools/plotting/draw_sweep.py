@@ -5,18 +5,19 @@ from psi_tools.plotting import style
 MOST_ROWS = 12
 
 
-def draw_sweep(keys, labels, records, base, notes):
+@style.styled
+def draw_sweep(columns, labels, records, base, notes):
     """The figure of some designs, of at most twelve queues and rewards."""
     count = len(labels)
     groups = [records[k : k + count] for k in range(0, len(records), count)][:MOST_ROWS]
-    figure = style.new_figure(0.9 + 1.7 * len(groups), title_of(keys, labels, base))
-    places, ticks, name = axis_of(keys, groups[0])
+    figure = style.new_figure(0.9 + 1.7 * len(groups), title_of(columns, labels, base))
+    places, ticks, name = axis_of(columns, groups[0])
     panels = figure.subplots(len(groups), 2, squeeze=False, sharex="col")
     for group, (left, right) in zip(groups, panels):
         reward = " (reward)" * group[0]["item"].startswith("reward")
-        draw_points(left, places, group, "mean", "half", style.BLUE)
+        draw_points(left, places, group, "mean", "", style.BLUE)
         left.set_title(f"{group[0]['name']}{reward}: mean", loc="left", pad=3)
-        draw_points(right, places, group, "difference", "difference_half", style.VERMILION)
+        draw_points(right, places, group, "difference", "difference_", style.VERMILION)
         right.axhline(0, color=style.GREY, lw=0.6, zorder=1)
         right.set_title("difference, by the same words", loc="left", pad=3)
     for axes in panels[-1]:
@@ -30,33 +31,35 @@ def draw_sweep(keys, labels, records, base, notes):
     return figure
 
 
-def title_of(keys, labels, base):
+def title_of(columns, labels, base):
     """What stands above: what differs, and from what the differences are."""
-    names = " and ".join(f"{name}.{key}" for name, key in keys)
+    names = " and ".join(columns)
     return f"Designs by {names}; differences to {labels[base].replace(' ', ', ')}"
 
 
-def axis_of(keys, group):
+def axis_of(columns, group):
     """Where each design stands, what is written there, and what the axis is."""
-    names = [f"{name}.{key}" for name, key in keys]
-    ticks = [", ".join(record[name] for name in names) for record in group]
-    if len(names) == 1:
-        return [float(tick) for tick in ticks], ticks, names[0]
-    return [*range(len(ticks))], ticks, ", ".join(names)
+    ticks = [", ".join(record[name] for name in columns) for record in group]
+    if len(columns) == 1 and columns != ["network"]:
+        return [float(tick) for tick in ticks], ticks, columns[0]
+    ticks = [style.printable(tick, 40) for tick in ticks]
+    return [*range(len(ticks))], ticks, ", ".join(columns)
 
 
-def draw_points(axes, places, group, value, half, colour):
+def draw_points(axes, places, group, value, front, colour):
     """A mark with its interval for each design."""
-    found = [
-        (place, record[value], record[half] or 0)
-        for place, record in zip(places, group) if record[value] is not None
-    ]
+    found = []
+    for place, record in zip(places, group):
+        middle, low, high = (record[key] for key in (value, f"{front}low", f"{front}high"))
+        if middle is not None:
+            found.append((place, middle, middle - (middle if low is None else low),
+                          (middle if high is None else high) - middle))
     if not found:
         return
-    xs, ys, halves = zip(*found)
+    xs, ys, below, above = zip(*found)
     axes.errorbar(
-        xs, ys, halves, fmt="o", ms=3.5, color=colour, ecolor=colour, elinewidth=1, capsize=2.5,
-        zorder=3,
+        xs, ys, [[max(0, part) for part in below], [max(0, part) for part in above]], fmt="o",
+        ms=3.5, color=colour, ecolor=colour, elinewidth=1, capsize=2.5, zorder=3,
     )
     axes.grid(axis="y", lw=0.3, color="#CCCCCC")
     axes.margins(0.08, 0.15)

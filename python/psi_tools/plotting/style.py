@@ -1,5 +1,7 @@
 """What the pictures share: colours, the form of numbers and titles, and how one is saved."""
 
+import contextlib
+import functools
 import io
 import logging
 import math
@@ -8,15 +10,28 @@ import re
 import textwrap
 import warnings
 
-# A font that is looked for the first time, or a sign that it lacks, is nothing to be told.
-logging.getLogger("matplotlib").setLevel(logging.ERROR)
-warnings.simplefilter("ignore")
 
-import matplotlib  # noqa: E402
-import matplotlib.figure  # noqa: E402
-import matplotlib.font_manager  # noqa: E402
-import matplotlib.textpath  # noqa: E402
-import matplotlib.ticker  # noqa: E402
+@contextlib.contextmanager
+def quiet():
+    """Keeps matplotlib quiet: that a font is looked for, or lacks a sign, is nothing to be told. In
+    the end warnings and logs are as they were."""
+    logger = logging.getLogger("matplotlib")
+    level = logger.level
+    logger.setLevel(logging.ERROR)
+    try:
+        with warnings.catch_warnings():
+            warnings.simplefilter("ignore")
+            yield
+    finally:
+        logger.setLevel(level)
+
+
+with quiet():
+    import matplotlib
+    import matplotlib.figure
+    import matplotlib.font_manager
+    import matplotlib.textpath
+    import matplotlib.ticker
 
 # Eight colours that those who don't see all colours can tell apart (Okabe and Ito 2008).
 BLACK, ORANGE, SKY, GREEN = "#000000", "#E69F00", "#56B4E9", "#009E73"
@@ -54,10 +69,22 @@ STYLE = {
 }
 
 
+def styled(draw):
+    """Makes a function draw in the style of the pictures: what matplotlib is set to, and what is
+    told of warnings, is for its caller as it was before."""
+
+    @functools.wraps(draw)
+    def drawn(*words, **named):
+        with quiet(), matplotlib.rc_context():
+            matplotlib.rcdefaults()
+            matplotlib.rcParams.update(STYLE)
+            return draw(*words, **named)
+
+    return drawn
+
+
 def new_figure(height, title):
-    """An empty figure of a page's width, with a title."""
-    matplotlib.rcdefaults()
-    matplotlib.rcParams.update(STYLE)
+    """An empty figure of a page's width, with a title, for a function that is `styled`."""
     figure = matplotlib.figure.Figure(figsize=(WIDTH, height))
     lines = textwrap.wrap(printable(title, 200), 80)
     figure.suptitle("\n".join(lines), fontsize=10, weight="bold", parse_math=False)
@@ -86,6 +113,14 @@ def power_of_two(power):
     return f"2{raised(power)}"
 
 
+@styled
+def laid_out(figure):
+    """The same figure with all of its ticks made in this style, for a caller with another one."""
+    figure.draw_without_rendering()
+    return figure
+
+
+@styled
 def saved(figure, form):
     """The bytes of the picture, the same ones for the same figure."""
     undated = {"svg": {"Date": None}, "pdf": {"CreationDate": None}, "png": {}}[form]
