@@ -2,13 +2,17 @@
 
 import importlib
 import os
+import pathlib
 
 from psi_tools.batches import as_printed, interval_or_none, read_folder
 from psi_tools.intervals import LEAST_BATCHES
+from psi_tools.networks import checked
+from psi_tools.plotting.network_scene import NetworkPicture
 from psi_tools.plotting.read_exact import read_exact
 from psi_tools.plotting.read_log import names_of, read_log
 from psi_tools.plotting.read_report import Report, Spread, read_report
 from psi_tools.plotting.refused import Refused, need
+from psi_tools.program import Psi
 from psi_tools.told import Told
 from psi_tools.words import Words, look_at, run, write
 
@@ -46,9 +50,17 @@ def reader():
     words.add_argument(
         "--psi", metavar="PSI",
         help="the built program; crates/psi/out/psi, or psi on the PATH, where it isn't given, of "
-        "which only forward asks",
+        "which only forward and network ask",
     )
-    words.add_argument("what", nargs="?", metavar="WHAT", help="coupling, report, exact or forward")
+    words.add_argument(
+        "--legend", action="store_true", help="of network: explain the arrows below the picture"
+    )
+    words.add_argument(
+        "--tables", action="store_true", help="of network: print the tables of choices by an index"
+    )
+    words.add_argument(
+        "what", nargs="?", metavar="WHAT", help="coupling, report, exact, forward or network"
+    )
     words.add_argument(
         "files", nargs="*", metavar="FILE", help="what psi has printed; of forward NET and STEPS"
     )
@@ -61,6 +73,8 @@ def words_of(arguments):
     need(words.what in DRAWN, f"the first word is one of {', '.join(DRAWN)}")
     need(words.files, f"{words.what} is told no file")
     need(words.out.rpartition(".")[2].lower() in FORMATS, "-o names no .svg, .png or .pdf")
+    is_network = words.what == "network"
+    need(is_network or not (words.legend or words.tables), "--legend and --tables are network's")
     look_at(words.out)
     return words
 
@@ -131,8 +145,18 @@ def forward(words, path, *steps):
         raise Refused(f"{path}: {told}") from None
 
 
+def network(words, path, *others):
+    """The network of a file that psi accepts, and what is to stand below its picture."""
+    need(not others, "network is given more than one file")
+    try:
+        net = checked(Psi(words.psi), path)
+    except Told as told:
+        raise Refused(f"{path}: {told}") from None
+    return NetworkPicture(net, pathlib.Path(path).stem, words.legend, words.tables)
+
+
 # What reads the files of a command, and what draws it: matplotlib is wanted only for that.
-DRAWN = {"coupling": coupling, "report": reports, "exact": exact, "forward": forward}
+DRAWN = {"coupling": coupling, "report": reports, "exact": exact, "forward": forward, "network": network}
 
 
 def draw(words):
