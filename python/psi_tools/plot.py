@@ -14,7 +14,7 @@ from psi_tools.plotting.read_report import Report, Spread, read_report
 from psi_tools.plotting.refused import Refused, need
 from psi_tools.program import Psi
 from psi_tools.told import Told
-from psi_tools.words import Words, look_at, run, write
+from psi_tools.words import GREATEST, NUMBER, Words, look_at, run, write
 
 COMMAND = "psi-plot"
 # The most bytes that are read of a file: one more than a log may have.
@@ -50,7 +50,7 @@ def reader():
     words.add_argument(
         "--psi", metavar="PSI",
         help="the built program; crates/psi/out/psi, or psi on the PATH, where it isn't given, of "
-        "which only forward and network ask",
+        "which forward, past and network ask",
     )
     words.add_argument(
         "--legend", action="store_true", help="of network: explain the arrows below the picture"
@@ -59,10 +59,16 @@ def reader():
         "--tables", action="store_true", help="of network: print the tables of choices by an index"
     )
     words.add_argument(
-        "what", nargs="?", metavar="WHAT", help="coupling, report, exact, forward or network"
+        "--queue", metavar="QUEUE", help="of past: the queue that is drawn; all customers if not given"
     )
     words.add_argument(
-        "files", nargs="*", metavar="FILE", help="what psi has printed; of forward NET and STEPS"
+        "--new-words", action="store_true", help="of past: new random words for each run, the wrong way"
+    )
+    words.add_argument(
+        "what", nargs="?", metavar="WHAT", help="coupling, report, exact, forward, past or network"
+    )
+    words.add_argument(
+        "files", nargs="*", metavar="FILE", help="what psi has printed; of forward NET and STEPS, of past NET SEED STREAM"
     )
     return words
 
@@ -73,8 +79,8 @@ def words_of(arguments):
     need(words.what in DRAWN, f"the first word is one of {', '.join(DRAWN)}")
     need(words.files, f"{words.what} is told no file")
     need(words.out.rpartition(".")[2].lower() in FORMATS, "-o names no .svg, .png or .pdf")
-    is_network = words.what == "network"
-    need(is_network or not (words.legend or words.tables), "--legend and --tables are network's")
+    need(words.what == "network" or not (words.legend or words.tables), "--legend and --tables are network's")
+    need(words.what == "past" or not (words.queue or words.new_words), "--queue and --new-words are past's")
     look_at(words.out)
     return words
 
@@ -155,8 +161,24 @@ def network(words, path, *others):
     return NetworkPicture(net, pathlib.Path(path).stem, words.legend, words.tables)
 
 
+def past(words, path, *streams):
+    """The runs of a sample, and the queue that is drawn: none for all customers of several."""
+    from psi_tools.past import past_of
+
+    need(len(streams) == 2, "past is given NET SEED STREAM")
+    need(all(NUMBER.fullmatch(word) and int(word) <= GREATEST for word in streams),
+         "SEED and STREAM are numbers up to 2^64 - 1")
+    found = past_of(words.psi, path, *map(int, streams), words.new_words)
+    need(words.queue is None or words.queue in found.queues, f"{path}: there is no queue {words.queue}")
+    if words.queue is not None:
+        return found, found.queues.index(words.queue)
+    return found, 0 if len(found.queues) == 1 else None
+
+
 # What reads the files of a command, and what draws it: matplotlib is wanted only for that.
-DRAWN = {"coupling": coupling, "report": reports, "exact": exact, "forward": forward, "network": network}
+DRAWN = {
+    "coupling": coupling, "report": reports, "exact": exact, "forward": forward, "past": past, "network": network,
+}
 
 
 def draw(words):
