@@ -27,9 +27,9 @@ MOST_PATHS, MOST_STEPS, SPLIT = 400, 4_096, 256
 class Run:
     """A run of some steps before time zero.
 
-    `low` and `high` have the least and greatest number of customers in each queue, from the begin to time zero;
-    `paths` has the state of each initial state at each time, where the network is small, and `counts` has
-    the number of states that are left, or an upper bound where they are followed as a box.
+    `low` and `high` have the least and greatest number of customers in each queue of the region that psi follows,
+    from the begin to time zero, and `counts` its number of states. `paths` has the state of each initial state at each
+    time, where the network is small. A region may hold more states than the paths are in.
     """
 
     horizon: int
@@ -61,7 +61,7 @@ class Past:
 
 
 class Follower:
-    """Follows the runs of a network by single states where it is small, else by the regions that psi follows."""
+    """Follows the runs of a network by the regions that psi follows, and all paths where there are few."""
 
     def __init__(self, table: dict) -> None:
         self.net = check_log.Network(table)
@@ -70,30 +70,23 @@ class Follower:
         self.is_small = check_log.count(self.whole) <= MOST_PATHS
 
     def run(self, seed: int, stream: int, horizon: int) -> Run:
-        """The run that begins so many steps before time zero."""
+        """The run that begins so many steps before time zero: as a box, and as a set once it has few states."""
         numbers = [self.net.event_of(seed, stream, time) for time in range(horizon, 0, -1)]
-        return self.by_paths(numbers) if self.is_small else self.by_regions(numbers)
-
-    def by_paths(self, numbers: list[int]) -> Run:
-        """A run followed state by state."""
-        columns = [list(self.whole)]
-        for number in numbers:
-            event = self.net.events[number]
-            columns.append([event.after(state) for state in columns[-1]])
-        ends = [bounds_of(column) for column in columns]
-        low, high = [list(some) for some in zip(*ends)]
-        counts = [len({*column}) for column in columns]
-        return Run(len(numbers), low, high, counts, [list(path) for path in zip(*columns)])
-
-    def by_regions(self, numbers: list[int]) -> Run:
-        """A run followed as a box, and as a set once it has few states."""
         region, regions = self.whole, [self.whole]
         for number in numbers:
             region = self.after(self.net.events[number], region)
             regions.append(region)
-        ends = [bounds_of_region(each) for each in regions]
-        low, high = [list(some) for some in zip(*ends)]
-        return Run(len(numbers), low, high, [check_log.count(each) for each in regions], None)
+        low, high = [list(some) for some in zip(*map(bounds_of_region, regions))]
+        paths = self.paths(numbers) if self.is_small else None
+        return Run(horizon, low, high, [check_log.count(each) for each in regions], paths)
+
+    def paths(self, numbers: list[int]) -> list[list[State]]:
+        """The paths from all states under these events."""
+        columns = [list(self.whole)]
+        for number in numbers:
+            event = self.net.events[number]
+            columns.append([event.after(state) for state in columns[-1]])
+        return [list(path) for path in zip(*columns)]
 
     def after(self, event, region):
         """The region after an event."""

@@ -7,6 +7,7 @@ import pytest
 from conftest import TOP
 from plain_network import Network as Plain
 
+from psi_tools.networks import Network
 from psi_tools.past import Follower, past_of
 from psi_tools.plotting import style
 from psi_tools.plotting.draw_past import draw_past
@@ -55,6 +56,19 @@ def test_a_large_network_is_followed_by_regions(program, tmp_path):
     assert all(low <= high for run in past.runs for one, two in zip(run.low, run.high) for low, high in zip(one, two))
 
 
+def test_a_region_may_hold_more_than_the_paths(program):
+    """With a small split number the paths coalesce before the region does, and the picture says both."""
+    past = past_of(program, path_of("longest-queue"), 7, 0)
+    wide = [run for run in past.runs if len({path[-1] for path in run.paths}) == 1 < run.counts[-1]]
+    assert wide and all(
+        low <= number <= high
+        for run in past.runs for path in run.paths
+        for state, *ends in zip(path, run.low, run.high) for number, low, high in zip(state, *ends)
+    )
+    texts = [text.get_text() for axes in draw_past((past, None), "").figure.axes for text in axes.texts]
+    assert any("1 state left,\n" in text and "in the region" in text for text in texts)
+
+
 def test_new_words_differ_from_run_to_run(program):
     """The wrong way draws each run from another stream; the right one keeps the words."""
     right, wrong = (past_of(program, path_of("single-server"), 0, 1, new) for new in (False, True))
@@ -71,7 +85,7 @@ def test_each_run_has_a_row(program):
     ids = [each.get("id", "") for each in root.iter(f"{SVG}g")]
     assert all(ids.count(kind) == len(past.runs) for kind in ("band", "end", "paths"))
     texts = [text.get_text() for axes in figure.axes for text in axes.texts]
-    assert "64 steps:\ncoalesced in\n3,2,1" in texts and "32 steps:\n2\nstates left" in texts
+    assert "64 steps:\ncoalesced in\n3,2,1" in texts and "32 steps:\n2 states left" in texts
 
 
 def test_the_command_draws_and_refuses(tool, tmp_path):
@@ -87,8 +101,9 @@ def test_the_command_draws_and_refuses(tool, tmp_path):
 
 def test_a_network_that_does_not_coalesce_is_refused(program, tmp_path):
     """Longer runs than can be drawn are refused by name."""
-    text = 'version = 1\n[[queue]]\nname = "a"\ncapacity = 3\n[[event]]\nname = "in"\nkind = "batch"\nrate = 1\nsize = 2\nto = ["a"]\n'
-    text += '[[event]]\nname = "out"\nkind = "service"\nrate = 1\nfrom = "a"\n'
+    ring = Network().queue("a", 2).queue("b", 2)
+    ring.event("there", "service", 1, "a", ["b"], full="stay").event("back", "service", 1, "b", ["a"], full="stay")
+    text = ring.toml()
     (tmp_path / "never.toml").write_text(text)
     with pytest.raises(Refused, match="4,096 steps"):
         past_of(program, str(tmp_path / "never.toml"), 0, 0)

@@ -97,8 +97,11 @@ def verdict(run: Run) -> str:
     steps = f"{run.horizon:,} step{'s' * (run.horizon > 1)}"
     if run.has_coalesced:
         return f"{steps}:\ncoalesced in\n{','.join(map(str, run.low[-1]))[:24]}"
-    bound = "" if run.paths is not None else "at most "
-    return f"{steps}:\n{bound}{style.whole(run.counts[-1])}\nstates left"
+    if run.paths is None:
+        return f"{steps}:\nat most {style.whole(run.counts[-1])}\nstates left"
+    left = len({path[-1] for path in run.paths})
+    more = f",\n{style.whole(run.counts[-1])} in the region" if left != run.counts[-1] else ""
+    return f"{steps}:\n{left} state{'s' * (left > 1)} left{more}"
 
 
 def label_events(axes: Any, past: Past) -> None:
