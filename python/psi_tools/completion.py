@@ -20,7 +20,7 @@ NAMES_OF = (
 )
 # The words of a command beside its options: by their place the words that can stand there, or the
 # sections of the network in the first word whose names can.
-WORDS = {"plot": {1: ("coupling", "report", "exact", "forward")}}
+WORDS = {"plot": {1: ("coupling", "report", "exact", "forward", "past", "network")}}
 SECTIONS = {"law": {2: "queue|reward"}, "sweep": {2: "queue|event"}}
 
 

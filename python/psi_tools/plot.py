@@ -2,15 +2,19 @@
 
 import importlib
 import os
+import pathlib
 
 from psi_tools.batches import as_printed, interval_or_none, read_folder
 from psi_tools.intervals import LEAST_BATCHES
+from psi_tools.networks import checked
+from psi_tools.plotting.network_scene import NetworkPicture
 from psi_tools.plotting.read_exact import read_exact
 from psi_tools.plotting.read_log import names_of, read_log
 from psi_tools.plotting.read_report import Report, Spread, read_report
 from psi_tools.plotting.refused import Refused, need
+from psi_tools.program import Psi
 from psi_tools.told import Told
-from psi_tools.words import Words, look_at, run, write
+from psi_tools.words import GREATEST, NUMBER, Words, look_at, run, write
 
 COMMAND = "psi-plot"
 # The most bytes that are read of a file: one more than a log may have.
@@ -46,11 +50,25 @@ def reader():
     words.add_argument(
         "--psi", metavar="PSI",
         help="the built program; crates/psi/out/psi, or psi on the PATH, where it isn't given, of "
-        "which only forward asks",
+        "which forward, past and network ask",
     )
-    words.add_argument("what", nargs="?", metavar="WHAT", help="coupling, report, exact or forward")
     words.add_argument(
-        "files", nargs="*", metavar="FILE", help="what psi has printed; of forward NET and STEPS"
+        "--legend", action="store_true", help="of network: explain the arrows below the picture"
+    )
+    words.add_argument(
+        "--tables", action="store_true", help="of network: print the tables of choices by an index"
+    )
+    words.add_argument(
+        "--queue", metavar="QUEUE", help="of past: the queue that is drawn; all customers if not given"
+    )
+    words.add_argument(
+        "--new-words", action="store_true", help="of past: new random words for each run, the wrong way"
+    )
+    words.add_argument(
+        "what", nargs="?", metavar="WHAT", help="coupling, report, exact, forward, past or network"
+    )
+    words.add_argument(
+        "files", nargs="*", metavar="FILE", help="what psi has printed; of forward NET and STEPS, of past NET SEED STREAM"
     )
     return words
 
@@ -61,6 +79,8 @@ def words_of(arguments):
     need(words.what in DRAWN, f"the first word is one of {', '.join(DRAWN)}")
     need(words.files, f"{words.what} is told no file")
     need(words.out.rpartition(".")[2].lower() in FORMATS, "-o names no .svg, .png or .pdf")
+    need(words.what == "network" or not (words.legend or words.tables), "--legend and --tables are network's")
+    need(words.what == "past" or not (words.queue or words.new_words), "--queue and --new-words are past's")
     look_at(words.out)
     return words
 
@@ -131,8 +151,34 @@ def forward(words, path, *steps):
         raise Refused(f"{path}: {told}") from None
 
 
+def network(words, path, *others):
+    """The network of a file that psi accepts, and what is to stand below its picture."""
+    need(not others, "network is given more than one file")
+    try:
+        net = checked(Psi(words.psi), path)
+    except Told as told:
+        raise Refused(f"{path}: {told}") from None
+    return NetworkPicture(net, pathlib.Path(path).stem, words.legend, words.tables)
+
+
+def past(words, path, *streams):
+    """The runs of a sample, and the queue that is drawn: none for all customers of several."""
+    from psi_tools.past import past_of
+
+    need(len(streams) == 2, "past is given NET SEED STREAM")
+    need(all(NUMBER.fullmatch(word) and int(word) <= GREATEST for word in streams),
+         "SEED and STREAM are numbers up to 2^64 - 1")
+    found = past_of(words.psi, path, *map(int, streams), words.new_words)
+    need(words.queue is None or words.queue in found.queues, f"{path}: there is no queue {words.queue}")
+    if words.queue is not None:
+        return found, found.queues.index(words.queue)
+    return found, 0 if len(found.queues) == 1 else None
+
+
 # What reads the files of a command, and what draws it: matplotlib is wanted only for that.
-DRAWN = {"coupling": coupling, "report": reports, "exact": exact, "forward": forward}
+DRAWN = {
+    "coupling": coupling, "report": reports, "exact": exact, "forward": forward, "past": past, "network": network,
+}
 
 
 def draw(words):

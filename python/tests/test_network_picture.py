@@ -1,0 +1,173 @@
+"""psi-plot network: the picture has what the file has, nothing is cut off, and names are only names."""
+
+import itertools
+import os
+import pathlib
+import subprocess
+import sys
+import tomllib
+import xml.etree.ElementTree
+
+import pytest
+from conftest import TOP
+
+from psi_tools.networks import Network
+from psi_tools.plotting import style
+from psi_tools.plotting.draw_network import MOST_SERVERS, draw_network
+from psi_tools.plotting.network_folding import folded
+from psi_tools.plotting.network_layout import laid_out, size_of
+from psi_tools.plotting.network_scene import NetworkPicture, Node, scene_of
+
+GALLERY = sorted((TOP / "examples").glob("*.toml"))
+SVG = "{http://www.w3.org/2000/svg}"
+SERVING = "service", "index", "negative", "fork"
+
+
+def names_in(value):
+    return [value] if isinstance(value, str) else value or []
+
+
+def line_of(count):
+    """A line of queues with blocking."""
+    net = Network()
+    for place in range(count):
+        net.queue(f"queue-{place}", capacity=5 + place, servers=1 + place % 5)
+    net.event("come", "arrival", 3, to=["queue-0"])
+    for place in range(count - 1):
+        net.event(f"serve-{place}", "service", 4, f"queue-{place}", [f"queue-{place + 1}"], full="stay")
+    return net.event("leave", "service", 4, f"queue-{count - 1}")
+
+
+def drawn(net, **more):
+    """The figure of a network, and the ids of the elements of its SVG."""
+    figure = draw_network(NetworkPicture(net, "title", **more))
+    root = xml.etree.ElementTree.fromstring(style.saved(figure, "svg"))
+    return figure, [each.get("id", "") for each in root.iter(f"{SVG}g")], root
+
+
+def counted(ids, kind):
+    """How many elements have an id of this kind, without what belongs to another."""
+    return sum(each.startswith(f"{kind}-") and not each.endswith(("-head", "-blocks")) for each in ids)
+
+
+def expected_arrows(event):
+    """How many arrows an event of a file has, by its kind: those of its customers, and that of the lost."""
+    to, sources, kind = names_in(event.get("to")), names_in(event.get("from")), event["kind"]
+    stays = event.get("full") == "stay"
+    if kind in ("arrival", "batch"):
+        return len(to) + 1
+    if kind == "service":
+        return len(to) + (not stays) if to else 1
+    if kind == "index":
+        return 1 + len(to) + (not (stays and sources))
+    if kind == "fork":
+        return 1 + len(to) + (not sources)
+    if kind == "join":
+        return len(sources) + 1
+    return 1 if kind == "negative" else len(event["part"])
+
+
+@pytest.mark.parametrize("path", GALLERY, ids=lambda path: path.stem)
+def test_the_picture_has_what_the_file_has(path):
+    """As many queues, servers and arrows as the file has, in every network of the gallery."""
+    table = tomllib.loads(path.read_text())
+    _, ids, _ = drawn(Network.read(path))
+    assert counted(ids, "queue") == len(table["queue"])
+    served = {name for event in table["event"] if event["kind"] in SERVING for name in names_in(event.get("from"))}
+    servers = [queue.get("servers", 1) for queue in table["queue"] if queue["name"] in served]
+    assert counted(ids, "server") == sum(count if count <= MOST_SERVERS else 1 for count in servers)
+    assert counted(ids, "arrow") == sum(map(expected_arrows, table["event"]))
+    for kind, word in (("bar", ("fork", "join")), ("choice", ("index",)), ("guard", ("guarded",))):
+        assert counted(ids, kind) == sum(event["kind"] in word for event in table["event"])
+
+
+@pytest.mark.parametrize("path", GALLERY, ids=lambda path: path.stem)
+def test_blocking_is_marked_at_the_source(path):
+    """A service that stays where its target is full has a double bar at its first arrow, and no other has."""
+    events = tomllib.loads(path.read_text())["event"]
+    stays = sum(event.get("full") == "stay" for event in events if event["kind"] in ("service", "index"))
+    stays += sum(bool(event.get("from")) for event in events if event["kind"] == "fork")
+    stays += sum(len(event["from"]) for event in events if event["kind"] == "join" and event.get("to"))
+    _, ids, _ = drawn(Network.read(path))
+    assert sum(each.endswith("-blocks") for each in ids) == 2 * stays
+
+
+@pytest.mark.parametrize("net", [line_of(32), *map(Network.read, GALLERY)], ids=["line", *[it.stem for it in GALLERY]])
+def test_no_text_is_cut_off(net):
+    """Each text is within the picture."""
+    figure, _, _ = drawn(net, with_legend=True, with_tables=True)
+    figure.canvas.draw()
+    whole = figure.bbox
+    for text in figure.axes[0].texts:
+        box = text.get_window_extent()
+        assert whole.x0 <= box.x0 and box.x1 <= whole.x1, text.get_text()
+        assert whole.y0 <= box.y0 and box.y1 <= whole.y1, text.get_text()
+
+
+def test_a_long_line_is_folded():
+    """A line of 32 queues takes several rows, none of its nodes covers another, and none is lost."""
+    net = line_of(32)
+    scene = scene_of(net)
+    layout = folded(laid_out(scene), scene)
+    assert layout.size[0] < 3 * layout.size[1]
+    boxes = []
+    for node in scene.nodes:
+        (across, up), (width, height) = layout.centres[node.key], size_of(node)
+        boxes.append((across - width / 2, across + width / 2, up - height / 2, up + height / 2))
+    for one, two in itertools.combinations(boxes, 2):
+        assert one[1] <= two[0] or two[1] <= one[0] or one[3] <= two[2] or two[3] <= one[2]
+    assert scene.count(Node.QUEUE) == 32
+
+
+def test_names_are_only_names():
+    """A name that looks like markup, a formula or a command of the layout stays text."""
+    names = "<script>alert(1)</script>", '"]; evil [label="', "$\\frac{1}{0}$", "a\\nb\\", "&amp;"
+    net = Network()
+    for name in names:
+        net.queue(name, 2)
+        net.event(name, "service", 1, name, [])
+    _, ids, root = drawn(net, with_legend=True)
+    assert counted(ids, "queue") == len(names) and counted(ids, "arrow") == len(names)
+    assert not [each for each in root.iter() if each.tag.rpartition("}")[2] == "script"]
+
+
+def test_tables_are_drawn_on_demand():
+    """The tables of a choice by an index stand below the picture where they are asked for."""
+    net = Network.read(TOP / "examples/shortest-queue.toml")
+    texts = [text.get_text() for text in drawn(net, with_tables=True)[0].axes[0].texts]
+    assert "come, index of left: 0, 1, 2, 3, 4" in texts
+    assert not [text for text in drawn(net)[0].axes[0].texts if "index of" in text.get_text()]
+
+
+def test_the_command_draws_each_format(tool, tmp_path):
+    """The command draws SVG, PNG and PDF, the same bytes for the same network."""
+    net = TOP / "examples/overflow.toml"
+    for form, head in (("svg", b"<?xml"), ("png", b"\x89PNG"), ("pdf", b"%PDF")):
+        for name in (f"one.{form}", f"two.{form}"):
+            assert tool("psi-plot", "network", net, "--legend", "-o", name) == (0, "", "")
+        data = (tmp_path / f"one.{form}").read_bytes()
+        assert data.startswith(head) and data == (tmp_path / f"two.{form}").read_bytes()
+
+
+def test_what_psi_refuses_is_not_drawn(tool, tmp_path):
+    """A network that psi refuses is refused by name, and nothing is written."""
+    (tmp_path / "bad.toml").write_text("version = 1\n[[queue]]\nname = 'a'\ncapacity = 0\n")
+    status, out, err = tool("psi-plot", "network", "bad.toml", "-o", "bad.svg")
+    assert status == 2 and out == "" and "bad.toml" in err and err.count("\n") == 1
+    assert not (tmp_path / "bad.svg").exists()
+
+
+def test_options_of_another_picture_are_refused(tool):
+    """--legend belongs to networks alone."""
+    status, _, err = tool("psi-plot", "exact", "none", "--legend", "-o", "x.svg")
+    assert status == 2 and "--legend" in err
+
+
+def test_without_graphviz_one_line_says_so(tmp_path):
+    """Where `dot` is missing, one line names the package, and the status is 1."""
+    call = "from psi_tools.plotting.network_layout import laid_out; from psi_tools.plotting.network_scene import Scene\n"
+    call += "from psi_tools.told import Told\ntry:\n    laid_out(Scene([], []))\nexcept Told as told:\n    print(told.status, told)"
+    place = {**os.environ, "PATH": str(tmp_path), "PYTHONPATH": str(TOP / "python")}
+    done = subprocess.run([sys.executable, "-c", call], env=place, capture_output=True, text=True, check=True)
+    assert done.stdout == "1 a picture of a network needs graphviz: tools/setup graphviz\n"
+    assert pathlib.Path(sys.executable).is_absolute()

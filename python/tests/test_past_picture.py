@@ -1,0 +1,109 @@
+"""psi-plot past: the runs are those of a plain walk, end as psi says, and the picture shows each of them."""
+
+import tomllib
+import xml.etree.ElementTree
+
+import pytest
+from conftest import TOP
+from plain_network import Network as Plain
+
+from psi_tools.networks import Network
+from psi_tools.past import Follower, past_of
+from psi_tools.plotting import style
+from psi_tools.plotting.draw_past import draw_past
+from psi_tools.plotting.refused import Refused
+
+SVG = "{http://www.w3.org/2000/svg}"
+SMALL = "first", "single-server", "tandem-blocking", "fork-join", "longest-queue", "reset"
+
+
+def path_of(name):
+    return str(TOP / f"examples/{name}.toml")
+
+
+@pytest.mark.parametrize("name", SMALL)
+def test_runs_end_where_psi_says(program, name):
+    """Each run but the last leaves several states, and the last one is psi's sample (compared inside, too)."""
+    for stream in range(3):
+        past = past_of(program, path_of(name), 7, stream)
+        assert [run.horizon for run in past.runs] == [1 << power for power in range(len(past.runs))]
+        assert [run.has_coalesced for run in past.runs] == [False] * (len(past.runs) - 1) + [True]
+        assert len(past.events) == past.runs[-1].horizon
+
+
+@pytest.mark.parametrize("name", SMALL)
+def test_runs_are_those_of_a_plain_walk(name):
+    """A run's paths are a walk by the plain program's events, and a longer run ends with a shorter one's events."""
+    table = tomllib.loads((TOP / f"examples/{name}.toml").read_text())
+    plain, follower = Plain(table), Follower(table)
+    run = follower.run(5, 11, 8)
+    events = [plain.events[number] if number < len(plain.events) else None
+              for number in (follower.net.event_of(5, 11, time) for time in range(8, 0, -1))]
+    for path in run.paths:
+        state = path[0]
+        for event, after in zip(events, path[1:]):
+            state = tuple(event.after(state)) if event else state
+            assert state == after
+    assert len(run.paths) == len({path[0] for path in run.paths})
+
+
+def test_a_large_network_is_followed_by_regions(program, tmp_path):
+    """Where there are too many paths, bounds are drawn, which hold those of a smaller split number."""
+    text = (TOP / "examples/tandem-blocking.toml").read_text().replace("capacity = 4", "capacity = 40")
+    (tmp_path / "large.toml").write_text(text)
+    past = past_of(program, str(tmp_path / "large.toml"), 0, 0)
+    assert past.runs[-1].has_coalesced and past.runs[0].paths is None
+    assert all(low <= high for run in past.runs for one, two in zip(run.low, run.high) for low, high in zip(one, two))
+
+
+def test_a_region_may_hold_more_than_the_paths(program):
+    """With a small split number the paths coalesce before the region does, and the picture says both."""
+    past = past_of(program, path_of("longest-queue"), 7, 0)
+    wide = [run for run in past.runs if len({path[-1] for path in run.paths}) == 1 < run.counts[-1]]
+    assert wide and all(
+        low <= number <= high
+        for run in past.runs for path in run.paths
+        for state, *ends in zip(path, run.low, run.high) for number, low, high in zip(state, *ends)
+    )
+    texts = [text.get_text() for axes in draw_past((past, None), "").figure.axes for text in axes.texts]
+    assert any("1 state left,\n" in text and "in the region" in text for text in texts)
+
+
+def test_new_words_differ_from_run_to_run(program):
+    """The wrong way draws each run from another stream; the right one keeps the words."""
+    right, wrong = (past_of(program, path_of("single-server"), 0, 1, new) for new in (False, True))
+    assert right.has_new_words is False and wrong.has_new_words is True
+    follower = Follower(tomllib.loads((TOP / "examples/single-server.toml").read_text()))
+    assert wrong.runs[1] == follower.run(0, 2, 2) and right.runs[1] == follower.run(0, 1, 2)
+
+
+def test_each_run_has_a_row(program):
+    """The picture has a band and an end for each run, paths where they are drawn, and says how each one ends."""
+    past = past_of(program, path_of("tandem-blocking"), 0, 0)
+    figure = draw_past((past, None), "")
+    root = xml.etree.ElementTree.fromstring(style.saved(figure, "svg"))
+    ids = [each.get("id", "") for each in root.iter(f"{SVG}g")]
+    assert all(ids.count(kind) == len(past.runs) for kind in ("band", "end", "paths"))
+    texts = [text.get_text() for axes in figure.axes for text in axes.texts]
+    assert "64 steps:\ncoalesced in\n3,2,1" in texts and "32 steps:\n2 states left" in texts
+
+
+def test_the_command_draws_and_refuses(tool, tmp_path):
+    """The command draws a queue; wrong arguments are refused by one line with status 2."""
+    words = "psi-plot", "past", path_of("tandem-blocking"), "0", "0"
+    assert tool(*words, "--queue", "drill", "-o", "past.svg") == (0, "", "")
+    assert (tmp_path / "past.svg").read_bytes().startswith(b"<?xml")
+    for bad in ([*words[:-1], "-o", "x.svg"], [*words, "--queue", "none", "-o", "x.svg"], [*words[:-1], "1.5", "-o", "x.svg"]):
+        status, out, err = tool(*bad)
+        assert (status, out, err.count("\n")) == (2, "", 1)
+    assert not (tmp_path / "x.svg").exists()
+
+
+def test_a_network_that_does_not_coalesce_is_refused(program, tmp_path):
+    """Longer runs than can be drawn are refused by name."""
+    ring = Network().queue("a", 2).queue("b", 2)
+    ring.event("there", "service", 1, "a", ["b"], full="stay").event("back", "service", 1, "b", ["a"], full="stay")
+    text = ring.toml()
+    (tmp_path / "never.toml").write_text(text)
+    with pytest.raises(Refused, match="4,096 steps"):
+        past_of(program, str(tmp_path / "never.toml"), 0, 0)
