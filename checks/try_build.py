@@ -1,13 +1,11 @@
 #!/usr/bin/env python3
 """try_build.py
 
-Tries how `./psi` builds, in seconds and without proving anything. A copy of the toolchain's command
-`rt`, which only notes its calls, stands on the PATH in a temporary folder, once as it is and once
-with its private names taken away: what the build needs of `rt` are the commands `version`, `lib` and
-`run`. It compares
+Tries how `./psi` builds, in seconds and without proving anything. The toolchain's command `rt` is a
+script in a temporary folder on the PATH that notes its calls and answers `version`, `lib` and `run`
+alone, so the build has none of the private names of the toolchain's modules. It compares
 
-- the crates that are proved: all that crates.txt has below the program, each after those below it,
-  and the same ones with both copies;
+- the crates that are proved: all that crates.txt has below the program, each after those below it;
 - progress on standard error, and a note where the logic of the toolchain is another one;
 - later builds: none where nothing has changed, and else the changed crate and those above it;
 - the end where a proof fails or is killed;
@@ -22,7 +20,6 @@ import os
 import pathlib
 import random
 import re
-import shutil
 import subprocess
 import sys
 import tempfile
@@ -35,80 +32,52 @@ from crates import Crates  # noqa: E402
 from schedule import Costs, Pace, Schedule  # noqa: E402
 from try_psi import Tried, checkout  # noqa: E402
 
-# The names of `rt` and of rtlib.py, the modules of the toolchain's command, that a script which
-# imports them could use.
-PRIVATE = (
-    "share_work", "in_lanes", "processors", "need", "offer", "guarded", "root_above", "lock",
-    "stop_on_links", "stop_on_text", "build_rlib", "is_built", "below", "count",
-)
-# What the copy does in place of a proof. Its calls come to a file, a line each.
-RECORDER = r'''
-import os, pathlib, signal, sys, time
-
-def note(*words):
-    with open(os.environ["RT_CALLS"], "a") as file:
-        print(*words, file=file)
-
-verb, here = sys.argv[1], pathlib.Path.cwd()
-if verb == "version":
-    print(os.environ["RT_KIT"])
-elif verb in ("lib", "run"):
-    note("begin", here.name, *sys.argv[2:])
-    time.sleep(0.02)
-    killed = pathlib.Path(os.environ["RT_CALLS"] + ".killed")
-    if here.name == os.environ.get("RT_KILLED") and not killed.exists():
-        killed.touch()
-        os.kill(os.getpid(), signal.SIGKILL)
-    if here.name == os.environ.get("RT_FAILS"):
-        sys.exit(1)
-    made = here / "out" / ("psi" if verb == "run" else f"rlib/{here.name}.rlib/format")
-    made.parent.mkdir(parents=True, exist_ok=True)
-    made.write_text(f"{time.monotonic_ns()}\n")
-    made.chmod(0o755)
-    note("end", here.name)
-    print("psi: usage word 1" if verb == "run" else "proved")
-    sys.exit(2 if verb == "run" else 0)
-else:
-    sys.exit(f"no stand-in for rt {verb}")
-'''
+# What stands for `rt`. Its calls come to a file, a line each.
+STAND_IN = """#!/bin/sh
+here=${PWD##*/}
+case $1 in
+version) echo "$RT_KIT" && exit ;;
+lib | run) echo "begin $here $*" >>"$RT_CALLS" ;;
+*) echo "no stand-in for rt $1" >&2 && exit 2 ;;
+esac
+if [ "$here" = "$RT_KILLED" ] && [ ! -e "$RT_CALLS.killed" ]; then
+    : >"$RT_CALLS.killed"
+    kill -9 $$
+fi
+[ "$here" != "$RT_FAILS" ] || exit 1
+made=out/rlib/$here.rlib/format
+[ "$1" = lib ] || made=out/psi
+rm -rf out/rlib
+mkdir -p "${made%/*}"
+echo "$here" >"$made"
+chmod 755 "$made"
+echo "end $here" >>"$RT_CALLS"
+[ "$1" = lib ] || { echo "psi: usage word 1" && exit 2; }
+"""
 # How much the proof of one crate may be off the listed time on a machine, beside its speed.
 LUCK = 0.88, 1.14
 # Machines: how many processors they have, and how much longer they take.
 MACHINES = (2, 0.6), (4, 0.6), (2, 1), (4, 1), (4, 1), (2, 2.5), (4, 2.5), (4, 2.5)
-START = 'if __name__ == "__main__":'
 SHOWN = 200
 KIT = "a-kit logic dac8208d650f15bf"
-
-
-def stand_in(folder, is_bare):
-    """Makes a copy of `rt` that notes its calls; a bare one has no private names."""
-    folder.mkdir()
-    own = pathlib.Path(os.path.realpath(shutil.which("rt")))
-    for file in (own, own.with_name("rtlib.py")):
-        text = file.read_text() if file.is_file() else "#!/usr/bin/env python3\n"
-        if is_bare:
-            text = re.sub(rf"\b({'|'.join(PRIVATE)})\b", r"gone_\1", text)
-        if file == own:
-            text = text.partition(START)[0] + START + RECORDER.replace("\n", "\n    ") + "\n"
-        (folder / file.name).write_text(text)
-    (folder / "rt").chmod(0o755)
 
 
 class Trial:
     """A checkout, in which `./psi --build` is called with a stand-in for `rt`."""
 
-    def __init__(self, room, is_bare):
-        self.room = room / ("bare" if is_bare else "whole")
-        self.room.mkdir()
-        stand_in(self.room / "bin", is_bare)
-        self.top, self.calls = checkout(self.room), self.room / "calls"
+    def __init__(self, room):
+        self.room, self.calls, self.top = room, room / "calls", checkout(room)
+        (room / "bin").mkdir()
+        (room / "bin/rt").write_text(STAND_IN)
+        (room / "bin/rt").chmod(0o755)
         self.crates = Crates(self.top, "psi")
 
     def build(self, kit=KIT, **more):
         """Returns the status, the lines of standard error, and the noted calls of a build."""
         self.calls.write_text("")
         path = f"{self.room / 'bin'}:{os.environ['PATH']}"
-        environment = {**os.environ, "PATH": path, "RT_CALLS": str(self.calls), "RT_KIT": kit, **more}
+        own = {"RT_CALLS": str(self.calls), "RT_KIT": kit, "RT_KILLED": "", "RT_FAILS": ""}
+        environment = {**os.environ, "PATH": path, **own, **more}
         done = subprocess.run(
             [str(self.top / "psi"), "--build"], stdin=subprocess.DEVNULL, capture_output=True,
             text=True, env=environment,
@@ -122,11 +91,19 @@ def begun(calls):
     return [words[1] for words in calls if words[0] == "begin"]
 
 
-def rows_above(text, names):
-    """The crates of crates.txt that stand on one of some crates, and these, by a plain reading."""
+def uses_of(text):
+    """What each crate of crates.txt uses, by a plain reading."""
     rows = [line.partition("#")[0].partition(":") for line in text.splitlines()]
-    uses = {name.split()[0]: used.split() for name, _, used in rows if name.strip()}
-    found = {*names}
+    return {name.split()[0]: used.split() for name, _, used in rows if name.strip()}
+
+
+def names_of(text):
+    return [*uses_of(text)]
+
+
+def rows_above(text, names):
+    """The crates of crates.txt that stand on one of some crates, and these."""
+    uses, found = uses_of(text), {*names}
     while more := {name for name, used in uses.items() if found & {*used}} - found:
         found |= more
     return found
@@ -137,7 +114,7 @@ def try_first(tried, trial):
     status, out, said, calls = trial.build()
     tried.hold((status, out) == (0, ""), f"a build ends with {status} {out} {said}")
     text = (trial.top / "crates.txt").read_text()
-    wanted = {it for it in rows_above(text, []) | {*trial.crates.names} if "psi" in rows_above(text, [it])}
+    wanted = [name for name in names_of(text) if "psi" in rows_above(text, [name])]
     tried.hold(sorted(begun(calls)) == sorted(wanted), f"it proves {begun(calls)}")
     ended = set()
     for what, name, *_ in calls:
@@ -151,7 +128,6 @@ def try_first(tried, trial):
     tried.hold(f"proving {len(wanted)} crates" in " ".join(said), f"it says {said[:3]}")
     tried.hold(not any("logic" in line for line in said), "it says that the toolchain is another")
     tried.hold(not (trial.top / "crates/psi/out/lanes").exists(), "it leaves its lanes")
-    return {*begun(calls)}
 
 
 def try_later(tried, trial):
@@ -190,20 +166,22 @@ def try_failures(tried, trial):
 def played(schedule, true_seconds):
     """Plays a build through, and returns its length and, for each moment at which progress is told,
     the seconds until then and the time left that would be told."""
-    waiting, done, running, told = [*schedule.crates.names], set(), {}, []
+    waiting, done, jobs, so_far, told = [*schedule.crates.names], set(), {}, {}, []
     pace, clock, tick = Pace(schedule.costs), 0.0, 60
-    while waiting or running:
-        while found := schedule.next(waiting, done, {it: jobs for it, (jobs, _) in running.items()}):
+    while waiting or jobs:
+        while found := schedule.next(waiting, done, jobs):
             waiting.remove(found[0])
-            running[found[0]] = found[1], clock
-        ends = {it: begin + true_seconds(it, jobs) for it, (jobs, begin) in running.items()}
-        first = min(ends, key=ends.get)
-        clock, is_end = min((ends[first], True), (clock + tick, False))
-        if is_end:
-            jobs, begin = running.pop(first)
+            jobs[found[0]], so_far[found[0]] = found[1], 0
+        rate = schedule.rate(jobs)
+        rests = {it: (true_seconds(it, jobs[it]) - so_far[it]) / rate for it in jobs}
+        first = min(rests, key=rests.get)
+        took = min(rests[first], tick)
+        clock += took
+        so_far = {it: so_far[it] + took * rate for it in jobs}
+        if took == rests[first]:
+            pace.add(first, jobs.pop(first), so_far[first])
             done.add(first)
-            pace.add(first, jobs, clock - begin)
-        state = {it: (jobs, clock - begin) for it, (jobs, begin) in running.items()}
+        state = {it: (jobs[it], so_far[it]) for it in jobs}
         told.append((clock, schedule.left(waiting, done, state, pace.value(state))))
     return clock, told
 
@@ -228,18 +206,11 @@ def try_time_left(tried):
 
 
 def main():
-    if not shutil.which("rt"):
-        print("try_build.py: the command rt isn't on the PATH", file=sys.stderr)
-        return 2
     tried = Tried()
     with tempfile.TemporaryDirectory(prefix="try-build-") as name:
-        proved = []
-        for is_bare in (False, True):
-            trial = Trial(pathlib.Path(name), is_bare)
-            proved.append(try_first(tried, trial))
-            try_later(tried, trial)
-            try_failures(tried, trial)
-        tried.hold(proved[0] == proved[1], "without private names it proves others")
+        trial = Trial(pathlib.Path(name))
+        for part in (try_first, try_later, try_failures):
+            part(tried, trial)
     try_time_left(tried)
     print(f"{tried.count} things looked at, {tried.wrong} wrong")
     return 1 if tried.wrong else 0

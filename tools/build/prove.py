@@ -100,9 +100,17 @@ class Build:
         self.whole, self.running, self.failed = len(self.waiting), {}, []
         self.idle, self.lanes, self.ended = [], [], queue.SimpleQueue()
         self.pace, self.begun = Pace(schedule.costs), time.monotonic()
+        self.noted = self.begun
 
     def jobs(self):
         return {name: jobs for name, (jobs, _) in self.running.items()}
+
+    def note(self):
+        """Notes what the crates under way have taken since this was noted, as they would at full
+        speed."""
+        now = time.monotonic()
+        took, self.noted = (now - self.noted) * self.schedule.rate(self.jobs()), now
+        self.running = {name: (jobs, it + took) for name, (jobs, it) in self.running.items()}
 
     def start(self, name, jobs, work):
         """Begins the proof of a crate in a lane of its own; `work` does it."""
@@ -111,7 +119,7 @@ class Build:
             self.idle.append(self.lanes[-1])
         lane = self.idle.pop()
         self.waiting.remove(name)
-        self.running[name] = jobs, time.monotonic()
+        self.running[name] = jobs, 0
 
         def run():
             status = 1
@@ -125,8 +133,7 @@ class Build:
     def end(self, name, lane, status):
         """Notes that a proof is over. One that was ended from outside, most likely for want of
         memory, is tried again by itself."""
-        jobs, begun = self.running.pop(name)
-        took = time.monotonic() - begun
+        jobs, took = self.running.pop(name)
         self.idle.append(lane)
         if status == 0:
             self.done.add(name)
@@ -146,17 +153,19 @@ class Build:
                 self.start(*found, work)
             if not self.running:
                 break
+            ended = None
             with contextlib.suppress(queue.Empty):
-                self.end(*self.ended.get(timeout=TICK))
+                ended = self.ended.get(timeout=TICK)
+            self.note()
+            if ended:
+                self.end(*ended)
             self.say()
         return not self.waiting and not self.failed
 
     def left(self):
         """Returns about how many seconds are left."""
-        now = time.monotonic()
-        running = {name: (jobs, now - begun) for name, (jobs, begun) in self.running.items()}
-        pace = self.pace.value(running)
-        return self.schedule.left(self.waiting, self.done, running, pace)
+        pace = self.pace.value(self.running)
+        return self.schedule.left(self.waiting, self.done, self.running, pace)
 
     def say(self):
         """Tells how far it is."""

@@ -10,6 +10,9 @@ MOST_JOBS = 4
 SECONDS_A_LINE, GAIN, MEMORY = 0.2, 1.5, 1_600
 # How much more memory each job beside the first one takes, as a share.
 JOB_SHARE = 0.5
+# The part of an even share of the rest from which on a chain decides when all is over, and how many
+# processors are idle where one more crate is started.
+DECIDES, LEAST_IDLE = 0.6, 0.2
 # The part of its own time so far that a crate is taken to need still when its time is over.
 OVERDUE = 0.15
 
@@ -44,8 +47,11 @@ class Costs:
 
 
 class Schedule:
-    """Starts crates on the longest chain first, each once those below it are proved, and gives
-    processors that no other crate can use to those that run."""
+    """Starts crates on the longest chain first, each once those below it are proved.
+
+    A crate with several jobs uses as many processors on average as it gets faster by them. So more
+    crates are started until all processors are in use; a crate on a chain that decides when all is
+    over gets several jobs, and so does one beside which nothing else can be started."""
 
     def __init__(self, crates, costs, processors, memory):
         """`processors` is how many may be used, `memory` how many MB."""
@@ -57,39 +63,66 @@ class Schedule:
             for below in crates.uses[name]:
                 self.behind[below] = max(self.behind[below], self.behind[name])
 
+    def speed(self, name, jobs):
+        """Returns how much faster a crate is with so many jobs."""
+        return self.costs.seconds(name, 1) / self.costs.seconds(name, jobs)
+
+    def used(self, running):
+        """Returns how many processors some crates use on average; `running` has their jobs."""
+        return sum(self.speed(name, jobs) for name, jobs in running.items())
+
+    def rate(self, running):
+        """Returns the part of their speed that crates have which share the processors."""
+        return min(1, self.processors / max(1, self.used(running)))
+
     def ready(self, waiting, done):
         """Returns the crates that can be started, the longest chain first."""
         found = [name for name in waiting if done.issuperset(self.crates.uses[name])]
         return sorted(found, key=lambda name: -self.behind[name])
 
+    def jobs_of(self, name, share, waiting):
+        """Returns how many jobs a crate gets that may use a share of the processors."""
+        most = min(MOST_JOBS, self.processors)
+        rest = sum(self.costs.seconds(it, 1) for it in waiting) / self.processors
+        if self.behind[name] / self.speed(name, most) < DECIDES * rest:
+            most = max([1, *(it for it in range(2, most + 1) if self.speed(name, it) <= share)])
+        while most > 1 and self.costs.memory(name, most) > self.memory / 3:
+            most -= 1
+        return most
+
     def next(self, waiting, done, running):
         """Returns the crate to start now and its jobs, or none. `running` has the jobs of those
         under way."""
         ready = self.ready(waiting, done)
-        idle = self.processors - sum(running.values())
-        if not ready or idle <= 0:
+        idle = self.processors - self.used(running)
+        if not ready or running and idle < LEAST_IDLE:
             return None
         taken = sum(self.costs.memory(*it) for it in running.items())
         for place, name in enumerate(ready):
-            for jobs in range(max(1, min(MOST_JOBS, idle // (len(ready) - place))), 0, -1):
-                if taken + self.costs.memory(name, jobs) <= self.memory:
-                    return name, jobs
+            jobs = self.jobs_of(name, idle / (len(ready) - place), waiting)
+            if taken + self.costs.memory(name, jobs) <= self.memory:
+                return name, jobs
         return None if running else (ready[0], 1)
 
     def left(self, waiting, done, running, pace):
         """Returns about how many seconds the rest takes, by playing it through. `running` has jobs
-        and seconds so far."""
-        clock, waiting, done, ends = 0, set(waiting), set(done), {}
-        for name, (jobs, so_far) in running.items():
-            rest = pace * self.costs.seconds(name, jobs) - so_far
-            ends[name] = max(rest, OVERDUE * so_far), jobs
-        while waiting or ends:
-            while found := self.next(waiting, done, {name: it[1] for name, it in ends.items()}):
-                name, jobs = found
+        and the seconds so far at full speed."""
+        clock, waiting, done = 0, set(waiting), set(done)
+        jobs = {name: it for name, (it, _) in running.items()}
+        rest = {
+            name: max(pace * self.costs.seconds(name, it) - so_far, OVERDUE * so_far)
+            for name, (it, so_far) in running.items()
+        }
+        while waiting or rest:
+            while found := self.next(waiting, done, jobs):
+                name, jobs[found[0]] = found
                 waiting.discard(name)
-                ends[name] = clock + pace * self.costs.seconds(name, jobs), jobs
-            name = min(ends, key=lambda it: ends[it][0])
-            clock = ends.pop(name)[0]
+                rest[name] = pace * self.costs.seconds(*found)
+            name, rate = min(rest, key=rest.get), self.rate(jobs)
+            took = rest.pop(name)
+            clock += took / rate
+            rest = {other: it - took for other, it in rest.items()}
+            del jobs[name]
             done.add(name)
         return clock
 
@@ -104,7 +137,7 @@ class Pace:
         self.costs, self.took, self.listed = costs, self.PRIOR, self.PRIOR
 
     def add(self, name, jobs, seconds):
-        """Notes what a crate took."""
+        """Notes what a crate took at full speed."""
         self.took += seconds
         self.listed += self.costs.seconds(name, jobs)
 
