@@ -11,6 +11,7 @@ import hashlib
 import os
 import shutil
 import subprocess
+import tempfile
 
 # What `rt` keeps for the next check of the same crate. No crate above reads it.
 KEPT = "incremental"
@@ -24,6 +25,17 @@ def link(source, target):
         os.link(source, target)
     except OSError:
         shutil.copy2(source, target)
+
+
+def has_links(folder):
+    """Returns whether a file of a folder can have a second name."""
+    with tempfile.NamedTemporaryFile(dir=folder) as file:
+        try:
+            os.link(file.name, f"{file.name}.link")
+        except OSError:
+            return False
+        os.unlink(f"{file.name}.link")
+        return True
 
 
 def link_tree(source, target, *left_out):

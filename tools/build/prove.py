@@ -26,7 +26,7 @@ import threading
 import time
 
 from crates import Crates
-from lanes import Lane, Marks
+from lanes import Lane, Marks, has_links
 from schedule import Costs, Pace, Schedule
 
 sys.dont_write_bytecode = True
@@ -66,7 +66,8 @@ def processors():
 def memory():
     """Returns how many MB are free, under the limit of the control group."""
     found = number_in("/proc/meminfo", r"MemAvailable:\s+(\d+)") // 1024
-    limit, held = number_in("/sys/fs/cgroup/memory.max"), number_in("/sys/fs/cgroup/memory.current")
+    group = "/sys/fs/cgroup/memory"
+    limit, held = number_in(f"{group}.max"), number_in(f"{group}.stat", r"anon (\d+)")
     return min(found, (limit - held) >> 20) if limit and held else found
 
 
@@ -225,7 +226,9 @@ def build(cpu, room):
         tell(f"the toolchain is {name or 'unknown'}; PSI was tried with logic {LOGIC} alone")
     crates = Crates(TOP, PROGRAM)
     costs = Costs((HERE / "seconds.txt").read_text(), lines_of(crates))
-    schedule = Schedule(crates, costs, processors(), memory())
+    # Copies in the place of links would fill the disk, so there is only one.
+    most = None if has_links(room.parent) else 1
+    schedule = Schedule(crates, costs, processors(), memory(), most)
     marks = Marks(crates, name)
     proof = Build(crates, schedule, lambda number: Lane(crates, room / str(number)), marks.has)
     work = Work(crates, marks, cpu)
@@ -240,7 +243,8 @@ def build(cpu, room):
 
 
 def main():
-    signal.signal(signal.SIGTERM, lambda *_: sys.exit(143))
+    for it in (signal.SIGTERM, signal.SIGHUP):
+        signal.signal(it, lambda number, _: sys.exit(128 + number))
     out = TOP / "crates" / PROGRAM / "out"
     room = out / "lanes"
     with open(out / "build.lock", "w") as lock:

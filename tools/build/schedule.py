@@ -53,9 +53,10 @@ class Schedule:
     crates are started until all processors are in use; a crate on a chain that decides when all is
     over gets several jobs, and so does one beside which nothing else can be started."""
 
-    def __init__(self, crates, costs, processors, memory):
-        """`processors` is how many may be used, `memory` how many MB."""
-        self.crates, self.costs = crates, costs
+    def __init__(self, crates, costs, processors, memory, most=None):
+        """`processors` is how many may be used, `memory` how many MB, and `most` how many crates
+        may be under way at a time, if that is bounded."""
+        self.crates, self.costs, self.most = crates, costs, most or len(crates.names)
         self.processors, self.memory = processors, memory
         self.behind = dict.fromkeys(crates.names, 0)
         for name in reversed(crates.names):
@@ -84,7 +85,7 @@ class Schedule:
         """Returns how many jobs a crate gets that may use a share of the processors."""
         most = min(MOST_JOBS, self.processors)
         rest = sum(self.costs.seconds(it, 1) for it in waiting) / self.processors
-        if self.behind[name] / self.speed(name, most) < DECIDES * rest:
+        if self.most > 1 and self.behind[name] / self.speed(name, most) < DECIDES * rest:
             most = max([1, *(it for it in range(2, most + 1) if self.speed(name, it) <= share)])
         while most > 1 and self.costs.memory(name, most) > self.memory / 3:
             most -= 1
@@ -95,7 +96,7 @@ class Schedule:
         under way."""
         ready = self.ready(waiting, done)
         idle = self.processors - self.used(running)
-        if not ready or running and idle < LEAST_IDLE:
+        if not ready or len(running) >= self.most or running and idle < LEAST_IDLE:
             return None
         taken = sum(self.costs.memory(*it) for it in running.items())
         for place, name in enumerate(ready):
