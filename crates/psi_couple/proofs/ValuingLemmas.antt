@@ -6,9 +6,12 @@ use Rattle.std.proofs.Common.{inl, inr, ap, sym, ◌∙◌, subst, arith}
 use Rattle.std.proofs.lemmas.Bool.{and_parts}
 use Rattle.std.proofs.lemmas.Bool.Decides.{Decides-int_eq}
 use Rattle.std.proofs.lemmas.Int.{ints, clamps}
+use Rattle.psi_state.specs.State.{Corners, box}
 use Rattle.psi_state.specs.Members.{In}
+use Rattle.psi_state.proofs.BoxesLemmas.{In-box}
 use Rattle.psi_state.proofs.MembersLemmas.{In-map}
 use Rattle.psi_reward.specs.Ranges.{least, greatest, IsReached}
+use Rattle.psi_region.specs.Followed.{AreEnds}
 use Rattle.psi_rate.specs.Composition.{compose, AreClosed}
 use Rattle.psi_rate.specs.Doubling.{HasNone, IsFirst}
 use Rattle.psi_rate.proofs.DoublingLemmas.{first_answer-found, first_answer-none}
@@ -97,6 +100,19 @@ pub common_value-two : (value : List ℕ → ℤ) (xs : List (List ℕ)) (low hi
     → None ≡ common_value value xs
 common_value-two value xs low high first last two =
     sym (common_value-apart value xs first.0 last.0 first.1 last.1 (λ tied. two (sym first.2 ∙ (tied ∙ last.2))))
+
+-- where the least and the greatest value between the ends of a list are one, it is the common value of the list
+pub ends-one : (value : List ℕ → ℤ) (b : Corners) (xs : List (List ℕ)) (low high : ℤ) → AreEnds b xs → low ≡ least (map value (box b.lo b.hi))
+    → high ≡ greatest (map value (box b.lo b.hi)) → low ≡ high → Some low ≡ common_value value xs
+ends-one value b xs low high ends first last one =
+    sym (common_value-same value low xs b.lo ends.low (λ x member.
+    (let here = ends.between x member in
+    let between = value-between value x (box b.lo b.hi) (In-box b.lo b.hi x here.low here.high) in
+    let under = between.0 in let over = between.1 in omega (arith, ints))))
+
+-- and where the ends have two values, there is none
+pub ends-two : (value : List ℕ → ℤ) (b : Corners) (xs : List (List ℕ)) → AreEnds b xs → (value b.lo ≡ value b.hi → ⊥) → None ≡ common_value value xs
+ends-two value b xs ends two = sym (common_value-apart value xs b.lo b.hi ends.low ends.high two)
 
 -- the states of a list by their places
 pub In-place : (xs : List (List ℕ)) (k : ℕ) (d : List ℕ) → k < length xs → In (slice_index_or xs k d) xs

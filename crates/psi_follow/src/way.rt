@@ -1,8 +1,8 @@
 //! The ways to follow a run.
 
-ghost use Rattle.std.specs.Prelude.{◌≡◌, length};
+ghost use Rattle.std.specs.Prelude.{◌≡◌, length, IfSome};
 ghost use Rattle.psi_event.specs.Numbers.{AreEvents};
-ghost use Rattle.psi_region.specs.Followed.{ending_of};
+ghost use Rattle.psi_region.specs.Followed.{AreEnds, states_of, ending_of};
 ghost use Rattle.psi_follow.specs.declared.way.Way.TheVariants.{Regions, Corners, Keyed, CornersInOne, CornersInTwo, CornersInThree, CornersInFour, SetsInOne, SetsInTwo, SetsInThree, SetsInFour};
 
 use psi_event::EventLaw;
@@ -10,7 +10,7 @@ use psi_keyed::KeyedCorners;
 use psi_packed::PackedCorners;
 use psi_packed_set::PackedSets;
 use psi_region::{Corners, Follower, Regions};
-use psi_state::State;
+use psi_state::{Bounds, State};
 
 /// A way to follow the runs of a network. No call takes memory.
 pub enum Way<'n, E: EventLaw> {
@@ -85,6 +85,22 @@ impl<'n, E: EventLaw> Follower for Way<'n, E> {
             Way::SetsInTwo(follower) => follower.ending(numbers),
             Way::SetsInThree(follower) => follower.ending(numbers),
             Way::SetsInFour(follower) => follower.ending(numbers),
+        }
+    }
+
+    fn ends(&mut self, numbers: &[u16]) -> Option<Bounds> {
+        match self {
+            Way::Regions(follower) => follower.ends(numbers),
+            Way::Corners(follower) => follower.ends(numbers),
+            Way::Keyed(follower) => follower.ends(numbers),
+            Way::CornersInOne(follower) => follower.ends(numbers),
+            Way::CornersInTwo(follower) => follower.ends(numbers),
+            Way::CornersInThree(follower) => follower.ends(numbers),
+            Way::CornersInFour(follower) => follower.ends(numbers),
+            Way::SetsInOne(follower) => follower.ends(numbers),
+            Way::SetsInTwo(follower) => follower.ends(numbers),
+            Way::SetsInThree(follower) => follower.ends(numbers),
+            Way::SetsInFour(follower) => follower.ends(numbers),
         }
     }
 }

@@ -1,9 +1,9 @@
 -- A region that is followed through the events of the numbers that are kept ends with the states of the run over all places.
-use Rattle.std.specs.Prelude.{◌≡◌, ℕ, zero, suc, ◌-◌, List, [], ◌∷◌, ◌++◌, length, slice_index_or, Bool, true, false, nat_le, if◌then◌else◌, Option, refl}
+use Rattle.std.specs.Prelude.{◌≡◌, ℕ, zero, suc, ◌-◌, List, [], ◌∷◌, ◌++◌, length, slice_index_or, Bool, true, false, nat_le, if◌then◌else◌, Option, Some, None, IfSome, refl}
 use Rattle.std.proofs.Common.{inl, inr, ap, sym, ◌∙◌, subst, arith}
 use Rattle.std.proofs.lemmas.Bool.{cases_lt, lt-ltb, le-ltb, or_parts, true≢false}
 use Rattle.std.proofs.lemmas.List.{get_or_past, append-nil}
-use Rattle.psi_state.specs.State.{IsBelow, box, zeros}
+use Rattle.psi_state.specs.State.{IsBelow, Corners, box, zeros}
 use Rattle.psi_state.specs.Sets.{image, single}
 use Rattle.psi_state.specs.Hull.{lows, highs, hull}
 use Rattle.psi_state.specs.Ascending.{IsRising}
@@ -17,10 +17,10 @@ use Rattle.psi_event.specs.Numbers.{AreEvents}
 use Rattle.psi_rate.specs.Rates.{event_of}
 use Rattle.psi_rate.specs.Composition.{function_at, picked, AreClosed}
 use Rattle.psi_region.specs.Region.{Area, start, splits, settled, next, step, IsArea}
-use Rattle.psi_region.specs.Followed.{follow_areas}
+use Rattle.psi_region.specs.Followed.{Followed, AreEnds, follow_areas, states_of}
 use Rattle.psi_region.proofs.FollowedLemmas.{follow_areas-append}
 use Rattle.psi_region.proofs.RegionLemmas.{start-area, step-area, step-split, step-box, image-length}
-use Rattle.psi_horizon.specs.Runs.{follow, ending_at}
+use Rattle.psi_horizon.specs.Runs.{follow, region_at, ending_at}
 use Rattle.psi_rate.specs.Numbers.{numbers_below}
 use Rattle.psi_rate.proofs.NumbersLemmas.{numbers-all}
 
@@ -116,11 +116,32 @@ numbers-events rates words t count numbers same is =
     subst (λ (ns : List ℕ). AreEvents count ns) (sym is)
     (subst (λ n. AreEvents n (numbers_below rates words t)) same (record { each = λ i small. numbers-all rates words t i 0 small }))
 
--- and with one state exactly where that run does
+-- and both end with the same states
+pub areas-states : (split : ℕ) (caps : List ℕ) (functions : List Function) (rates : List ℕ) (words : ℕ → ℕ) (t : ℕ) (numbers : List ℕ)
+    → length rates ≡ length functions → numbers ≡ numbers_below rates words t → AreClosed caps (function_at functions rates words)
+    → (follow_areas split functions numbers (start caps)).states ≡ (region_at split (function_at functions rates words) caps t).states
+areas-states split caps functions rates words t numbers same is closed =
+    ap (λ (ns : List ℕ). (follow_areas split functions ns (start caps)).states) is
+    ∙ sym (numbers-follow split caps functions rates words t (start caps) same closed (start-area caps) (start-boxed caps))
+
+-- so with one state exactly where the other does
 pub areas-ending : (split : ℕ) (caps : List ℕ) (functions : List Function) (rates : List ℕ) (words : ℕ → ℕ) (t : ℕ) (numbers : List ℕ) (o : Option (List ℕ))
     → length rates ≡ length functions → numbers ≡ numbers_below rates words t → AreClosed caps (function_at functions rates words)
     → o ≡ single (follow_areas split functions numbers (start caps)).states → o ≡ ending_at split (function_at functions rates words) caps t
 areas-ending split caps functions rates words t numbers o same is closed one =
-    one ∙ ap (λ (ns : List ℕ). single (follow_areas split functions ns (start caps)).states) is
-    ∙ ap (λ (xs : List (List ℕ)). single xs)
-    (sym (numbers-follow split caps functions rates words t (start caps) same closed (start-area caps) (start-boxed caps)))
+    one ∙ ap (λ (xs : List (List ℕ)). single xs) (areas-states split caps functions rates words t numbers same is closed)
+
+-- and with the same least and greatest state
+pub areas-ends : (split : ℕ) (caps : List ℕ) (functions : List Function) (rates : List ℕ) (words : ℕ → ℕ) (t : ℕ) (numbers : List ℕ) (n : Followed) (o : Option Corners)
+    → n ≡ record { caps = caps; functions = functions; split = split }
+    → length rates ≡ length functions → numbers ≡ numbers_below rates words t → AreClosed caps (function_at functions rates words)
+    → IfSome o (λ b. AreEnds b (states_of n numbers)) → IfSome o (λ b. AreEnds b (region_at split (function_at functions rates words) caps t).states)
+areas-ends split caps functions rates words t numbers n None network same is closed none = tt
+areas-ends split caps functions rates words t numbers n (Some b) network same is closed ends =
+    subst (λ (xs : List (List ℕ)). AreEnds b xs)
+    (ap (λ (m : Followed). states_of m numbers) network ∙ areas-states split caps functions rates words t numbers same is closed) ends
+
+-- which are within the capacities
+pub ends-within : (caps : List ℕ) (a : Area) (o : Option Corners) → IsArea caps a → IfSome o (λ b. AreEnds b a.states) → IfSome o (λ b. IsBelow b.hi caps)
+ends-within caps a None is none = tt
+ends-within caps a (Some b) is ends = is.within b.hi ends.high

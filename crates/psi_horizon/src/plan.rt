@@ -12,6 +12,7 @@ ghost use Rattle.psi_rate.specs.Composition.{system_functions};
 ghost use Rattle.psi_rate.specs.Outcomes.{outcome_within, IsOutcome};
 ghost use Rattle.psi_rate.specs.System.{IsSystem};
 ghost use Rattle.psi_region.specs.Region.{ShowsBox};
+ghost use Rattle.psi_region.specs.Followed.{AreEnds};
 ghost use Rattle.psi_horizon.specs.Runs.{region_at, ending_at, region_after, AreOrdered, AreExact};
 ghost use Rattle.psi_horizon.specs.Sample.{IsSample};
 ghost use Rattle.psi_horizon.specs.Planned.{IsOver, onward, network_of};
@@ -19,7 +20,7 @@ ghost use Rattle.psi_horizon.specs.contracts.plan.Plan.{the_row};
 ghost use mir.Syntax.{named};
 
 use crate::OutOfMemory;
-use crate::runs::{ending, follow_word};
+use crate::runs::{ending, ends, follow_word};
 use psi_event::EventLaw;
 use psi_past::{Past, Windowed};
 use psi_rate::{Answers, Numbers, System, first_answer_near, outcome_of};
@@ -200,6 +201,31 @@ impl<'n, E: EventLaw, P: Past + Drop, F: Follower + Drop> Plan<'n, E, P, F> {
     {
         self.run = None;
         ending(
+            &self.system,
+            &mut self.past,
+            &mut self.numbers,
+            &mut self.follower,
+            horizon,
+        )
+    }
+
+    /// The least and the greatest state with which the region run of this horizon, 1 to 2 to the power `limit` steps, ends,
+    /// where the plan's follower finds them as fast as it finds an ending: the run ends with both, and its other states lie
+    /// between them. `None` is an answer at any time; no clause says when it comes. The states are within the capacities.
+    ///
+    /// Afterwards no run is begun.
+    pub fn ends(&mut self, horizon: u32) -> Option<Bounds>
+        requires some { 1 ≤ horizon }
+        requires most { horizon ≤ 2 ^ self.old.system.limit }
+        ensures ends { let f = system_functions E.function self.old.system (P.words self.old.past) in
+            IfSome result (λ b. AreEnds b (region_at self.old.system.split f self.old.system.caps horizon).states) }
+        ensures within { IfSome result (λ b. IsBelow b.hi self.old.system.caps) }
+        ensures system { self.new.system ≡ self.old.system }
+        ensures words { P.words self.new.past ≡ P.words self.old.past }
+        ensures run { self.new.run ≡ None }
+    {
+        self.run = None;
+        ends(
             &self.system,
             &mut self.past,
             &mut self.numbers,

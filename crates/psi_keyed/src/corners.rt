@@ -4,14 +4,14 @@ ghost use Rattle.std.specs.Prelude.{◌≡◌, All, length, map, IfOk, IfSome};
 ghost use Rattle.psi_state.specs.State.{zeros};
 ghost use Rattle.psi_event.specs.Law.{IsClosed, IsMonotone};
 ghost use Rattle.psi_event.specs.Numbers.{follow_numbers, AreEvents};
-ghost use Rattle.psi_region.specs.Followed.{followed, IsOne, ending_of};
+ghost use Rattle.psi_region.specs.Followed.{followed, AreEnds, states_of, ending_of};
 ghost use Rattle.psi_keyed.specs.Keyed.{IsKeyed};
 
 use crate::keyed::Keyed;
 use psi_event::EventLaw;
 use psi_region::{Course, Follower, one_of};
 use psi_route::RouteLaw;
-use psi_state::State;
+use psi_state::{Bounds, State};
 use std::alloc::{AllocError, Global};
 use std::marker::Model;
 
@@ -75,21 +75,30 @@ impl<'n, E: EventLaw> Follower for KeyedCorners<'n, E> {
     ghost stands_for = { λ n. followed E.function n };
 
     fn ending(&mut self, numbers: &[u16]) -> Option<State> {
-        meeting(&self.keyed, &self.course, numbers)
+        let (least, greatest) = moved_corners(&self.keyed, &self.course, numbers);
+        one_of(least, greatest)
+    }
+
+    fn ends(&mut self, numbers: &[u16]) -> Option<Bounds> {
+        let (least, greatest) = moved_corners(&self.keyed, &self.course, numbers);
+        Some(Bounds::new(least, greatest))
     }
 }
 
-// The state in which the least and the greatest state have met after the events of the numbers, the last first, if
-// they have, by keys.
-fn meeting<E: EventLaw>(keyed: &Keyed, course: &Course<'_, E>, numbers: &[u16]) -> Option<State>
+// What the events of the numbers, the last first, make of the least and of the greatest state, by keys.
+fn moved_corners<E: EventLaw>(
+    keyed: &Keyed,
+    course: &Course<'_, E>,
+    numbers: &[u16],
+) -> (State, State)
     requires keyed { IsKeyed course.now.caps (map E.function course.now.events) keyed.now }
     requires numbers { AreEvents (length (map E.function course.now.events)) numbers.now }
     ensures closed { All (λ f. IsClosed course.now.caps f) (map E.function course.now.events) }
-    ensures met { let functions = map E.function course.now.events in
-        IsOne (follow_numbers functions numbers.now (zeros course.now.caps)) (follow_numbers functions numbers.now course.now.caps) result }
+    ensures least { result.0 ≡ follow_numbers (map E.function course.now.events) numbers.now (zeros course.now.caps) }
+    ensures greatest { result.1 ≡ follow_numbers (map E.function course.now.events) numbers.now course.now.caps }
 {
     let mut greatest = course.caps();
     let mut least = State::zero(greatest.len());
     keyed.follow(numbers, &mut least, &mut greatest);
-    one_of(least, greatest)
+    (least, greatest)
 }

@@ -5,14 +5,14 @@ ghost use Rattle.psi_state.specs.State.{zeros};
 ghost use Rattle.psi_event.specs.Law.{IsMonotone};
 ghost use Rattle.psi_event.specs.Numbers.{follow_numbers, AreEvents};
 ghost use Rattle.psi_packed.specs.Programs.{Prepares};
-ghost use Rattle.psi_region.specs.Followed.{followed, IsOne, ending_of};
+ghost use Rattle.psi_region.specs.Followed.{followed, AreEnds, states_of, ending_of};
 
 use crate::layout::Layout;
 use crate::program::Program;
 use psi_event::EventLaw;
 use psi_piecewise::PiecewiseLaw;
 use psi_region::{Course, Follower, one_of};
-use psi_state::State;
+use psi_state::{Bounds, State};
 use std::alloc::{AllocError, Global};
 use std::marker::Model;
 
@@ -81,25 +81,31 @@ impl<'n, const K: usize, E: EventLaw> Follower for PackedCorners<'n, K, E> {
     fn ending(&mut self, numbers: &[u16]) -> Option<State> {
         // Called for its clause: each event makes states of states.
         let _caps = self.course.caps();
-        meeting(&self.program, &self.course, numbers)
+        let (least, greatest) = moved_corners(&self.program, &self.course, numbers);
+        one_of(least, greatest)
+    }
+
+    fn ends(&mut self, numbers: &[u16]) -> Option<Bounds> {
+        // Called for its clause: each event makes states of states.
+        let _caps = self.course.caps();
+        let (least, greatest) = moved_corners(&self.program, &self.course, numbers);
+        Some(Bounds::new(least, greatest))
     }
 }
 
-// The state in which the least and the greatest state have met after the events of the numbers, the last first, if
-// they have, on packed states.
-fn meeting<const K: usize, E: EventLaw>(
+// What the events of the numbers, the last first, make of the least and of the greatest state, on packed states.
+fn moved_corners<const K: usize, E: EventLaw>(
     program: &Program<K>,
     course: &Course<'_, E>,
     numbers: &[u16],
-) -> Option<State>
+) -> (State, State)
     requires program { Prepares K course.now.caps (map E.function course.now.events) program.now }
     requires numbers { AreEvents (length (map E.function course.now.events)) numbers.now }
-    ensures { let functions = map E.function course.now.events in
-        IsOne (follow_numbers functions numbers.now (zeros course.now.caps)) (follow_numbers functions numbers.now course.now.caps) result }
+    ensures least { result.0 ≡ follow_numbers (map E.function course.now.events) numbers.now (zeros course.now.caps) }
+    ensures greatest { result.1 ≡ follow_numbers (map E.function course.now.events) numbers.now course.now.caps }
 {
     let caps = course.caps();
     let mut corners = program.pack(&State::zero(caps.len()), &caps);
     program.follow(numbers, &mut corners);
-    let (least, greatest) = program.unpack(&corners);
-    one_of(least, greatest)
+    program.unpack(&corners)
 }

@@ -17,7 +17,7 @@ use Rattle.psi_state.proofs.AscendingLemmas.{rising-distinct}
 use Rattle.psi_event.specs.Law.{Function, IsClosed, IsMonotone}
 use Rattle.psi_event.specs.Numbers.{follow_numbers}
 use Rattle.psi_region.specs.Region.{Area, start, splits, next, step, IsArea}
-use Rattle.psi_region.specs.Followed.{follow_areas, Followed, ending_of, IsOne}
+use Rattle.psi_region.specs.Followed.{follow_areas, Followed, AreEnds, states_of, ending_of, IsOne}
 use Rattle.psi_region.proofs.RegionLemmas.{start-area, step-area, step-has, hull-between, image-length}
 
 pub follow_areas-append : (split : ℕ) (functions : List Function) (xs ys : List ℕ) (a : Area)
@@ -126,38 +126,53 @@ follow_areas-between split caps functions (n ∷ numbers) a l h closed mono is t
     (number-closed caps functions n closed) (number-monotone caps functions n mono) (follow_areas-area split caps functions numbers a closed is)
     (follow_numbers-closed caps functions numbers h closed top) (follow_areas-between split caps functions numbers a l h closed mono is top each)
 
--- under monotone events the region of all states ends with the state in which the least and the greatest state have met, and with
--- more where they haven't (Propp and Wilson 1996)
-pub corners-ending : (n : Followed) (numbers : List ℕ) (o : Option (List ℕ)) → All (λ f. IsClosed n.caps f) n.functions → All (λ f. IsMonotone n.caps f) n.functions
-    → IsOne (follow_numbers n.functions numbers (zeros n.caps)) (follow_numbers n.functions numbers n.caps) o → o ≡ ending_of n numbers
-corners-ending n numbers o closed mono one = last o one
+-- under monotone events what the events make of the least and of the greatest state are the least and the greatest state of the
+-- region of all states (Propp and Wilson 1996)
+pub corners-ends : (n : Followed) (numbers : List ℕ) (l h : List ℕ) → All (λ f. IsClosed n.caps f) n.functions → All (λ f. IsMonotone n.caps f) n.functions
+    → l ≡ follow_numbers n.functions numbers (zeros n.caps) → h ≡ follow_numbers n.functions numbers n.caps
+    → AreEnds (record { lo = l; hi = h }) (states_of n numbers)
+corners-ends n numbers l h closed mono low high =
+    let begin : IsArea n.caps (start n.caps) = start-area n.caps in
+    let least = follow_areas-has n.split n.caps n.functions numbers (start n.caps) (zeros n.caps) closed begin (In-zeros n.caps) in
+    let greatest = follow_areas-has n.split n.caps n.functions numbers (start n.caps) n.caps closed begin (In-all_states n.caps n.caps (below-itself n.caps)) in
+    let inside = follow_areas-between n.split n.caps n.functions numbers (start n.caps) (zeros n.caps) n.caps closed mono begin (below-itself n.caps)
+    (λ x member. (let within = In-of_all_states n.caps x member in record { low = zeros-below n.caps x within.same_length; high = within })) in
+    record {
+      low = subst (λ (x : List ℕ). In x (states_of n numbers)) (sym low) least;
+      high = subst (λ (x : List ℕ). In x (states_of n numbers)) (sym high) greatest;
+      between = λ x member.
+          (let here = inside x member in record {
+            low = subst (λ (y : List ℕ). IsBelow y x) (sym low) here.low;
+            high = subst (λ (y : List ℕ). IsBelow x y) (sym high) here.high;
+          });
+    }
+
+-- so the one is below the other
+pub corners-ordered : (n : Followed) (numbers : List ℕ) (l h : List ℕ) → All (λ f. IsClosed n.caps f) n.functions → All (λ f. IsMonotone n.caps f) n.functions
+    → l ≡ follow_numbers n.functions numbers (zeros n.caps) → h ≡ follow_numbers n.functions numbers n.caps → IsBelow l h
+corners-ordered n numbers l h closed mono low high =
+    let ends : AreEnds (record { lo = l; hi = h }) (states_of n numbers) = corners-ends n numbers l h closed mono low high in
+    (ends.between h ends.high).low
+
+-- and the region ends with the state in which the two have met, and with more where they haven't
+pub corners-ending : (n : Followed) (numbers : List ℕ) (l h : List ℕ) (o : Option (List ℕ)) → All (λ f. IsClosed n.caps f) n.functions
+    → All (λ f. IsMonotone n.caps f) n.functions → l ≡ follow_numbers n.functions numbers (zeros n.caps) → h ≡ follow_numbers n.functions numbers n.caps
+    → IsOne l h o → o ≡ ending_of n numbers
+corners-ending n numbers l h o closed mono low high one = last o one
   where
-    low : List ℕ
-    low = follow_numbers n.functions numbers (zeros n.caps)
-
-    high : List ℕ
-    high = follow_numbers n.functions numbers n.caps
-
     end : Area
     end = follow_areas n.split n.functions numbers (start n.caps)
 
-    bottom : In low end.states
-    bottom = follow_areas-has n.split n.caps n.functions numbers (start n.caps) (zeros n.caps) closed (start-area n.caps) (In-zeros n.caps)
-
-    top : In high end.states
-    top = follow_areas-has n.split n.caps n.functions numbers (start n.caps) n.caps closed (start-area n.caps) (In-all_states n.caps n.caps (below-itself n.caps))
-
-    between : (x : List ℕ) → In x end.states → IsBetween low high x
-    between = follow_areas-between n.split n.caps n.functions numbers (start n.caps) (zeros n.caps) n.caps closed mono (start-area n.caps) (below-itself n.caps)
-        (λ x member. (let within = In-of_all_states n.caps x member in record { low = zeros-below n.caps x within.same_length; high = within }))
+    ends : AreEnds (record { lo = l; hi = h }) end.states
+    ends = corners-ends n numbers l h closed mono low high
 
     rising : IsRising end.states
     rising = (follow_areas-area n.split n.caps n.functions numbers (start n.caps) closed (start-area n.caps)).rising
 
-    last : (o : Option (List ℕ)) → IsOne low high o → o ≡ ending_of n numbers
-    last None apart = sym (single-apart end.states low high bottom top apart)
+    last : (o : Option (List ℕ)) → IsOne l h o → o ≡ ending_of n numbers
+    last None apart = sym (single-apart end.states l h ends.low ends.high apart)
     last (Some s) met =
-        (let same : low ≡ high = sym met.0 ∙ met.1 in
-        let one : end.states ≡ high ∷ [] = rising-same_each end.states high high rising top
-        (λ y member. (let here = between y member in same-from_below y high here.high (subst (λ (z : List ℕ). IsBelow z y) same here.low))) in
+        (let same : l ≡ h = sym met.0 ∙ met.1 in
+        let one : end.states ≡ h ∷ [] = rising-same_each end.states h h rising ends.high
+        (λ y member. (let here = ends.between y member in same-from_below y h here.high (subst (λ (z : List ℕ). IsBelow z y) same here.low))) in
         ap (λ (x : List ℕ). Some x) met.1 ∙ sym (ap (λ (xs : List (List ℕ)). single xs) one))

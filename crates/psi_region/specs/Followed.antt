@@ -1,6 +1,8 @@
 -- Regions that are followed through the events of numbers, and the networks that followers stand for.
 use Rattle.std.specs.Prelude.{◌≡◌, ℕ, ◌≤◌, List, [], ◌∷◌, map, slice_index_or, All, Option, Some, None, false}
 use Rattle.psi_state.specs.State.{AreCapacities, Corners, box}
+use Rattle.psi_state.specs.Members.{In}
+use Rattle.psi_state.specs.Boxes.{IsBetween}
 use Rattle.psi_state.specs.Sets.{single}
 use Rattle.psi_event.specs.Law.{Function}
 use Rattle.psi_region.specs.Region.{Area, start, step}
@@ -20,10 +22,20 @@ pub record Followed : Type 0 where
   pub functions : List Function
   pub split : ℕ
 
+-- the states with which the region of all states ends after the events of the numbers, the last first
+abbrev pub states_of : Followed → List ℕ → List (List ℕ)
+states_of n numbers = (follow_areas n.split n.functions numbers (start n.caps)).states
+
 -- the one state with which the region of all states ends after the events of the numbers, the last first, if it ends with one
 -- (Bušić, Gaujal and Vincent 2008)
 abbrev pub ending_of : Followed → List ℕ → Option (List ℕ)
 ending_of n numbers = single (follow_areas n.split n.functions numbers (start n.caps)).states
+
+-- two corners are the least and the greatest of the states: both are among them, and each state is between the two
+pub record AreEnds (b : Corners) (xs : List (List ℕ)) : Type 0 where
+  pub low : In b.lo xs
+  pub high : In b.hi xs
+  pub between : (x : List ℕ) → In x xs → IsBetween b.lo b.hi x
 
 -- the one state that two states are, and none where they are apart
 abbrev pub IsOne : List ℕ → List ℕ → Option (List ℕ) → Type 0

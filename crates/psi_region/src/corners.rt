@@ -1,16 +1,16 @@
 //! Runs of monotone networks: of all states only the least and the greatest are followed, and the others stay
 //! between the two (Propp and Wilson 1996).
 
-ghost use Rattle.std.specs.Prelude.{◌≡◌, All, length, map};
+ghost use Rattle.std.specs.Prelude.{◌≡◌, All, length, map, IfSome};
 ghost use Rattle.psi_state.specs.State.{zeros};
 ghost use Rattle.psi_event.specs.Law.{IsClosed, IsMonotone};
 ghost use Rattle.psi_event.specs.Numbers.{follow_numbers, AreEvents};
-ghost use Rattle.psi_region.specs.Followed.{followed, IsOne, ending_of};
+ghost use Rattle.psi_region.specs.Followed.{followed, AreEnds, states_of, ending_of};
 
 use crate::course::Course;
 use crate::follower::{Follower, one_of};
 use psi_event::EventLaw;
-use psi_state::State;
+use psi_state::{Bounds, State};
 use std::marker::Model;
 
 /// A follower of a monotone network: by the least and the greatest state, through the events themselves.
@@ -47,17 +47,22 @@ impl<'n, E: EventLaw> Follower for Corners<'n, E> {
     ghost stands_for = { λ n. followed E.function n };
 
     fn ending(&mut self, numbers: &[u16]) -> Option<State> {
-        meeting(&self.course, numbers)
+        let (least, greatest) = moved_corners(&self.course, numbers);
+        one_of(least, greatest)
+    }
+
+    fn ends(&mut self, numbers: &[u16]) -> Option<Bounds> {
+        let (least, greatest) = moved_corners(&self.course, numbers);
+        Some(Bounds::new(least, greatest))
     }
 }
 
-// The state in which the least and the greatest state have met after the events of the numbers, the last first, if
-// they have.
-fn meeting<E: EventLaw>(course: &Course<'_, E>, numbers: &[u16]) -> Option<State>
+// What the events of the numbers, the last first, make of the least and of the greatest state.
+fn moved_corners<E: EventLaw>(course: &Course<'_, E>, numbers: &[u16]) -> (State, State)
     requires { AreEvents (length (map E.function course.now.events)) numbers.now }
     ensures closed { All (λ f. IsClosed course.now.caps f) (map E.function course.now.events) }
-    ensures met { let functions = map E.function course.now.events in
-        IsOne (follow_numbers functions numbers.now (zeros course.now.caps)) (follow_numbers functions numbers.now course.now.caps) result }
+    ensures least { result.0 ≡ follow_numbers (map E.function course.now.events) numbers.now (zeros course.now.caps) }
+    ensures greatest { result.1 ≡ follow_numbers (map E.function course.now.events) numbers.now course.now.caps }
 {
     let mut greatest = course.caps();
     let mut least = State::zero(greatest.len());
@@ -66,5 +71,5 @@ fn meeting<E: EventLaw>(course: &Course<'_, E>, numbers: &[u16]) -> Option<State
         event.apply(&mut least);
         event.apply(&mut greatest);
     }
-    one_of(least, greatest)
+    (least, greatest)
 }

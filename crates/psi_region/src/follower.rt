@@ -1,10 +1,10 @@
 //! The contract of a follower.
 
-ghost use Rattle.std.specs.Prelude.{◌≡◌, length};
+ghost use Rattle.std.specs.Prelude.{◌≡◌, length, IfSome};
 ghost use Rattle.psi_event.specs.Numbers.{AreEvents};
-ghost use Rattle.psi_region.specs.Followed.{Followed, IsOne, ending_of};
+ghost use Rattle.psi_region.specs.Followed.{Followed, AreEnds, IsOne, states_of, ending_of};
 
-use psi_state::State;
+use psi_state::{Bounds, State};
 
 /// A way to follow the runs of a network. It stands for the network's capacities, the functions of its events and its
 /// split number, and tells with which state a run ends.
@@ -23,6 +23,19 @@ pub trait Follower {
         requires numbers { AreEvents (length (stands_for self.old).functions) numbers.now }
         ensures ending { result ≡ ending_of (stands_for self.old) numbers.now }
         ensures same { stands_for self.new ≡ stands_for self.old };
+
+    /// The least and the greatest state with which the region of all states ends after the events of these numbers, the
+    /// last number's event first, where the follower finds them as fast as it finds an ending: both are states of the
+    /// region, and its other states lie between them. `None` is an answer at any time; no clause says when it comes.
+    ///
+    /// Another run may be followed afterwards, as after [`ending`](Follower::ending).
+    fn ends(&mut self, numbers: &[u16]) -> Option<Bounds>
+        requires numbers { AreEvents (length (stands_for self.old).functions) numbers.now }
+        ensures ends { IfSome result (λ b. AreEnds b (states_of (stands_for self.old) numbers.now)) }
+        ensures same { stands_for self.new ≡ stands_for self.old }
+    {
+        None
+    }
 }
 
 /// The state that two states are, exactly where they are one.

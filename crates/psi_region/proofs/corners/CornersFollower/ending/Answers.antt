@@ -6,5 +6,7 @@ use Rattle.psi_region.proofs.corners.CornersFollower.ending.Goals as goal
 
 pub returns-clause-ending : goal.returns-clause-ending
 returns-clause-ending g c =
-    subst (λ (n : Network g.row.E.Denot). c.meeting.result ≡ ending_of (followed g.E.EventLaw.function n) c.args.numbers.now) c.self.view_is
-    (corners-ending (followed g.E.EventLaw.function c.self.inside.course) c.args.numbers.now c.meeting.result c.meeting.ensures.closed c.self.invariant c.meeting.ensures.met)
+    let made = c.moved_corners-least in
+    subst (λ (n : Network g.row.E.Denot). c.one_of.result ≡ ending_of (followed g.E.EventLaw.function n) c.args.numbers.now) c.self.view_is
+    (corners-ending (followed g.E.EventLaw.function c.self.inside.course) c.args.numbers.now made.result.0 made.result.1 c.one_of.result
+    made.ensures.closed c.self.invariant made.ensures.least made.ensures.greatest c.one_of.ensures)

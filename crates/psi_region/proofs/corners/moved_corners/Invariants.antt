@@ -1,8 +1,8 @@
--- Invariants of the loops of `meeting`.
+-- Invariants of the loops of `moved_corners`.
 use Rattle.std.proofs.Common.{◌≡◌, map, take}
 use Rattle.psi_state.specs.State.{IsBelow, zeros}
 use Rattle.psi_event.specs.Numbers.{follow_numbers}
-use Rattle.psi_region.proofs.corners.meeting.Given as goal
+use Rattle.psi_region.proofs.corners.moved_corners.Given as goal
 
 -- the numbers that are left make of the two states what all numbers make of the least and the greatest state
 abbrev pub invariant-loop-place : goal.invariant-loop-place

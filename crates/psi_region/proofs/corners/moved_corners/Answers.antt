@@ -1,9 +1,9 @@
--- Answers in the proof of `meeting`.
+-- Answers in the proof of `moved_corners`.
 use Rattle.std.proofs.Common.{◌≡◌, ℕ, ◌-◌, ◌≤◌, List, map, length, slice_index, slice_index_or, ap, sym, ◌∙◌, subst, arith}
 use Rattle.psi_state.specs.State.{IsBelow, zeros}
 use Rattle.psi_event.specs.Numbers.{follow_numbers}
 use Rattle.psi_event.proofs.NumbersLemmas.{follow_numbers-take}
-use Rattle.psi_region.proofs.corners.meeting.Goals as goal
+use Rattle.psi_region.proofs.corners.moved_corners.Goals as goal
 
 pub loop-place-preserved : goal.loop-place-preserved
 loop-place-preserved g c =

@@ -1,4 +1,4 @@
--- Answers in the proof of `value_after`.
+-- Answers in the proof of `value_by_region`.
 use Rattle.std.proofs.Common.{◌≡◌, ℕ, List, Some, ap, sym, ◌∙◌}
 use Rattle.psi_reward.specs.Rewards.{reward_kind}
 use Rattle.psi_reward.specs.Worth.{worth_of}
@@ -6,7 +6,7 @@ use Rattle.psi_rate.specs.Composition.{Parts, system_functions}
 use Rattle.psi_region.specs.Region.{Area, ShowsBox}
 use Rattle.psi_couple.specs.Valuing.{common_value, value_at}
 use Rattle.psi_couple.proofs.PlansLemmas.{shown-ended}
-use Rattle.psi_couple.proofs.value.value_after.Goals as goal
+use Rattle.psi_couple.proofs.value.value_by_region.Goals as goal
 
 pub returns-in-Some-clause-value : goal.returns-in-Some-clause-value
 returns-in-Some-clause-value g c =

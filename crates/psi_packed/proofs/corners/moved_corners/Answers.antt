@@ -1,4 +1,4 @@
--- Answers in the proof of `meeting`.
+-- Answers in the proof of `moved_corners`.
 use Rattle.std.proofs.Common.{◌≡◌, ℕ, List, map, length, replicate, ap, sym, ◌∙◌, subst}
 use Rattle.psi_state.specs.State.{IsBelow, zeros}
 use Rattle.psi_state.proofs.BoxesLemmas.{below-itself}
@@ -6,8 +6,7 @@ use Rattle.psi_state.proofs.StatesLemmas.{zeros-caps}
 use Rattle.psi_event.specs.Numbers.{follow_numbers}
 use Rattle.psi_packed.specs.Packed.{packed}
 use Rattle.psi_packed.proofs.FollowingLemmas.{follow_numbers-within}
-use Rattle.psi_region.specs.Followed.{IsOne}
-use Rattle.psi_packed.proofs.corners.meeting.Goals as goal
+use Rattle.psi_packed.proofs.corners.moved_corners.Goals as goal
 
 pub returns : goal.returns
 returns g c =
@@ -25,7 +24,7 @@ returns g c =
     let packs = λ (x : List ℕ). packed g.row.K program.packing x in
     let at_low = c.follow.ensures.low course.caps functions (zeros course.caps) c.requires.program (zeros-caps course.caps) (c.pack-corners.ensures.low ∙ ap packs zero_is) in
     let at_high = c.follow.ensures.high course.caps functions course.caps c.requires.program (below-itself course.caps) (c.pack-corners.ensures.high ∙ ap packs caps_is) in
-    let is_low = c.unpack-least.ensures.low low (within (zeros course.caps) (zeros-caps course.caps)) at_low in
-    let is_high = c.unpack-least.ensures.high high (within course.caps (below-itself course.caps)) at_high in
-    subst (λ (y : List ℕ). IsOne low y c.one_of.result) is_high
-    (subst (λ (x : List ℕ). IsOne x c.unpack-least.result.1 c.one_of.result) is_low c.one_of.ensures)
+    record {
+      least = c.unpack.ensures.low low (within (zeros course.caps) (zeros-caps course.caps)) at_low;
+      greatest = c.unpack.ensures.high high (within course.caps (below-itself course.caps)) at_high;
+    }
