@@ -2,14 +2,14 @@
 """check_gallery.py [PSI]
 
 Compares what the gallery and the guides show with what the built program prints; PSI is its path,
-and crates/psi/out/psi where it isn't given. README.md and docs/TOUR.md are tried by try_docs.py. It
-looks at
+and crates/psi/out/psi where it isn't given. README.md, docs/START.md and docs/TOUR.md are tried by
+try_docs.py. It looks at
 
 - each run in the comments of examples/*.toml: a line "`psi WORDS` prints", and behind it the text,
   four columns in;
-- each run in the guides, the other docs/*.md: a block of one line `./psi WORDS`, prose that ends with
-  'prints', and a block with the text; or a block that begins with `$ ./psi WORDS`, with the text
-  behind it;
+- each run in the guides, the other docs/*.md: a block of one line `./psi WORDS`, prose that ends
+  with 'prints', and a block with the text; or a session of a terminal, a block with lines
+  `$ ./psi WORDS`, each with its text after it;
 - each whole network in the guides, a block of TOML that begins with its version: `check` takes it;
 - each log in the guides, a block that begins with `psi-log`: `replay` accepts it for the network
   before it.
@@ -43,15 +43,25 @@ def runs_of_gallery():
             yield file, file.parent, shlex.split(words), text.replace("#     ", "")
 
 
+def runs_of_session(text):
+    """The commands of a session of a terminal, each with the text that it prints; none where the
+    block is no session."""
+    if text.startswith("$ "):
+        for part in re.split(r"^\$ ", text, flags=re.M)[1:]:
+            command, _, printed = part.partition("\n")
+            yield command, printed
+
+
 def runs_of_document(file):
     """The runs that a document shows."""
     text = file.read_text()
     blocks = list(BLOCK.finditer(text))
     for block, following in zip(blocks, [*blocks[1:], None]):
+        for command, printed in runs_of_session(block[2]):
+            if command.startswith("./psi "):
+                yield file, TOP, shlex.split(command)[1:], printed
         first, _, rest = block[2].partition("\n")
-        if first.startswith("$ ./psi "):
-            yield file, TOP, shlex.split(first)[2:], rest
-        elif first.startswith("./psi ") and not rest and following:
+        if first.startswith("./psi ") and not rest and following:
             if text[block.end() : following.start()].rstrip(" :\n").endswith("prints"):
                 yield file, TOP, shlex.split(first)[1:], following[2]
 
@@ -101,7 +111,8 @@ def tell(file, what, wanted, got):
 
 def differing(program):
     """How many texts were compared, and how many differ."""
-    documents = sorted({*(TOP / "docs").glob("*.md")} - {TOP / "docs/TOUR.md"})
+    tried_elsewhere = {TOP / "docs/START.md", TOP / "docs/TOUR.md"}
+    documents = sorted({*(TOP / "docs").glob("*.md")} - tried_elsewhere)
     compared = differs = 0
     runs = [*runs_of_gallery(), *(run for file in documents for run in runs_of_document(file))]
     for file, folder, words, text in runs:

@@ -1,5 +1,6 @@
-"""What README.md, docs/LIMITS.md, docs/TOUR.md and examples/README.md say in sentences and tables of
-what commands print, for try_docs.py: each phrase is made anew of what came, and compared.
+"""What docs/LIMITS.md, docs/TOUR.md and examples/README.md say in sentences and tables of what
+commands print, for try_docs.py: each phrase is made again from what was printed, and compared.
+`first_claims.py` has README.md and docs/START.md.
 """
 
 import csv
@@ -18,30 +19,23 @@ from psi_tools.plotting.read_report import read_report
 # Commands that don't end with 0, but for those that print 'not coupled' or 'not constant'.
 STATUSES = {"./psi exact examples/central-server.toml 0 0 11 >central.txt": 1}
 # Commands that print the same for each stream, so that a change of the stream changes no text.
-ALIKE = ("./psi sample examples/central-server.toml 0 0",)
+ALIKE = ("./psi sample examples/central-server.toml 0 0", "version = 1")
 NUMBERS = "no one two three four five six seven eight nine ten eleven twelve".split()
-GREATEST = 2**64 - 1
 DESK, LONGEST = "examples/single-server.toml", "examples/longest-queue.toml"
 
 # What has digits but isn't said of what a command prints.
 KNOWN = re.compile(
     r"(?:Wilson|Vincent|Newell|Lavenberg) (?:19|20)\d\d|RFC 8439|ChaCha20|UTF-8|x86-64|M/M/1/K"
-    r"|Version 2\.0|2\^H|10\^20|\b1, 2, 4, (?:8, )?\.\.|## \d\. "
+    r"|Version 2\.0|2\^H|10\^20|\b1, 2, 4, (?:8, )?\.\.|## \d\. |PSI[23]\b|95 % confidence"
 )
 # Names in code that are neither paths nor commands nor compared.
 NAMES = {
     "rt", "bin/", "split", "limit", "sample", "report", "couple", "exact", "closed", "replay",
-    "check", "trial", "reward", "not coupled", "rt ci",
+    "check", "trial", "reward", "not coupled", "rt ci", "run", "psi", "psi-sampler",
+    "import psi",
 }
 # Passages in which nothing is compared, by their first and last words, each with the reason.
 UNTRIED = {
-    "README.md": [
-        # What the first build takes: measured.
-        ("Its first call proves every crate", "The answers are the same."),
-        ("`./psi` looks for changed files first,", "the built program itself:"),
-        # `rt ci` proves and tests it.
-        ("## What is proved", "drawn evenly and by itself."),
-    ],
     "docs/LIMITS.md": [
         # checks/try_memory.py tries it.
         ("With status 8 there is no line", "for the words themselves."),
@@ -90,13 +84,6 @@ CALLS = {
     12: ["./psi closed examples/central-server.toml 0 0 19"],
     13: [r'''./psi check "$(printf '\377')"'''],
 }
-# What stands for a word of README's table of commands.
-EXAMPLES = {
-    "NET": "examples/tandem-blocking.toml", "SEED": "0", "STREAM": "0", "FIRST": "0", "COUNT": "9",
-    "NUMBER": "5", "NAME": "parts", "H": "8", "LOG": "tandem-0.log", "TOTAL": "6",
-}
-
-
 class Absent(Exception):
     """A command or a passage that is compared isn't there."""
 
@@ -123,56 +110,6 @@ def sample_of(lines):
 def report_of(lines):
     """The values of a report by item and name."""
     return {(item, name): int(value) for item, name, value in [*csv.reader(lines)][1:]}
-
-
-def claim_words(document, clone):
-    """The table of README's commands: each is one, and takes such words."""
-    clone.run("./psi sample examples/tandem-blocking.toml 0 0 log >tandem-0.log")
-    rows = re.findall(r"^\| `\./psi ([^`]*)` \| \w+", document.text, re.M)
-    commands = [row.split()[0] for row in rows]
-    document.hold(len(rows) == 10 and len({*commands}) == 9, f"other commands: {rows}")
-    for row in rows:
-        words = [EXAMPLES.get(word, word) for word in row.split()]
-        if words[0] == "closed":
-            words[1] = "examples/central-server.toml"
-        status, out, error = clone.run(f"./psi {' '.join(words)}")
-        document.hold(status == 0 and out, f"status {status} of ./psi {words}: {error}")
-        document.cover(f"`./psi {row}`")
-
-
-def claim_bounds(document, clone):
-    """How great the numbers may be: the bounds that the document tells are taken, what is beyond
-    isn't."""
-    found = re.search(
-        r"SEED, STREAM and FIRST are numbers up to ([\d,]+), COUNT is ([\d,]+) to ([\d,]+), NUMBER "
-        r"([\d,]+) to ([\d,]+), H ([\d,]+) to ([\d,]+), and TOTAL ([\d,]+) to ([\d,]+),",
-        document.prose,
-    )
-    if not found:
-        raise Absent("the bounds of the words")
-    document.cover(found[0])
-    great, *bounds = [int(number.replace(",", "")) for number in found.groups()]
-    net, closed = "examples/first.toml", "examples/central-server.toml"
-    calls = {
-        f"sample {net} {{}} 0": (0, great), f"sample {net} 0 {{}}": (0, great),
-        f"report {net} 0 {{}} 1": (0, great), f"report {net} 0 0 {{}}": (bounds[0], bounds[1]),
-        "trial {}": (bounds[2], bounds[3]), f"exact {net} 0 0 {{}}": (bounds[4], bounds[5]),
-        f"closed {closed} 0 0 {{}}": (bounds[6], bounds[7]),
-    }
-    for call, (least, most) in calls.items():
-        ends = ((least - 1, False), (least, True), (most, True), (most + 1, False))
-        for number, is_taken in ends:
-            status = clone.run(f"./psi {call.format(number)}")[0]
-            document.hold((status != 2) == is_taken, f"status {status} of {call} with {number}")
-    last = [clone.run(f"./psi report {net} 0 {GREATEST - 1} {count}")[0] for count in (2, 3)]
-    document.hold(last == [0, 2], "the last stream of a report may be one that isn't a stream")
-    states = [
-        clone.run(f"./psi sample {net} 0 {stream}")[1].split()[-1] for stream in range(3, 3 + 5)
-    ]
-    report = report_of(clone.run(f"./psi report {net} 0 3 5")[1].splitlines())
-    same = report["sum", "a"] == sum(map(int, states)) and report["samples", "-"] == len(states)
-    document.hold(same, f"the report of five streams from 3 on isn't that of {states}: {report}")
-    document.claim("of the streams FIRST to FIRST + COUNT - 1, the last of which must be a stream")
 
 
 def claim_gallery(document, clone):
@@ -236,40 +173,6 @@ def claim_ends(document, clone):
     )
 
 
-def claim_first_answer(document, clone):
-    """The run without a proof says that nothing is proved. The block ran before."""
-    _, _, _, error = clone.answer("tools/psi-first sample examples/tandem-blocking.toml 0 0\n")[0]
-    says = error.count("\n") == 1 and "it isn't proved yet" in error
-    document.hold(says, f"psi-first doesn't say that nothing is proved, but {error}")
-    document.claim("nothing of it is proved by this call, and a line on standard error says so.")
-
-
-def claim_readme(document, clone):
-    claim_first_answer(document, clone)
-    tandem = "./psi sample examples/tandem-blocking.toml 0 0"
-    horizon, state = sample_of(said(document, clone, tandem))
-    one, two, three = state.split(",")
-    document.claim(
-        f"that begin {horizon} steps before time zero, or earlier, hold {one}, {two} and {three} "
-        f"parts at time zero, under the random words of seed {tandem.split()[-2]} and stream "
-        f"{tandem.split()[-1]}."
-    )
-    document.claim(f"where all runs may be, from {horizon} steps before time zero on, until one")
-    tour = text_of(clone, "docs/TOUR.md")
-    steps = NUMBERS[len(re.findall(r"^## \d", tour, re.M))]
-    document.claim(f"goes in {steps} such steps from one queue to a closed network")
-    claim_words(document, clone)
-    claim_bounds(document, clone)
-    claim_many_samples(document, clone)
-    lines = said(document, clone, "./psi replay examples/tandem-blocking.toml sample.log")
-    document.claim(
-        f"says `{lines[0]}` and `{lines[1]}`. That proves, whoever wrote the log, that every state "
-        f"which starts {lines[0].split()[1]} steps before time zero, or earlier, is "
-        f"{lines[1].split()[1]} at time zero."
-    )
-    claim_checker(document, clone, "checks logs by {} lines of Python that share nothing")
-
-
 def claim_limits(document, clone):
     for claim in (claim_statuses, claim_causes, claim_ends):
         claim(document, clone)
@@ -279,37 +182,6 @@ def claim_checker(document, clone, phrase):
     """How many lines the checker of logs has, in hundreds."""
     count = len(text_of(clone, "python/psi_tools/check_log.py").splitlines())
     document.claim(phrase.format(round(count, -2)))
-
-
-def claim_many_samples(document, clone):
-    """The report, and the loop that draws the same samples one by one."""
-    call = "./psi report examples/tandem-blocking.toml 0 0 1000"
-    report = report_of(said(document, clone, call))
-    first, count = map(int, call.split()[-2:])
-    document.claim(f"samples the streams {first} to {first + count - 1} of seed {call.split()[3]},")
-    document.claim(f"So {report['horizon', '16']} of them are met at the horizon 16.")
-    loop = next((block for block in document.commands() if block.startswith("for stream")), None)
-    counts = [line.split() for line in clone.answer(loop)[-1][2].splitlines()] if loop else []
-    total = sum(int(number) for number, _, _ in counts)
-    cut = sum(int(number) * int(state.split(",")[0]) for number, _, state in counts)
-    same = (total, cut) == (report["met", "-"], report["sum", "cut"])
-    document.hold(same and len(counts) > 10, f"the loop counts {total} samples, {cut} parts")
-    in_order = [int(number) for number, _, _ in counts]
-    document.hold(in_order == sorted(in_order, reverse=True), "the loop's counts don't descend")
-    not_coupled = clone.run("./psi sample examples/short-past.toml 0 0")
-    within = 2 ** key_of(clone, "short-past.toml", "limit")
-    is_so = not_coupled[1] == f"not coupled within {within}\n"
-    document.hold(is_so, f"another text where a sample isn't coupled: {not_coupled}")
-    call = "examples/first.toml 3 1 40"
-    one, many = clone.run(f"./psi report {call}"), clone.run(f"tools/psi-many {call}")
-    document.hold(one[:2] == many[:2], f"psi-many prints another report: {many}")
-    document.claim("are drawn by `tools/psi-many NET SEED FIRST COUNT`: it goes on where it was")
-    status, out, _ = clone.run("./psi report examples/short-past.toml 0 0 1")
-    document.hold(report_of(out.splitlines())["uncoupled", "-"] == 1, f"none is uncoupled: {out}")
-    document.claim(
-        "is counted as `not coupled within N` here and as `uncoupled` in a report, whose status is "
-        f"{status} all the same;"
-    )
 
 
 def desk_law(rate, service, room):
@@ -337,7 +209,8 @@ def key_of(clone, file, key):
 
 def claim_tour(document, clone):
     steps = NUMBERS[len(re.findall(r"^## \d", document.text, re.M))]
-    document.claim(f"{steps.capitalize()} steps, each with a network of the [gallery]")
+    steps = steps.capitalize()
+    document.claim(f"{steps} steps from one queue to a closed network: in each a network")
     for number, step in enumerate(re.findall(r"^## (\d+)\. ", document.text, re.M), 1):
         document.hold(int(step) == number, f"the step {step} stands where {number} should")
     for claim in (
@@ -358,7 +231,7 @@ def claim_forward(document, clone):
     log = log_of(document, clone, f"./psi sample {DESK} 0 0 log >single.log")
     room, (rate, service) = key_of(clone, "single-server.toml", "capacity"), rates_of_desk(clone)
     document.claim(
-        f"a desk with room for {NUMBERS[room]}, M/M/1/K: customers come at rate {rate} and are "
+        f"a desk with capacity {NUMBERS[room]}, M/M/1/K: customers arrive at rate {rate} and are "
         f"served at rate {service}."
     )
     states = NUMBERS[room + 1]
@@ -368,7 +241,7 @@ def claim_forward(document, clone):
         f"The run begins {horizon} steps before time zero in all {states} states at once."
     )
     wall = wall_of(clone.read("single.log").decode())
-    document.claim(f"at {room} a customer who comes is turned away, at 0 there is nobody to serve")
+    document.claim(f"At {room} an arriving customer is turned away, at 0 there is nobody to serve")
     document.claim(f"From {met} steps before time zero on one state is left")
     document.hold(wall == room, f"the band closes at {wall}")
     document.claim(f"at the upper wall, with {wall} customers")
@@ -382,7 +255,7 @@ def claim_forward_ends(document, moves, law):
     drawn = re.search(rf"^tools/psi-plot forward {DESK} ([\d ]+) -o", document.text, re.M)
     steps = [int(number) for number in drawn[1].split()]
     first, second, third = steps
-    document.claim(f"![After {first}, {second} and {third} steps, and when all have met,")
+    document.claim(f"![After {first}, {second} and {third} steps, and at coalescence,")
     met = law_of_meeting(moves)
     document.hold(abs(met[0] + met[-1] - 1) < 1e-6, f"they meet elsewhere: {met}")
     document.claim(f"empty in {100 * met[0]:.0f} of 100 runs, full in the others, and never")
@@ -392,8 +265,8 @@ def claim_forward_ends(document, moves, law):
     )
     off = [f"{worst(moves, law, number):.3f}" for number in steps]
     document.claim(
-        f"after {first} steps the law of the worst of them is off by {off[0]}, which is the most "
-        f"that a probability can be wrong, after {second} by {off[1]}, after {third} still by "
+        f"after {first} steps the distribution of the worst of them is off by {off[0]}, which is the "
+        f"most that a probability can be wrong, after {second} by {off[1]}, after {third} still by "
         f"{off[2]}, and never by nothing."
     )
 
@@ -621,6 +494,5 @@ def claim_law(document, clone):
 
 
 CLAIMS = {
-    "README.md": claim_readme, "docs/LIMITS.md": claim_limits, "docs/TOUR.md": claim_tour,
-    "examples/README.md": claim_gallery,
+    "docs/LIMITS.md": claim_limits, "docs/TOUR.md": claim_tour, "examples/README.md": claim_gallery,
 }

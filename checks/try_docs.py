@@ -1,22 +1,25 @@
 #!/usr/bin/env python3
 """try_docs.py [PSI] [changed]
 
-Tries README.md, docs/LIMITS.md, docs/TOUR.md and examples/README.md from a fresh clone of what is
-committed, which it makes in a temporary folder: runs each command that they show, in their order,
-and compares each text that they show with what comes. PSI is the path of the built program, which
-stands in the clone for the one that `./psi` would build; where it isn't given `./psi` proves and
-builds its own there.
+Tries README.md, SECURITY.md, docs/START.md, docs/LIMITS.md, docs/TOUR.md and examples/README.md
+from a fresh clone of what is committed, which it makes in a temporary folder: runs each command that
+they show, in their order, and compares each text that they show with what comes. PSI is the path of
+the built program, which stands in the clone for the one that `./psi` would build; where it isn't
+given `./psi` proves and builds its own there.
 
 - A block of commands has to end as it should, and one that follows prose which ends with 'prints'
   is the text that the last command has printed; a last line `...` stands for further lines.
+- A session of a terminal is a block whose first line begins with `$ `: each such line is a command,
+  and what stands between it and the next one is what it prints.
+- A block of TOML is saved where the prose above it ends with 'Save this as `NAME`'.
 - Sentences that say what comes, such as 'says `accepted 64`', and tables of words, files and
-  statuses are compared as `doc_claims.py` says: each is made anew of what came, and has to stand in
-  the document once.
+  statuses are compared as `first_claims.py` and `doc_claims.py` say: each is made again from what
+  was printed, and has to stand in the document once.
 - Pictures that are drawn are those of docs/pictures, byte by byte but for the names of clip paths.
-- Links lead to files and headings that are there, and each piece of code in a sentence is a path, a
-  command or a name that is listed.
+- Links lead to files and headings that are there, also those of the other pages at the top and in
+  docs/, and each piece of code in a sentence is a path, a command or a name that is listed.
 - A number or a piece of code that nothing of this compares is told, but in the passages that
-  `doc_claims.py` lists as not tried, with the reason.
+  these two list as not tried, with the reason.
 
 With `changed` it changes the documents in one place after the other: each line of a text, each
 sentence that is compared, each command. Each change has to be told.
@@ -35,11 +38,15 @@ import tempfile
 import time
 
 import doc_claims
-from check_gallery import BLOCK, TOP, UNMET, is_shown
+import first_claims
+from check_gallery import BLOCK, TOP, UNMET, is_shown, runs_of_session
 
-DOCUMENTS = tuple(doc_claims.CLAIMS)
+CLAIMS = {**first_claims.CLAIMS, **doc_claims.CLAIMS}
+UNTRIED = {**first_claims.UNTRIED, **doc_claims.UNTRIED}
+DOCUMENTS = tuple(CLAIMS)
 COMMAND = re.compile(r"(?:\./psi|crates/psi/out/psi|tools/\S+|python3|for|rt) ")
 INLINE = re.compile(r"`([^`\n]+)`")
+SAVED = re.compile(r"Save this as `([\w-]+\.toml)`:\s*$")
 SAYS_COMMAND = re.compile(r"`((?:rt|\./psi) [^`]*)` prints[^`]*$")
 LINK = re.compile(r"\]\(([^)\s]+)\)")
 DRAWS, WRITES = re.compile(r" -o (\S+\.svg)\b"), re.compile(r" (?:-o |>)(\w[\w.$-]*\.\w+)\b")
@@ -116,6 +123,15 @@ class Clone:
         """What is in a file, which a command may have written."""
         return self.find(name).read_bytes()
 
+    def save(self, name, text):
+        """Saves a file. Where it changes, the commands that name it run again."""
+        file = self.find(name)
+        if not file.exists() or file.read_text() != text:
+            file.write_text(text)
+            for kept in (self.answers, self.ran):
+                for command in [command for command in kept if name in command]:
+                    del kept[command]
+
 
 class Document:
     """A document: its blocks with the prose before each, and its prose with single spaces, in which
@@ -133,7 +149,13 @@ class Document:
         self.covered = []
 
     def commands(self):
-        return [text for _, kind, text in self.blocks if not kind and COMMAND.match(text)]
+        """The blocks of commands, and the commands of sessions."""
+        found = []
+        for _, kind, text in self.blocks:
+            if not kind and COMMAND.match(text):
+                found.append(text)
+            found += [command for command, _ in runs_of_session(text)]
+        return found
 
     def hold(self, is_so, what):
         """Counts a comparison."""
@@ -168,25 +190,43 @@ class Document:
             self.hold(count == 1, f"not once but {count} times the row: | {front} |")
 
 
+def ran(document, clone, block):
+    """Runs a block of commands; what the last one has printed."""
+    out = ""
+    for command, status, out, error in clone.answer(block):
+        wanted = doc_claims.STATUSES.get(command, 1 if UNMET.search(out) else 0)
+        document.hold(status == wanted, f"status {status} of {command}: {error}")
+    return out
+
+
+def compare(document, shown, printed):
+    """Compares a text that is shown with what was printed."""
+    same = is_shown(shown, printed)
+    document.hold(same, f"shown\n{shown}printed\n{printed}")
+
+
 def try_blocks(document, clone):
-    """Runs the blocks of commands, and compares the texts."""
+    """Saves files, runs the blocks of commands, and compares the texts."""
     printed = None
     for before, kind, text in document.blocks:
-        document.hold(not kind, f"a block of {kind}, which isn't tried")
-        if COMMAND.match(text):
-            for command, status, out, error in clone.answer(text):
-                wanted = doc_claims.STATUSES.get(command, 1 if UNMET.search(out) else 0)
-                document.hold(status == wanted, f"status {status} of {command}: {error}")
-                printed = out
-        else:
+        saved = SAVED.search(before) if kind == "toml" else None
+        document.hold(saved or not kind, f"a block of {kind}, which isn't tried")
+        session = [*runs_of_session(text)]
+        for command, shown in session:
+            compare(document, shown, ran(document, clone, command))
+        if saved:
+            clone.save(saved[1], text)
+            document.cover(f"`{saved[1]}`")
+        elif COMMAND.match(text):
+            printed = ran(document, clone, text)
+        elif not session:
             inline = SAYS_COMMAND.search(" ".join(before.split()))
             if inline:
                 document.cover(f"`{inline[1]}` prints")
                 printed = "\n".join([*clone.said(inline[1]), ""])
             is_said = inline or before.rstrip(" :\n").endswith("prints")
             document.hold(is_said and printed is not None, f"no command prints the text:\n{text}")
-            same = printed is not None and is_shown(text, printed)
-            document.hold(same, f"shown\n{text}printed\n{printed}")
+            compare(document, text, printed or "")
             printed = None
 
 
@@ -247,7 +287,7 @@ def passage(text, first, last):
 def try_rest(document, clone):
     """Numbers and pieces of code that nothing else compares."""
     prose = document.prose
-    for first, last in doc_claims.UNTRIED[document.name]:
+    for first, last in UNTRIED[document.name]:
         found = passage(prose, first, last)
         document.hold(found, f"listed as not tried, but absent: {first} .. {last}")
         document.covered.append(found.span() if found else (0, 0))
@@ -275,13 +315,23 @@ def tried(name, text, clone):
     document = Document(name, text)
     try_blocks(document, clone)
     try:
-        doc_claims.CLAIMS[name](document, clone)
+        CLAIMS[name](document, clone)
     except Exception as fault:  # Whatever isn't as it should be is a difference.
         document.hold(False, f"what is compared isn't there: {fault!r}")
     try_pictures(document, clone)
     try_links(document, clone)
     try_rest(document, clone)
     return document
+
+
+def linked(clone):
+    """The pages of which links alone are tried."""
+    for file in sorted([*clone.top.glob("*.md"), *clone.top.glob("docs/*.md")]):
+        name = str(file.relative_to(clone.top))
+        if name not in DOCUMENTS:
+            document = Document(name, file.read_text())
+            try_links(document, clone)
+            yield document
 
 
 def changed_sign(text, place):
@@ -295,7 +345,7 @@ def changes_of(document):
     """Changes of a document, each a place, what stands there, and the block if it is in one: in
     each line of a block the last digit or letter; and in the prose the last one of each number and
     piece of code that is compared."""
-    passages = [passage(document.text, *ends) for ends in doc_claims.UNTRIED[document.name]]
+    passages = [passage(document.text, *ends) for ends in UNTRIED[document.name]]
     untried = [found.span() for found in passages if found]
     blocks = [*BLOCK.finditer(document.text)]
     for block in blocks:
@@ -345,10 +395,11 @@ def main(words):
         clone = Clone(programs[0] if programs else None, room)
         texts = [(name, clone.read(name).decode()) for name in DOCUMENTS]
         documents = [tried(name, text, clone) for name, text in texts]
-        for document in documents:
+        shown = [*documents, *linked(clone)]
+        for document in shown:
             print("".join(f"{line}\n" for line in document.differences), end="")
-        differences = sum(len(document.differences) for document in documents)
-        compared = sum(document.compared for document in documents)
+        differences = sum(len(document.differences) for document in shown)
+        compared = sum(document.compared for document in shown)
         silent = 0
         if is_changing and not differences:
             made, silent = try_changes(documents, clone)

@@ -8,7 +8,7 @@ Compares the version that CITATION.cff has, the one place where a release sets i
 - the version of the package and the archive that make_package.py makes;
 - a tag of the commit at hand, where it has one that begins with `v` and a digit.
 
-Each place that has another version is printed. The last line says how many places were compared; the
+Each place that has another version is printed. The last line has how many places were compared; the
 exit status is 1 where one differs.
 """
 
@@ -34,17 +34,17 @@ def text_of(name):
 
 def said(*command):
     """What a command prints, at the top."""
-    return subprocess.run(command, cwd=TOP, check=True, capture_output=True, text=True).stdout.strip()
+    return subprocess.check_output(command, cwd=TOP, text=True).strip()
 
 
 def places(version, date):
-    """Each place that has a version or its date: what it is, what it has, and what it should have."""
+    """Each place that has a version or its date: what it is, what it has, what it should have."""
     release = RELEASE.search(text_of("CHANGELOG.md"))
     yield "CHANGELOG.md", release[1], version
     yield "CHANGELOG.md, the date,", release[2], date
     yield "python/psi_tools/__init__.py", psi_tools.__version__, version
-    module = "import psi; print(psi.__version__)"
-    yield "the module psi", said("env", "PYTHONPATH=python", "/usr/bin/python3", "-c", module), version
+    module = "import sys; sys.path.insert(0, 'python'); import psi; print(psi.__version__)"
+    yield "the module psi", said("/usr/bin/python3", "-c", module), version
     dynamic = tomllib.loads(text_of("python/pyproject.toml"))["tool"]["setuptools"]["dynamic"]
     yield "python/pyproject.toml", dynamic["version"]["attr"], "psi_tools.__version__"
     yield "the package", make_package.version_of()[0].partition("+git")[0], version
