@@ -70,6 +70,7 @@ step 2 1 set 1,1
 step 1 2 set 0,1
 end 0,1
 """
+STOPPED = 2, b"", b"psi: usage word 2\n"
 SECONDS, MOST_MS, ROUNDS = 1, 2, 100
 
 
@@ -149,6 +150,13 @@ def try_help(tried, script, top):
     with open("/dev/full", "wb") as full:
         status = subprocess.run([script, "--help"], stdout=full).returncode
     tried.hold(status == 7, f"where the help can't be written the status is {status}")
+
+
+def try_build(tried, top):
+    """`--build` where the program is built."""
+    for words, wanted in ((["--build"], (0, b"", b"")), (["--build", "x"], STOPPED)):
+        answer = ended([top / "psi", *words], top)[0]
+        tried.hold(answer == wanted, f"./psi {words}: {answer}")
 
 
 def try_others(tried, script, program, folder):
@@ -245,6 +253,7 @@ def main(words):
         try_help(tried, installed, room)
         (top / "crates/psi/out").mkdir()
         shutil.copy(program, top / "crates/psi/out/psi")
+        try_build(tried, top)
         (top / "bad.toml").write_text(BAD_NET)
         (top / "bad.log").write_text("psi-log 1\nqueues x\n")
         (top / "other.log").write_text(OTHER_LOG)

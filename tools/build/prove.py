@@ -72,9 +72,9 @@ def memory():
 
 
 def duration(seconds):
-    """Returns a time in words, to half a minute."""
-    minutes, rest = divmod(max(1, round(seconds / 30)), 2)
-    return " ".join([f"{minutes} min"] * (minutes > 0) + ["30 s"] * rest)
+    """Returns a time in words: to ten seconds, and from two minutes on to a minute."""
+    tens = max(1, round(seconds / 10))
+    return f"{tens * 10} s" if tens < 12 else f"{round(seconds / 60)} min"
 
 
 def crates_of(count):
@@ -154,13 +154,13 @@ class Build:
                 self.start(*found, work)
             if not self.running:
                 break
+            self.say()
             ended = None
             with contextlib.suppress(queue.Empty):
                 ended = self.ended.get(timeout=TICK)
             self.note()
             if ended:
                 self.end(*ended)
-            self.say()
         return not self.waiting and not self.failed
 
     def left(self):
@@ -172,8 +172,6 @@ class Build:
         """Tells how far it is."""
         now = time.monotonic() - self.begun
         count = self.whole - len(self.waiting) - len(self.running) - len(self.failed)
-        if not self.running:
-            return
         left = f", about {duration(self.left())} left" if now >= FIRST else ""
         names = ", ".join(self.running)
         whole = crates_of(self.whole)

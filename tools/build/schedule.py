@@ -133,14 +133,17 @@ class Pace:
 
     # The seconds for which the list is believed before anything was proved here.
     PRIOR = 20
+    # The part of its listed seconds below which a crate was proved earlier, and says nothing.
+    LEAST = 0.1
 
     def __init__(self, costs):
         self.costs, self.took, self.listed = costs, self.PRIOR, self.PRIOR
 
     def add(self, name, jobs, seconds):
         """Notes what a crate took at full speed."""
-        self.took += seconds
-        self.listed += self.costs.seconds(name, jobs)
+        listed = self.costs.seconds(name, jobs)
+        if seconds >= self.LEAST * listed:
+            self.took, self.listed = self.took + seconds, self.listed + listed
 
     def value(self, running):
         """Returns the pace; of the crates under way those count that are slower than it."""

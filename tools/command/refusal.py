@@ -1,4 +1,3 @@
-#!/usr/bin/env python3
 """refusal.py LINE COMMAND NET [LOG]
 
 Prints where a file is wrong that PSI has refused with LINE, and what helps: the file, the number
