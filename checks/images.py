@@ -120,8 +120,9 @@ FOUR = (
 )
 
 
-# Small events that are worked out by hand: one that moves a queue to a floor above its guard and one to a ceiling below
-# it, a negative customer and a fork, and routes by a table that rises and by one that falls.
+# Small events that are worked out by hand: one that moves a queue to a floor above its guard and
+# one to a ceiling below it, a negative customer and a fork, and routes by tables that rise and by
+# one that falls.
 WORKED_ONE = {"a": 5}, {"a": 1}, [guarded(a=(0, 2, 0, 5, 5)), guarded(a=(3, 5, 0, 0, 1))]
 WORKED_BITS = (
     {"a": 1, "b": 1},
