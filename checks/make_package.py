@@ -65,17 +65,18 @@ Conflicts: psi
 Section: science
 Priority: optional
 Description: perfect samples of finite queueing networks
- PSI draws the state at time zero of a finite queueing network, exactly, by
- coupling from the past over envelopes: no warm-up is guessed. Each function
- of the program is proved to meet its contract.
+ PSI draws independent samples from the stationary distribution of a finite
+ Markovian queueing network. It uses coupling from the past, so there is no
+ warm-up to guess and no initialization bias. Each function of the program is
+ proved to meet its contract.
  .
- It knows overflow, loss, blocking, index routing, batches, negative customers,
+ It models blocking, overflow, index routing, batches, negative customers,
  forks, joins, resets and closed networks, and writes and checks certificates.
  psi-many draws many samples on many processors and machines, and psi-plot
- draws pictures of what was sampled; psi-means, psi-law and psi-sweep tell
- means, laws and differences of designs with their intervals, psi-where and
- psi-why what is wrong with a network, and psi-new writes one. Python has the
- module psi.
+ draws pictures of what was sampled. psi-means, psi-law and psi-sweep print
+ means, distributions and comparisons of designs with confidence intervals;
+ psi-where and psi-why find what is wrong with a network, and psi-new writes
+ one. Python has the module psi.
 """
 CHANGES = """{name} ({version}) unstable; urgency=medium
 
