@@ -1,5 +1,5 @@
 -- The commands give one state: each state that is given is that of every run that starts early enough.
-use Rattle.std.specs.Prelude.{◌≡◌, ℕ, ℤ, ◌+◌, ◌^◌, ◌≤◌, List, Option, Some, None, refl}
+use Rattle.std.specs.Prelude.{◌≡◌, ℕ, ℤ, ◌+◌, ◌^◌, List, Option, Some, None, refl}
 use Rattle.std.proofs.Common.{inl, inr, ap, sym, ◌∙◌, subst, arith}
 use Rattle.psi_state.specs.declared.Outcome.{Outcome}
 use Rattle.psi_state.specs.declared.Outcome.TheVariants.{Met}
@@ -30,7 +30,6 @@ use Rattle.psi_exact.specs.Surveys.{meeting_of, meeting_within, IsMeeting}
 use Rattle.psi_exact.proofs.SurveysLemmas.{meeting_at-reached}
 use Rattle.psi_model.specs.Network.{Network, caps_of, rates_of, functions_of}
 use Rattle.psi_model.specs.Valid.{IsNetwork}
-use Rattle.psi_net.specs.Reading.{network_of}
 use Rattle.psi_reply.specs.Sample.{functions_by_time, sampled}
 use Rattle.psi_reply.specs.Couple.{endings, coupling}
 use Rattle.psi_reply.specs.Reward.{values, valuation}
@@ -105,7 +104,7 @@ module _ (net : Network) (kept : IsNetwork net) (seed stream : ℕ) where
   some-state : (x : List ℕ) × IsBelow x (caps_of net)
   some-state = (let some = (network-lawful net kept).laws.is_chain.finite.some in (some.0, In-of_all_states (caps_of net) some.0 some.1))
 
-  given-one : (state other : List ℕ) → IsGiven net seed stream state → IsGiven net seed stream other → state ≡ other
+  pub given-one : (state other : List ℕ) → IsGiven net seed stream state → IsGiven net seed stream other → state ≡ other
   given-one state other first second =
       let one = given-reached state first in
       let two = given-reached other second in

@@ -2,3 +2,4 @@
 mod FileLemmas
 mod AgreementLemmas
 mod PrintedLemmas
+mod Worked

@@ -1,9 +1,8 @@
 -- What is printed of the network of a file is what is counted.
-use Rattle.std.specs.Prelude.{◌≡◌, ℕ, ◌^◌, ◌<◌, ◌≤◌, List, [], ◌∷◌, map, All, Option, Some, None, IsSome, Result, Ok, option_and_then, nat_le, if◌then◌else◌, Bool, refl}
+use Rattle.std.specs.Prelude.{◌≡◌, ℕ, ◌^◌, List, [], ◌∷◌, map, All, Option, Some, None, IsSome, Result, Ok, option_and_then, if◌then◌else◌, Bool, refl}
 use Rattle.std.proofs.Common.{ap, ◌∙◌, arith}
 use Rattle.std.proofs.lemmas.Bool.{le-leb}
 use Rattle.std.proofs.lemmas.List.Elements.{All-nil, All-cons}
-use Rattle.psi_state.specs.declared.Outcome.{Outcome}
 use Rattle.psi_past.specs.SeedWord.{seed_word}
 use Rattle.psi_reward.specs.declared.kinds.RewardKind.{RewardKind}
 use Rattle.psi_kinds.specs.declared.moves.Move.{Move}
@@ -17,17 +16,17 @@ use Rattle.psi_model.specs.Valid.{IsNetwork}
 use Rattle.psi_net_document.specs.declared.refusals.NetRefusal.{NetRefusal}
 use Rattle.psi_net.specs.Reading.{network_of}
 use Rattle.psi_command.specs.declared.status.Status.TheVariants.{NoSuchTotal}
-use Rattle.psi_command.specs.Command.{Command, sample, couple, reward, closed}
+use Rattle.psi_command.specs.Command.{sample, couple, reward, closed}
 use Rattle.psi_program.specs.Reply.{line_reply}
 use Rattle.psi_answers.specs.Lines.{no_total_line}
 use Rattle.psi_reply.specs.Sample.{functions_by_time, sampled}
 use Rattle.psi_reply.specs.Couple.{endings, coupling}
-use Rattle.psi_reply.specs.Reward.{values, valuation, kind_named}
+use Rattle.psi_reply.specs.Reward.{values, valuation}
 use Rattle.psi_reply.specs.Closed.{first_other, closed_endings, closed_sampled}
 use Rattle.psi_reply.proofs.ClosingLemmas.{moves-of_none}
-use Rattle.psi_reply.specs.Reply.{Reply, value_reply, outcome_reply, closed_reply, total_reply}
+use Rattle.psi_reply.specs.Reply.{Reply, value_reply, outcome_reply, closed_reply}
 use Rattle.psi_run.specs.Reply.{reply_to, reply_of, judged_reply}
-use Rattle.psi_law.specs.Networks.{network_sample, network_total_sample}
+use Rattle.psi_law.specs.Networks.{network_total_sample}
 use Rattle.psi_law.proofs.WheelLemmas.{wheel-exact}
 use Rattle.psi_law.proofs.WordsLemmas.{seed_word-small}
 use Rattle.psi_law.proofs.NetworkLemmas.{network-lawful}
