@@ -1,11 +1,12 @@
 -- The definitions on small inputs, counted by hand and computed by the checker. The modulus of the networks is 4, so lists of pasts are counted of
 -- the words below 4.
-use Rattle.std.proofs.Common.{◌≡◌, ℕ, zero, suc, ◌+◌, ◌<◌, ◌≤◌, ◌^◌, ◌*◌, List, [], ◌∷◌, map, slice_index, inl, inr, ap, sym, subst, ◌∙◌, refl, arith}
+use Rattle.std.proofs.Common.{◌≡◌, ℕ, zero, suc, ◌+◌, ◌-◌, ◌<◌, ◌≤◌, ◌^◌, ◌*◌, List, [], ◌∷◌, map, slice_index, inl, inr, ap, sym, subst, ◌∙◌, refl, arith}
 use Rattle.std.specs.Prelude.{codes, nat_le, nat_lt, nat_eq, if◌then◌else◌}
 use Rattle.std.specs.List.{list_any, sum_by}
-use Rattle.std.proofs.lemmas.Bool.{cases_eq, ne_eqb}
+use Rattle.std.proofs.lemmas.Bool.{cases_eq, ne_eqb, cases_Bool}
 use Rattle.std.proofs.lemmas.List.Elements.{All-nil, All-cons}
 use Rattle.psi_state.specs.Members.{In}
+use Rattle.psi_state.proofs.StatesLemmas.{same-from_eq}
 use Rattle.psi_route.specs.declared.Full.TheVariants.{Lost}
 use Rattle.psi_kinds.specs.declared.kinds.Kind.{Kind}
 use Rattle.psi_kinds.specs.declared.kinds.Kind.TheVariants.{Arrival, Service}
@@ -20,18 +21,18 @@ use Rattle.psi_model.specs.Valid.{IsNetwork, IsQueue, IsAccepted}
 use Rattle.psi_model.specs.declared.entries.NamedEvent.{NamedEvent}
 use Rattle.psi_law.specs.Counting.{sum_below}
 use Rattle.psi_law.specs.Wheel.{word_count}
-use Rattle.psi_law.specs.Chains.{Chain, whole, weighted, flow_to, IsBalanced}
+use Rattle.psi_law.specs.Chains.{Chain, whole, weighted, flow_to, IsBalanced, is_same}
 use Rattle.psi_law.specs.Samples.{is_unmet}
 use Rattle.psi_law.specs.Networks.{network_chain, network_sample}
 use Rattle.psi_law.proofs.NetworkLemmas.{network-lawful}
 use Rattle.psi_law_many.specs.Lists.{count_lists, AtMost}
 use Rattle.psi_law_many.specs.Values.{IsMeasured, Score, surplus, deficit, added}
 use Rattle.psi_law_many.specs.Means.{spread, distance, far}
-use Rattle.psi_law_many.specs.Tails.{cases_from}
+use Rattle.psi_law_many.specs.Tails.{cases_from, at_least}
 use Rattle.psi_law_many.specs.Intervals.{IsChernoff, IsBinomial, IsRule, misses}
-use Rattle.psi_law_many.specs.Bets.{paid, product_by, IsWon}
+use Rattle.psi_law_many.specs.Bets.{paid, product_by, IsWon, IsBet, loses}
 use Rattle.psi_law_many.specs.Quantiles.{hits, IsQuantile}
-use Rattle.psi_law_many.proofs.ManyLemmas.{AreMany, are-many}
+use Rattle.psi_law_many.proofs.ManyLemmas.{AreMany, are-many, AreDifferent, are-different}
 
 -- ---- the networks
 
@@ -311,3 +312,54 @@ unfolding cases_from
 median-covered =
     ((many 2 18 (omega arith) (omega arith) (omega arith)).quantiles halves customers (two-balanced 18)).lower 10 1 2 40 9 0
     (record { some = omega arith; parts = omega arith; share = omega arith; below = omega arith; above = omega arith }) (omega arith)
+
+-- a rule that claims 11 of 10 from the ten scores above, and nothing from any others
+abbrev ten_claims : List ℕ → ℕ
+ten_claims scores = if is_same scores ten then 11 else 0
+
+ten-bet : IsBet 10 10 10 40 (7 ∷ []) ten_claims
+ten-bet = record {
+  some = omega arith;
+  parts = omega arith;
+  each = λ scores so. elim (cases_Bool (is_same scores ten)) [
+    | inl same ↦ inr (subst (λ (vs : List ℕ). IsWon 10 10 40 (ten_claims vs) (7 ∷ []) vs) (sym (same-from_eq scores ten same)) ten-won)
+    | inr other ↦ inl (rw other refl)
+  ];
+}
+
+ten-covered : AtMost 1 40 (2 ^ 18) 10 (loses (surplus (network_sample (queueing 2 18)) (network_chain (queueing 2 18)) halves customers 0 2) 10 ten_claims)
+ten-covered = ((many 2 18 (omega arith) (omega arith) (omega arith)).bets halves customers 0 2 (customers-measured 18)).lower 10 10 10 40 (7 ∷ []) ten_claims ten-bet
+
+-- the two networks, with limits of their own, under the same pasts
+two-states : (x : List ℕ) → In x (network_chain (queueing 1 17)).states → customers x ≤ 1
+two-states x member = elim member [
+  | inl none ↦ (let e : customers x ≡ 0 = ap customers none in omega arith)
+  | inr more ↦ elim more [
+    | inl one ↦ (let e : customers x ≡ 1 = ap customers one in omega arith)
+    | inr past ↦ absurd past
+  ]
+]
+
+one-measured : IsMeasured (network_chain (queueing 1 17)) thirds customers 0 1
+one-measured = record { balanced = one-balanced 17; above = λ x member. omega arith; below = two-states }
+
+compared : AreDifferent (network_chain (queueing 2 18)) (network_sample (queueing 2 18)) (network_chain (queueing 1 17)) (network_sample (queueing 1 17)) (2 ^ 18)
+compared =
+    let first = (network-lawful (queueing 2 18) (queueing-kept 2 18 (omega arith) (omega arith) (omega arith))).laws in
+    let last = (network-lawful (queueing 1 17) (queueing-kept 1 17 (omega arith) (omega arith) (omega arith))).laws in
+    are-different (network_chain (queueing 2 18)) (network_sample (queueing 2 18)) (network_chain (queueing 1 17)) (network_sample (queueing 1 17)) (2 ^ 18) (2 ^ 17) (2 ^ 18)
+    first.is_chain first.reaches last.is_chain last.reaches (omega arith) (omega arith)
+
+-- ten streams in all of which the first network is full and the second is empty are at most 1 list in 1,356
+differences-of : (b w : ℕ) → b * (2 ^ 30 * 1 ^ 0) * (21 * 3) ^ 10 ≤ (26 * 2 ^ 3 + (21 * 3 - 26) * 1 ^ 3) ^ 10 * w → b * 1356 ≤ w
+differences-of b w tail = omega arith
+
+lead : Score
+lead = added (surplus (network_sample (queueing 2 18)) (network_chain (queueing 2 18)) halves customers 0 2)
+    (deficit (network_sample (queueing 1 17)) (network_chain (queueing 1 17)) thirds customers 0 1)
+
+ten-differences : at_least (2 ^ 18) 10 lead 30 * 1356 ≤ word_count ^ (2 ^ 18 * 10)
+unfolding lead
+ten-differences =
+    differences-of (at_least (2 ^ 18) 10 lead 30) (word_count ^ (2 ^ 18 * 10))
+    ((compared.tails halves customers 0 2 thirds customers 0 1 (customers-measured 18) one-measured).0.exponential 10 2 1 30 0 (omega arith) (omega arith))
