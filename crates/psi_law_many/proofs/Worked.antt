@@ -1,7 +1,7 @@
 -- The definitions on small inputs, counted by hand and computed by the checker. The modulus of the networks is 4, so lists of pasts are counted of
 -- the words below 4.
 use Rattle.std.proofs.Common.{◌≡◌, ℕ, zero, suc, ◌+◌, ◌-◌, ◌<◌, ◌≤◌, ◌^◌, ◌*◌, List, [], ◌∷◌, map, slice_index, inl, inr, ap, sym, subst, ◌∙◌, refl, arith}
-use Rattle.std.specs.Prelude.{codes, nat_le, nat_lt, nat_eq, if◌then◌else◌}
+use Rattle.std.specs.Prelude.{Bool, codes, nat_le, nat_lt, nat_eq, if◌then◌else◌}
 use Rattle.std.specs.List.{list_any, sum_by}
 use Rattle.std.proofs.lemmas.Bool.{cases_eq, ne_eqb, cases_Bool}
 use Rattle.std.proofs.lemmas.List.Elements.{All-nil, All-cons}
@@ -19,6 +19,8 @@ use Rattle.psi_region.specs.Region.{step}
 use Rattle.psi_model.specs.Network.{Network}
 use Rattle.psi_model.specs.Valid.{IsNetwork, IsQueue, IsAccepted}
 use Rattle.psi_model.specs.declared.entries.NamedEvent.{NamedEvent}
+use Rattle.psi_report.specs.Samples.{met_states}
+use Rattle.psi_report.specs.Report.{contents_of}
 use Rattle.psi_law.specs.Counting.{sum_below}
 use Rattle.psi_law.specs.Wheel.{word_count}
 use Rattle.psi_law.specs.Chains.{Chain, whole, weighted, flow_to, IsBalanced, is_same}
@@ -26,11 +28,12 @@ use Rattle.psi_law.specs.Samples.{is_unmet}
 use Rattle.psi_law.specs.Networks.{network_chain, network_sample}
 use Rattle.psi_law.proofs.NetworkLemmas.{network-lawful}
 use Rattle.psi_law_many.specs.Lists.{count_lists, AtMost}
-use Rattle.psi_law_many.specs.Values.{IsMeasured, Score, surplus, deficit, added}
+use Rattle.psi_law_many.specs.Values.{sum_or, IsMeasured, Score, surplus, deficit, added}
 use Rattle.psi_law_many.specs.Means.{spread, distance, far}
 use Rattle.psi_law_many.specs.Tails.{cases_from, at_least}
 use Rattle.psi_law_many.specs.Intervals.{IsChernoff, IsBinomial, IsRule, misses}
 use Rattle.psi_law_many.specs.Bets.{paid, product_by, IsWon, IsBet, loses}
+use Rattle.psi_law_many.specs.Reports.{report_of}
 use Rattle.psi_law_many.specs.Quantiles.{hits, IsQuantile}
 use Rattle.psi_law_many.proofs.ManyLemmas.{AreMany, are-many, AreDifferent, are-different}
 
@@ -217,6 +220,21 @@ cases-counted = refl
 binomial-worked : (31 * 7 ^ 2 ≤ 13 * 256) × (1 * 7 ^ 2 ≤ 1 * 256)
 binomial-worked = (omega arith, omega arith)
 
+-- samples above 0 customers are those of the past that gives 2, and samples below 1 those of the four that give 0
+hits-of : (List ℕ → Bool) → List ℕ
+hits-of has = map (λ i. count_lists 4 2 2 (λ pasts. nat_le i (hits has (network_sample (queueing 2 1)) pasts))) (0 ∷ 1 ∷ 2 ∷ 3 ∷ [])
+
+hits-counted : (hits-of (λ x. nat_lt 0 (customers x)) ≡ 256 ∷ 31 ∷ 1 ∷ 0 ∷ []) × (hits-of (λ x. nat_lt (customers x) 1) ≡ 256 ∷ 112 ∷ 16 ∷ 0 ∷ [])
+unfolding hits-of sum_below do_kind event_of least_power outcome_within first_answer step
+hits-counted = (refl, refl)
+
+-- of two arrivals and of two idle words the report counts 2 samples, of which 1 coalesced, with 2 customers; with 2 for the other they are 4
+report-worked : ((report_of (queueing 2 1) (network_sample (queueing 2 1)) ((λ k. 0) ∷ (λ k. 3) ∷ [])).samples ≡ 2)
+    × (((report_of (queueing 2 1) (network_sample (queueing 2 1)) ((λ k. 0) ∷ (λ k. 3) ∷ [])).met ≡ 1)
+    × ((sum_or 0 customers (network_sample (queueing 2 1)) ((λ k. 0) ∷ (λ k. 3) ∷ []) ≡ 2) × (sum_or 2 customers (network_sample (queueing 2 1)) ((λ k. 0) ∷ (λ k. 3) ∷ []) ≡ 4)))
+unfolding contents_of met_states do_kind event_of least_power outcome_within first_answer step
+report-worked = (refl, (refl, (refl, refl)))
+
 -- ---- two networks under the same past: capacity 2, and capacity 1, of which 10 pasts of 16 give the state 0, 5 the state 1, and 1 does not coalesce
 
 -- the first above the second, from -1 on: 2 from 1 past, and 1 from the 4 pasts where both are empty and from 6 where the second is empty alone; the mean of this is 26 of 21, so that of the difference is 5 of 21, as 4 of 7 less 1 of 3
@@ -263,6 +281,11 @@ ten-won = record {
   ];
   much = omega arith;
 }
+
+-- and 12 of 10 is not won by it
+ten-lost : IsWon 10 10 40 12 (7 ∷ []) ten → ⊥
+unfolding product_by
+ten-lost won = (let much = won.much in absurd (omega (arith, much)))
 
 -- a stake pays as much as it is, on the average of a 0 and a 2, where the mean is 1
 paid-worked : paid 10 10 10 5 0 + paid 10 10 10 5 2 ≡ 2 * (10 * 10)
