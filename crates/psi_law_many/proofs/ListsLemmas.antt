@@ -1,0 +1,123 @@
+-- Sums over lists of pasts: their number, products, and Markov's inequality.
+use Rattle.std.specs.Prelude.{◌≡◌, ℕ, zero, suc, ◌+◌, ◌*◌, ◌^◌, ◌≤◌, List, [], ◌∷◌, length, Bool, true, false, ◌||◌, refl}
+use Rattle.std.proofs.Common.{ap, sym, ◌∙◌, subst, arith}
+use Rattle.std.proofs.Math.Nat.{pow-zero, pow-succ', pow-suc, mul-le-mul_right}
+use Rattle.psi_law.specs.Counting.{Words, sum_below, sum_pasts}
+use Rattle.psi_law.specs.Wheel.{word_count}
+use Rattle.psi_law.proofs.SumsLemmas.{one_if, IsSum, sum-same, sum-times, sum_below-is, sum_pasts-is, sum_below-constant}
+use Rattle.psi_law.proofs.PowersLemmas.{pow-times}
+use Rattle.psi_law_many.specs.Lists.{sum_lists, count_lists, AtMost}
+
+-- one way to sum inside another
+pub nested-is : {A B C : Type 0} (outer : (A → ℕ) → ℕ) (inner : (B → ℕ) → ℕ) (join : A → B → C) → IsSum outer → IsSum inner
+    → IsSum (λ (g : C → ℕ). outer (λ a. inner (λ b. g (join a b))))
+nested-is outer inner join over under = record {
+  none = sum-same outer over (λ a. inner (λ b. 0)) (λ a. 0) (λ a. under.none) ∙ over.none;
+  more = λ g h. sum-same outer over (λ a. inner (λ b. g (join a b) + h (join a b))) (λ a. inner (λ b. g (join a b)) + inner (λ b. h (join a b)))
+      (λ a. under.more (λ b. g (join a b)) (λ b. h (join a b)))
+      ∙ over.more (λ a. inner (λ b. g (join a b))) (λ a. inner (λ b. h (join a b)));
+  order = λ g h each. over.order (λ a. inner (λ b. g (join a b))) (λ a. inner (λ b. h (join a b)))
+      (λ a. under.order (λ b. g (join a b)) (λ b. h (join a b)) (λ b. each (join a b)));
+}
+
+-- the sum of a constant is the constant times the sum of ones
+pub sum-constant : {A : Type 0} (sum : (A → ℕ) → ℕ) → IsSum sum → (c : ℕ) → sum (λ a. c) ≡ c * sum (λ a. 1)
+sum-constant sum is c = sum-same sum is (λ a. c) (λ a. c * 1) (λ a. omega arith) ∙ sum-times sum is c (λ a. 1)
+
+pub sum_lists-is : (bound n k : ℕ) → IsSum (sum_lists bound n k)
+sum_lists-is bound n zero = record { none = refl; more = λ g h. refl; order = λ g h each. each [] }
+sum_lists-is bound n (suc k) = nested-is (sum_pasts bound n) (sum_lists bound n k) (λ past pasts. past ∷ pasts) (sum_pasts-is bound n) (sum_lists-is bound n k)
+
+-- how many pasts there are, and how many lists of them
+pub pasts-ones : (bound n : ℕ) → sum_pasts bound n (λ past. 1) ≡ bound ^ n
+pasts-ones bound zero = sym (pow-zero bound)
+pasts-ones bound (suc n) =
+    sum-constant (sum_below bound) (sum_below-is bound) (sum_pasts bound n (λ past. 1))
+    ∙ (ap (λ m. sum_pasts bound n (λ past. 1) * m) (sum_below-constant bound 1)
+    ∙ (ap (λ m. m * (bound * 1)) (pasts-ones bound n)
+    ∙ (let p = pow-succ' bound n in omega arith)))
+
+pub lists-ones : (bound n k : ℕ) → sum_lists bound n k (λ pasts. 1) ≡ (bound ^ n) ^ k
+lists-ones bound n zero = sym (pow-zero (bound ^ n))
+lists-ones bound n (suc k) =
+    sum-constant (sum_pasts bound n) (sum_pasts-is bound n) (sum_lists bound n k (λ pasts. 1))
+    ∙ (ap (λ m. sum_lists bound n k (λ pasts. 1) * m) (pasts-ones bound n)
+    ∙ (ap (λ m. m * bound ^ n) (lists-ones bound n k) ∙ sym (pow-suc (bound ^ n) k)))
+
+pub lists-power : (bound n k : ℕ) → (bound ^ n) ^ k ≡ bound ^ (n * k)
+lists-power bound n k = (let e : k * n ≡ n * k = omega arith in sym (pow-times bound n k) ∙ ap (λ m. bound ^ m) e)
+
+-- only lists of k pasts are summed
+pub sum_lists-order : (bound n k : ℕ) (g h : List Words → ℕ) → ((pasts : List Words) → length pasts ≡ k → g pasts ≤ h pasts) → sum_lists bound n k g ≤ sum_lists bound n k h
+sum_lists-order bound n zero g h order = order [] refl
+sum_lists-order bound n (suc k) g h order =
+    (sum_pasts-is bound n).order (λ past. sum_lists bound n k (λ pasts. g (past ∷ pasts))) (λ past. sum_lists bound n k (λ pasts. h (past ∷ pasts)))
+    (λ past. sum_lists-order bound n k (λ pasts. g (past ∷ pasts)) (λ pasts. h (past ∷ pasts)) (λ pasts so. order (past ∷ pasts) (ap suc so)))
+
+-- the product of g over the pasts of a list
+unfoldable pub product : (Words → ℕ) → List Words → ℕ
+product g [] = 1
+product g (past ∷ pasts) = g past * product g pasts
+
+-- its sum over all lists is the power of the sum of g (independence)
+pub lists-product : (bound n k : ℕ) (g : Words → ℕ) → sum_lists bound n k (product g) ≡ sum_pasts bound n g ^ k
+unfolding product
+lists-product bound n zero g = sym (pow-zero (sum_pasts bound n g))
+lists-product bound n (suc k) g =
+    let pasts-is = sum_pasts-is bound n in
+    let all = sum_lists bound n k (product g) in
+    sum-same (sum_pasts bound n) pasts-is (λ past. sum_lists bound n k (λ pasts. g past * product g pasts)) (λ past. all * g past)
+    (λ past. sum-times (sum_lists bound n k) (sum_lists-is bound n k) (g past) (product g) ∙ omega arith)
+    ∙ (sum-times (sum_pasts bound n) pasts-is all g
+    ∙ (ap (λ m. m * sum_pasts bound n g) (lists-product bound n k g) ∙ (let p = pow-succ' (sum_pasts bound n g) k in omega arith)))
+
+-- a constant where a test passes is at most what it is where the test passes
+pub constant-if : (c h : ℕ) (test : Bool) → (test ≡ true → c ≤ h) → c * one_if test ≤ h
+constant-if c h true under = (let u = under refl in omega arith)
+constant-if c h false under = omega arith
+
+-- where g is at least c on the lists that pass a test, those are at most the sum of g divided by c (Markov's inequality)
+pub markov : (bound n k c : ℕ) (test : List Words → Bool) (g : List Words → ℕ) → ((pasts : List Words) → length pasts ≡ k → test pasts ≡ true → c ≤ g pasts)
+    → c * count_lists bound n k test ≤ sum_lists bound n k g
+markov bound n k c test g under =
+    subst (λ m. m ≤ sum_lists bound n k g) (sum-times (sum_lists bound n k) (sum_lists-is bound n k) c (λ pasts. one_if (test pasts)))
+    (sum_lists-order bound n k (λ pasts. c * one_if (test pasts)) g (λ pasts so. constant-if c (g pasts) (test pasts) (under pasts so)))
+
+-- where the lists that pass a test pass another, there are no more of them
+one-order : (a b : Bool) → (a ≡ true → b ≡ true) → one_if a ≤ one_if b
+one-order true b so = (let e : one_if b ≡ 1 = ap one_if (so refl) in omega arith)
+one-order false b so = omega arith
+
+pub count-order : (bound n k : ℕ) (test other : List Words → Bool) → ((pasts : List Words) → length pasts ≡ k → test pasts ≡ true → other pasts ≡ true)
+    → count_lists bound n k test ≤ count_lists bound n k other
+count-order bound n k test other passes =
+    sum_lists-order bound n k (λ pasts. one_if (test pasts)) (λ pasts. one_if (other pasts)) (λ pasts so. one-order (test pasts) (other pasts) (passes pasts so))
+
+-- tests that no list passes, or that few pass
+none-of : (c d w m : ℕ) → c ≤ 0 → c * d ≤ m * w
+none-of c d w m none = (let e : c ≡ 0 = omega arith in let f : c * d ≡ 0 * d = ap (λ x. x * d) e in omega arith)
+
+pub at-most-none : (d n k : ℕ) (test : List Words → Bool) → ((pasts : List Words) → length pasts ≡ k → test pasts ≡ false) → AtMost 1 d n k test
+at-most-none d n k test fails =
+    (let under = sum_lists-order word_count n k (λ pasts. one_if (test pasts)) (λ pasts. 0) (λ pasts so. (let e : one_if (test pasts) ≡ 0 = ap one_if (fails pasts so) in omega arith)) in
+    let none = (sum_lists-is word_count n k).none in
+    none-of (count_lists word_count n k test) d (word_count ^ (n * k)) 1 (omega arith))
+
+pub at-most-order : (d n k : ℕ) (test other : List Words → Bool) → ((pasts : List Words) → length pasts ≡ k → test pasts ≡ true → other pasts ≡ true)
+    → AtMost 1 d n k other → AtMost 1 d n k test
+at-most-order d n k test other passes few = (let under = mul-le-mul_right d (count-order word_count n k test other passes) in omega arith)
+
+either : (a b : Bool) → one_if (a || b) ≤ one_if a + one_if b
+either true b = omega arith
+either false b = omega arith
+
+both-of : (c a b d w : ℕ) → c ≤ a + b → a * d ≤ 1 * w → b * d ≤ 1 * w → c * d ≤ 2 * w
+both-of c a b d w under first last = (let times = mul-le-mul_right d under in omega arith)
+
+pub at-most-both : (d n k : ℕ) (a b : List Words → Bool) → AtMost 1 d n k a → AtMost 1 d n k b → AtMost 2 d n k (λ pasts. a pasts || b pasts)
+at-most-both d n k a b first last =
+    let lists-is = sum_lists-is word_count n k in
+    let under = lists-is.order (λ pasts. one_if (a pasts || b pasts)) (λ pasts. one_if (a pasts) + one_if (b pasts)) (λ pasts. either (a pasts) (b pasts)) in
+    let more = lists-is.more (λ pasts. one_if (a pasts)) (λ pasts. one_if (b pasts)) in
+    both-of (count_lists word_count n k (λ pasts. a pasts || b pasts)) (count_lists word_count n k a) (count_lists word_count n k b) d (word_count ^ (n * k))
+    (subst (λ m. count_lists word_count n k (λ pasts. a pasts || b pasts) ≤ m) more under) first last

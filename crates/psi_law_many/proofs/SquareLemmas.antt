@@ -1,0 +1,60 @@
+-- Squares of differences, in natural numbers.
+use Rattle.std.specs.Prelude.{◌≡◌, ℕ, ◌+◌, ◌-◌, ◌*◌, ◌≤◌, refl}
+use Rattle.std.proofs.Common.{inl, inr, ap, sym, ◌∙◌, arith}
+use Rattle.std.proofs.Math.Nat.{mul-le-mul}
+use Rattle.std.proofs.lemmas.Bool.{cases_lt}
+use Rattle.psi_law_many.specs.Means.{square, outside}
+
+-- the square of the difference of two numbers
+pub gap : ℕ → ℕ → ℕ
+gap a b = square (outside a a b)
+
+pub gap-is : (a b : ℕ) → gap a b ≡ square (outside a a b)
+unfolding gap
+gap-is a b = refl
+
+gap-over : (b i : ℕ) → gap (b + i) b ≡ i * i
+gap-over b i = (let e : outside (b + i) (b + i) b ≡ i = omega arith in gap-is (b + i) b ∙ ap square e)
+
+gap-under : (a i : ℕ) → gap a (a + i) ≡ i * i
+gap-under a i = (let e : outside a a (a + i) ≡ i = omega arith in gap-is a (a + i) ∙ ap square e)
+
+-- with twice the product it is the sum of the squares
+pub gap-square : (a b : ℕ) → gap a b + 2 * (a * b) ≡ a * a + b * b
+gap-square a b = elim (cases_lt a b) [
+  | inl less ↦ (let i : ℕ = b - a in
+      let e : b ≡ a + i = omega arith in
+      let left : gap a b + 2 * (a * b) ≡ gap a (a + i) + 2 * (a * (a + i)) = ap (λ m. gap a m + 2 * (a * m)) e in
+      let right : a * a + b * b ≡ a * a + (a + i) * (a + i) = ap (λ m. a * a + m * m) e in
+      let same : gap a (a + i) + 2 * (a * (a + i)) ≡ a * a + (a + i) * (a + i) = ap (λ m. m + 2 * (a * (a + i))) (gap-under a i) ∙ omega arith in
+      left ∙ (same ∙ sym right))
+  | inr more ↦ (let i : ℕ = a - b in
+      let e : a ≡ b + i = omega arith in
+      let left : gap a b + 2 * (a * b) ≡ gap (b + i) b + 2 * ((b + i) * b) = ap (λ m. gap m b + 2 * (m * b)) e in
+      let right : a * a + b * b ≡ (b + i) * (b + i) + b * b = ap (λ m. m * m + b * b) e in
+      let same : gap (b + i) b + 2 * ((b + i) * b) ≡ (b + i) * (b + i) + b * b = ap (λ m. m + 2 * ((b + i) * b)) (gap-over b i) ∙ omega arith in
+      left ∙ (same ∙ sym right))
+]
+
+pub gap-same : (a : ℕ) → gap a a ≡ 0
+gap-same a = (let e : outside a a a ≡ 0 = omega arith in gap-is a a ∙ ap square e)
+
+-- twice a product is at most the sum of the squares
+pub two-products : (a b : ℕ) → 2 * (a * b) ≤ a * a + b * b
+two-products a b = (let e = gap-square a b in omega arith)
+
+-- the squares of a sum of two differences, less the cross terms
+add-of : (s v t b x y z : ℕ) → x + 2 * ((s + t) * (v + b)) ≡ (s + t) * (s + t) + (v + b) * (v + b)
+    → y + 2 * (s * v) ≡ s * s + v * v → z + 2 * (t * b) ≡ t * t + b * b
+    → x + (2 * b * s + 2 * v * t) ≡ y + z + (2 * s * t + 2 * v * b)
+add-of s v t b x y z p q r = omega arith
+
+pub gap-add : (s v t b : ℕ) → gap (s + t) (v + b) + (2 * b * s + 2 * v * t) ≡ gap s v + gap t b + (2 * s * t + 2 * v * b)
+gap-add s v t b = add-of s v t b (gap (s + t) (v + b)) (gap s v) (gap t b) (gap-square (s + t) (v + b)) (gap-square s v) (gap-square t b)
+
+-- a number is at least as far from each number of a range as from the range
+pub outside-order : (least greatest m t : ℕ) → least ≤ t → t ≤ greatest → outside least greatest m ≤ outside t t m
+outside-order least greatest m t above below = omega arith
+
+pub square-order : {a b : ℕ} → a ≤ b → square a ≤ square b
+square-order under = mul-le-mul under under
