@@ -7,10 +7,11 @@ ghost use Rattle.psi_arcs.specs.Held.{Listed};
 ghost use Rattle.psi_arcs.specs.RowsKept.{sums_at};
 ghost use Rattle.psi_arcs.specs.Joining.{past, IsShiftable, Joined};
 ghost use Rattle.psi_arcs.specs.MarksKept.{IsReached, Keeps, Shifts, Gives};
+ghost use Rattle.psi_arcs.specs.SpansKept.{IsSpan};
 
 use crate::arcs::Arcs;
 use crate::marks::{Marks, Reach};
-use crate::spans::{Span, span_of, tell_spans, widened};
+use crate::spans::{Span, tell_spans, widened};
 use crate::sums::Sums;
 use crate::windows::Rule;
 
@@ -105,6 +106,7 @@ fn give_rows(of: &Arcs, level: u8, span: Span, from: u8, to: u8, reach: &mut Rea
     ensures changing { reach.new.changing ≡ reach.old.changing }
     ensures short { reach.new.short ≡ reach.old.short }
     ensures full { reach.new.full ≡ reach.old.full }
+    ensures spans { reach.new.spans.items ≡ reach.old.spans.items }
 {
     for before in span.first..span.end {
         let row = given(of, level, before, from, to, reach);
@@ -175,13 +177,15 @@ impl Arcs {
         let low = from.min(to);
         let high = from.max(to);
         for level in low..high + 1 {
-            self.shift_level(level, from, to, reach);
+            let span = reach.spans[level as usize];
+            self.shift_level(level, span, from, to, reach);
         }
     }
 
-    // Lets queue `level` have what the move makes of its arcs.
-    fn shift_level(&mut self, level: u8, from: u8, to: u8, reach: &mut Reach)
+    // Lets queue `level` have what the move makes of its arcs, all of which leave ends in the span.
+    fn shift_level(&mut self, level: u8, span: Span, from: u8, to: u8, reach: &mut Reach)
         requires level { level < self.old.levels }
+        requires span { IsSpan self.old.arcs self.old.total level span }
         requires shiftable { (s v : ℕ) → Listed self.old.arcs level s v → IsReached reach.old.changing level s v → IsShiftable from to self.old.total level s v }
         ensures levels { self.new.levels ≡ self.old.levels }
         ensures total { self.new.total ≡ self.old.total }
@@ -190,11 +194,12 @@ impl Arcs {
         ensures changing { reach.new.changing ≡ reach.old.changing }
         ensures short { reach.new.short ≡ reach.old.short }
         ensures full { reach.new.full ≡ reach.old.full }
+        ensures spans { reach.new.spans.items ≡ reach.old.spans.items }
     {
         let total = self.total();
-        let span = widened(span_of(self, level), total);
-        give_rows(self, level, span, from, to, reach);
-        for before in span.first..span.end {
+        let wide = widened(span, total);
+        give_rows(self, level, wide, from, to, reach);
+        for before in wide.first..wide.end {
             let row = reach.next[before as usize];
             self.put(level, before, row);
         }

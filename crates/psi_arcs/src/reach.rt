@@ -302,13 +302,15 @@ impl Reach {
     }
 
     /// Marks the ends of the useful arcs of the states that a move changes, of those whose source is short, and of
-    /// those whose target is full, at the move's queues and between them. All arcs of the set are useful.
+    /// those whose target is full, at the move's queues and between them, with the spans of these queues. All arcs of the
+    /// set are useful.
     pub(crate) fn mark(&mut self, of: &Arcs, from: u8, k: u16, to: u8, room: u16)
         requires source { from < of.now.levels }
         requires target { to < of.now.levels }
         requires apart { from ≢ to }
         requires whole { (l s v : ℕ) → Listed of.now.arcs l s v → Useful (Listed of.now.arcs) of.now.levels of.now.total l s v }
         ensures few { of.now.levels ≤ 32 }
+        ensures spans { AreSpans of.now.arcs of.now.total (min from to) (max from to) self.new.spans.items }
         ensures changing { TellsUseful (Listed of.now.arcs) of.now.levels of.now.total (min from to) (max from to) (IsChanging from k to room) self.new.changing }
         ensures short { TellsUseful (Listed of.now.arcs) of.now.levels of.now.total (min from to) (max from to) (IsShort from k) self.new.short }
         ensures full { TellsUseful (Listed of.now.arcs) of.now.levels of.now.total (min from to) (max from to) (IsFull to room) self.new.full }

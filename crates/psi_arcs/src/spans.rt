@@ -56,7 +56,7 @@ fn past_end(of: &Arcs, level: u8) -> u16
 }
 
 // The ends of queue `level` that arcs leave, and those between them.
-pub(crate) fn span_of(of: &Arcs, level: u8) -> Span
+fn span_of(of: &Arcs, level: u8) -> Span
     requires { level < of.now.levels }
     ensures { IsSpan of.now.arcs of.now.total level result }
 {

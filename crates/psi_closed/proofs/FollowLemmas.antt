@@ -69,7 +69,7 @@ module _ (caps : List ℕ) (k : ℕ) (functions : List (List ℕ → List ℕ)) 
       (numbers-after rates words t (total_states caps k) same (total-hull caps k) ∙ run-begins caps k (function_at functions rates words) t)
 
 -- the function of the move of a number
-read-map : {A B : Type 0} (f : A → B) (xs : List A) (n : ℕ) (d : A) (e : B) → n < length xs → slice_index_or (map f xs) n e ≡ f (slice_index_or xs n d)
+pub read-map : {A B : Type 0} (f : A → B) (xs : List A) (n : ℕ) (d : A) (e : B) → n < length xs → slice_index_or (map f xs) n e ≡ f (slice_index_or xs n d)
 read-map f [] n d e small = absurd (omega arith)
 read-map f (x ∷ xs) zero d e small = refl
 read-map f (x ∷ xs) (suc n) d e small = read-map f xs n d e (omega arith)

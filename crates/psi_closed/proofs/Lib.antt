@@ -10,4 +10,5 @@ pub mod DiagramLemmas
 pub mod StatesLemmas
 pub mod PlanLemmas
 pub mod FollowLemmas
+pub mod WalkingLemmas
 mod Worked

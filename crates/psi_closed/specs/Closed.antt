@@ -67,6 +67,11 @@ abbrev pub follow_closed : List ℕ → ℕ → List (List ℕ → List ℕ) →
 follow_closed caps k functions [] xs = xs
 follow_closed caps k functions (n ∷ ns) xs = arc_hull caps k (image (slice_index_or functions n (λ x. x)) (follow_closed caps k functions ns xs))
 
+-- what the functions of these numbers make of a state, that of the last number first
+abbrev pub walk_of : List (List ℕ → List ℕ) → List ℕ → List ℕ → List ℕ
+walk_of functions [] x = x
+walk_of functions (n ∷ ns) x = slice_index_or functions n (λ y. y) (walk_of functions ns x)
+
 -- the closed runs over the states with k customers, under these functions
 module _ (caps : List ℕ) (k : ℕ) (f : Functions) where
   -- what the last t steps make of a list of states: each step replaces it by the arc hull of its image, the oldest first

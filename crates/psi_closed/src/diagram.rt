@@ -57,6 +57,13 @@ impl Diagram {
         Ok(Diagram { caps, held, reach })
     }
 
+    /// The capacities of the network, in customers.
+    pub(crate) fn caps(&self) -> State
+        ensures { result ≡ self.now.caps }
+    {
+        self.caps
+    }
+
     /// Holds all states of the total.
     pub fn start(&mut self)
         ensures { self.new ≡ record self.old { states = total_states self.old.caps self.old.total } }

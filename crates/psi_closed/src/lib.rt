@@ -10,6 +10,7 @@ mod arcs;
 mod diagram;
 mod plan;
 mod runs;
+mod walking;
 
 pub use diagram::Diagram;
 pub use plan::ClosedPlan;

@@ -1,13 +1,14 @@
 //! The closed run of a horizon.
 
-ghost use Rattle.std.specs.Prelude.{◌≡◌, ◌<◌, ◌≤◌, ℕ, All, length, map};
+ghost use Rattle.std.specs.Prelude.{◌≡◌, ◌<◌, ◌≤◌, ℕ, All, IfSome, Some, length, map};
 ghost use Rattle.psi_state.specs.Sets.{single};
 ghost use Rattle.psi_kinds.specs.Moves.{moved};
 ghost use Rattle.psi_rate.specs.Keeping.{KeepsNumbers};
-ghost use Rattle.psi_closed.specs.Closed.{total_states, follow_closed, closed_ending};
+ghost use Rattle.psi_closed.specs.Closed.{IsOfTotal, total_states, follow_closed, closed_ending};
 ghost use Rattle.psi_closed.specs.Planned.{closed_functions, AreMoves};
 
 use crate::Diagram;
+use crate::walking::walk;
 use psi_kinds::Move;
 use psi_past::Past;
 use psi_rate::{Numbers, Wheel};
@@ -38,7 +39,7 @@ pub(crate) fn ending<P: Past>(
 }
 
 // The one state with which the diagram ends that begins with all states of the total and goes through the moves of
-// these numbers, the last one first, if it ends with one.
+// these numbers, the last one first, if it ends with one. Once it holds one state, that state alone is followed.
 fn follow_numbers(moves: &[Move], numbers: &[u16], diagram: &mut Diagram) -> Option<State>
     requires moves { AreMoves diagram.old.caps moves.now }
     requires numbers { All (λ n. n < length moves.now) numbers.now }
@@ -49,7 +50,22 @@ fn follow_numbers(moves: &[Move], numbers: &[u16], diagram: &mut Diagram) -> Opt
 {
     diagram.start();
     for place in (0..numbers.len()).rev() {
+        if let Some(state) = one_left(diagram, place) {
+            return Some(walk(moves, numbers, place + 1, &diagram.caps(), state));
+        }
         diagram.advance(&moves[numbers[place] as usize]);
+    }
+    diagram.single()
+}
+
+// The one state that the diagram holds, if it holds one, at every 64th place: a look costs about as much as a step.
+#[inline]
+fn one_left(diagram: &Diagram, place: usize) -> Option<State>
+    ensures one { IfSome result (λ s. single diagram.now.states ≡ Some s) }
+    ensures within { IfSome result (λ s. IsOfTotal diagram.now.caps diagram.now.total s) }
+{
+    if place % 64 != 63 {
+        return None;
     }
     diagram.single()
 }

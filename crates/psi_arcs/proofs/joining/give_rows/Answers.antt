@@ -39,4 +39,5 @@ loop-before-preserved c =
       changing = c.loop-before.invariant.changing;
       short = c.loop-before.invariant.short;
       full = c.loop-before.invariant.full;
+      spans = c.loop-before.invariant.spans;
     }

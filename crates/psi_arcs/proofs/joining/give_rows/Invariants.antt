@@ -13,4 +13,5 @@ invariant-loop-before l = record {
   changing : l.reach.changing ≡ l.fn.reach.changing;
   short : l.reach.short ≡ l.fn.reach.short;
   full : l.reach.full ≡ l.fn.reach.full;
+  spans : l.reach.spans.items ≡ l.fn.reach.spans.items;
 }

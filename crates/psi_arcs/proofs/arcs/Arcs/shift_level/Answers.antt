@@ -12,7 +12,7 @@ pub loop-before-preserved : goal.loop-before-preserved
 loop-before-preserved c = record {
   levels = c.put.ensures.levels ∙ c.loop-before.invariant.levels;
   total = c.put.ensures.total ∙ c.loop-before.invariant.total;
-  done = put-more c.args.level (λ s v. Gives (Listed c.args.self.now.arcs) c.args.reach.now c.args.from c.args.to c.args.level s v) c.args.self.now.arcs c.loop-before.self.arcs c.put.new.self.arcs c.widened-span.result.first c.loop-before.before
+  done = put-more c.args.level (λ s v. Gives (Listed c.args.self.now.arcs) c.args.reach.now c.args.from c.args.to c.args.level s v) c.args.self.now.arcs c.loop-before.self.arcs c.put.new.self.arcs c.widened-wide.result.first c.loop-before.before
       c.loop-before.invariant.done c.loop-before.auto.before (λ v. iff-trans (c.put.ensures.own v) (subst (λ (x : Sums). Leads x c.loop-before.before v ↔ Gives (Listed c.args.self.now.arcs) c.args.reach.now c.args.from c.args.to c.args.level c.loop-before.before v) (sym (read-row c.give_rows.new.reach.next.items c.loop-before.before c.index-row.result.now (omega arith) c.index-row.ensures)) (c.give_rows.ensures.arcs c.loop-before.before v c.loop-before.auto.before (let test = c.loop-before-test.true in omega arith)))) c.put.ensures.others;
 }
 
@@ -32,12 +32,12 @@ pub returns-clause-own : goal.returns-clause-own
 returns-clause-own c =
     let done = c.loop-before-test.false in
     let value = c.total-total.ensures.value in
-    let first = c.widened-span.ensures.first in
-    let end = c.widened-span.ensures.end in
-    let inside = c.span_of.ensures.inside in
-    put-all c.args.level (λ s v. Gives (Listed c.args.self.now.arcs) c.args.reach.now c.args.from c.args.to c.args.level s v) c.args.self.now.arcs c.loop-before.self.arcs c.widened-span.result.first c.loop-before.before c.loop-before.invariant.done
-    (λ s v member. (let within = c.span_of.ensures.each s v member in let above = within.0 in let less = within.1 in (omega arith, omega arith)))
-    (λ s v given. (let near = gives-near c.args.self.now.arcs c.args.reach.now c.args.from c.args.to c.args.level c.args.self.now.total c.span_of.result c.span_of.ensures
+    let first = c.widened-wide.ensures.first in
+    let end = c.widened-wide.ensures.end in
+    let inside = c.requires.span.inside in
+    put-all c.args.level (λ s v. Gives (Listed c.args.self.now.arcs) c.args.reach.now c.args.from c.args.to c.args.level s v) c.args.self.now.arcs c.loop-before.self.arcs c.widened-wide.result.first c.loop-before.before c.loop-before.invariant.done
+    (λ s v member. (let within = c.requires.span.each s v member in let above = within.0 in let less = within.1 in (omega arith, omega arith)))
+    (λ s v given. (let near = gives-near c.args.self.now.arcs c.args.reach.now c.args.from c.args.to c.args.level c.args.self.now.total c.args.span c.requires.span
     (λ r u member. (c.total-total.ensures.ranged (arc_of c.args.level r u) member).sum) c.requires.shiftable s v given in
     let above = near.0 in
     let less = near.1.0 in

@@ -24,13 +24,20 @@ mark_between-requires-3-clause-before c l v less small = (c.full-full.ensures l 
 pub mark_between-requires-3-clause-past : goal.mark_between-requires-3-clause-past
 mark_between-requires-3-clause-past c l v less small = (c.full-full.ensures l v small).1 (λ e. absurd (omega arith))
 
-pub returns : goal.returns
-returns c =
-    let tells = tells-between c.args.of.now.arcs c.args.of.now.levels c.args.of.now.total c.total-total.ensures.ranged c.total-total.ensures.small c.args.from c.args.to
-    c.min-low.result c.max-high.result c.min-low.ensures c.max-high.ensures in
-    record {
-      few = c.total-total.ensures.few;
-      changing = tells _ _ (IsChanging c.args.from c.args.k c.args.to c.args.room) c.mark_between.ensures.marked c.mark_between.ensures.rule c.changing-changing.ensures;
-      short = tells _ _ (IsShort c.args.from c.args.k) c.mark_between-2.ensures.marked c.mark_between-2.ensures.rule c.short-short.ensures;
-      full = tells _ _ (IsFull c.args.to c.args.room) c.mark_between-3.ensures.marked c.mark_between-3.ensures.rule c.full-full.ensures;
-    }
+pub returns-clause-changing : goal.returns-clause-changing
+returns-clause-changing c =
+    tells-between c.args.of.now.arcs c.args.of.now.levels c.args.of.now.total c.total-total.ensures.ranged c.total-total.ensures.small c.args.from c.args.to
+    c.min-low.result c.max-high.result c.min-low.ensures c.max-high.ensures
+    _ _ (IsChanging c.args.from c.args.k c.args.to c.args.room) c.mark_between.ensures.marked c.mark_between.ensures.rule c.changing-changing.ensures
+
+pub returns-clause-short : goal.returns-clause-short
+returns-clause-short c =
+    tells-between c.args.of.now.arcs c.args.of.now.levels c.args.of.now.total c.total-total.ensures.ranged c.total-total.ensures.small c.args.from c.args.to
+    c.min-low.result c.max-high.result c.min-low.ensures c.max-high.ensures
+    _ _ (IsShort c.args.from c.args.k) c.mark_between-2.ensures.marked c.mark_between-2.ensures.rule c.short-short.ensures
+
+pub returns-clause-full : goal.returns-clause-full
+returns-clause-full c =
+    tells-between c.args.of.now.arcs c.args.of.now.levels c.args.of.now.total c.total-total.ensures.ranged c.total-total.ensures.small c.args.from c.args.to
+    c.min-low.result c.max-high.result c.min-low.ensures c.max-high.ensures
+    _ _ (IsFull c.args.to c.args.room) c.mark_between-3.ensures.marked c.mark_between-3.ensures.rule c.full-full.ensures
