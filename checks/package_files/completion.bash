@@ -22,7 +22,8 @@ _psi() {
     local word=${COMP_WORDS[COMP_CWORD]} command=${COMP_WORDS[1]} net=${COMP_WORDS[2]}
     COMPREPLY=()
     case $COMP_CWORD:$command in
-    1:*) COMPREPLY=($(compgen -W "$_psi_commands help --help --version" -- "$word")) ;;
+    1:-*) COMPREPLY=($(compgen -W "--help --version" -- "$word")) ;;
+    1:*) COMPREPLY=($(compgen -W "$_psi_commands help" -- "$word")) ;;
     2:help) COMPREPLY=($(compgen -W "$_psi_commands" -- "$word")) ;;
     2:trial | *:-* | *:help) ;;
     2:*) _psi_files toml "$word" ;;

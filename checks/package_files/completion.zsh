@@ -25,8 +25,9 @@ _psi() {
         'replay:check the log of a sample'
     )
     case $CURRENT:$words[2] in
+    2:-*) compadd -- --help --version ;;
     2:*)
-        commands+=('help:print the help on a command' '--help:print the help' '--version:print the version')
+        commands+=('help:print the help on a command')
         _describe command commands
         ;;
     3:help) _describe command commands ;;
