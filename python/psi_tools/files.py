@@ -10,7 +10,6 @@ import contextlib
 import errno
 import os
 import re
-import secrets
 import stat
 import tempfile
 
@@ -73,7 +72,7 @@ def open_new(folder: str, front: str, ending: str = "") -> tuple[int, str]:
     """A new temporary file in a folder, which no link leads elsewhere, and its path."""
     flags = os.O_WRONLY | os.O_CREAT | os.O_EXCL | os.O_NOFOLLOW | os.O_CLOEXEC
     for _ in range(TRIES):
-        path = os.path.join(folder, f"{front}{secrets.token_hex(6)}{ending}")
+        path = os.path.join(folder, f"{front}{os.urandom(6).hex()}{ending}")
         with contextlib.suppress(FileExistsError):
             return os.open(path, flags, 0o600), path
     raise FileExistsError(errno.EEXIST, os.strerror(errno.EEXIST), path)

@@ -17,6 +17,7 @@ its values may be at all, and how far the value that did not come may lie from t
 import dataclasses
 import importlib
 import math
+import threading
 from collections.abc import Callable, Sequence
 
 from psi_tools.blocks import LEAST_BLOCKS
@@ -35,6 +36,11 @@ EVEN = 0.1
 def special():
     """The functions of scipy, which take a while to be read: only where an interval is wanted."""
     return importlib.import_module("scipy.special")
+
+
+def read_ahead() -> None:
+    """Has scipy read while samples are drawn."""
+    threading.Thread(target=special).start()
 
 
 @dataclasses.dataclass(frozen=True)

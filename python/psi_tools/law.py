@@ -8,7 +8,7 @@ from psi_tools.batches import Batches, Row, batches_of
 from psi_tools.draws import blocks_of, reports_of, size_of
 from psi_tools.intervals import (
     LEVEL, Mean, Span, between, carried_by_few, carriers, ends_shown, figures, half_shown,
-    mean_of_values, probability, quantile,
+    mean_of_values, probability, quantile, read_ahead,
 )
 from psi_tools.networks import MOST_REWARDS, Network, checked, value_of
 from psi_tools.program import Psi
@@ -35,6 +35,8 @@ The samples of a queue, or of a reward of one queue, are drawn by psi report, wi
 count the numbers of customers; those of a reward of several queues one by one, by psi reward. Where
 streams weren't coupled this is said first, and each interval is as wide as what they might hold
 makes it."""
+# A queue of more places than this has a first look at the numbers that come.
+NARROW = 63
 # A value of a reward's table is at most so great, so its sum over a block counts several numbers;
 # and so many signs the tables of one report have at most, as psi reads them for each block.
 MOST_VALUE, MOST_SIGNS = 10**9, 64_000
@@ -158,23 +160,35 @@ def counts_of_queue(
 ) -> tuple[dict[int, int], int]:
     """How many samples hold each number of customers in a queue, ascending, and how many streams
     aren't coupled: by reports of the same samples, each with rewards that count a range of numbers.
-    The first one has the least numbers, and the extremes, so the others have what is left."""
+    Of a wide queue the first block alone tells which numbers to count first."""
+    read_ahead()
     blocks = blocks_of(first, count, size_of(count))
     counters = Counters(net, queue, blocks[0][1])
-    progress, found = Progress(command, len(blocks), "blocks"), {}
-    begin, end = 0, counters.capacity + 1
-    while begin < end:
-        batches = drawn(psi, counters.network(begin), seed, blocks, progress)
-        own, met = batches.row("", queue), sum(batches.met)
-        rows = batches.rows[len(net.queues) :]
-        found |= counters.counts(begin, rows, met - sum(found.values()))
+    progress, found, waiting = Progress(command, len(blocks), "blocks"), {}, counters.whole
+    if counters.capacity > NARROW:
+        seen = drawn(psi, counters.network(range(0)), seed, blocks[:1], progress).row("", queue)
+        waiting = counters.near(seen.least, seen.greatest)
+    while waiting:
+        numbers = waiting[: counters.width]
+        batches = drawn(psi, counters.network(numbers), seed, blocks, progress)
+        own, rows = batches.row("", queue), batches.rows[len(net.queues) :]
+        found |= counters.counts(numbers, rows, sum(batches.met))
         # Where no stream is coupled there are no extremes, and nothing to count.
-        end = 0 if own.greatest is None else own.greatest + 1
-        begin = max(begin + counters.width, own.least or 0)
-        more = max(0, -(-(end - begin) // counters.width))
-        progress.whole = progress.before + len(blocks) * more
+        seen = range(0) if own.least is None else range(own.least, own.greatest + 1)
+        waiting = missing_in(found, seen)
+        progress.whole = progress.before + len(blocks) * -(-len(waiting) // counters.width)
     progress.end()
     return {number: found[number] for number in sorted(found) if found[number]}, batches.uncoupled
+
+
+def missing_in(found: dict[int, int], seen: range) -> range:
+    """The first run of numbers among those that came which aren't counted yet."""
+    missing = [number for number in seen if number not in found]
+    if not missing:
+        return range(0)
+    begin = missing[0]
+    run = next((k for k, number in enumerate(missing) if number != begin + k), len(missing))
+    return range(begin, begin + run)
 
 
 class Counters:
@@ -183,31 +197,34 @@ class Counters:
 
     The table of a reward has 1 for the first of some numbers, and for each further one a value that
     is greater by a factor above the size of a block: so its sum has a digit for each of them. Where
-    such tables would be long, a reward is `above` a level, and counts one number."""
+    such tables would be long, a reward is `above` a level, and two of them count one number."""
 
     def __init__(self, net: Network, queue: str, size: int):
         self.net, self.queue, self.base = net, queue, size + 1
         self.capacity = net.capacities[net.queues.index(queue)]
+        self.whole = range(self.capacity + 1)
         self.digits = 1
         while self.base**self.digits <= MOST_VALUE:
             self.digits += 1
         tables = min(MOST_REWARDS, MOST_SIGNS // (3 * self.capacity + 50 * self.digits))
         self.has_tables = tables * self.digits >= min(MOST_REWARDS, self.capacity + 1)
         # So many numbers are counted by one report.
-        self.width = tables * self.digits if self.has_tables else MOST_REWARDS
+        self.width = tables * self.digits if self.has_tables else MOST_REWARDS - 1
 
-    def numbers(self, begin: int) -> range:
-        """The numbers that one report counts, from a number on."""
-        return range(begin, min(self.capacity + 1, begin + self.width))
+    def near(self, least: int | None, greatest: int | None) -> range:
+        """The numbers around those that came in some samples, by which most others are counted."""
+        if least is None:
+            return self.whole
+        more = (greatest - least) // 2 + 2
+        return range(max(0, least - more), min(self.capacity, greatest + more) + 1)
 
-    def network(self, begin: int) -> Network:
-        """The network with the rewards that count from a number on."""
-        asked, numbers = self.net.copy(), self.numbers(begin)
+    def network(self, numbers: range) -> Network:
+        """The network with the rewards that count some numbers."""
+        asked = self.net.copy()
         asked.table["reward"] = []
         if not self.has_tables:
-            for number in numbers:
-                level = min(number, 65_535)
-                asked.reward(f"above-{number}", "above", [self.queue], level=level)
+            for level in range(max(0, numbers.start - 1), numbers.stop):
+                asked.reward(f"above-{level}", "above", [self.queue], level=level)
             return asked
         for place in range(0, len(numbers), self.digits):
             table = [0] * (self.capacity + 1)
@@ -216,18 +233,20 @@ class Counters:
             asked.reward(f"count-{numbers[place]}", "table", [self.queue], table=[table])
         return asked
 
-    def counts(self, begin: int, rows: list[Row], left: int) -> dict[int, int]:
-        """How many samples hold each number that a report counts, by its rows of rewards; `left`
-        samples hold these numbers or greater ones."""
-        numbers, found = self.numbers(begin), {}
-        for place, number in enumerate(numbers):
-            if self.has_tables:
-                sums, digit = rows[place // self.digits].sums, place % self.digits
-                found[number] = sum(total // self.base**digit % self.base for total in sums)
-            else:
-                above = sum(rows[place].sums)
-                found[number], left = left - above, above
-        return found
+    def counts(self, numbers: range, rows: list[Row], met: int) -> dict[int, int]:
+        """How many samples hold each of some numbers, by the rows of the rewards that count them,
+        of so many samples that are met."""
+        if self.has_tables:
+            return {
+                number: sum(
+                    total // self.base ** (place % self.digits) % self.base
+                    for total in rows[place // self.digits].sums
+                )
+                for place, number in enumerate(numbers)
+            }
+        above = [sum(row.sums) for row in rows]
+        above = above if numbers.start else [met, *above]
+        return {number: above[k] - above[k + 1] for k, number in enumerate(numbers)}
 
 
 def drawn(

@@ -3,8 +3,6 @@
 import copy
 import math
 import numbers
-from decimal import Decimal
-from fractions import Fraction
 
 from psi_tools import toml
 from psi_tools.program import Refused, read_file
@@ -19,10 +17,10 @@ ORDER = "name", "kind", "rate", "from", "to"
 
 def whole(value: object, where: str) -> int:
     """The whole number that a value is; raises Told, with the key, where it is none."""
-    is_number = isinstance(value, (numbers.Real, Decimal)) and not isinstance(value, bool)
+    is_number = isinstance(value, numbers.Number) and not isinstance(value, bool)
     try:
         made = int(value) if is_number else None
-    except (OverflowError, ValueError):
+    except (OverflowError, TypeError, ValueError):
         made = None
     if made is None or made != value:
         more = "; Network.scaled makes rates whole" if is_number and "rate" in where else ""
@@ -32,7 +30,7 @@ def whole(value: object, where: str) -> int:
 
 def shown(value: object) -> str:
     """A value as a message has it, cut where it is long."""
-    text = str(value) if isinstance(value, (Fraction, Decimal)) else repr(value)
+    text = str(value) if isinstance(value, numbers.Number) else repr(value)
     return text if len(text) <= 60 else text[:58] + ".."
 
 
@@ -49,9 +47,11 @@ def written(value: object, where: str = "the value") -> str:
     return str(whole(value, where))
 
 
-def fraction(value: object, where: str) -> Fraction:
+def fraction(value: object, where: str) -> numbers.Rational:
     """A rate as a fraction: a float is taken for the decimal number that Python prints of it."""
-    if isinstance(value, bool) or not isinstance(value, (numbers.Real, Decimal)):
+    from fractions import Fraction
+
+    if isinstance(value, bool) or not isinstance(value, numbers.Number):
         raise Told(f"{where} is {shown(value)}, which isn't a number")
     try:
         made = Fraction(value if isinstance(value, numbers.Rational) else str(value))
@@ -141,7 +141,7 @@ class Network:
         made = self.copy()
         events = made.table["event"]
         rates = [fraction(event["rate"], f"the rate of {event['name']}") for event in events]
-        factor = Fraction(math.lcm(*(rate.denominator for rate in rates)))
+        factor = math.lcm(*(rate.denominator for rate in rates))
         for event, rate in zip(events, rates):
             event["rate"] = int(rate * factor)
         total = sum(event["rate"] * made.servers_of(event) for event in events)

@@ -152,18 +152,19 @@ class Psi:
     def all(self, calls, done=None):
         """The answers of some calls, each the arguments of `ask` by name or a function, in their
         order, drawn side by side; `done` is told how many are there."""
-        with concurrent.futures.ThreadPoolExecutor(self.jobs) as pool:
-            waiting = [pool.submit(call) for call in calls]
-            try:
-                for count, _ in enumerate(concurrent.futures.as_completed(waiting), 1):
-                    _.result()
-                    if done:
-                        done(count)
-            except BaseException:
-                self.stop()
-                pool.shutdown(wait=True, cancel_futures=True)
-                raise
-            return [one.result() for one in waiting]
+        pool, waiting = concurrent.futures.ThreadPoolExecutor(self.jobs), []
+        try:
+            waiting += [pool.submit(call) for call in calls]
+            for count, one in enumerate(concurrent.futures.as_completed(waiting), 1):
+                one.result()
+                if done:
+                    done(count)
+        except BaseException:
+            self.stop()
+            pool.shutdown(wait=True, cancel_futures=True)
+            raise
+        pool.shutdown()
+        return [one.result() for one in waiting]
 
     def stop(self):
         """Ends what is under way, for good."""

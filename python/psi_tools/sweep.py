@@ -10,7 +10,9 @@ from psi_tools.batches import REWARD, Batches, Row, batches_of, read_report
 from psi_tools.blocks import Block, Folder, digest_of
 from psi_tools.designs import Design, aligned, designs_of, look_at_bounds
 from psi_tools.draws import report_of, size_of
-from psi_tools.intervals import LEVEL, NO_MEAN, Mean, difference_of_batches, ends_shown, figures
+from psi_tools.intervals import (
+    LEVEL, NO_MEAN, Mean, difference_of_batches, ends_shown, figures, read_ahead,
+)
 from psi_tools.kept import Kept
 from psi_tools.networks import Network, checked
 from psi_tools.program import Psi
@@ -121,6 +123,7 @@ class Work:
             ]
         # The first blocks of all designs come first, so a call that is stopped has whole ones.
         waiting.sort(key=lambda each: each[1].number)
+        read_ahead()
         progress = Progress(command, len(waiting), "blocks")
         calls = [lambda each=each: self.keep(*each) for each in waiting]
         self.psi.all(calls, progress.show)

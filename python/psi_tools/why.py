@@ -6,7 +6,6 @@ import time
 
 from psi_tools import tables
 from psi_tools.batches import read_report
-from psi_tools.classes import classes_told
 from psi_tools.moves import Moves, loads_of
 from psi_tools.networks import checked
 from psi_tools.plotting.read_exact import read_exact
@@ -250,6 +249,8 @@ def told_of(psi, words):
     is_met = bool(found) and found[-1][1].met == words.count
     # What couples has one closed class alone.
     if not never and not any(report.met for _, report in found):
+        from psi_tools.classes import classes_told
+
         never = classes_told(net)
     return {
         "never": never, "one_sided": [*one_sided(net, moves)], "upset": upset,

@@ -166,7 +166,9 @@ def test_a_difference_of_shares_in_batches():
     assert same.mean == 0 and same.high == pytest.approx(probability(0, 2_000)[1], rel=0.01)
     lost = [0] * 40, [5] * 40
     wide = difference_of_batches(sums, others, [50] * 40, [45] * 40, spans=spans, lost=lost)
-    assert wide.low < found.low - 0.05 and wide.high >= found.high
+    # The five of each batch that aren't coupled count as 1 below and as 0 above.
+    assert wide.low == pytest.approx((100 - 80 - 200) / 2_000, abs=0.01)
+    assert wide.high == pytest.approx((100 - 80) / 2_000, abs=0.01)
 
 
 def test_samples_that_carry_a_mean():

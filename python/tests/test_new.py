@@ -116,7 +116,7 @@ def test_rates_are_exact_where_there_is_room():
 
 
 def test_rates_are_rounded_where_there_is_none(tool):
-    words = "--arrival 0.123456789 --service 1/999999937 --places 3"
+    words = "--arrival 0.123456789 --service 99999937/999999937 --places 3"
     status, out, error = tool("psi-new", "mm1k", *words.split())
     assert status == 0
     assert "a rate is off by at most" in out.replace("\n# ", " ")

@@ -27,9 +27,9 @@ CALLS = {
 WRITES = {
     "psi-law": (law, [NET, "desk", "--count", "20", "-o", "{}"]),
     "psi-law with a picture": (law, [NET, "desk", "--count", "20", "--picture", "{}.svg"]),
-    "psi-sweep": (sweep, [NET, "desk.capacity=2,3", "--count", "20", "-o", "{}"]),
+    "psi-sweep": (sweep, [NET, "desk.capacity=2,3", "--of", "desk", "--count", "20", "-o", "{}"]),
     "psi-sweep with a picture": (
-        sweep, [NET, "desk.capacity=2,3", "--count", "20", "--picture", "{}.svg"]
+        sweep, [NET, "desk.capacity=2,3", "--of", "desk", "--count", "20", "--picture", "{}.svg"]
     ),
     "psi-why": (why, [NET, "--seconds", "1", "-o", "{}"]),
     "psi-where": (where, [NET, "-o", "{}"]),

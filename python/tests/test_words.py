@@ -18,7 +18,8 @@ NET = TOP / "examples/single-server.toml"
 # Of each command words that are right, with a place for a file.
 RIGHT = {
     "many": ["{}", "0", "0", "20"], "plot": ["report", "{}", "-o", "p.svg"], "means": ["{}"],
-    "law": ["{}", "desk", "--count", "20"], "sweep": ["{}", "desk.capacity=2,3", "--count", "20"],
+    "law": ["{}", "desk", "--count", "20"],
+    "sweep": ["{}", "desk.capacity=2,3", "--anyway", "--count", "20"],
     "where": ["{}"], "why": ["{}"],
 }
 
