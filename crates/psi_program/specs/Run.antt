@@ -1,5 +1,5 @@
 -- A run of a program, by what crossed its edges: the words, the answers of the shelf, and the bytes that out and err accepted.
-use Rattle.std.specs.Prelude.{◌≡◌, ℕ, List, [], ◌∷◌, ◌++◌, Option, Some, ◌⊎◌}
+use Rattle.std.specs.Prelude.{◌≡◌, ℕ, List, [], ◌++◌, Option, Some, ◌⊎◌}
 use Rattle.std.specs.List.{AllByRecursion}
 use Rattle.psi_io.specs.Shelf.{Read, Given, IsPrefixIn}
 use Rattle.psi_program.specs.Seen.{SinkSeen}
