@@ -1,5 +1,5 @@
 -- The files of a shelf in memory: the first of a name, and what a change of it leaves.
-use Rattle.std.proofs.Common.{◌≡◌, ◌≢◌, ℕ, zero, suc, ◌^◌, ◌<◌, ◌≤◌, Bool, true, false, cond, List, [], ◌∷◌, ◌++◌, length, set, get_or, Option, None, Some, Result, Ok, Err, refl, sym, ◌∙◌, ap, inl, inr, arith, eq-eqb}
+use Rattle.std.proofs.Common.{◌≡◌, ◌≢◌, ℕ, zero, suc, ◌^◌, ◌<◌, ◌≤◌, Bool, true, false, cond, List, [], ◌∷◌, ◌++◌, ◌+◌, length, set, get_or, take, Option, None, Some, Result, Ok, Err, refl, sym, ◌∙◌, ap, inl, inr, arith, eq-eqb}
 use Rattle.std.specs.Prelude.{find, position, option_map, nat_eq, IfErr, IsErrOf}
 use Rattle.std.specs.List.{list_any, position_or_len}
 use Rattle.std.specs.Option.{option_map_or, option_or}
@@ -11,7 +11,7 @@ use Rattle.std.proofs.lemmas.List.Quantifiers.{position-Some}
 use Rattle.std.proofs.lemmas.List.Recursion.{found_at}
 use Rattle.std.proofs.lemmas.Slice.Eq.{bytes_eq-Decides}
 use Rattle.psi_io.specs.Counts.{counted}
-use Rattle.psi_io.specs.MemoryShelf.{ShelfFile, ShelfContents, has_name, file_of, told_of, faults_of, changed, with_fault, with_bytes, FailsToRead, asked_after, after_put, after_failed_read}
+use Rattle.psi_io.specs.MemoryShelf.{ShelfFile, ShelfContents, has_name, file_of, told_of, faults_of, changed, with_fault, with_bytes, FailsToRead, asked_after, after_read, after_put, after_failed_read}
 use Rattle.psi_io.specs.declared.shelf.ShelfFault.{ShelfFault}
 use Rattle.psi_io.specs.declared.shelf.ShelfFault.TheVariants.{Failed, OutOfMemory}
 
@@ -325,3 +325,14 @@ reads-at shelf name file told spared (inr missing) = cc
 pub no-fault : {T : Type 0} (r : Result T ShelfFault) → IfErr r (λ fault. fault ≡ OutOfMemory) → IsErrOf r Failed → ⊥
 no-fault (Ok value) memory is = cc
 no-fault (Err fault) memory is = cc
+
+-- and what isn't an error isn't a fault
+pub ok-no_fault : {T : Type 0} (value : T) → IsErrOf {T = T} {E = ShelfFault} (Ok value) Failed → ⊥
+ok-no_fault value is = cc
+
+-- a shelf that gave the front of a name's bytes is the shelf after its read
+pub read-place :
+    (shelf : ShelfContents) (name : List ℕ) (most : ℕ) (bytes : List ℕ) → told_of shelf name ≡ Some bytes
+    → record shelf { asked = asked_after shelf name most; gave = shelf.gave ++ (record { name = name; most = most; bytes = take (most + 1) bytes }) ∷ [] }
+    ≡ after_read shelf name most
+read-place shelf name most bytes told = rw told refl

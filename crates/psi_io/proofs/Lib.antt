@@ -5,3 +5,5 @@ pub mod FilesLemmas
 pub mod FeedingLemmas
 pub mod GivingLemmas
 pub mod GrowingLemmas
+pub mod AcceptingLemmas
+pub mod AgreeingLemmas

@@ -1,9 +1,9 @@
 -- What a shelf in memory is: its files with their counts, and which reads fail.
-use Rattle.std.specs.Prelude.{◌≡◌, ◌≢◌, ℕ, ◌⊎◌, Bool, if◌then◌else◌, List, [], ◌∷◌, ◌++◌, length, Option, None, find, option_map, Contains}
+use Rattle.std.specs.Prelude.{◌≡◌, ◌≢◌, ℕ, ◌⊎◌, Bool, if◌then◌else◌, List, [], ◌∷◌, ◌++◌, ◌+◌, length, take, Option, None, find, option_map, Contains}
 use Rattle.std.specs.Option.{option_map_or}
 use Rattle.std.specs.Str.{bytes_eq}
 use Rattle.psi_io.specs.Counts.{counted}
-use Rattle.psi_io.specs.Shelf.{Read}
+use Rattle.psi_io.specs.Shelf.{Read, Given}
 
 -- a file of the shelf: its name, its bytes, and the count of its failed reads
 pub record ShelfFile : Type 0 where
@@ -12,11 +12,12 @@ pub record ShelfFile : Type 0 where
   pub count : ℕ
 
 -- a shelf in memory: its files, the count that all names share that aren't there, the reads that
--- it was asked for, oldest first, and the numbers of the reads that fail
+-- it was asked for and the answers that it gave, oldest first, and the numbers of the reads that fail
 pub record ShelfContents : Type 0 where
   pub files : List ShelfFile
   pub absent : ℕ
   pub asked : List Read
+  pub gave : List Given
   pub fails : List ℕ
 
 -- whether a file has this name
@@ -64,9 +65,17 @@ module _ (shelf : ShelfContents) (name : List ℕ) where
   abbrev pub asked_after : ℕ → List Read
   asked_after most = shelf.asked ++ (record { name = name; most = most }) ∷ []
 
-  -- the shelf after a read of a name that doesn't fail, given or refused for want of memory: one more read
+  -- the answers that it gave, once a read of this name succeeds too
+  abbrev pub gave_after : ℕ → List Given
+  gave_after most = shelf.gave ++ (record { name = name; most = most; bytes = option_map_or (take (most + 1)) told_of [] }) ∷ []
+
+  -- the shelf after a read of a name that succeeds: one more read, and one more answer
   abbrev pub after_read : ℕ → ShelfContents
-  after_read most = record shelf { asked = asked_after most }
+  after_read most = record shelf { asked = asked_after most; gave = gave_after most }
+
+  -- the shelf after a read of a name for which there was not enough memory: one more read
+  abbrev pub after_refused_read : ℕ → ShelfContents
+  after_refused_read most = record shelf { asked = asked_after most }
 
   -- the shelf after a read of a name that fails: one more read, and one more fault of the name
   abbrev pub after_failed_read : ℕ → ShelfContents

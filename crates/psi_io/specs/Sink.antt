@@ -12,3 +12,7 @@ pub record GrewByPrefix (before after : Option (List ℕ)) (text : List ℕ) : T
   pub back : List ℕ
   pub whole : front ++ back ≡ text
   pub grew : after ≡ appended before front
+
+-- the bytes that were accepted grew by a prefix of a text
+abbrev pub TookPrefix : (before after text : List ℕ) → Type 0
+TookPrefix before after text = GrewByPrefix (Some before) (Some after) text

@@ -3,9 +3,12 @@
 ghost use Rattle.std.specs.Prelude.{◌≡◌, ◌+◌, ◌≤◌, ◌^◌, ◌↔◌, ◌++◌, [], ◌∷◌, length, take, IfOk, IfSome, IsOkAnd, OnOk, OnErr, IsErrOf};
 ghost use Rattle.std.specs.IoError.{error_kind};
 ghost use Rattle.psi_io.specs.Counts.{counted, Rose};
+ghost use Rattle.psi_io.specs.Shelf.{Delivered, ReadUpTo, TookFile};
 
+use crate::answered::Answered;
 use crate::asked::Asked;
 use crate::consumer::Consumer;
+use crate::noted::Noted;
 use crate::shelf::{Shelf, ShelfFault};
 use std::alloc::Global;
 use std::io::{Error, ErrorKind, Read};
@@ -17,12 +20,13 @@ use std::{fs, io};
 const CHUNK: usize = 8192;
 
 /// A shelf over the files of the system, opened through the runtime that it is lent. It tells
-/// nothing of what they hold, and is seen as the reads that it was asked for and its count of
-/// faults: one number for all names, which stands still at the greatest u64.
+/// nothing of what they hold, and is seen as the reads that it was asked for, the answers that it
+/// gave, and its count of faults: one number for all names, which stands still at the greatest u64.
 #[derive(Drop)]
 pub struct DiskShelf<'r, R: Files> {
     rt: &'r R,
     asked: Asked,
+    gave: Answered,
     count: u64,
 }
 
@@ -31,18 +35,20 @@ impl<'r, R: Files> Model for DiskShelf<'r, R> {
 
     ghost Value = { OverFiles };
 
-    ghost view = { λ shelf. record { asked = shelf.asked.reads; count = shelf.count } };
+    ghost view = { λ shelf. record { asked = shelf.asked.reads; gave = shelf.gave.answers; count = shelf.count } };
 }
 
 impl<'r, R: Files> DiskShelf<'r, R> {
     /// A shelf over the files of this runtime, with no read and no fault yet.
     pub fn new(rt: &'r R) -> DiskShelf<'r, R>
         ensures asked { result.asked ≡ [] }
+        ensures gave { result.gave ≡ [] }
         ensures count { result.count ≡ 0 }
     {
         DiskShelf {
             rt,
             asked: Asked::new(),
+            gave: Answered::new(),
             count: 0,
         }
     }
@@ -58,20 +64,23 @@ fn fault_of(error: &Error) -> ShelfFault
     }
 }
 
-/// Hands the bytes that a reader has left, but at most `most + 1` of them, to a consumer.
+/// Hands the bytes that a reader has left, but at most `most + 1` of them, to a consumer, and notes them. It takes no
+/// more from the reader than it hands over, and stops only at the reader's end or at `most + 1` bytes.
 pub(crate) fn feed_front<F: Read, C: Consumer>(
     file: &mut F,
     most: u32,
     to: &mut C,
-) -> Result<(), ShelfFault>
+) -> Result<Noted, ShelfFault>
     requires { most ≤ 2 ^ 30 }
-    ensures bytes { OnOk result (IfSome (F.remaining file.old) (λ bytes. C.taken to.new ≡ C.taken to.old ++ take (most + 1) bytes)) }
-    ensures front { OnOk result (take (length (C.taken to.old)) (C.taken to.new) ≡ C.taken to.old) }
-    ensures bound { OnOk result (length (C.taken to.new) ≤ length (C.taken to.old) + (most + 1)) }
+    ensures bytes { IfOk result (λ noted. IfSome (F.remaining file.old) (λ bytes. noted.bytes ≡ take (most + 1) bytes)) }
+    ensures read { IfOk result (λ noted. ReadUpTo most noted.bytes (F.remaining file.old) (F.remaining file.new)) }
+    ensures taken { IfOk result (λ noted. C.taken to.new ≡ C.taken to.old ++ noted.bytes) }
+    ensures bound { IfOk result (λ noted. length noted.bytes ≤ most + 1) }
     ensures setting { C.setting to.new ≡ C.setting to.old }
 {
     let limit = most as usize + 1;
     let mut chunk = [0u8; CHUNK];
+    let mut noted = Noted::new();
     let mut given = 0;
     while given < limit {
         let wanted = CHUNK.min(limit - given);
@@ -82,23 +91,26 @@ pub(crate) fn feed_front<F: Read, C: Consumer>(
         if count == 0 {
             break;
         }
-        to.take(&chunk[..count])?;
+        let piece = &chunk[..count];
+        to.take(piece)?;
+        noted = noted.and(piece);
         given += count;
     }
-    Ok(())
+    Ok(noted)
 }
 
-/// Hands the bytes of a file that was to be opened, but at most `most + 1` of them, to a consumer.
+/// Hands the bytes of a file that was to be opened, but at most `most + 1` of them, to a consumer, and notes them.
 fn feed_opened<F: Read + Drop, C: Consumer>(
     opened: io::Result<F>,
     most: u32,
     to: &mut C,
-) -> Result<(), ShelfFault>
+) -> Result<Noted, ShelfFault>
     requires { most ≤ 2 ^ 30 }
     // There are none where the file wasn't opened.
-    ensures bytes { OnOk result (IsOkAnd opened (λ file. IfSome (F.remaining file) (λ bytes. C.taken to.new ≡ C.taken to.old ++ take (most + 1) bytes))) }
-    ensures front { OnOk result (take (length (C.taken to.old)) (C.taken to.new) ≡ C.taken to.old) }
-    ensures bound { OnOk result (length (C.taken to.new) ≤ length (C.taken to.old) + (most + 1)) }
+    ensures bytes { IfOk result (λ noted. IsOkAnd opened (λ file. IfSome (F.remaining file) (λ bytes. noted.bytes ≡ take (most + 1) bytes))) }
+    ensures read { IfOk result (λ noted. IsOkAnd opened (λ file. (left : F) × ReadUpTo most noted.bytes (F.remaining file) (F.remaining left))) }
+    ensures taken { IfOk result (λ noted. C.taken to.new ≡ C.taken to.old ++ noted.bytes) }
+    ensures bound { IfOk result (λ noted. length noted.bytes ≤ most + 1) }
     ensures setting { C.setting to.new ≡ C.setting to.old }
 {
     match opened {
@@ -114,6 +126,8 @@ impl<R: Files> Shelf for DiskShelf<'_, R> {
 
     ghost asked = { λ shelf. shelf.asked };
 
+    ghost gave = { λ shelf. shelf.gave };
+
     ghost faults = { λ shelf name. shelf.count };
 
     /// Opens the file of this name and reads it, chunk by chunk, up to its end or to `most + 1`
@@ -128,6 +142,8 @@ impl<R: Files> Shelf for DiskShelf<'_, R> {
         requires { most ≤ 2 ^ 30 }
         ensures still { OnOk result (self.new.count ≡ self.old.count) }
         ensures raised { OnErr result (self.new.count ≡ counted self.old.count) }
+        // The bytes are those of a file that was opened, up to its end or to `most + 1` of them.
+        ensures whole { OnOk result (TookFile R.File.remaining most (C.taken to.old) (C.taken to.new)) }
 
         // What every shelf keeps.
         ensures front { OnOk result (take (length (C.taken to.old)) (C.taken to.new) ≡ C.taken to.old) }
@@ -136,13 +152,20 @@ impl<R: Files> Shelf for DiskShelf<'_, R> {
         ensures failed { IsErrOf result ShelfFault.Failed → Rose self.old.count self.new.count }
         ensures counts { self.old.count ≤ self.new.count }
         ensures noted { self.new.asked ≡ self.old.asked ++ (record { name = name.now; most = most }) ∷ [] }
+        ensures gave { OnOk result (Delivered self.old.gave self.new.gave name.now most (C.taken to.old) (C.taken to.new)) }
+        ensures gave_none { OnErr result (self.new.gave ≡ self.old.gave) }
     {
         self.asked = self.asked.and(name.as_bytes(), most);
-        let answer = feed_opened(fs::open(self.rt, name), most, to);
-        if answer.is_err() {
-            self.count = self.count.saturating_add(1);
+        match feed_opened(fs::open(self.rt, name), most, to) {
+            Ok(noted) => {
+                self.gave = self.gave.and(name.as_bytes(), most, &noted);
+                Ok(())
+            }
+            Err(fault) => {
+                self.count = self.count.saturating_add(1);
+                Err(fault)
+            }
         }
-        answer
     }
 
     /// Opens the file of this name and reads it, chunk by chunk, up to its end or to `most + 1`
@@ -156,12 +179,16 @@ impl<R: Files> Shelf for DiskShelf<'_, R> {
         requires { most ≤ 2 ^ 30 }
         ensures still { OnOk result (self.new.count ≡ self.old.count) }
         ensures raised { OnErr result (self.new.count ≡ counted self.old.count) }
+        // The bytes are those of a file that was opened, up to its end or to `most + 1` of them.
+        ensures whole { IfOk result (λ read. TookFile R.File.remaining most [] read.items) }
 
         // What every shelf keeps.
         ensures bound { IfOk result (λ read. length read.items ≤ most + 1) }
         ensures failed { IsErrOf result ShelfFault.Failed → Rose self.old.count self.new.count }
         ensures counts { self.old.count ≤ self.new.count }
         ensures noted { self.new.asked ≡ self.old.asked ++ (record { name = name.now; most = most }) ∷ [] }
+        ensures gave { IfOk result (λ read. self.new.gave ≡ self.old.gave ++ (record { name = name.now; most = most; bytes = read.items }) ∷ []) }
+        ensures gave_none { OnErr result (self.new.gave ≡ self.old.gave) }
     {
         let mut bytes = Vec::new(alloc);
         self.feed(name, most, &mut bytes)?;

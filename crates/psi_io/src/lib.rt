@@ -2,17 +2,20 @@
 //!
 //! A [`Shelf`] gives the bytes of a name, whole or piece by piece to a [`Consumer`]; a [`Sink`] takes
 //! bytes. Shelves and sinks count their faults, so that a caller can say of every refusal that it came
-//! from outside. [`MemoryShelf`] and
+//! from outside. Each records, for clauses only, which bytes crossed it: a shelf those that its reads
+//! answered, a sink those that were accepted. [`MemoryShelf`] and
 //! [`MemorySink`] keep everything in memory and fail where they are told to; [`DiskShelf`] and
 //! [`StdSink`] are thin adapters to the files and the output of the system.
 #![tactic(auto)]
 
+mod answered;
 mod asked;
 mod consumer;
 mod disk_shelf;
 mod memory_file;
 mod memory_shelf;
 mod memory_sink;
+mod noted;
 mod shelf;
 mod sink;
 mod std_sink;

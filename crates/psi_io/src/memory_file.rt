@@ -1,9 +1,10 @@
 //! A file of a shelf in memory.
 
-ghost use Rattle.std.specs.Prelude.{◌≡◌, ◌+◌, ◌<◌, ◌≤◌, ◌^◌, ◌++◌, take, string_bytes, OnOk, IfErr};
+ghost use Rattle.std.specs.Prelude.{◌≡◌, ◌+◌, ◌<◌, ◌≤◌, ◌^◌, ◌++◌, take, string_bytes, IfOk, OnOk, IfErr};
 ghost use Rattle.psi_io.specs.MemoryShelf.{has_name, with_bytes, with_fault};
 
 use crate::consumer::Consumer;
+use crate::noted::Noted;
 use crate::shelf::ShelfFault;
 use std::marker::Model;
 
@@ -57,14 +58,17 @@ impl MemoryFile {
     }
 
     /// Hands the bytes of the file, but at most `most + 1` of them, to a consumer.
-    pub(crate) fn feed<C: Consumer>(&self, most: u32, to: &mut C) -> Result<(), ShelfFault>
+    pub(crate) fn feed<C: Consumer>(&self, most: u32, to: &mut C) -> Result<Noted, ShelfFault>
         requires { most ≤ 2 ^ 30 }
+        ensures noted { IfOk result (λ noted. noted.bytes ≡ take (most + 1) self.now.bytes) }
         ensures bytes { OnOk result (C.taken to.new ≡ C.taken to.old ++ take (most + 1) self.now.bytes) }
         ensures setting { C.setting to.new ≡ C.setting to.old }
         ensures memory { IfErr result (λ fault. fault ≡ ShelfFault.OutOfMemory) }
     {
         let count = self.bytes.len().min(most as usize + 1);
         let bytes = self.bytes.as_slice();
-        Ok(to.take(&bytes[..count])?)
+        let piece = &bytes[..count];
+        to.take(piece)?;
+        Ok(Noted::new().and(piece))
     }
 }

@@ -2,9 +2,11 @@
 
 ghost use Rattle.std.specs.Prelude.{◌≡◌, ◌≢◌, ℕ, ◌+◌, ◌≤◌, ◌^◌, ◌↔◌, ◌++◌, List, [], ◌∷◌, Some, length, take, position, IfOk, IfSome, OnOk, OnErr, IsErrOf};
 ghost use Rattle.psi_io.specs.Counts.{counted, Rose};
-ghost use Rattle.psi_io.specs.MemoryShelf.{has_name, told_of, faults_of, FailsToRead, after_read, after_failed_read, after_put};
+ghost use Rattle.psi_io.specs.MemoryShelf.{has_name, told_of, faults_of, FailsToRead, after_read, after_refused_read, after_failed_read, after_put};
+ghost use Rattle.psi_io.specs.Shelf.{Delivered};
 
 use crate::OutOfMemory;
+use crate::answered::Answered;
 use crate::asked::Asked;
 use crate::consumer::Consumer;
 use crate::memory_file::MemoryFile;
@@ -23,6 +25,7 @@ pub struct MemoryShelf {
     files: Vec<MemoryFile>,
     absent: u64,
     asked: Asked,
+    gave: Answered,
     reads: u64,
     fails: Vec<u64>,
     alloc: Global,
@@ -38,6 +41,7 @@ impl Model for MemoryShelf {
       files = shelf.files.items;
       absent = shelf.absent;
       asked = shelf.asked.reads;
+      gave = shelf.gave.answers;
       fails = shelf.fails.items;
     } };
 
@@ -51,12 +55,14 @@ impl MemoryShelf {
         ensures files { result.files ≡ [] }
         ensures absent { result.absent ≡ 0 }
         ensures asked { result.asked ≡ [] }
+        ensures gave { result.gave ≡ [] }
         ensures fails { result.fails ≡ fails.items }
     {
         MemoryShelf {
             files: Vec::new(alloc),
             absent: 0,
             asked: Asked::new(),
+            gave: Answered::new(),
             reads: 0,
             fails,
             alloc,
@@ -102,6 +108,8 @@ impl Shelf for MemoryShelf {
 
     ghost asked = { λ shelf. shelf.asked };
 
+    ghost gave = { λ shelf. shelf.gave };
+
     ghost faults = { faults_of };
 
     ghost gives = { Gives };
@@ -121,7 +129,7 @@ impl Shelf for MemoryShelf {
         ensures raised { IsErrOf result ShelfFault.Failed → faults_of self.new name.now ≡ counted (faults_of self.old name.now) }
         ensures after { OnOk result (self.new ≡ after_read self.old name.now most) }
         ensures after_failed { IsErrOf result ShelfFault.Failed → self.new ≡ after_failed_read self.old name.now most }
-        ensures after_refused { IsErrOf result ShelfFault.OutOfMemory → self.new ≡ after_read self.old name.now most }
+        ensures after_refused { IsErrOf result ShelfFault.OutOfMemory → self.new ≡ after_refused_read self.old name.now most }
 
         // What every shelf keeps.
         ensures bytes { OnOk result (IfSome (told_of self.old name.now) (λ bytes. C.taken to.new ≡ C.taken to.old ++ take (most + 1) bytes)) }
@@ -132,6 +140,8 @@ impl Shelf for MemoryShelf {
         ensures counts { (other : List ℕ) → faults_of self.old other ≤ faults_of self.new other }
         ensures same { told_of self.new ≡ told_of self.old }
         ensures noted { self.new.asked ≡ self.old.asked ++ (record { name = name.now; most = most }) ∷ [] }
+        ensures gave { OnOk result (Delivered self.old.gave self.new.gave name.now most (C.taken to.old) (C.taken to.new)) }
+        ensures gave_none { OnErr result (self.new.gave ≡ self.old.gave) }
     {
         self.asked = self.asked.and(name.as_bytes(), most);
         self.reads = self.reads.saturating_add(1);
@@ -141,7 +151,13 @@ impl Shelf for MemoryShelf {
                 self.files[place].count_fault();
                 Err(ShelfFault::Failed)
             }
-            Some(place) => self.files[place].feed(most, to),
+            Some(place) => match self.files[place].feed(most, to) {
+                Ok(noted) => {
+                    self.gave = self.gave.and(name.as_bytes(), most, &noted);
+                    Ok(())
+                }
+                Err(fault) => Err(fault),
+            },
             None => {
                 self.absent = self.absent.saturating_add(1);
                 Err(ShelfFault::Failed)
@@ -163,7 +179,7 @@ impl Shelf for MemoryShelf {
         ensures raised { IsErrOf result ShelfFault.Failed → faults_of self.new name.now ≡ counted (faults_of self.old name.now) }
         ensures after { OnOk result (self.new ≡ after_read self.old name.now most) }
         ensures after_failed { IsErrOf result ShelfFault.Failed → self.new ≡ after_failed_read self.old name.now most }
-        ensures after_refused { IsErrOf result ShelfFault.OutOfMemory → self.new ≡ after_read self.old name.now most }
+        ensures after_refused { IsErrOf result ShelfFault.OutOfMemory → self.new ≡ after_refused_read self.old name.now most }
 
         // What every shelf keeps.
         ensures bytes { IfOk result (λ read. IfSome (told_of self.old name.now) (λ bytes. read.items ≡ take (most + 1) bytes)) }
@@ -172,6 +188,8 @@ impl Shelf for MemoryShelf {
         ensures counts { (other : List ℕ) → faults_of self.old other ≤ faults_of self.new other }
         ensures same { told_of self.new ≡ told_of self.old }
         ensures noted { self.new.asked ≡ self.old.asked ++ (record { name = name.now; most = most }) ∷ [] }
+        ensures gave { IfOk result (λ read. self.new.gave ≡ self.old.gave ++ (record { name = name.now; most = most; bytes = read.items }) ∷ []) }
+        ensures gave_none { OnErr result (self.new.gave ≡ self.old.gave) }
     {
         let mut bytes = Vec::new(alloc);
         self.feed(name, most, &mut bytes)?;

@@ -95,6 +95,8 @@ impl Sink for MemorySink {
 
     ghost held = { λ sink. Some sink.bytes };
 
+    ghost took = { λ sink. sink.bytes };
+
     ghost faults = { λ sink. sink.count };
 
     ghost takes = { Takes };

@@ -1,8 +1,8 @@
 //! The contract of a shelf.
 
-ghost use Rattle.std.specs.Prelude.{◌≡◌, ℕ, ◌+◌, ◌≤◌, ◌^◌, ◌++◌, List, [], ◌∷◌, Option, length, take, IfOk, IfSome, OnOk, IsErrOf};
+ghost use Rattle.std.specs.Prelude.{◌≡◌, ℕ, ◌+◌, ◌≤◌, ◌^◌, ◌++◌, List, [], ◌∷◌, Option, length, take, IfOk, IfSome, OnOk, OnErr, IsErrOf};
 ghost use Rattle.psi_io.specs.Counts.{Rose};
-ghost use Rattle.psi_io.specs.Shelf.{Read};
+ghost use Rattle.psi_io.specs.Shelf.{Read, Given, Delivered};
 ghost use Rattle.psi_io.specs.declared.shelf.ShelfFault.TheVariants.{OutOfMemory};
 
 use crate::consumer::Consumer;
@@ -28,9 +28,12 @@ impl From<AllocError> for ShelfFault {
 
 /// Files, each under a name.
 ///
-/// Four meanings belong to a shelf. `told` gives the bytes under a name, where the shelf tells
+/// Five meanings belong to a shelf. `told` gives the bytes under a name, where the shelf tells
 /// them: a shelf over real files tells none, and no call changes what a shelf tells. `asked` lists
 /// the reads that the shelf was asked for since it was made, oldest first, whatever came of them.
+/// `gave` lists the answers of the reads that succeeded, oldest first: the name, the bound, and the
+/// bytes that were returned or that the consumer took. A read that fails adds nothing. Every shelf has
+/// it, whatever it tells of its files.
 /// `faults` is the count of faults of a name, which never falls. `gives` says of a name that no
 /// read of it is to fail, now or later: no count rises there. A shelf over real files says it of
 /// no name.
@@ -38,6 +41,8 @@ pub trait Shelf {
     ghost told: { Self → List ℕ → Option (List ℕ) };
 
     ghost asked: { Self → List Read };
+
+    ghost gave: { Self → List Given };
 
     ghost faults: { Self → List ℕ → ℕ };
 
@@ -61,6 +66,8 @@ pub trait Shelf {
         ensures counts { (other : List ℕ) → faults self.old other ≤ faults self.new other }
         ensures same { told self.new ≡ told self.old }
         ensures noted { asked self.new ≡ asked self.old ++ (record { name = name.now; most = most }) ∷ [] }
+        ensures gave { OnOk result (Delivered (gave self.old) (gave self.new) name.now most (C.taken to.old) (C.taken to.new)) }
+        ensures gave_none { OnErr result (gave self.new ≡ gave self.old) }
         ensures given { gives self.old name.now → IsErrOf result ShelfFault.Failed → ⊥ }
         ensures spared { gives self.old name.now → faults self.new ≡ faults self.old }
         ensures gives_on { (other : List ℕ) → gives self.old other → gives self.new other };
@@ -80,6 +87,8 @@ pub trait Shelf {
         ensures counts { (other : List ℕ) → faults self.old other ≤ faults self.new other }
         ensures same { told self.new ≡ told self.old }
         ensures noted { asked self.new ≡ asked self.old ++ (record { name = name.now; most = most }) ∷ [] }
+        ensures gave { IfOk result (λ read. gave self.new ≡ gave self.old ++ (record { name = name.now; most = most; bytes = read.items }) ∷ []) }
+        ensures gave_none { OnErr result (gave self.new ≡ gave self.old) }
         ensures given { gives self.old name.now → IsErrOf result ShelfFault.Failed → ⊥ }
         ensures spared { gives self.old name.now → faults self.new ≡ faults self.old }
         ensures gives_on { (other : List ℕ) → gives self.old other → gives self.new other };

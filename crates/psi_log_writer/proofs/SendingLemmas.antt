@@ -1,9 +1,9 @@
 -- Texts that go to a sink one after another.
-use Rattle.std.proofs.Common.{◌≡◌, ℕ, ◌+◌, ◌-◌, ◌≤◌, List, [], ◌++◌, length, take, drop, Option, Result, Ok, Err, IsOk, IsErr, OnOk, OnErr, refl, sym, ◌∙◌, ap, subst, append_assoc, append-nil, length-append, arith}
+use Rattle.std.proofs.Common.{◌≡◌, ℕ, ◌+◌, ◌-◌, ◌≤◌, List, [], ◌++◌, length, take, drop, Option, Some, Result, Ok, Err, IsOk, IsErr, OnOk, OnErr, refl, sym, ◌∙◌, ap, subst, append_assoc, append-nil, length-append, arith}
 use Rattle.std.proofs.lemmas.List.{take-append-drop, take_rest}
 use Rattle.psi_io.specs.declared.sink.SinkFault.{SinkFault}
 use Rattle.psi_io.specs.Counts.{Rose}
-use Rattle.psi_io.specs.Sink.{appended, GrewByPrefix}
+use Rattle.psi_io.specs.Sink.{appended, GrewByPrefix, TookPrefix}
 use Rattle.psi_io.proofs.CountsLemmas.{rose-over}
 use Rattle.psi_io.proofs.SinkLemmas.{appended-nothing, appended-twice, grew-longer, grew-after}
 use Rattle.psi_log_writer.specs.Sending.{SinkState, IsSent, IsStopped, Sends}
@@ -20,6 +20,7 @@ sent-nothing s waiting text same =
       front = [];
       whole = same;
       grew = sym (appended-nothing s.held);
+      took = sym (append-nil s.took);
       counts = omega arith;
       spared = λ n takes long. refl;
       takes_on = λ n takes. (let e : n ≡ n - (length text - length waiting) = omega arith in subst s.takes e takes);
@@ -38,6 +39,7 @@ sent-waits a b waiting text more s =
       front = s.front;
       whole = sym (append_assoc s.front waiting more) ∙ ap (λ (xs : List ℕ). xs ++ more) s.whole;
       grew = s.grew;
+      took = s.took;
       counts = s.counts;
       spared = λ n takes long. s.spared n takes (omega arith);
       takes_on = λ n takes.
@@ -59,6 +61,7 @@ sent-more a b c waiting still text piece s r =
       whole = append_assoc s.front r.front still ∙ (ap (λ (xs : List ℕ). s.front ++ xs) r.whole
           ∙ (sym (append_assoc s.front waiting piece) ∙ ap (λ (xs : List ℕ). xs ++ piece) s.whole));
       grew = r.grew ∙ (ap (λ (held : Option (List ℕ)). appended held r.front) s.grew ∙ appended-twice a.held s.front r.front);
+      took = r.took ∙ (ap (λ (took : List ℕ). took ++ r.front) s.took ∙ append_assoc a.took s.front r.front);
       counts = omega arith;
       spared = λ n takes long. r.spared (n - (length text - length waiting)) (s.takes_on n takes) (omega arith) ∙ s.spared n takes (omega arith);
       takes_on = λ n takes.
@@ -77,6 +80,7 @@ stopped-more a b c waiting text piece s r =
     let whole : s.front ++ (waiting ++ piece) ≡ text ++ piece = sym (append_assoc s.front waiting piece) ∙ ap (λ (xs : List ℕ). xs ++ piece) s.whole in
     record {
       prefix = subst (λ (xs : List ℕ). GrewByPrefix a.held c.held xs) whole (grew-after a.held b.held c.held s.front (waiting ++ piece) s.grew r.prefix);
+      took = subst (λ (xs : List ℕ). TookPrefix a.took c.took xs) whole (grew-after (Some a.took) (Some b.took) (Some c.took) s.front (waiting ++ piece) (ap Some s.took) r.took);
       failed = rose-over a.faults b.faults c.faults c.faults s.counts r.failed (omega arith);
       counts = omega arith;
       never = λ n takes long. r.never (n - (length text - length waiting)) (s.takes_on n takes) (omega arith);
@@ -88,6 +92,7 @@ stopped-longer a b text more s =
     let count : length (text ++ more) ≡ length text + length more = length-append text more in
     record {
       prefix = grew-longer a.held b.held text more s.prefix;
+      took = grew-longer (Some a.took) (Some b.took) text more s.took;
       failed = s.failed;
       counts = s.counts;
       never = λ n takes long. s.never n takes (omega arith);
@@ -183,6 +188,14 @@ sends-whole (Err fault) a b text s = tt
 pub sends-prefix : (r : Result (Unit {0}) SinkFault) (a b : SinkState) (text : List ℕ) → Sends r a b [] text → OnErr r (GrewByPrefix a.held b.held text)
 sends-prefix (Ok done) a b text s = tt
 sends-prefix (Err fault) a b text s = s.prefix
+
+pub sends-took : (r : Result (Unit {0}) SinkFault) (a b : SinkState) (text : List ℕ) → Sends r a b [] text → OnOk r (b.took ≡ a.took ++ text)
+sends-took (Ok done) a b text s = s.took ∙ ap (λ (xs : List ℕ). a.took ++ xs) (sym (append-nil s.front) ∙ s.whole)
+sends-took (Err fault) a b text s = tt
+
+pub sends-took_part : (r : Result (Unit {0}) SinkFault) (a b : SinkState) (text : List ℕ) → Sends r a b [] text → OnErr r (TookPrefix a.took b.took text)
+sends-took_part (Ok done) a b text s = tt
+sends-took_part (Err fault) a b text s = s.took
 
 pub sends-failed : (r : Result (Unit {0}) SinkFault) (a b : SinkState) (text : List ℕ) → Sends r a b [] text → OnErr r (Rose a.faults b.faults)
 sends-failed (Ok done) a b text s = tt

@@ -51,8 +51,8 @@ impl Block {
     /// Puts a text behind what waits, and writes whole blocks to the sink as soon as they are full.
     pub(crate) fn put<O: Sink>(&mut self, text: &[u8], out: &mut O) -> Result<(), SinkFault>
         ensures { Sends result
-            (record { held = O.held out.old; faults = O.faults out.old; takes = O.takes out.old })
-            (record { held = O.held out.new; faults = O.faults out.new; takes = O.takes out.new })
+            (record { held = O.held out.old; took = O.took out.old; faults = O.faults out.old; takes = O.takes out.old })
+            (record { held = O.held out.new; took = O.took out.new; faults = O.faults out.new; takes = O.takes out.new })
             self.new (self.old ++ text.now) }
     {
         let room = SIZE - self.bytes.len();
@@ -72,8 +72,8 @@ impl Block {
     /// Writes what waits to the sink; nothing waits then.
     pub(crate) fn flush<O: Sink>(&mut self, out: &mut O) -> Result<(), SinkFault>
         ensures sent { Sends result
-            (record { held = O.held out.old; faults = O.faults out.old; takes = O.takes out.old })
-            (record { held = O.held out.new; faults = O.faults out.new; takes = O.takes out.new })
+            (record { held = O.held out.old; took = O.took out.old; faults = O.faults out.old; takes = O.takes out.old })
+            (record { held = O.held out.new; took = O.took out.new; faults = O.faults out.new; takes = O.takes out.new })
             [] self.old }
         ensures none { OnOk result (self.new ≡ []) }
     {
@@ -86,8 +86,8 @@ impl Block {
 // Writes a piece to the sink, past the block.
 fn write_piece<O: Sink>(piece: &[u8], out: &mut O) -> Result<(), SinkFault>
     ensures { Sends result
-        (record { held = O.held out.old; faults = O.faults out.old; takes = O.takes out.old })
-        (record { held = O.held out.new; faults = O.faults out.new; takes = O.takes out.new })
+        (record { held = O.held out.old; took = O.took out.old; faults = O.faults out.old; takes = O.takes out.old })
+        (record { held = O.held out.new; took = O.took out.new; faults = O.faults out.new; takes = O.takes out.new })
         [] piece.now }
 {
     write_all(out, piece)

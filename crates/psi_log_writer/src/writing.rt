@@ -2,7 +2,7 @@
 
 ghost use Rattle.std.specs.Prelude.{◌≡◌, ℕ, ◌^◌, ◌++◌, suc, ◌+◌, ◌-◌, ◌*◌, ◌<◌, ◌≤◌, ◌↔◌, [], length, slice_index, IsTrue, IsSome, IfSome, IsOk, OnOk, OnErr, MatchOption};
 ghost use Rattle.psi_io.specs.Counts.{Rose};
-ghost use Rattle.psi_io.specs.Sink.{appended, GrewByPrefix};
+ghost use Rattle.psi_io.specs.Sink.{appended, GrewByPrefix, TookPrefix};
 ghost use Rattle.psi_log_writer.specs.Recorded.{log_of};
 ghost use Rattle.psi_log_writer.specs.Sending.{Sends};
 ghost use Rattle.psi_log_writer.specs.Walking.{text_in, IsRoomy, IsToldAfter, IsAmpleAfter, IsWalking};
@@ -175,7 +175,7 @@ fn is_ample<E: EventLaw, P: Past + Drop, F: Follower + Drop>(
 /// # Errors
 ///
 /// [`SinkFault::Failed`] only where the sink's count rose in this call or stands at the greatest u64. What the
-/// sink holds then grew by a prefix of the log.
+/// sink holds then grew by a prefix of the log, and so did what was accepted.
 pub fn write_log<E: EventLaw, P: Past + Drop, F: Follower + Drop, O: Sink>(
     plan: &mut Plan<'_, E, P, F>,
     header: &Header,
@@ -191,6 +191,10 @@ pub fn write_log<E: EventLaw, P: Past + Drop, F: Follower + Drop, O: Sink>(
         OnOk result (O.held out.new ≡ appended (O.held out.old) text) }
     ensures prefix { let text = log_text (log_of E.function plan.old.system (P.words plan.old.past) header.now state.now) in
         OnErr result (GrewByPrefix (O.held out.old) (O.held out.new) text) }
+    ensures took { let text = log_text (log_of E.function plan.old.system (P.words plan.old.past) header.now state.now) in
+        OnOk result (O.took out.new ≡ O.took out.old ++ text) }
+    ensures took_part { let text = log_text (log_of E.function plan.old.system (P.words plan.old.past) header.now state.now) in
+        OnErr result (TookPrefix (O.took out.old) (O.took out.new) text) }
     ensures failed { OnErr result (Rose (O.faults out.old) (O.faults out.new)) }
     ensures counts { O.faults out.old ≤ O.faults out.new }
     ensures taken { let text = log_text (log_of E.function plan.old.system (P.words plan.old.past) header.now state.now) in
@@ -218,8 +222,8 @@ fn write_lines<E: EventLaw, P: Past + Drop, F: Follower + Drop, O: Sink>(
     requires most { header.now.horizon ≤ 2 ^ plan.old.system.limit }
     requires version { header.now.version ≡ 2 }
     ensures sent { Sends result
-        (record { held = O.held out.old; faults = O.faults out.old; takes = O.takes out.old })
-        (record { held = O.held out.new; faults = O.faults out.new; takes = O.takes out.new })
+        (record { held = O.held out.old; took = O.took out.old; faults = O.faults out.old; takes = O.takes out.old })
+        (record { held = O.held out.new; took = O.took out.new; faults = O.faults out.new; takes = O.takes out.new })
         [] (log_text (log_of E.function plan.old.system (P.words plan.old.past) header.now state.now)) }
     ensures system { plan.new.system ≡ plan.old.system }
     ensures words { P.words plan.new.past ≡ P.words plan.old.past }
@@ -237,8 +241,8 @@ fn write_lines<E: EventLaw, P: Past + Drop, F: Follower + Drop, O: Sink>(
 // Puts the lines that are held into the block, and all that waits there into the sink.
 fn put_last<O: Sink>(line: &LineBuf, block: &mut Block, out: &mut O) -> Result<(), SinkFault>
     ensures { Sends result
-        (record { held = O.held out.old; faults = O.faults out.old; takes = O.takes out.old })
-        (record { held = O.held out.new; faults = O.faults out.new; takes = O.takes out.new })
+        (record { held = O.held out.old; took = O.took out.old; faults = O.faults out.old; takes = O.takes out.old })
+        (record { held = O.held out.new; took = O.took out.new; faults = O.faults out.new; takes = O.takes out.new })
         [] (block.old ++ line.now) }
 {
     block.put(line.bytes(), out)?;
@@ -253,8 +257,8 @@ fn pass_on<O: Sink>(
     out: &mut O,
 ) -> Result<(), SinkFault>
     ensures sent { Sends result
-        (record { held = O.held out.old; faults = O.faults out.old; takes = O.takes out.old })
-        (record { held = O.held out.new; faults = O.faults out.new; takes = O.takes out.new })
+        (record { held = O.held out.old; took = O.took out.old; faults = O.faults out.old; takes = O.takes out.old })
+        (record { held = O.held out.new; took = O.took out.new; faults = O.faults out.new; takes = O.takes out.new })
         (block.new ++ line.new) (block.old ++ line.old) }
     ensures short { OnOk result (length line.new ≤ most) }
 {

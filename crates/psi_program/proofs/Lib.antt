@@ -2,3 +2,5 @@
 pub mod RunningLemmas
 pub mod SparingLemmas
 pub mod FinishingLemmas
+pub mod AcceptedLemmas
+pub mod StartingLemmas

@@ -1,7 +1,7 @@
 -- What a call is seen to do, from how its work ended and how that was written.
 use Rattle.std.specs.Prelude.{◌≡◌, ℕ, List, [], ◌∷◌, ◌++◌, Option, Some, None, IfSome, ◌⊎◌, refl}
-use Rattle.std.proofs.Common.{inl, inr, ap, sym, ◌∙◌, subst}
-use Rattle.psi_io.specs.Sink.{appended}
+use Rattle.std.proofs.Common.{inl, inr, ap, sym, ◌∙◌, subst, append-nil}
+use Rattle.psi_io.specs.Sink.{appended, GrewByPrefix}
 use Rattle.psi_io.proofs.SinkLemmas.{appended-nothing}
 use Rattle.psi_program.specs.Seen.{SinkSeen, Grew, GrewByPart, IsUnchanged, HasFailed}
 use Rattle.psi_program.specs.Reply.{Reply}
@@ -16,15 +16,25 @@ where-some (Some a) P Q has make = make a has
 
 -- no text leaves a sink as it was
 still : (sink : SinkSeen) (text : List ℕ) → text ≡ [] → Grew sink text → IsUnchanged sink
-still sink text none grew = grew ∙ ap (appended sink.before) none ∙ appended-nothing sink.before
+still sink text none grew = record {
+  held = grew.held ∙ ap (appended sink.before) none ∙ appended-nothing sink.before;
+  took = grew.took ∙ ap (λ (bytes : List ℕ). sink.took_before ++ bytes) none ∙ append-nil sink.took_before;
+}
 
 -- no byte is a prefix of every text
 nothing-front : (front back : List ℕ) → front ++ back ≡ [] → [] ≡ front
 nothing-front [] back whole = refl
 nothing-front (b ∷ front) back whole = absurd cc
 
+prefix-any : (before after : Option (List ℕ)) (text : List ℕ) → GrewByPrefix before after [] → GrewByPrefix before after text
+prefix-any before after text part =
+    record { front = []; back = text; whole = refl; grew = part.grew ∙ ap (appended before) (sym (nothing-front part.front part.back part.whole)) }
+
 part-any : (sink : SinkSeen) (text : List ℕ) → GrewByPart sink [] → GrewByPart sink text
-part-any sink text part = record { front = []; back = text; whole = refl; grew = part.grew ∙ ap (appended sink.before) (sym (nothing-front part.front part.back part.whole)) }
+part-any sink text part = record {
+  held = prefix-any sink.before sink.after text part.held;
+  took = prefix-any (Some sink.took_before) (Some sink.took_after) text part.took;
+}
 
 -- a program and a call of it: how it tells of faults, its status on words that ask for nothing, the statuses of replies, those with a line in
 -- err and those with a text in out, the replies to the call's words, the reply where it is known, what a failed read is and its line,

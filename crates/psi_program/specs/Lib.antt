@@ -5,3 +5,4 @@ pub mod Ending
 pub mod Written
 pub mod Finished
 pub mod Call
+pub mod Run

@@ -3,11 +3,11 @@ use Rattle.std.specs.Prelude.{◌≡◌, ℕ, List, Option, Result, IsOk, IfOk, 
 use Rattle.psi_io.specs.Sink.{appended}
 use Rattle.psi_command.specs.Command.{Command}
 use Rattle.psi_run.specs.Reply.{reply_to, IsReplyTo}
-use Rattle.psi_program.specs.Seen.{ShelfSeen}
-use Rattle.psi_run.specs.Reads.{IsMissed}
+use Rattle.psi_program.specs.Seen.{ShelfSeen, ShelfCall, seen_with, AgreesWith}
+use Rattle.psi_run.specs.Reads.{IsMissed, AreAsked}
 use Rattle.psi_run.specs.Means.{Means}
 use Rattle.psi_program.specs.Ending.{replied, MayReply, IsCaused as IsCausedBy}
-use Rattle.psi_reply.specs.Ending.{Ending}
+use Rattle.psi_reply.specs.Ending.{Ending, ending_reply}
 
 -- the cause of each ending: a reply is one that the words can have, a file is missed, or memory ran out in the work for a command
 abbrev pub IsCaused : ShelfSeen → Result Command ℕ → Ending → Type 0
@@ -24,3 +24,8 @@ pub record IsEnding (shelf : ShelfSeen) (command : Result Command ℕ) (ending :
   pub reply : IfSome (reply_to command shelf.told) (MayReply ending)
   pub cause : IsCaused shelf command ending
   pub means : IfOk command (IsMeant shelf.told ending)
+
+-- whatever the files hold that agrees with the answers of the shelf, the work for the words ended so, with the reads that it needs
+abbrev pub IsEndingOf : ShelfCall → Result Command ℕ → Ending → Type 0
+IsEndingOf call command ending = (told : List ℕ → Option (List ℕ)) → AgreesWith told call
+    → IsEnding (seen_with call told) command ending × AreAsked (seen_with call told) command (ending_reply ending).status

@@ -5,3 +5,5 @@ pub mod Reads
 pub mod Files
 pub mod Ending
 pub mod Call
+pub mod Run
+pub mod Headline

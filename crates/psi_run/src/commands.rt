@@ -1,14 +1,15 @@
 //! What a call does for its words: the work before the first byte, and the writing.
 
-ghost use Rattle.std.specs.Prelude.{◌≡◌, ℕ, ◌++◌, List, Ok, map, drop};
+ghost use Rattle.std.specs.Prelude.{◌≡◌, ℕ, ◌++◌, List, Option, Ok, map, drop};
+ghost use Rattle.psi_io.specs.Shelf.{AgreesSince};
+ghost use Rattle.psi_program.specs.Seen.{ShelfCall, seen_with};
 ghost use Rattle.psi_command.specs.Command.{files_of};
 ghost use Rattle.psi_command.specs.Request.{asked, requested, IsInRange, AsksInRange};
-ghost use Rattle.psi_program.specs.Seen.{ShelfSeen};
 ghost use Rattle.psi_program.specs.Ending.{HasRead};
 ghost use Rattle.psi_program.specs.Finished.{IsFinished};
-ghost use Rattle.psi_run.specs.Reads.{read_of, AreAsked, AreGiven};
-ghost use Rattle.psi_reply.specs.Ending.{faults, ending_reply};
-ghost use Rattle.psi_run.specs.Ending.{IsEnding};
+ghost use Rattle.psi_run.specs.Reads.{read_of, AreGiven};
+ghost use Rattle.psi_reply.specs.Ending.{faults};
+ghost use Rattle.psi_run.specs.Ending.{IsEnding, IsEndingOf};
 ghost use Rattle.psi_reply.specs.Ended.{ending_of};
 ghost use Rattle.psi_run.specs.Files.{IsNetAt};
 
@@ -37,12 +38,14 @@ pub(crate) fn perform<F: Shelf, O: Sink, E: Sink>(
     requires { AsksInRange request }
     // The work has an ending, with the reads that it tells; where the shelf gives each file that is named, no read failed.
     ensures finished { let command = Ok (requested request.entry) in
-        let seen : ShelfSeen = record { told = F.told shelf.old; asked_before = F.asked shelf.old; asked_after = F.asked shelf.new; faults_before = F.faults shelf.old; faults_after = F.faults shelf.new } in
-        IsFinished faults (λ ending. IsEnding seen command ending × (AreGiven (F.gives shelf.old) command → HasRead ending) × AreAsked seen command (ending_reply ending).status)
+        let seen : ShelfCall = record { gave_before = F.gave shelf.old; gave_after = F.gave shelf.new; asked_before = F.asked shelf.old; asked_after = F.asked shelf.new; faults_before = F.faults shelf.old; faults_after = F.faults shelf.new } in
+        IsFinished faults (λ ending. IsEndingOf seen command ending × (AreGiven (F.gives shelf.old) command → HasRead ending))
         (O.takes out.old) (E.takes err.old)
-        (record { before = O.held out.old; after = O.held out.new; faults_before = O.faults out.old; faults_after = O.faults out.new })
-        (record { before = E.held err.old; after = E.held err.new; faults_before = E.faults err.old; faults_after = E.faults err.new })
+        (record { before = O.held out.old; after = O.held out.new; took_before = O.took out.old; took_after = O.took out.new; faults_before = O.faults out.old; faults_after = O.faults out.new })
+        (record { before = E.held err.old; after = E.held err.new; took_before = E.took err.old; took_after = E.took err.new; faults_before = E.faults err.old; faults_after = E.faults err.new })
         result }
+    // The answers agree with what the shelf tells.
+    ensures agrees { AgreesSince (F.told shelf.old) (F.gave shelf.old) (F.gave shelf.new) }
     // And no count rose there.
     ensures spared { AreGiven (F.gives shelf.old) (Ok (requested request.entry)) → F.faults shelf.new ≡ F.faults shelf.old }
 {
@@ -63,10 +66,10 @@ fn work<'w, F: Shelf>(
     question: Question<'w>,
 ) -> Ending<'w>
     requires { IsInRange question }
-    ensures ending { IsEnding (record { told = F.told shelf.old; asked_before = F.asked shelf.old; asked_after = F.asked shelf.new; faults_before = F.faults shelf.old; faults_after = F.faults shelf.new })
+    ensures ending { IsEndingOf (record { gave_before = F.gave shelf.old; gave_after = F.gave shelf.new; asked_before = F.asked shelf.old; asked_after = F.asked shelf.new; faults_before = F.faults shelf.old; faults_after = F.faults shelf.new })
         (Ok (asked name.now question.entry)) (ending_of result) }
-    ensures asked { AreAsked (record { told = F.told shelf.old; asked_before = F.asked shelf.old; asked_after = F.asked shelf.new; faults_before = F.faults shelf.old; faults_after = F.faults shelf.new })
-        (Ok (asked name.now question.entry)) (ending_reply (ending_of result)).status }
+    // The answers agree with what the shelf tells.
+    ensures agrees { AgreesSince (F.told shelf.old) (F.gave shelf.old) (F.gave shelf.new) }
     ensures read { AreGiven (F.gives shelf.old) (Ok (asked name.now question.entry)) → HasRead (ending_of result) }
     ensures spared { AreGiven (F.gives shelf.old) (Ok (asked name.now question.entry)) → F.faults shelf.new ≡ F.faults shelf.old }
 {
@@ -77,7 +80,7 @@ fn work<'w, F: Shelf>(
 }
 
 // The work on the network of a file.
-#[tactic(auto, using(crate::proofs::ReadFilesLemmas::nothing_behind))]
+#[tactic(auto, using(crate::proofs::ReadFilesLemmas::nothing_behind, psi_io::proofs::AgreeingLemmas::agrees_unmoved))]
 fn answer<'w, F: Shelf>(
     alloc: Global,
     shelf: &mut F,
@@ -85,9 +88,11 @@ fn answer<'w, F: Shelf>(
     question: Question<'w>,
 ) -> Ending<'w>
     requires { IsInRange question }
-    ensures ending { (name : List ℕ) → IsNetAt (F.told shelf.old) name net.now
-        → IsEnding (record { told = F.told shelf.old; asked_before = F.asked shelf.old; asked_after = F.asked shelf.new; faults_before = F.faults shelf.old; faults_after = F.faults shelf.new })
+    ensures ending { (told : List ℕ → Option (List ℕ)) → AgreesSince told (F.gave shelf.old) (F.gave shelf.new) → (name : List ℕ) → IsNetAt told name net.now
+        → IsEnding (seen_with (record { gave_before = F.gave shelf.old; gave_after = F.gave shelf.new; asked_before = F.asked shelf.old; asked_after = F.asked shelf.new; faults_before = F.faults shelf.old; faults_after = F.faults shelf.new }) told)
         (Ok (asked name question.entry)) (ending_of result) }
+    // The answers agree with what the shelf tells.
+    ensures agrees { AgreesSince (F.told shelf.old) (F.gave shelf.old) (F.gave shelf.new) }
     // The files that are named behind the network's are read.
     ensures asked { (name : List ℕ) → F.asked shelf.new ≡ F.asked shelf.old ++ map read_of (drop 1 (files_of (asked name question.entry))) }
     ensures read { (name : List ℕ) → AreGiven (F.gives shelf.old) (Ok (asked name question.entry)) → HasRead (ending_of result) }

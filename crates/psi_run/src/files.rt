@@ -1,6 +1,8 @@
 //! Reading the files that a command names.
 
-ghost use Rattle.std.specs.Prelude.{◌≡◌, ◌≤◌, ◌++◌, ℕ, List, [], ◌∷◌, IfOk, IfErr, OnOk};
+ghost use Rattle.std.specs.Prelude.{◌≡◌, ◌≤◌, ◌++◌, ℕ, List, [], ◌∷◌, Option, IfOk, IfErr, OnOk};
+ghost use Rattle.psi_io.specs.Shelf.{AgreesSince};
+ghost use Rattle.psi_program.specs.Seen.{seen_with};
 ghost use Rattle.psi_command.specs.Command.{net_file, log_file};
 ghost use Rattle.psi_program.specs.Ending.{HasRead};
 ghost use Rattle.psi_run.specs.Reads.{read_of};
@@ -21,12 +23,14 @@ pub(crate) fn network_at<'w, F: Shelf>(
     shelf: &mut F,
     name: &'w str,
 ) -> Result<Net, Ending<'w>>
-    ensures network { IfOk result (IsNetAt (F.told shelf.old) name.now) }
-    ensures none { IfErr result (IsNoNet (record { told = F.told shelf.old; asked_before = F.asked shelf.old; asked_after = F.asked shelf.new; faults_before = F.faults shelf.old; faults_after = F.faults shelf.new })
+    ensures network { (told : List ℕ → Option (List ℕ)) → AgreesSince told (F.gave shelf.old) (F.gave shelf.new) → IfOk result (IsNetAt told name.now) }
+    ensures none { (told : List ℕ → Option (List ℕ)) → AgreesSince told (F.gave shelf.old) (F.gave shelf.new) → IfErr result (IsNoNet (seen_with (record { gave_before = F.gave shelf.old; gave_after = F.gave shelf.new; asked_before = F.asked shelf.old; asked_after = F.asked shelf.new; faults_before = F.faults shelf.old; faults_after = F.faults shelf.new }) told)
         name.now) }
     // Where the shelf gives the file, no read of it failed, and no count rose.
     ensures read { F.gives shelf.old name.now → IfErr result (λ ending. HasRead (ending_of ending)) }
     ensures spared { F.gives shelf.old name.now → F.faults shelf.new ≡ F.faults shelf.old }
+    // The answers agree with what the shelf tells.
+    ensures agrees { AgreesSince (F.told shelf.old) (F.gave shelf.old) (F.gave shelf.new) }
     // The file is read once, with its limit.
     ensures asked { F.asked shelf.new ≡ F.asked shelf.old ++ read_of (net_file name.now) ∷ [] }
     // The shelf tells and gives what it did, and no count fell.
@@ -55,13 +59,15 @@ pub(crate) fn feed_log<'w, F: Shelf, C: Consumer>(
     to: &mut C,
 ) -> Result<(), Ending<'w>>
     requires { C.taken to.old ≡ [] }
-    ensures text { OnOk result (IsTextAt (F.told shelf.old) name.now (C.taken to.new)) }
-    ensures none { IfErr result (IsNoText (record { told = F.told shelf.old; asked_before = F.asked shelf.old; asked_after = F.asked shelf.new; faults_before = F.faults shelf.old; faults_after = F.faults shelf.new })
+    ensures text { (told : List ℕ → Option (List ℕ)) → AgreesSince told (F.gave shelf.old) (F.gave shelf.new) → OnOk result (IsTextAt told name.now (C.taken to.new)) }
+    ensures none { (told : List ℕ → Option (List ℕ)) → AgreesSince told (F.gave shelf.old) (F.gave shelf.new) → IfErr result (IsNoText (seen_with (record { gave_before = F.gave shelf.old; gave_after = F.gave shelf.new; asked_before = F.asked shelf.old; asked_after = F.asked shelf.new; faults_before = F.faults shelf.old; faults_after = F.faults shelf.new }) told)
         name.now) }
     ensures setting { C.setting to.new ≡ C.setting to.old }
     // Where the shelf gives the file, no read of it failed, and no count rose.
     ensures read { F.gives shelf.old name.now → IfErr result (λ ending. HasRead (ending_of ending)) }
     ensures spared { F.gives shelf.old name.now → F.faults shelf.new ≡ F.faults shelf.old }
+    // The answers agree with what the shelf tells.
+    ensures agrees { AgreesSince (F.told shelf.old) (F.gave shelf.old) (F.gave shelf.new) }
     // The file is read once, with its limit.
     ensures asked { F.asked shelf.new ≡ F.asked shelf.old ++ read_of (log_file name.now) ∷ [] }
 {

@@ -11,8 +11,10 @@
 
 mod commands;
 mod files;
+mod laws;
 mod program;
 mod writing;
 
+pub use laws::samples_are_right;
 pub use program::run;
 pub use psi_command::Status;

@@ -3,9 +3,10 @@
 ghost use Rattle.std.specs.Prelude.{◌≡◌, ◌≢◌, ℕ, ◌^◌, ◌<◌, ◌⊎◌, List, [], ◌∷◌, Some, Ok, map, codes, string_bytes};
 ghost use Rattle.std.specs.Fmt.{decimal};
 ghost use Rattle.psi_io.specs.Counts.{Rose};
+ghost use Rattle.psi_program.specs.Run.{HasRun};
 ghost use Rattle.psi_model.specs.Network.{Network};
 ghost use Rattle.psi_net.specs.Reading.{network_of};
-ghost use Rattle.psi_command.specs.Status.{IsReplied};
+ghost use Rattle.psi_command.specs.Status.{status_code, IsReplied};
 ghost use Rattle.psi_command.specs.Command.{Command};
 ghost use Rattle.psi_command.specs.Words.{command_of};
 ghost use Rattle.psi_reply.specs.Sample.{IsSampled};
@@ -14,6 +15,7 @@ ghost use Rattle.psi_run.specs.Reply.{reply_to};
 ghost use Rattle.psi_run.specs.Means.{Means};
 ghost use Rattle.psi_run.specs.Reads.{AreGiven};
 ghost use Rattle.psi_run.specs.Call.{AreTaken, IsRun};
+ghost use Rattle.psi_run.specs.Run.{IsRunOf};
 
 use crate::commands::perform;
 use crate::writing::finish;
@@ -140,8 +142,8 @@ pub fn run<F: Shelf, O: Sink, E: Sink>(
     ensures call { IsRun (record {
       words = map string_bytes words.now;
       shelf = record { told = F.told shelf.old; asked_before = F.asked shelf.old; asked_after = F.asked shelf.new; faults_before = F.faults shelf.old; faults_after = F.faults shelf.new };
-      out = record { before = O.held out.old; after = O.held out.new; faults_before = O.faults out.old; faults_after = O.faults out.new };
-      err = record { before = E.held err.old; after = E.held err.new; faults_before = E.faults err.old; faults_after = E.faults err.new };
+      out = record { before = O.held out.old; after = O.held out.new; took_before = O.took out.old; took_after = O.took out.new; faults_before = O.faults out.old; faults_after = O.faults out.new };
+      err = record { before = E.held err.old; after = E.held err.new; took_before = E.took err.old; took_after = E.took err.new; faults_before = E.faults err.old; faults_after = E.faults err.new };
     }) result }
 
     // The headline: where the words are those of a sample, the shelf tells a file that reads as a network, no count of faults rose
@@ -153,6 +155,13 @@ pub fn run<F: Shelf, O: Sink, E: Sink>(
         → ¬ (Rose (O.faults out.old) (O.faults out.new)) → ¬ (Rose (E.faults err.old) (E.faults err.new))
         → result ≢ Status.OutOfMemory
         → IsSampled (O.held out.old) (O.held out.new) result net seed stream }
+
+    // What crossed the edges is a run of the program: the same over the bytes that were read and accepted, whatever the
+    // shelf and the sinks tell.
+    ensures edge { HasRun IsRunOf (map string_bytes words.now)
+        (record { gave = F.gave shelf.old; out = O.took out.old; err = E.took err.old; tally = record { asked = F.asked shelf.old; files = F.faults shelf.old; out = O.faults out.old; err = E.faults err.old } })
+        (record { gave = F.gave shelf.new; out = O.took out.new; err = E.took err.new; tally = record { asked = F.asked shelf.new; files = F.faults shelf.new; out = O.faults out.new; err = E.faults err.new } })
+        (status_code result) }
 
     // What a status of a reply means for the command, whatever counts rose.
     ensures means { (command : Command) → command_of (map string_bytes words.now) ≡ Ok command → IsReplied result

@@ -52,8 +52,8 @@ fn text_of<'t>(ending: &'t Ending<'_>, line: &'t Line) -> Text<'t>
 /// ending, or `WriteFault` where the text couldn't be written whole. It takes no memory.
 pub(crate) fn finish<O: Sink, E: Sink>(ending: &Ending<'_>, out: &mut O, err: &mut E) -> Status
     ensures { IsFinished faults (λ end. end ≡ ending_of ending.now) (O.takes out.old) (E.takes err.old)
-        (record { before = O.held out.old; after = O.held out.new; faults_before = O.faults out.old; faults_after = O.faults out.new })
-        (record { before = E.held err.old; after = E.held err.new; faults_before = E.faults err.old; faults_after = E.faults err.new })
+        (record { before = O.held out.old; after = O.held out.new; took_before = O.took out.old; took_after = O.took out.new; faults_before = O.faults out.old; faults_after = O.faults out.new })
+        (record { before = E.held err.old; after = E.held err.new; took_before = E.took err.old; took_after = E.took err.new; faults_before = E.faults err.old; faults_after = E.faults err.new })
         result }
 {
     let line = line_of(ending);

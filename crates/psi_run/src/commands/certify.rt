@@ -1,17 +1,17 @@
 //! `sample NET SEED STREAM log`: the log of a sample.
 
 ghost use Rattle.std.specs.Prelude.{◌≡◌, ◌^◌, ◌≤◌, Ok};
+ghost use Rattle.psi_io.specs.Shelf.{AgreesSince};
+ghost use Rattle.psi_program.specs.Seen.{ShelfCall};
 ghost use Rattle.psi_log_text.specs.Text.{log_text};
 ghost use Rattle.psi_log_writer.specs.Recorded.{log_of};
 ghost use Rattle.psi_command.specs.Command.{certify};
 ghost use Rattle.psi_reply.specs.Sample.{sampled};
 ghost use Rattle.psi_reply.specs.Reply.{log_reply, certify_reply};
-ghost use Rattle.psi_program.specs.Seen.{ShelfSeen};
 ghost use Rattle.psi_program.specs.Ending.{HasRead};
 ghost use Rattle.psi_program.specs.Finished.{IsFinished};
-ghost use Rattle.psi_run.specs.Reads.{AreAsked};
-ghost use Rattle.psi_reply.specs.Ending.{faults, ending_reply, EndsWith};
-ghost use Rattle.psi_run.specs.Ending.{IsEnding};
+ghost use Rattle.psi_reply.specs.Ending.{faults, EndsWith};
+ghost use Rattle.psi_run.specs.Ending.{IsEndingOf};
 
 use crate::files::network_at;
 use crate::writing::finish;
@@ -45,8 +45,8 @@ fn write_run<L: EventLaw, P: Past + Drop, F: Follower + Drop, O: Sink, E: Sink>(
     requires version { header.now.version ≡ 2 }
     ensures { let text = log_text (log_of L.function plan.old.system (P.words plan.old.past) header.now state.now) in
         IsFinished faults (λ ending. EndsWith ending (log_reply text)) (O.takes out.old) (E.takes err.old)
-        (record { before = O.held out.old; after = O.held out.new; faults_before = O.faults out.old; faults_after = O.faults out.new })
-        (record { before = E.held err.old; after = E.held err.new; faults_before = E.faults err.old; faults_after = E.faults err.new })
+        (record { before = O.held out.old; after = O.held out.new; took_before = O.took out.old; took_after = O.took out.new; faults_before = O.faults out.old; faults_after = O.faults out.new })
+        (record { before = E.held err.old; after = E.held err.new; took_before = E.took err.old; took_after = E.took err.new; faults_before = E.faults err.old; faults_after = E.faults err.new })
         result }
 {
     let Ok(mut line) = LineBuf::reserve(alloc) else {
@@ -75,8 +75,8 @@ fn write_sample<O: Sink, E: Sink>(
     err: &mut E,
 ) -> Status
     ensures { IsFinished faults (λ ending. EndsWith ending (certify_reply net.now seed stream (sampled net.now seed stream))) (O.takes out.old) (E.takes err.old)
-        (record { before = O.held out.old; after = O.held out.new; faults_before = O.faults out.old; faults_after = O.faults out.new })
-        (record { before = E.held err.old; after = E.held err.new; faults_before = E.faults err.old; faults_after = E.faults err.new })
+        (record { before = O.held out.old; after = O.held out.new; took_before = O.took out.old; took_after = O.took out.new; faults_before = O.faults out.old; faults_after = O.faults out.new })
+        (record { before = E.held err.old; after = E.held err.new; took_before = E.took err.old; took_after = E.took err.new; faults_before = E.faults err.old; faults_after = E.faults err.new })
         result }
 {
     let queues = net.queues();
@@ -118,12 +118,13 @@ pub(crate) fn perform<F: Shelf, O: Sink, E: Sink>(
     out: &mut O,
     err: &mut E,
 ) -> Status
-    ensures finished { let seen : ShelfSeen = record { told = F.told shelf.old; asked_before = F.asked shelf.old; asked_after = F.asked shelf.new; faults_before = F.faults shelf.old; faults_after = F.faults shelf.new } in
-        IsFinished faults (λ ending. IsEnding seen (Ok (certify net.now seed stream)) ending × (F.gives shelf.old net.now → HasRead ending)
-        × AreAsked seen (Ok (certify net.now seed stream)) (ending_reply ending).status) (O.takes out.old) (E.takes err.old)
-        (record { before = O.held out.old; after = O.held out.new; faults_before = O.faults out.old; faults_after = O.faults out.new })
-        (record { before = E.held err.old; after = E.held err.new; faults_before = E.faults err.old; faults_after = E.faults err.new })
+    ensures finished { let seen : ShelfCall = record { gave_before = F.gave shelf.old; gave_after = F.gave shelf.new; asked_before = F.asked shelf.old; asked_after = F.asked shelf.new; faults_before = F.faults shelf.old; faults_after = F.faults shelf.new } in
+        IsFinished faults (λ ending. IsEndingOf seen (Ok (certify net.now seed stream)) ending × (F.gives shelf.old net.now → HasRead ending)) (O.takes out.old) (E.takes err.old)
+        (record { before = O.held out.old; after = O.held out.new; took_before = O.took out.old; took_after = O.took out.new; faults_before = O.faults out.old; faults_after = O.faults out.new })
+        (record { before = E.held err.old; after = E.held err.new; took_before = E.took err.old; took_after = E.took err.new; faults_before = E.faults err.old; faults_after = E.faults err.new })
         result }
+    // The answers agree with what the shelf tells.
+    ensures agrees { AgreesSince (F.told shelf.old) (F.gave shelf.old) (F.gave shelf.new) }
     ensures spared { F.gives shelf.old net.now → F.faults shelf.new ≡ F.faults shelf.old }
 {
     match network_at(alloc, shelf, net) {

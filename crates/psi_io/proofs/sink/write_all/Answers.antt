@@ -1,12 +1,13 @@
 -- Answers in the proof of `write_all`.
 use Rattle.std.proofs.Common.{◌≡◌, ◌-◌, length, ◌∙◌, subst, arith}
-use Rattle.psi_io.proofs.GrowingLemmas.{grown_front, grown_more, length-rest, sub-sub}
+use Rattle.psi_io.proofs.GrowingLemmas.{grown_front, grown_more, took_front, took_more, length-rest, sub-sub}
 use Rattle.psi_io.proofs.sink.write_all.Goals as goal
 
 pub loop-at-preserved : goal.loop-at-preserved
 loop-at-preserved g c = record {
   within = omega (arith, c.in-Ok.ensures.within);
   grown = grown_more _ _ _ c.args.piece.now c.loop-at.at c.in-Ok.count c.loop-at.invariant.grown c.in-Ok.ensures.grew;
+  took = took_more _ _ _ c.args.piece.now c.loop-at.at c.in-Ok.count c.loop-at.invariant.took c.in-Ok.ensures.took;
   counts = omega (arith, c.in-Ok.ensures.counts);
   spared = λ n takes long.
       c.in-Ok.ensures.spared (n - c.loop-at.at) (c.loop-at.invariant.takes_on n takes) (length-rest c.args.piece.now c.loop-at.at n long)
@@ -18,6 +19,9 @@ loop-at-preserved g c = record {
 
 pub returns-in-Err-clause-prefix : goal.returns-in-Err-clause-prefix
 returns-in-Err-clause-prefix g c = grown_front _ _ _ c.args.piece.now c.loop-at.at c.loop-at.invariant.grown c.in-Err.ensures.kept
+
+pub returns-in-Err-clause-took_part : goal.returns-in-Err-clause-took_part
+returns-in-Err-clause-took_part g c = took_front _ _ _ c.args.piece.now c.loop-at.at c.loop-at.invariant.took c.in-Err.ensures.took_part
 
 pub returns-in-Err-clause-taken : goal.returns-in-Err-clause-taken
 returns-in-Err-clause-taken g c = λ n takes long.

@@ -41,8 +41,8 @@ loop-place-preserved g c =
     let held = c.pass_on.new.line in
     let block = c.pass_on.new.block in
     let out = c.pass_on.new.out in
-    let first : SinkState = record { held = g.O.Sink.held c.args.out.now; faults = g.O.Sink.faults c.args.out.now; takes = g.O.Sink.takes c.args.out.now } in
-    let last : SinkState = record { held = g.O.Sink.held out; faults = g.O.Sink.faults out; takes = g.O.Sink.takes out } in
+    let first : SinkState = record { held = g.O.Sink.held c.args.out.now; took = g.O.Sink.took c.args.out.now; faults = g.O.Sink.faults c.args.out.now; takes = g.O.Sink.takes c.args.out.now } in
+    let last : SinkState = record { held = g.O.Sink.held out; took = g.O.Sink.took out; faults = g.O.Sink.faults out; takes = g.O.Sink.takes out } in
     let place = c.loop-place.place in
     let h = c.args.header.now in
     let state = c.args.state.now in
@@ -69,7 +69,7 @@ returns-clause-sent g c =
     let text = log_text (log_of g.E.EventLaw.function system words c.args.header.now c.args.state.now) in
     let whole = text_in-whole g.E.EventLaw.function system words c.args.header.now c.args.state.now c.loop-place.place
     c.requires.version (omega arith) in
-    let first : SinkState = record { held = g.O.Sink.held c.args.out.now; faults = g.O.Sink.faults c.args.out.now; takes = g.O.Sink.takes c.args.out.now } in
-    let last : SinkState = record { held = g.O.Sink.held c.loop-place.out; faults = g.O.Sink.faults c.loop-place.out; takes = g.O.Sink.takes c.loop-place.out } in
+    let first : SinkState = record { held = g.O.Sink.held c.args.out.now; took = g.O.Sink.took c.args.out.now; faults = g.O.Sink.faults c.args.out.now; takes = g.O.Sink.takes c.args.out.now } in
+    let last : SinkState = record { held = g.O.Sink.held c.loop-place.out; took = g.O.Sink.took c.loop-place.out; faults = g.O.Sink.faults c.loop-place.out; takes = g.O.Sink.takes c.loop-place.out } in
     sends-last c.put_last.result first last _ (c.loop-place.block ++ c.loop-place.line) text
     (subst (λ t. IsSent first last (c.loop-place.block ++ c.loop-place.line) t) whole c.loop-place.invariant.sent) c.put_last.ensures

@@ -11,7 +11,7 @@ invariant-loop-place g l = record {
   system : l.plan.system ≡ l.fn.plan.system;
   words : g.P.Past.words l.plan.past ≡ g.P.Past.words l.fn.plan.past;
   sent : IsSent
-      (record { held = g.O.Sink.held l.fn.out; faults = g.O.Sink.faults l.fn.out; takes = g.O.Sink.takes l.fn.out })
-      (record { held = g.O.Sink.held l.out; faults = g.O.Sink.faults l.out; takes = g.O.Sink.takes l.out })
+      (record { held = g.O.Sink.held l.fn.out; took = g.O.Sink.took l.fn.out; faults = g.O.Sink.faults l.fn.out; takes = g.O.Sink.takes l.fn.out })
+      (record { held = g.O.Sink.held l.out; took = g.O.Sink.took l.out; faults = g.O.Sink.faults l.out; takes = g.O.Sink.takes l.out })
       (l.block ++ l.line) (text_in g.E.EventLaw.function l.fn.plan.system (g.P.Past.words l.fn.plan.past) l.header l.state l.place);
 }

@@ -1,5 +1,5 @@
 -- Answers in the proof of `write_log`.
-use Rattle.psi_log_writer.proofs.SendingLemmas.{sends-whole, sends-prefix, sends-failed, sends-counts, sends-taken, sends-spared, sends-takes_on}
+use Rattle.psi_log_writer.proofs.SendingLemmas.{sends-whole, sends-prefix, sends-took, sends-took_part, sends-failed, sends-counts, sends-taken, sends-spared, sends-takes_on}
 use Rattle.psi_log_writer.proofs.writing.write_log.Goals as goal
 
 pub returns : goal.returns
@@ -8,6 +8,8 @@ returns g c =
     record {
       whole = sends-whole _ _ _ _ sent;
       prefix = sends-prefix _ _ _ _ sent;
+      took = sends-took _ _ _ _ sent;
+      took_part = sends-took_part _ _ _ _ sent;
       failed = sends-failed _ _ _ _ sent;
       counts = sends-counts _ _ _ _ sent;
       taken = sends-taken _ _ _ _ sent;

@@ -1,11 +1,11 @@
 -- Answers in the proof of `MemoryShelfShelf::feed`.
-use Rattle.std.proofs.Common.{◌≡◌, ◌+◌, ◌^◌, ◌<◌, ◌≤◌, ◌++◌, false, List, ℕ, length, Option, None, Some, get_or, take, refl, sym, ◌∙◌, ap, subst, inr, arith}
-use Rattle.std.specs.Prelude.{nat_eq, position, IfSome, OnOk}
+use Rattle.std.proofs.Common.{◌≡◌, ◌+◌, ◌^◌, ◌<◌, ◌≤◌, ◌++◌, false, List, ℕ, length, Option, None, Some, Err, get_or, take, refl, sym, ◌∙◌, ap, subst, inr, arith}
+use Rattle.std.specs.Prelude.{nat_eq, position, IfSome}
 use Rattle.std.specs.List.{list_any}
 use Rattle.psi_io.specs.Counts.{counted}
 use Rattle.psi_io.proofs.CountsLemmas.{counted-still, rose-counted}
 use Rattle.psi_io.specs.MemoryShelf.{ShelfContents, has_name, told_of, faults_of}
-use Rattle.psi_io.proofs.FilesLemmas.{fail-place, fail-absent, faults-after_failed, told-after_failed, counts-after_failed, faults-at, told-at, told-none, reads-at, no-fault}
+use Rattle.psi_io.proofs.FilesLemmas.{fail-place, fail-absent, faults-after_failed, told-after_failed, counts-after_failed, faults-at, told-at, told-none, reads-at, read-place, no-fault, ok-no_fault}
 use Rattle.psi_io.proofs.memory_shelf.MemoryShelfShelf.feed.Goals as goal
 
 pub returns-in-Some-clause-after_failed : goal.returns-in-Some-clause-after_failed
@@ -37,27 +37,51 @@ pub returns-in-Some-clause-same : goal.returns-in-Some-clause-same
 returns-in-Some-clause-same g c =
     ap told_of (returns-in-Some-clause-after_failed g c refl) ∙ told-after_failed c.args.self.now c.args.name.now c.args.most
 
--- the bytes that are told of the name are those of the file at its place
-told : (g : _) (c : goal.After-feed g) → told_of c.args.self.now c.args.name.now ≡ Some c.index.result.now.bytes
-told g c =
+pub returns-in-Ok-clause-fails : goal.returns-in-Ok-clause-fails
+returns-in-Ok-clause-fails g c =
     let found : position (has_name c.args.name.now) c.args.self.now.files ≡ Some c.in-Some.place =
     rw (← c.self.view_is, ← c.as_slice.ensures.value) (sym c.in-Some.ensures) in
     let file : c.index.result.now ≡ get_or c.args.self.now.files c.in-Some.place c.index.result.now =
     rw (← c.self.view_is) c.index.ensures in
-    told-at c.args.self.now c.args.name.now c.in-Some.place c.index.result.now found file
-
-pub returns-in-Some-2-clause-fails : goal.returns-in-Some-2-clause-fails
-returns-in-Some-2-clause-fails g c =
+    let told : told_of c.args.self.now c.args.name.now ≡ Some c.index.result.now.bytes =
+    told-at c.args.self.now c.args.name.now c.in-Some.place c.index.result.now found file in
     let number : c.saturating_add-self-inside.result ≡ counted (length c.self.inside.asked.reads) =
     c.saturating_add-self-inside.ensures ∙ ap counted c.self.invariant ∙ counted-still _ in
     let spared : list_any (λ (n : ℕ). nat_eq n (counted (length c.args.self.now.asked))) c.args.self.now.fails ≡ false =
     rw (← c.self.view_is, ← number, ← c.deref.ensures.value) (sym c.if-fails.ensures.value) in
-    (λ is. absurd (no-fault c.feed.result c.feed.ensures.memory is), λ fails. absurd (reads-at c.args.self.now c.args.name.now c.index.result.now (told g c) spared fails))
+    (λ is. absurd (ok-no_fault {T = Unit {0}} tt is), λ fails. absurd (reads-at c.args.self.now c.args.name.now c.index.result.now told spared fails))
 
-pub returns-in-Some-2-clause-bytes : goal.returns-in-Some-2-clause-bytes
-returns-in-Some-2-clause-bytes g c =
-    subst (λ (bytes : Option (List ℕ)). OnOk c.feed.result (IfSome bytes (λ whole. g.C.Consumer.taken c.feed.new.to ≡ g.C.Consumer.taken c.args.to.now ++ take (c.args.most + 1) whole)))
-    (sym (told g c)) c.feed.ensures.bytes
+pub returns-in-Ok-clause-after : goal.returns-in-Ok-clause-after
+returns-in-Ok-clause-after g c =
+    let shelf : ShelfContents = record { files = c.self.inside.files.items; absent = c.self.inside.absent; asked = c.self.inside.asked.reads; gave = c.self.inside.gave.answers; fails = c.self.inside.fails.items } in
+    rw (← c.self.view_is, c.and-self-inside.ensures, c.and-self-inside-in-Ok.ensures, c.as_bytes.ensures.value, c.as_bytes-in-Ok.ensures.value, c.in-Ok.ensures.noted)
+    (read-place shelf c.args.name.now c.args.most c.index.result.now.bytes
+    (told-at shelf c.args.name.now c.in-Some.place c.index.result.now (rw c.as_slice.ensures.value at (sym c.in-Some.ensures)) c.index.ensures))
+
+pub returns-in-Ok-clause-bytes : goal.returns-in-Ok-clause-bytes
+returns-in-Ok-clause-bytes g c =
+    let found : position (has_name c.args.name.now) c.args.self.now.files ≡ Some c.in-Some.place =
+    rw (← c.self.view_is, ← c.as_slice.ensures.value) (sym c.in-Some.ensures) in
+    let file : c.index.result.now ≡ get_or c.args.self.now.files c.in-Some.place c.index.result.now =
+    rw (← c.self.view_is) c.index.ensures in
+    let told : told_of c.args.self.now c.args.name.now ≡ Some c.index.result.now.bytes =
+    told-at c.args.self.now c.args.name.now c.in-Some.place c.index.result.now found file in
+    subst (λ (bytes : Option (List ℕ)). IfSome bytes (λ whole. g.C.Consumer.taken c.feed.new.to ≡ g.C.Consumer.taken c.args.to.now ++ take (c.args.most + 1) whole))
+    (sym told) c.in-Ok.ensures.bytes
+
+pub returns-in-Err-clause-fails : goal.returns-in-Err-clause-fails
+returns-in-Err-clause-fails g c =
+    let found : position (has_name c.args.name.now) c.args.self.now.files ≡ Some c.in-Some.place =
+    rw (← c.self.view_is, ← c.as_slice.ensures.value) (sym c.in-Some.ensures) in
+    let file : c.index.result.now ≡ get_or c.args.self.now.files c.in-Some.place c.index.result.now =
+    rw (← c.self.view_is) c.index.ensures in
+    let told : told_of c.args.self.now c.args.name.now ≡ Some c.index.result.now.bytes =
+    told-at c.args.self.now c.args.name.now c.in-Some.place c.index.result.now found file in
+    let number : c.saturating_add-self-inside.result ≡ counted (length c.self.inside.asked.reads) =
+    c.saturating_add-self-inside.ensures ∙ ap counted c.self.invariant ∙ counted-still _ in
+    let spared : list_any (λ (n : ℕ). nat_eq n (counted (length c.args.self.now.asked))) c.args.self.now.fails ≡ false =
+    rw (← c.self.view_is, ← number, ← c.deref.ensures.value) (sym c.if-fails.ensures.value) in
+    (λ is. absurd (no-fault {T = Unit {0}} (Err c.in-Err.fault) c.in-Err.ensures.memory is), λ fails. absurd (reads-at c.args.self.now c.args.name.now c.index.result.now told spared fails))
 
 pub returns-in-None-clause-after_failed : goal.returns-in-None-clause-after_failed
 returns-in-None-clause-after_failed g c = λ _.

@@ -14,17 +14,21 @@ returns-in-Ok-clause-finished g c =
     let command = certify c.args.net.now c.args.seed c.args.stream in
     finished_as _ _ _ _ _ _ c.write_sample.result c.write_sample.ensures
     (λ ending ends. (
-      on_net command c.args.net.now _ _ c.in-Ok.net ending _ refl (certify_about _ c.args.net.now c.args.seed c.args.stream) c.in-Ok.ensures.network ends
-          (λ has kept before after grew. certified_printed before after c.in-Ok.net c.args.seed c.args.stream kept c.ranges.seed.fits c.ranges.stream.fits grew),
+      λ told are. (
+        on_net command c.args.net.now _ _ c.in-Ok.net ending _ refl (certify_about _ c.args.net.now c.args.seed c.args.stream) (c.in-Ok.ensures.network told are) ends
+            (λ has kept before after grew. certified_printed before after c.in-Ok.net c.args.seed c.args.stream kept c.ranges.seed.fits c.ranges.stream.fits grew),
+        asked_certify _ _ _ _ _ c.in-Ok.ensures.asked,
+      ),
       λ given. ends-read ending _ ends,
-      asked_certify _ _ _ _ _ c.in-Ok.ensures.asked,
     ))
 
 pub returns-in-Err-clause-finished : goal.returns-in-Err-clause-finished
 returns-in-Err-clause-finished g c =
     finished_with _ _ _ _ _ _ c.finish.result c.finish.ensures (
-      no_net (certify c.args.net.now c.args.seed c.args.stream) c.args.net.now _ _ c.in-Err.ending (certify_about _ c.args.net.now c.args.seed c.args.stream) c.in-Err.ensures.none
-          (read_last _ _ c.in-Err.ensures.asked),
+      λ told are. (
+        no_net (certify c.args.net.now c.args.seed c.args.stream) c.args.net.now _ _ c.in-Err.ending (certify_about _ c.args.net.now c.args.seed c.args.stream) (c.in-Err.ensures.none told are)
+            (read_last _ _ c.in-Err.ensures.asked),
+        asked_certify _ _ _ _ _ c.in-Err.ensures.asked,
+      ),
       c.in-Err.ensures.read,
-      asked_certify _ _ _ _ _ c.in-Err.ensures.asked,
     )

@@ -7,7 +7,7 @@ use Rattle.psi_run.proofs.ReadFilesLemmas.{read_last}
 use Rattle.psi_run.proofs.commands.replay.work.Goals as goal
 
 pub returns-in-Ok-clause-ending : goal.returns-in-Ok-clause-ending
-returns-in-Ok-clause-ending g c name at =
+returns-in-Ok-clause-ending g c told are name at =
     let made = c.system-system.ensures in
     let text = c.feed_log.new.to.taken in
     let same = c.in-Ok.ensures.setting ∙ ap (λ r. r.system) c.new-replay.ensures in
@@ -15,7 +15,7 @@ returns-in-Ok-clause-ending g c name at =
     let ends = c.verdict_ending.ensures c.args.net.now text
     (replayed_by _ c.system-system.result c.args.net.now text c.verdict.result made.kept
     (record { caps = made.caps; functions = made.functions; rates = made.rates; limit = made.limit; split = made.split }) gives) in
-    on_text _ name c.args.log.now c.args.net.now text _ at c.in-Ok.ensures.text ends
+    on_text _ name c.args.log.now c.args.net.now text _ at (c.in-Ok.ensures.text told are) ends
 
 pub returns-in-Ok-clause-read : goal.returns-in-Ok-clause-read
 returns-in-Ok-clause-read g c given =
@@ -29,4 +29,4 @@ returns-in-Ok-clause-read g c given =
     ends-read _ _ ends
 
 pub returns-clause-ending : goal.returns-clause-ending
-returns-clause-ending g c name at = no_text _ name c.args.log.now c.args.net.now c.in-Err.ending at c.in-Err.ensures.none (read_last _ _ c.in-Err.ensures.asked)
+returns-clause-ending g c told are name at = no_text _ name c.args.log.now c.args.net.now c.in-Err.ending at (c.in-Err.ensures.none told are) (read_last _ _ c.in-Err.ensures.asked)

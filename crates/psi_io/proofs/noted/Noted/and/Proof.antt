@@ -1,0 +1,46 @@
+-- `and` makes a value of no bytes, at the list that its clause names.
+use mathlib.Core.Path.{refl}
+use mathlib.Core.List.{[], ◌∷◌, ◌++◌}
+use mir.Syntax.{named}
+use mir.Val.{vstruct, vnil}
+use types.Kit.{‵, raw, ◌⊛◌, ◌$◌, ◌∵◌, !, qed, move, keep, split, suffices, done}
+use types.Run.{no_more, returns, enter}
+use types.Part.{agg}
+use types.ByLocal.{alloc_all, pass_all, free_all, look_at, sets}
+use denote.Builtin.{u8}
+use denote.Exit.{yes}
+use denote.RattleType.{owns}
+use denote.Ref.{shr_vals, shr_Tells}
+use denote.Shadow.{pure_i}
+use denote.Signature.{plain, types_at}
+use denote.Slice.{shr_slice_vals, shr_slice_Tells}
+use denote.Triple.Entry.{alive}
+use denote.Triple.Walked.{says, Stays, stay_none_ref, stay_none_slice, Goes-none_ref, Goes-none_slice, walk_of, ends_at}
+use Rattle.std.proofs.raw_atomic.Walks.{proved}
+use Rattle.psi_io.specs.declared.noted.Noted.{Noted}
+use Rattle.psi_io.specs.contracts.noted.Noted as T
+use Rattle.psi_io.specs.contracts.noted.Noted.and as it
+use Rattle.psi_io.proofs.noted.Noted.and.Statement.{statement}
+use Rattle.psi_io.proofs.noted.Noted.and.Code as code
+
+abbrev stayed : Stays it.ended.signature.params it.ended.kept
+stayed = (stay_none_ref (0 ∷ []) tt (plain (λ _. T.the_row)) yes, (stay_none_slice (1 ∷ []) tt (plain (λ _. u8)) yes, tt))
+
+pub and_spec : {M : Type 1} → statement M
+and_spec 𝓤 𝓛 𝓜 𝓡 wired =
+    let c = it.clauses 𝓛 𝓜.mem 𝓡.returns in let W = walk_of 𝓛 it.ended stayed c in
+    proved 𝓛 it.ended stayed c 𝓜 𝓡
+    (Goes-none_ref 𝓛 2 (0 ∷ []) tt (plain (λ _. T.the_row)) yes, (Goes-none_slice 𝓛 2 (1 ∷ []) tt (plain (λ _. u8)) yes, tt))
+    it.Key.name code.function (code.unfolded 𝓤 𝓛.H 𝓜 𝓡 wired)
+    (λ κs. (shr_vals, (shr_slice_vals, tt)))
+    (λ κs. (shr_Tells (named 0) κs.0 T.the_row, (shr_slice_Tells (named 1) κs.1.0 u8, tt))) (λ κs qs bounds a g are.
+    let y : W.Ghost = ((κs, qs, bounds, a, (shr_vals a.0, (shr_slice_vals a.1.0, tt))), g) in
+    let more : Noted = record { bytes = a.0.now.bytes ++ a.1.0.now } in
+    qed 𝓛 ((raw (alive 𝓛 it.signature κs qs) ⊛ ‵ (owns (types_at it.signature.params κs) a y.0.4)) ∷ raw ((c κs a).requires g) ∷ []) ∵ keep ! (0 ∷ []) $ split ! $
+    enter ! _ _ _ _ _ $
+    alloc_all ! (λ l. pass_all ! refl ((tt, tt), ((tt, (tt, (record { fits = are.1.0.0.1.0 }, tt))), tt)) $
+    sets ! (agg ! (no_more !)) refl (tt, tt) $
+    returns ! (look_at ! 0 refl) $ free_all ! refl $
+    suffices ! _ (ends_at 𝓛 it.ended stayed c y (vstruct vnil) more (tt, (tt, tt)) (tt, (tt, tt))) $ says ! refl $
+    pure_i ! (T.the_row.own_val more (vstruct vnil ∷ [])) ((λ vss. (tt, tt)), tt) ((tt, (refl, tt)), tt) $
+    move ! (1 ∷ 2 ∷ 0 ∷ []) $ done !))
