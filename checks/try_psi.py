@@ -248,6 +248,8 @@ def main(words):
         room = pathlib.Path(name)
         top = checkout(room)
         try_help(tried, top / "psi", top)
+        own, first = (ended([top / it, "--help"], top)[0] for it in ("psi", "tools/psi-first"))
+        tried.hold(own == first, f"psi-first --help: {first}")
         tried.hold(not (top / "crates/psi/out").exists(), "the help builds something")
         installed = release(room, program)
         try_help(tried, installed, room)
