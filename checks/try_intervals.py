@@ -1,5 +1,5 @@
 #!/usr/bin/python3
-"""try_intervals.py [PSI] [--repetitions N] [--package FOLDER] [--count N]
+"""try_intervals.py [PSI] [--repetitions N] [--package FOLDER] [--count N] [--least N]
 
 Counts how often the 95 % intervals of the tools hold what they are of, over repetitions with other
 streams: of single rows, of rare and of skewed rewards, of differences under common random numbers,
@@ -9,13 +9,15 @@ has --count streams, 10,000 where it isn't given, of psi a fifth of that.
 
 `batches` is what psi-means, psi-sweep and psi.means make of the sums of 40 batches, and `values`
 what psi-law makes of single values. For each case a line says how many of all repetitions held, and
-how wide the intervals are in the middle. The exit status is 1 where fewer than 92 of 100 held.
+how wide the intervals are in the middle. The exit status is 1 where fewer than --least of 100 held,
+which is 92 where it isn't given.
 --package is the folder of another version of the package, whose intervals are compared so.
 """
 
 import argparse
 import os
 import pathlib
+import re
 import statistics
 import sys
 
@@ -25,6 +27,7 @@ READER.add_argument("psi", nargs="?")
 READER.add_argument("--repetitions", type=int, default=400)
 READER.add_argument("--package", default=str(TOP / "python"))
 READER.add_argument("--count", type=int, default=10_000)
+READER.add_argument("--least", type=float, default=92)
 WORDS = READER.parse_args()
 sys.path[:0] = [WORDS.package, str(TOP / "python/tests"), str(TOP / "checks")]
 sys.dont_write_bytecode = True
@@ -40,7 +43,7 @@ from psi_tools.intervals import difference_of_batches
 from psi_tools.networks import Network
 from psi_tools.program import Psi
 
-BATCHES, LEAST = 40, 92
+BATCHES, FEW_BATCHES = 40, 20
 HAS_SPANS = hasattr(Batches, "of_network")
 
 
@@ -97,7 +100,7 @@ class Tally:
         of_all = 100 * self.held / len(self.widths)
         width = statistics.median(self.widths)
         print(f"{of_all:6.2f} of 100  width {width:10.4g}  {self.name}", flush=True)
-        return of_all >= LEAST
+        return of_all >= WORDS.least
 
 
 def batches_from(net, columns, lost=None):
@@ -212,50 +215,59 @@ def synthetic():
 
 def grouped(reports):
     """The batches of each repetition, of the reports of all."""
-    for begin in range(0, len(reports), BATCHES):
-        yield batches_of(reports[begin : begin + BATCHES])
+    for begin in range(0, len(reports), FEW_BATCHES):
+        yield batches_of(reports[begin : begin + FEW_BATCHES])
 
 
-def reports_from(psi, net, count):
-    """The reports of so many streams for each repetition."""
-    size = count // BATCHES
-    return reports_of(psi, net.data, 51, blocks_of(0, WORDS.repetitions * BATCHES * size, size))
+def reports_from(psi, net):
+    """The reports of the streams of all repetitions."""
+    size = WORDS.count // 5 // FEW_BATCHES
+    blocks = blocks_of(0, WORDS.repetitions * FEW_BATCHES * size, size)
+    return reports_of(psi, net.data, 51, blocks)
 
 
 def solved(net):
-    """The mean of the last row of a network, a queue's where there is no reward."""
+    """The mean of the queue of a network, and of each of its rewards."""
     states, law = law_of(net)
     numbers = numpy.array([state[0] for state in states])
-    if not net.rewards:
-        return float(law @ numbers)
-    return float(law @ numpy.array(net.table["reward"][-1]["table"][0])[numbers])
+    tables = [numpy.array(reward["table"][0]) for reward in net.table["reward"]]
+    return [float(law @ numbers), *(float(law @ table[numbers]) for table in tables)]
+
+
+def with_rewards(load, capacity):
+    """A queue with a rare reward of 0 and 1, one of 0 and 1,000, and a skewed one."""
+    net = queue_of(load, capacity)
+    for name, table in (("rare, 0 and 1", rare(capacity, 1)), ("skewed, 4^n", fours(capacity)),
+                        ("rare, 0 and 1,000", rare(capacity, 1_000))):
+        net.reward(re.sub("[^a-z0-9]+", "-", name), "table", ["q"], table=[table])
+    return net
 
 
 def by_psi(path):
     """The tallies of cases that the built program draws."""
-    psi, count = Psi(path), WORDS.count // 5
-    for name, load, capacity, reward in SINGLE:
-        if capacity > 10:
-            continue
-        net = queue_of(load, capacity, reward)
-        tally = Tally(f"psi, {name}: batches", solved(net))
-        for batches in grouped(reports_from(psi, net, count)):
-            batches = batches.of_network(net) if HAS_SPANS else batches
-            tally.take(batches.mean(batches.rows[-1]))
-        yield tally
-    yield swept(psi, count)
-    yield cut_short(psi, count)
+    psi, net = Psi(path), with_rewards(0.25, 5)
+    tallies = [
+        Tally(f"psi, {name}: batches", wanted)
+        for name, wanted in zip(["a single row", *net.rewards], solved(net))
+    ]
+    for batches in grouped(reports_from(psi, net)):
+        batches = batches.of_network(net) if HAS_SPANS else batches
+        for tally, row in zip(tallies, batches.rows):
+            tally.take(batches.mean(row))
+    yield from tallies
+    yield swept(psi)
+    yield cut_short(psi)
 
 
-def swept(psi, count):
-    """The tally of a difference of two designs, whether a queue is full, which is rare."""
-    net = queue_of(0.2, 4, rare(4, 1))
-    _, designs, _, _ = designs_of(["come.rate=14,12"], net)
-    wanted = solved(designs[0].net) - solved(designs[1].net)
+def swept(psi):
+    """The tally of a difference of two designs, of whether a queue is full, which is rare."""
+    net = queue_of(0.25, 4, rare(4, 1))
+    _, designs, _, _ = designs_of(["come.rate=15,13"], net)
+    wanted = solved(designs[0].net)[1] - solved(designs[1].net)[1]
     designs, why = aligned(designs)
     assert why is None
     tally = Tally("psi, difference of rare rows: batches", wanted)
-    both = [grouped(reports_from(psi, design.net, count)) for design in designs]
+    both = [grouped(reports_from(psi, design.net)) for design in designs]
     for pair in zip(*both):
         if HAS_SPANS:
             pair = [own.of_network(design.net) for own, design in zip(pair, designs)]
@@ -263,16 +275,16 @@ def swept(psi, count):
     return tally
 
 
-def cut_short(psi, count):
-    """The tally where a limit leaves about 27 % of the streams uncoupled."""
-    net = queue_of(0.7, 8)
+def cut_short(psi):
+    """The tally where a limit leaves some of the streams uncoupled."""
+    net = queue_of(0.75, 10)
     net.heads["limit"] = 6
-    reports = reports_from(psi, net, count)
+    reports = reports_from(psi, net)
     lost = 1 - sum(report.met for report in reports) / sum(report.samples for report in reports)
-    tally = Tally(f"psi, {100 * lost:.0f} % uncoupled: batches", solved(net))
+    tally = Tally(f"psi, {100 * lost:.0f} % uncoupled: batches", solved(net)[0])
     for batches in grouped(reports):
         batches = batches.of_network(net) if HAS_SPANS else batches
-        tally.take(batches.mean(batches.rows[-1]))
+        tally.take(batches.mean(batches.rows[0]))
     return tally
 
 

@@ -66,14 +66,11 @@ def write_whole(path: pathlib.Path, text: bytes) -> None:
 def is_left(name: str) -> bool:
     """Whether a file's name is that of what a call has begun to write, and will not end: one of
     this machine whose process is gone."""
-    parts = name.split(".")
-    if parts[0] != "part" or len(parts) < 3:
+    front = f"part.{os.uname().nodename}."
+    number = name.removeprefix(front).partition(".")[0]
+    if not name.startswith(front) or not number.isdigit():
         return False
-    node = os.uname().nodename
-    rest = name.removeprefix(f"part.{node}.").split(".")
-    if not name.startswith(f"part.{node}.") or not rest[0].isdigit():
-        return False
-    return int(rest[0]) == os.getpid() or not os.path.exists(f"/proc/{rest[0]}")
+    return int(number) == os.getpid() or not os.path.exists(f"/proc/{number}")
 
 
 def sealed(lines: str) -> str:

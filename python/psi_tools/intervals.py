@@ -267,8 +267,8 @@ def difference_of_batches(
     """The mean of the first samples less that of the others, where both have the same batches of
     the same streams, under common random numbers: the differences of the batches are the values, so
     what both have in common doesn't widen the interval. `spans` are those of both rows, `lost` how
-    many streams of each batch aren't coupled. Where both rows are 0 or 1, the interval is also at
-    least that of what is known of the pairs."""
+    many streams of each batch aren't coupled. Where both rows have the same two values, as 0 and 1,
+    the interval also holds that of the joint counts, as far as the batches show them."""
     one, other = spread_of(sums, counts), spread_of(others, other_counts)
     if one is None or other is None:
         return NO_MEAN
@@ -282,16 +282,18 @@ def difference_of_batches(
     ends = [end for span in spans for end in (span.least, span.greatest)]
     if (any(mine) or any(theirs)) and None in ends:
         return Mean(gap, None)
-    both = spans[0].less(spans[1])
-    low = difference_end(sums, others, counts, mine, theirs, (spans[0].least, spans[1].greatest))
-    high = difference_end(sums, others, counts, mine, theirs, (spans[0].greatest, spans[1].least))
+    values = (spans[0].least, spans[1].greatest), (spans[0].greatest, spans[1].least)
+    low, high = (difference_end(sums, others, counts, mine, theirs, each) for each in values)
     if low.error is None:
         return Mean(gap, None)
+    both = spans[0].less(spans[1])
     lower = low.mean - end_of_batches(low, min(both.low, low.mean), level)
     upper = high.mean + end_of_batches(high, max(both.high, high.mean), level)
-    if all((span.least, span.greatest) == (0, 1) for span in spans) and not any([*mine, *theirs]):
-        pairs = difference_of_pairs(*pairs_of(sums, others, counts), level)
-        lower, upper = min(lower, pairs.low), max(upper, pairs.high)
+    if spans[0].two and spans[1].two and ends[:2] == ends[2:] and not any([*mine, *theirs]):
+        # Of a width of 0 both rows are one number.
+        width = (ends[1] - ends[0]) or 1
+        pairs = difference_of_pairs(*pairs_of(sums, others, counts, width), level)
+        lower, upper = min(lower, width * pairs.low), max(upper, width * pairs.high)
     return between(gap, both.clipped(lower), both.clipped(upper))
 
 
@@ -306,11 +308,11 @@ def difference_end(sums, others, counts, mine, theirs, values) -> Spread:
 
 
 def pairs_of(
-    sums: Sequence[int], others: Sequence[int], counts: Sequence[int]
+    sums: Sequence[int], others: Sequence[int], counts: Sequence[int], width: int = 1
 ) -> tuple[int, int, int]:
-    """Of how many streams two rows of 0 and 1 differ by 1 and by -1, as far as the sums of the
-    batches show it, and how many streams there are."""
-    gaps = [one - other for one, other in zip(sums, others)]
+    """Of how many streams two rows of the same two values differ by their width and by less it, as
+    far as the sums of the batches show it, and how many streams there are."""
+    gaps = [(one - other) // width for one, other in zip(sums, others)]
     plus, minus = (sum(max(0, sign * gap) for gap in gaps) for sign in (1, -1))
     return plus, minus, sum(counts)
 

@@ -1,7 +1,10 @@
 """Intervals: values from tables, and how often they hold what they are of."""
 
+import subprocess
+
 import numpy
 import pytest
+from conftest import TOP
 from solving import means_of
 
 from psi_tools.batches import Batches, Row, batches_of
@@ -211,3 +214,11 @@ def test_intervals_hold_the_solved_mean(program):
     # The interval of a share holds it more often still where it is rare.
     assert LEAST <= held.pop("rare-full")
     assert all(LEAST <= count <= MOST for count in held.values()), held
+
+
+def test_intervals_hold_rare_and_skewed_means():
+    """A few repetitions of the study, which tell a fault that is great; 400 are made by hand."""
+    call = [TOP / "checks/try_intervals.py", "--repetitions", "40", "--count", "2000"]
+    done = subprocess.run([*call, "--least", "80"], capture_output=True, text=True)
+    assert done.returncode == 0, done.stdout + done.stderr
+    assert done.stdout.count(" of 100  width ") == 21
