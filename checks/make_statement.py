@@ -20,8 +20,8 @@ PAGE = ROOT / "docs" / "STATEMENT.md"
 def clause(sources, path, function, label=""):
     """A clause of a function, by its label; without one all clauses, behind the function's head."""
     file = sources.file(CRATES / path, Source)
-    start = next(i for i, s in enumerate(file.lines) if re.match(r"pub fn %s\b" % function, s))
-    end = next(i for i in range(start, len(file.lines)) if file.lines[i] == "{")
+    start = next(i for i, s in enumerate(file.lines) if re.match(r"(?:pub )?fn %s\b" % function, s))
+    end = next(i for i in range(start, len(file.lines)) if file.lines[i] in ("{", "{}"))
     heads = [i for i in range(start, end) if re.match(r"    (ensures|requires) ", file.lines[i])]
     if not heads:
         raise Missing(f"{path}: {function} has no clause")

@@ -1,7 +1,11 @@
 //! The program `psi`: perfect samples of queueing networks.
 #![tactic(auto)]
 
-use psi_io::{Shelf, Sink};
+ghost use Rattle.std.specs.Process.{exit_status};
+ghost use Rattle.psi_program.specs.Run.{HasEnded};
+ghost use Rattle.psi_run.specs.Run.{IsRunOf};
+
+use psi_io::{DiskShelf, Shelf, Sink, StdSink};
 use psi_program::{Program, start};
 use psi_run::run;
 use std::alloc::Global;
@@ -11,6 +15,8 @@ use std::process::ExitCode;
 struct Psi;
 
 impl Program for Psi {
+    ghost is_run = { λ _. IsRunOf };
+
     fn run<F: Shelf, O: Sink, E: Sink>(
         &self,
         alloc: Global,
@@ -23,6 +29,19 @@ impl Program for Psi {
     }
 }
 
+/// Runs the program over the words, the files and the two outputs of the system.
+///
+/// It ends for want of words, or as a run of the program: by the bytes that the system answered to its reads, and those
+/// that it accepted on its outputs.
+fn run_psi(rt: &HostRuntime) -> ExitCode
+    ensures process { HasEnded IsRunOf (exit_status result) }
+{
+    let mut shelf = DiskShelf::new(rt);
+    let mut out = StdSink::new(rt.stdout());
+    let mut err = StdSink::new(rt.stderr());
+    start(&Psi, rt, &mut shelf, &mut out, &mut err)
+}
+
 fn main(rt: HostRuntime) -> ExitCode {
-    start(&Psi, &rt, rt.stdout(), rt.stderr())
+    run_psi(&rt)
 }

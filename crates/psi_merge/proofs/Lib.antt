@@ -3,3 +3,4 @@ pub mod FindingLemmas
 pub mod WordsLemmas
 pub mod RunningLemmas
 pub mod HeadingLemmas
+pub mod EdgeLemmas

@@ -7,3 +7,4 @@ pub mod Seen
 pub mod Ended
 pub mod Spared
 pub mod Call
+pub mod Run

@@ -1,9 +1,11 @@
 //! The report of all files.
 
-ghost use Rattle.std.specs.Prelude.{◌≡◌, ◌≤◌, ℕ, List, [], ◌∷◌, ◌++◌, Err, map, string_bytes, IfSome, IfErr};
+ghost use Rattle.std.specs.Prelude.{◌≡◌, ◌≤◌, ℕ, List, [], ◌∷◌, ◌++◌, Option, Err, map, string_bytes, IfSome, IfErr};
 ghost use Rattle.std.specs.List.{list_all};
 ghost use Rattle.psi_reports.specs.declared.error.MergeError.{MergeError};
 ghost use Rattle.psi_merge.specs.declared.status.Status.TheVariants as status;
+ghost use Rattle.psi_io.specs.Shelf.{AgreesSince};
+ghost use Rattle.psi_program.specs.Seen.{seen_with};
 ghost use Rattle.psi_program.specs.Reply.{line_reply};
 ghost use Rattle.psi_merge.specs.Reply.{refused_line, merge_reply, report_at, with_file, with_files, whole_of, is_file};
 ghost use Rattle.psi_merge.specs.Seen.{read_of};
@@ -66,8 +68,10 @@ fn unread(alloc: Global, name: &str) -> Ending
 
 // The report of a file, or the ending for want of one.
 fn report_at<F: Shelf>(alloc: Global, shelf: &mut F, name: &str) -> Result<Report, Ending>
-    ensures found { IsFound (record { told = F.told shelf.old; asked_before = F.asked shelf.old; asked_after = F.asked shelf.new; faults_before = F.faults shelf.old; faults_after = F.faults shelf.new }) name.now
-        (report_at (F.told shelf.old) name.now) result }
+    ensures found { (told : List ℕ → Option (List ℕ)) → AgreesSince told (F.gave shelf.old) (F.gave shelf.new) → IsFound (seen_with (record { gave_before = F.gave shelf.old; gave_after = F.gave shelf.new; asked_before = F.asked shelf.old; asked_after = F.asked shelf.new; faults_before = F.faults shelf.old; faults_after = F.faults shelf.new }) told) name.now
+        (report_at told name.now) result }
+    // The answers agree with what the shelf tells.
+    ensures agrees { AgreesSince (F.told shelf.old) (F.gave shelf.old) (F.gave shelf.new) }
     // Where the shelf gives the file, no read of it failed, and no count rose.
     ensures read { F.gives shelf.old name.now → IfErr result HasRead }
     ensures spared { F.gives shelf.old name.now → F.faults shelf.new ≡ F.faults shelf.old }
@@ -97,8 +101,10 @@ fn with_file<F: Shelf>(
     whole: Report,
     name: &str,
 ) -> Result<Report, Ending>
-    ensures found { IsFound (record { told = F.told shelf.old; asked_before = F.asked shelf.old; asked_after = F.asked shelf.new; faults_before = F.faults shelf.old; faults_after = F.faults shelf.new }) name.now
-        (with_file (F.told shelf.old) whole name.now) result }
+    ensures found { (told : List ℕ → Option (List ℕ)) → AgreesSince told (F.gave shelf.old) (F.gave shelf.new) → IsFound (seen_with (record { gave_before = F.gave shelf.old; gave_after = F.gave shelf.new; asked_before = F.asked shelf.old; asked_after = F.asked shelf.new; faults_before = F.faults shelf.old; faults_after = F.faults shelf.new }) told) name.now
+        (with_file told whole name.now) result }
+    // The answers agree with what the shelf tells.
+    ensures agrees { AgreesSince (F.told shelf.old) (F.gave shelf.old) (F.gave shelf.new) }
     // Where the shelf gives the file, no read of it failed, and no count rose.
     ensures read { F.gives shelf.old name.now → IfErr result HasRead }
     ensures spared { F.gives shelf.old name.now → F.faults shelf.new ≡ F.faults shelf.old }
@@ -126,8 +132,10 @@ fn with_files<F: Shelf>(
     first: Report,
     names: &[String],
 ) -> Result<Report, Ending>
-    ensures found { AreFound (record { told = F.told shelf.old; asked_before = F.asked shelf.old; asked_after = F.asked shelf.new; faults_before = F.faults shelf.old; faults_after = F.faults shelf.new })
-        (with_files (F.told shelf.old) first) (map string_bytes names.now) result }
+    ensures found { (told : List ℕ → Option (List ℕ)) → AgreesSince told (F.gave shelf.old) (F.gave shelf.new) → AreFound (seen_with (record { gave_before = F.gave shelf.old; gave_after = F.gave shelf.new; asked_before = F.asked shelf.old; asked_after = F.asked shelf.new; faults_before = F.faults shelf.old; faults_after = F.faults shelf.new }) told)
+        (with_files told first) (map string_bytes names.now) result }
+    // The answers agree with what the shelf tells.
+    ensures agrees { AgreesSince (F.told shelf.old) (F.gave shelf.old) (F.gave shelf.new) }
     // Where the shelf gives each file that is needed, no read failed, and no count rose.
     ensures read { AreNextGiven (F.gives shelf.old) (with_files (F.told shelf.old) first) (map string_bytes names.now) → IfErr result HasRead }
     ensures spared { AreNextGiven (F.gives shelf.old) (with_files (F.told shelf.old) first) (map string_bytes names.now) → F.faults shelf.new ≡ F.faults shelf.old }
@@ -149,8 +157,10 @@ fn whole_of<F: Shelf>(
     first: &str,
     rest: &[String],
 ) -> Result<Report, Ending>
-    ensures found { AreFound (record { told = F.told shelf.old; asked_before = F.asked shelf.old; asked_after = F.asked shelf.new; faults_before = F.faults shelf.old; faults_after = F.faults shelf.new })
-        (whole_of (F.told shelf.old)) (first.now ∷ map string_bytes rest.now) result }
+    ensures found { (told : List ℕ → Option (List ℕ)) → AgreesSince told (F.gave shelf.old) (F.gave shelf.new) → AreFound (seen_with (record { gave_before = F.gave shelf.old; gave_after = F.gave shelf.new; asked_before = F.asked shelf.old; asked_after = F.asked shelf.new; faults_before = F.faults shelf.old; faults_after = F.faults shelf.new }) told)
+        (whole_of told) (first.now ∷ map string_bytes rest.now) result }
+    // The answers agree with what the shelf tells.
+    ensures agrees { AgreesSince (F.told shelf.old) (F.gave shelf.old) (F.gave shelf.new) }
     // Where the shelf gives each file that is needed, no read failed, and no count rose.
     ensures read { AreNextGiven (F.gives shelf.old) (whole_of (F.told shelf.old)) (first.now ∷ map string_bytes rest.now) → IfErr result HasRead }
     ensures spared { AreNextGiven (F.gives shelf.old) (whole_of (F.told shelf.old)) (first.now ∷ map string_bytes rest.now) → F.faults shelf.new ≡ F.faults shelf.old }
@@ -185,7 +195,9 @@ fn all_files(words: &[String]) -> bool
 
 /// The work for the words, before the first byte is written. Words that aren't names of files take no memory.
 pub(crate) fn work<F: Shelf>(alloc: Global, words: &[String], shelf: &mut F) -> Ending
-    ensures ending { IsEnding (record { told = F.told shelf.old; asked_before = F.asked shelf.old; asked_after = F.asked shelf.new; faults_before = F.faults shelf.old; faults_after = F.faults shelf.new }) (map string_bytes words.now) (ending_of result) }
+    ensures ending { (told : List ℕ → Option (List ℕ)) → AgreesSince told (F.gave shelf.old) (F.gave shelf.new) → IsEnding (seen_with (record { gave_before = F.gave shelf.old; gave_after = F.gave shelf.new; asked_before = F.asked shelf.old; asked_after = F.asked shelf.new; faults_before = F.faults shelf.old; faults_after = F.faults shelf.new }) told) (map string_bytes words.now) (ending_of result) }
+    // The answers agree with what the shelf tells.
+    ensures agrees { AgreesSince (F.told shelf.old) (F.gave shelf.old) (F.gave shelf.new) }
     // Where the shelf gives each file that is needed, no read failed, and no count rose.
     ensures read { AreGiven (F.gives shelf.old) (F.told shelf.old) (map string_bytes words.now) → HasRead result }
     ensures spared { AreGiven (F.gives shelf.old) (F.told shelf.old) (map string_bytes words.now) → F.faults shelf.new ≡ F.faults shelf.old }

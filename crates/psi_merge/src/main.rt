@@ -4,6 +4,10 @@
 //! all samples: the lists of samples, one behind the other in the order of the words.
 #![tactic(auto)]
 
+ghost use Rattle.std.specs.Process.{exit_status};
+ghost use Rattle.psi_program.specs.Run.{HasEnded};
+ghost use Rattle.psi_merge.specs.Run.{IsRunOf};
+
 mod ending;
 mod files;
 mod lines;
@@ -12,7 +16,7 @@ mod reports;
 mod status;
 
 use crate::program::run;
-use psi_io::{Shelf, Sink};
+use psi_io::{DiskShelf, Shelf, Sink, StdSink};
 use psi_program::{Program, start};
 use std::alloc::Global;
 use std::process::ExitCode;
@@ -21,6 +25,8 @@ use std::process::ExitCode;
 struct Merging;
 
 impl Program for Merging {
+    ghost is_run = { λ _. IsRunOf };
+
     fn run<F: Shelf, O: Sink, E: Sink>(
         &self,
         alloc: Global,
@@ -33,6 +39,19 @@ impl Program for Merging {
     }
 }
 
+/// Runs the program over the words, the files and the two outputs of the system.
+///
+/// It ends for want of words, or as a run of the program: by the bytes that the system answered to its reads, and those
+/// that it accepted on its outputs.
+fn run_merge(rt: &HostRuntime) -> ExitCode
+    ensures process { HasEnded IsRunOf (exit_status result) }
+{
+    let mut shelf = DiskShelf::new(rt);
+    let mut out = StdSink::new(rt.stdout());
+    let mut err = StdSink::new(rt.stderr());
+    start(&Merging, rt, &mut shelf, &mut out, &mut err)
+}
+
 fn main(rt: HostRuntime) -> ExitCode {
-    start(&Merging, &rt, rt.stdout(), rt.stderr())
+    run_merge(&rt)
 }

@@ -1,9 +1,12 @@
 //! The call that does all that the program does.
 
 ghost use Rattle.std.specs.Prelude.{◌≡◌, ◌⊎◌, Some, map, string_bytes};
+ghost use Rattle.psi_program.specs.Run.{HasRun};
+ghost use Rattle.psi_merge.specs.Status.{status_code};
 ghost use Rattle.psi_merge.specs.Reply.{Reply, reply_to};
 ghost use Rattle.psi_merge.specs.Spared.{AreGiven, AreTaken};
 ghost use Rattle.psi_merge.specs.Call.{IsRun, MergesReports};
+ghost use Rattle.psi_merge.specs.Run.{IsRunOf};
 
 use crate::files::work;
 use crate::status::Status;
@@ -56,8 +59,8 @@ pub(crate) fn run<F: Shelf, O: Sink, E: Sink>(
     ensures call { IsRun (record {
       words = map string_bytes words.now;
       shelf = record { told = F.told shelf.old; asked_before = F.asked shelf.old; asked_after = F.asked shelf.new; faults_before = F.faults shelf.old; faults_after = F.faults shelf.new };
-      out = record { before = O.held out.old; after = O.held out.new; faults_before = O.faults out.old; faults_after = O.faults out.new };
-      err = record { before = E.held err.old; after = E.held err.new; faults_before = E.faults err.old; faults_after = E.faults err.new };
+      out = record { before = O.held out.old; after = O.held out.new; took_before = O.took out.old; took_after = O.took out.new; faults_before = O.faults out.old; faults_after = O.faults out.new };
+      err = record { before = E.held err.old; after = E.held err.new; took_before = E.took err.old; took_after = E.took err.new; faults_before = E.faults err.old; faults_after = E.faults err.new };
     }) result }
 
     // The headline: the reports of lists of samples of one network that a file may describe are merged into the report
@@ -65,9 +68,16 @@ pub(crate) fn run<F: Shelf, O: Sink, E: Sink>(
     ensures headline { MergesReports (record {
       words = map string_bytes words.now;
       shelf = record { told = F.told shelf.old; asked_before = F.asked shelf.old; asked_after = F.asked shelf.new; faults_before = F.faults shelf.old; faults_after = F.faults shelf.new };
-      out = record { before = O.held out.old; after = O.held out.new; faults_before = O.faults out.old; faults_after = O.faults out.new };
-      err = record { before = E.held err.old; after = E.held err.new; faults_before = E.faults err.old; faults_after = E.faults err.new };
+      out = record { before = O.held out.old; after = O.held out.new; took_before = O.took out.old; took_after = O.took out.new; faults_before = O.faults out.old; faults_after = O.faults out.new };
+      err = record { before = E.held err.old; after = E.held err.new; took_before = E.took err.old; took_after = E.took err.new; faults_before = E.faults err.old; faults_after = E.faults err.new };
     }) result }
+
+    // What crossed the edges is a run of the program: the same over the bytes that were read and accepted, whatever the
+    // shelf and the sinks tell.
+    ensures edge { HasRun IsRunOf (map string_bytes words.now)
+        (record { gave = F.gave shelf.old; out = O.took out.old; err = E.took err.old; tally = record { asked = F.asked shelf.old; files = F.faults shelf.old; out = O.faults out.old; err = E.faults err.old } })
+        (record { gave = F.gave shelf.new; out = O.took out.new; err = E.took err.new; tally = record { asked = F.asked shelf.new; files = F.faults shelf.new; out = O.faults out.new; err = E.faults err.new } })
+        (status_code result) }
 
     // Where the shelf gives each file that is needed, and out and err take the reply's texts and the line on want of memory, no
     // count of faults rises in this call, and the status is the reply's or tells want of memory.

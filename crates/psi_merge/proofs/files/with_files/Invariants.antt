@@ -1,6 +1,7 @@
--- The files before it have a report together.
-use Rattle.std.proofs.Common.{◌≡◌, ◌≤◌, ◌++◌, ℕ, List, map, take}
+-- The files before it have a report together, whatever files hold that agrees with the answers.
+use Rattle.std.proofs.Common.{◌≡◌, ◌≤◌, ◌++◌, ℕ, List, Option, map, take}
 use Rattle.std.specs.Prelude.{string_bytes}
+use Rattle.psi_io.specs.Shelf.{AgreesSince}
 use Rattle.psi_merge.specs.Reply.{with_files}
 use Rattle.psi_merge.specs.Seen.{read_of}
 use Rattle.psi_merge.specs.Spared.{AreNextGiven}
@@ -15,5 +16,7 @@ invariant-loop-name g l = record {
   gives : (other : List ℕ) → g.F.Shelf.gives l.fn.shelf other → g.F.Shelf.gives l.shelf other;
   spared : AreNextGiven (g.F.Shelf.gives l.fn.shelf) (with_files (g.F.Shelf.told l.fn.shelf) l.fn.first) (map string_bytes l.names)
       → g.F.Shelf.faults l.shelf ≡ g.F.Shelf.faults l.fn.shelf;
-  has : HasReport (with_files (g.F.Shelf.told l.fn.shelf) l.fn.first) (map string_bytes (take l.name-index l.names)) l.whole;
+  agrees : AgreesSince (g.F.Shelf.told l.fn.shelf) (g.F.Shelf.gave l.fn.shelf) (g.F.Shelf.gave l.shelf);
+  has : (told : List ℕ → Option (List ℕ)) → AgreesSince told (g.F.Shelf.gave l.fn.shelf) (g.F.Shelf.gave l.shelf)
+      → HasReport (with_files told l.fn.first) (map string_bytes (take l.name-index l.names)) l.whole;
 }
