@@ -25,11 +25,12 @@ import tempfile
 import threading
 import time
 
-from crates import Crates
-from lanes import Lane, Marks, has_links
-from schedule import Costs, Pace, Schedule
-
 sys.dont_write_bytecode = True
+
+from crates import Crates  # noqa: E402
+from lanes import Lane, Marks, has_links  # noqa: E402
+from schedule import Costs, Pace, Schedule  # noqa: E402
+
 HERE = pathlib.Path(__file__).resolve().parent
 TOP = HERE.parent.parent
 PROGRAM = "psi"
