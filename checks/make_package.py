@@ -39,6 +39,9 @@ from psi_tools.commands import NAMES
 from psi_tools.completion import completion
 
 TOP = pathlib.Path(__file__).resolve().parent.parent
+# The built program, in a checkout and in the folder of the package's library. What stands on the
+# PATH there is the script tools/command/installed.
+BUILT = "crates/psi/out/psi"
 NAME = "psi-sampler"
 TOOLS = (
     "packaged.py", "merge_reports.py", "plotting", "check_log.py", "mean_values.py", "command",
@@ -47,9 +50,6 @@ TOOLS = (
 # The folders of python/ that are packed.
 MODULES = "psi", "psi_tools"
 DOCUMENTS = "README.md", "CITATION.cff", "SECURITY.md", "docs"
-# The built program, in a checkout and in the folder of the package's library; what stands on the
-# PATH there is tools/command/installed.
-BUILT = "crates/psi/out/psi"
 DEPENDS = (
     "python3 (>= 3.11)", "python3-numpy", "python3-scipy", "python3-pandas", "python3-matplotlib",
     "parallel",

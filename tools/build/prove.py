@@ -25,11 +25,12 @@ import tempfile
 import threading
 import time
 
-from crates import Crates
-from lanes import Lane, Marks, has_links
-from schedule import Costs, Pace, Schedule
-
 sys.dont_write_bytecode = True
+
+from crates import Crates  # noqa: E402
+from lanes import Lane, Marks, has_links  # noqa: E402
+from schedule import Costs, Pace, Schedule  # noqa: E402
+
 HERE = pathlib.Path(__file__).resolve().parent
 TOP = HERE.parent.parent
 PROGRAM = "psi"
@@ -37,6 +38,8 @@ PROGRAM = "psi"
 ANSWER = "psi: usage word 1"
 # The sum of the toolchain's logic with which PSI was tried.
 LOGIC = "dac8208d650f15bf"
+# The part of the free memory that is used.
+SHARE = 0.85
 # Seconds between two lines of progress, and until the first that says how long is left.
 TICK, FIRST = 30, 60
 # `rt` ends with one of these where it has judged; else something has ended it.
@@ -64,11 +67,12 @@ def processors():
 
 
 def memory():
-    """Returns how many MB are free, under the limit of the control group."""
+    """Returns how many MB may be taken: most of what the group and the machine have free."""
     found = number_in("/proc/meminfo", r"MemAvailable:\s+(\d+)") // 1024
     group = "/sys/fs/cgroup/memory"
     limit, held = number_in(f"{group}.max"), number_in(f"{group}.stat", r"anon (\d+)")
-    return min(found, (limit - held) >> 20) if limit and held else found
+    found = min(found, (limit - held) >> 20) if limit and held else found
+    return SHARE * found
 
 
 def duration(seconds):

@@ -12,7 +12,7 @@ SECONDS_A_LINE, GAIN, MEMORY = 0.2, 1.5, 1_600
 JOB_SHARE = 0.5
 # The part of an even share of the rest from which on a chain decides when all is over, and how many
 # processors are idle where one more crate is started.
-DECIDES, LEAST_IDLE = 0.6, 0.2
+DECIDES, LEAST_IDLE = 1.0, 0.2
 # The part of its own time so far that a crate is taken to need still when its time is over.
 OVERDUE = 0.15
 
