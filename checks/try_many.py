@@ -225,7 +225,7 @@ def try_merger(psi):
 def try_reports(psi):
     """What is merged, and what is refused, where psi_merge is built: beside PSI, or in its crate."""
     beside = pathlib.Path(psi).parent
-    merger = beside / "psi_merge", beside.parent.parent / "psi_merge/out/psi_merge"
+    merger = beside / "psi_merge", TOOLS.parent / "crates/psi_merge/out/psi_merge"
     found = [str(path) for path in merger if os.access(path, os.X_OK)]
     if found:
         try_merges.try_merges(found[0], check)

@@ -14,6 +14,7 @@ sets of samples lack it, and Student's t alone would be far too narrow. So a row
 its values may be at all, and how far the value that did not come may lie from those that did.
 """
 
+import contextlib
 import dataclasses
 import importlib
 import math
@@ -39,8 +40,13 @@ def special():
 
 
 def read_ahead() -> None:
-    """Has scipy read while samples are drawn."""
-    threading.Thread(target=special).start()
+    """Has scipy read while samples are drawn. A fault is told where it is wanted."""
+
+    def read() -> None:
+        with contextlib.suppress(Exception):
+            special()
+
+    threading.Thread(target=read).start()
 
 
 @dataclasses.dataclass(frozen=True)
