@@ -4,6 +4,7 @@ in `doc_claims.py`.
 """
 
 import csv
+import math
 import re
 import tomllib
 
@@ -168,8 +169,9 @@ def claim_start(document, clone):
     claim_many_samples(document, clone)
     claim_web(document, clone)
     found = re.search(r"`(tools/psi-new line [^`]*)`", document.prose)
-    status, out, error = clone.run(found[1])
-    document.hold(status == 0 and out.count("[[queue]]") == 3, f"psi-new writes {out}{error}")
+    _, out, error = clone.run(found[1])
+    same = out and shape_of(out) == shape_of(text_of(clone, "web.toml"))
+    document.hold(same, f"psi-new writes another network than web.toml: {out}{error}")
     document.cover(found[0])
     lines = said(document, clone, f"./psi replay {TANDEM} sample.log")
     document.claim(
@@ -178,6 +180,14 @@ def claim_start(document, clone):
         f"{lines[1].split()[1]} at time zero."
     )
     claim_checker(document, clone, "checks a log in {} lines of Python that share nothing with")
+
+
+def shape_of(text):
+    """The capacities, servers and rates of a network file, in their order; of rates the proportion."""
+    net = tomllib.loads(text)
+    queues = [(queue["capacity"], queue.get("servers", 1)) for queue in net["queue"]]
+    rates = [event["rate"] for event in net["event"]]
+    return queues, [rate // math.gcd(*rates) for rate in rates]
 
 
 def claim_web(document, clone):
