@@ -39,9 +39,12 @@ from psi_tools.commands import NAMES
 from psi_tools.completion import completion
 
 TOP = pathlib.Path(__file__).resolve().parent.parent
+# The built program, in a checkout and in the folder of the package's library. What stands on the
+# PATH there is the script tools/command/installed.
+BUILT = "crates/psi/out/psi"
 NAME = "psi-sampler"
 TOOLS = (
-    "packaged.py", "merge_reports.py", "plotting", "check_log.py", "mean_values.py",
+    "packaged.py", "merge_reports.py", "plotting", "check_log.py", "mean_values.py", "command",
     *(f"psi-{name}" for name in NAMES),
 )
 # The folders of python/ that are packed.
@@ -168,11 +171,12 @@ def fill_library(root, programs):
         link(library / "python" / module, root / "usr/lib/python3/dist-packages" / module)
     for name in NAMES:
         link(library / f"tools/psi-{name}", root / f"usr/bin/psi-{name}")
-    for name, program in programs.items():
-        copy(program, root / "usr/bin" / name, 0o755)
-        crate = name.replace("-", "_")
-        link(root / "usr/bin" / name, library / "crates" / crate / "out" / crate)
+    (library / "tools/command/installed").rename(root / "usr/bin/psi")
     link(root / "usr/bin/psi", library / "psi")
+    copy(programs["psi"], library / BUILT, 0o755)
+    if merger := programs.get("psi-merge"):
+        copy(merger, root / "usr/bin/psi-merge", 0o755)
+        link(root / "usr/bin/psi-merge", library / "crates/psi_merge/out/psi_merge")
     link(root / "usr/share/doc" / NAME / "examples", library / "examples")
 
 
@@ -268,7 +272,7 @@ def stripped(program, room, name):
 
 
 def main(words):
-    program = pathlib.Path(words[0] if words else TOP / "crates/psi/out/psi").absolute()
+    program = pathlib.Path(words[0] if words else TOP / BUILT).absolute()
     folder = pathlib.Path(words[1] if len(words) > 1 else ".").resolve()
     if len(words) > 2 or not os.access(program, os.X_OK) or not folder.is_dir():
         print("make_package: [PSI [FOLDER]], where PSI is the built program", file=sys.stderr)

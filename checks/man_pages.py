@@ -7,6 +7,8 @@ the commands are checks/package_files/man/NAME.SECTION.md, written for the packa
 - `@options COMMAND` stands for the options of psi-COMMAND, as its reader of words has them;
 - `@kinds COMMAND` for the kinds of its first word;
 - `@status` for the statuses that the tools share;
+- `@synopsis`, `@commands` and `@statuses` for what `psi --help` says of its commands, and
+  `psi help COMMAND` of each;
 - `@files` for the files of the package.
 
 psi-file(5) is docs/FORMATS.md. There `./psi` is `psi`, the tools have no folder, and other files the
@@ -35,6 +37,8 @@ MOST_WIDE = 64
 BULLET = "\\(bu"
 SOURCES = TOP / "checks/package_files/man"
 LIBRARY, SHARE = "/usr/lib/psi-sampler", "/usr/share/doc/psi-sampler"
+# What `psi --help` prints: a part above the sections, and a section for each command.
+HELP = TOP / "tools/command/help.txt"
 FORMATS = "psi-file", "5", "network files, reports and certificates of psi(1)"
 FILES = f"""`{SHARE}/examples`: the gallery of networks.
 
@@ -241,13 +245,44 @@ def kinds_text(command):
     return "\n".join(["| Kind | Models |", "|---|---|", *rows])
 
 
+def help_block(heading):
+    """The two columns of a block of the help text."""
+    block = HELP.read_text().partition(f"\n{heading}:\n")[2].partition("\n\n")[0]
+    return [re.split("  +", line.strip(), maxsplit=1) for line in block.splitlines()]
+
+
+def synopsis_text():
+    """The usage lines of psi."""
+    lines = [f"psi {usage}" for usage, _ in help_block("Commands")]
+    return "\n".join(["```", *lines, "psi help [COMMAND]", "psi --help | -h | --version", "```"])
+
+
+def commands_text():
+    """The help on each command of psi, as a list."""
+    sections = re.split(r"^== (\w+)\n", HELP.read_text(), flags=re.M)
+    said = dict(zip(sections[1::2], sections[2::2]))
+    names = dict.fromkeys(usage.split()[0] for usage, _ in help_block("Commands"))
+    rows = [f"| `{name}` | {one_paragraph(said[name])} |" for name in names]
+    return "\n".join(["| Command | What it does |", "|---|---|", *rows])
+
+
+def statuses_text():
+    """The statuses of psi, as a list."""
+    rows = [f"| {status} | {said} |" for status, said in help_block("Exit status")]
+    return "\n".join(["| Status | Meaning |", "|---|---|", *rows])
+
+
 def source_of(text):
     """A page's source with what its lines stand for."""
     made = {"options": options_text, "kinds": kinds_text}
+    alone = {
+        "files": lambda: FILES, "status": lambda: STATUS, "synopsis": synopsis_text,
+        "commands": commands_text, "statuses": statuses_text,
+    }
 
     def stands_for(found):
         name, command = found.groups()
-        return made[name](command) if command else {"files": FILES, "status": STATUS}[name]
+        return made[name](command) if command else alone[name]()
 
     return re.sub(r"^@(\w+)(?: (\w+))?$", stands_for, text, flags=re.M)
 

@@ -10,6 +10,7 @@ package by dpkg; and runs there, by chroot,
 
 - the tour: each command and each text of docs/TOUR.md, as try_docs.py compares them, and each
   picture;
+- `--help`, `-h`, `help COMMAND` and `--version` of psi, and that all else is the program's;
 - psi-many, whose report is the one of one process, and which merges by psi-merge;
 - psi-merge, whose report of two is the one of one process, and which refuses what is none;
 - the man pages, one for each command: each has its parts, its examples run, and nothing in them is
@@ -47,7 +48,8 @@ PARTS = "NAME", "SYNOPSIS", "DESCRIPTION", "EXIT STATUS", "EXAMPLES", "FILES", "
 # What a page of an installed package has nothing to do with.
 OF_SOURCES = "./psi", "crates/", "rt run", "tools/setup", "checkout"
 COMPLETIONS = {
-    "psi s": "sample", "psi re": "reward replay report",
+    "psi s": "sample", "psi re": "reward replay report", "psi help cl": "closed",
+    "psi --v": "--version",
     "psi check examples/first": "examples/first.toml",
     "psi reward examples/tandem-blocking.toml 0 0 ": "parts drill-full",
     "psi sample examples/first.toml 0 0 ": "log",
@@ -132,6 +134,7 @@ def try_archive(tried, bare, archive, sums):
         own = subprocess.run([bare.psi, *call.split()], cwd=TOP, capture_output=True, text=True)
         same = (status, out) == (own.returncode, own.stdout)
         tried.hold(same, f"{call} of the archive: {status} {out} {error}")
+    try_front(tried, bare, f"{folder}/bin/psi")
     page = bare.has(f"{folder}/share/man/man1/psi.1.gz")
     tried.hold(page and bare.has(f"{folder}/Dockerfile"), "the archive lacks a file")
     try_merge(tried, bare, f"{folder}/bin/", f"{folder}/examples")
@@ -141,18 +144,36 @@ def try_archive(tried, bare, archive, sums):
     shutil.rmtree(f"{bare.root}{folder}")
 
 
+def try_front(tried, bare, psi):
+    """What psi answers itself, and that it hands on other arguments."""
+    version = re.search(r'^version: "(.*)"', (TOP / "CITATION.cff").read_text(), re.M)[1]
+    answers = {words: bare.run(f"{psi} {words}") for words in ("--help", "-h", "help sample")}
+    for words, (status, out, error) in answers.items():
+        is_whole = "psi sample NET SEED STREAM" in out or "  sample NET SEED STREAM" in out
+        tried.hold((status, is_whole, error) == (0, True, ""), f"{psi} {words}: {status} {error}")
+    tried.hold("psi --version" in answers["--help"][1], f"{psi} --help has no part on itself")
+    answer = bare.run(f"{psi} --version")
+    tried.hold(answer == (0, f"psi {version}\n", ""), f"{psi} --version: {answer}")
+    for words in ("nonsense", "--build", "--helpme", "-", ""):
+        answer = bare.run(f"{psi} {words}")
+        tried.hold(answer == (2, "", "psi: usage word 1\n"), f"{psi} {words}: {answer}")
+
+
 def try_dockerfile(tried, bare, folder):
     """What docker would make of the archive: the last stage's copies in a bare system, and the
     command that docs/RELEASING.md shows. A bare system stands for the one that docker takes."""
     text = (bare.root / folder[1:] / "Dockerfile").read_text()
     copies = re.findall(r"^COPY --from=unpacked /opt/psi/(\S+) (\S+)$", text, re.M)
+    folders = " ".join({target.rpartition("/")[0] or "/" for _, target in copies})
     entry = re.search(r'^ENTRYPOINT \["(\S+)"\]$', text, re.M)
     shown = re.search(r"^docker run --rm psi (.*)$", (TOP / "docs/RELEASING.md").read_text(), re.M)
-    tried.hold(len(copies) == 2 and entry and shown, "the Dockerfile has another form")
+    tried.hold(len(copies) == 4 and entry and shown, "the Dockerfile has another form")
     if entry and shown:
         made = " && ".join(f"cp -r {folder}/{source} {target}" for source, target in copies)
-        status, out, error = bare.run(f"{made} && cd / && {entry[1]} {shown[1]}")
+        made = f"mkdir -p {folders} && {made} && cd /"
+        status, out, error = bare.run(f"{made} && {entry[1]} {shown[1]}")
         tried.hold((status, out) == (0, "met 64\nstate 3,2,1\n"), f"docker's: {status} {error}")
+        try_front(tried, bare, entry[1])
         bare.run("rm -rf " + " ".join(target for _, target in copies))
 
 
@@ -310,6 +331,7 @@ def main(words):
         try_archive(tried, bare, archive, sums)
         status, error = install(bare, package)
         tried.hold(status == 0, f"it can't be installed: {error}")
+        try_front(tried, bare, "psi")
         for trial in (try_tour, try_many, try_pages, try_examples, try_completion):
             trial(tried, bare)
         try_merge(tried, bare, "", f"/{DOC}/examples")

@@ -1,5 +1,7 @@
 # Completion of psi's words for bash: its commands, network files, the rewards of a network, logs.
 
+_psi_commands="check sample report trial couple reward exact closed replay"
+
 _psi_rewards() {
     # The names that stand in the tables of rewards of a network file.
     awk '
@@ -20,9 +22,10 @@ _psi() {
     local word=${COMP_WORDS[COMP_CWORD]} command=${COMP_WORDS[1]} net=${COMP_WORDS[2]}
     COMPREPLY=()
     case $COMP_CWORD:$command in
-    1:*) COMPREPLY=($(compgen -W "check sample report trial couple reward exact closed replay" \
-        -- "$word")) ;;
-    2:trial) ;;
+    1:-*) COMPREPLY=($(compgen -W "--help --version" -- "$word")) ;;
+    1:*) COMPREPLY=($(compgen -W "$_psi_commands help" -- "$word")) ;;
+    2:help) COMPREPLY=($(compgen -W "$_psi_commands" -- "$word")) ;;
+    2:trial | *:-* | *:help) ;;
     2:*) _psi_files toml "$word" ;;
     3:replay) _psi_files log "$word" ;;
     5:sample) COMPREPLY=($(compgen -W log -- "$word")) ;;

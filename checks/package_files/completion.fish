@@ -24,6 +24,10 @@ complete -c psi -n '__psi_is 1' -a reward -d 'Print the value of a reward as soo
 complete -c psi -n '__psi_is 1' -a exact -d 'Follow every state of a small network'
 complete -c psi -n '__psi_is 1' -a closed -d 'Draw a closed network that holds so many customers'
 complete -c psi -n '__psi_is 1' -a replay -d 'Check the log of a sample'
+complete -c psi -n '__psi_is 1' -a help -d 'Print the help on a command'
+complete -c psi -n '__psi_is 1' -s h -l help -d 'Print the help'
+complete -c psi -n '__psi_is 1' -l version -d 'Print the version'
+complete -c psi -n '__psi_is 2 help' -a 'check sample report trial couple reward exact closed replay'
 complete -c psi -n '__psi_is 2 check sample report couple reward exact closed replay' \
     -a '(__fish_complete_suffix .toml)'
 complete -c psi -n '__psi_is 3 replay' -a '(__fish_complete_suffix .log)'

@@ -25,7 +25,13 @@ _psi() {
         'replay:check the log of a sample'
     )
     case $CURRENT:$words[2] in
-    2:*) _describe command commands ;;
+    2:-*) compadd -- --help --version ;;
+    2:*)
+        commands+=('help:print the help on a command')
+        _describe command commands
+        ;;
+    3:help) _describe command commands ;;
+    *:(help|-*)) _message 'no more words' ;;
     3:trial) _message 'a number, 0 to 65535' ;;
     3:*) _files -g '*.toml' ;;
     4:check | *:trial) _message 'no more words' ;;

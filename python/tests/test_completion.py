@@ -18,6 +18,8 @@ OFFERED = {
     "psi trial ": [],
     "psi report {net} 0 ": [],
     "psi check {net} ": [],
+    "psi help sa": ["sample"],
+    "psi --v": ["--version"],
 }
 NET = str(TOP / "examples/tandem-blocking.toml")
 # What zsh calls is told in place of being offered; the choice of what begins so is the shell's.
@@ -25,7 +27,7 @@ ZSH = """
 _describe() {{ print -rl -- ${{${{(P)2}}%%:*}} }}
 _files() {{ print -r -- files "${{@[-1]}}" }}
 _message() {{ }}
-compadd() {{ print -rl -- "$@" }}
+compadd() {{ print -rl -- "${{@:#--}}" }}
 words=({words}) CURRENT={count}
 . {file}
 """
@@ -64,8 +66,9 @@ def test_words_of_psi(shell):
 @pytest.mark.parametrize("shell", ["bash", "zsh", "fish"])
 def test_all_commands_are_offered(shell):
     text = (FILES / f"completion.{shell}").read_text()
-    usage = re.search(r"## SYNOPSIS\n\n```\n(.*?)```", (FILES / "man/psi.1.md").read_text(), re.S)
-    commands = [line.split()[1] for line in usage[1].splitlines()]
+    help_text = (TOP / "tools/command/help.txt").read_text()
+    usage = re.search(r"^Commands:\n(.*?)\n\n", help_text, re.S | re.M)
+    commands = {line.split()[0] for line in usage[1].splitlines()}
     assert len(commands) == 9
     assert all(re.search(rf"\b{command}\b", text) for command in commands)
-    assert shutil.which(shell) is None or sorted(commands) == offered(shell, "psi ")
+    assert shutil.which(shell) is None or sorted({*commands, "help"}) == offered(shell, "psi ")

@@ -1,0 +1,167 @@
+"""Copies of the crates in which calls of `rt` run side by side.
+
+Only one `rt` works in a crate and in those below it at a time, so two calls in one folder wait for
+each other. A lane is a second folder with the same crates, made of hard links where the disk has
+them. One call of `rt lib` works in a lane; what it leaves in the crate's out/ goes back.
+"""
+
+import contextlib
+import fcntl
+import hashlib
+import os
+import shutil
+import subprocess
+import tempfile
+
+# What `rt` keeps for the next check of the same crate. No crate above reads it.
+KEPT = "incremental"
+# The file in a crate's out/ that says of which sources its library was made.
+MARK = "psi-proved"
+
+
+def link(source, target):
+    """Gives a file a second name, or copies it where that is not possible."""
+    try:
+        os.link(source, target)
+    except OSError:
+        shutil.copy2(source, target)
+
+
+def has_links(folder):
+    """Returns whether a file of a folder can have a second name."""
+    with tempfile.NamedTemporaryFile(dir=folder) as file:
+        try:
+            os.link(file.name, f"{file.name}.link")
+        except OSError:
+            return False
+        os.unlink(f"{file.name}.link")
+        return True
+
+
+def link_tree(source, target, *left_out):
+    """Makes a second folder with the files of a folder, but for some names right in it."""
+    ignore = lambda folder, names: left_out if folder == str(source) else ()
+    shutil.copytree(source, target, ignore=ignore, copy_function=link)
+
+
+@contextlib.contextmanager
+def alone_in(folder):
+    """Waits until no `rt` works in a crate, and keeps others out."""
+    held = os.open(folder, os.O_RDONLY)
+    try:
+        with contextlib.suppress(OSError):
+            # Some file systems have no locks.
+            fcntl.flock(held, fcntl.LOCK_EX)
+        yield
+    finally:
+        os.close(held)
+
+
+class Marks:
+    """Which crates have a library of their present sources, by files beside those libraries."""
+
+    def __init__(self, crates, kit):
+        self.crates, self.kit, self.sums = crates, kit, {}
+
+    def sum(self, name):
+        """Returns a checksum of all that a crate's library is made of."""
+        if name not in self.sums:
+            found = hashlib.sha256(f"{self.kit}\n{self.crates.rows[name]}\n".encode())
+            for file in self.crates.sources(name):
+                found.update(f"{file.relative_to(self.crates.folder(name))}\n".encode())
+                found.update(hashlib.sha256(file.read_bytes()).digest())
+            for below in self.crates.uses[name]:
+                found.update(self.sum(below).encode())
+            self.sums[name] = found.hexdigest()
+        return self.sums[name]
+
+    def text(self, name):
+        """Returns what the mark of a crate has to say now, which names what stands in its out/."""
+        lines = [self.sum(name)]
+        for it in sorted(os.scandir(self.crates.folder(name) / "out"), key=lambda it: it.name):
+            if it.name not in (KEPT, MARK):
+                found = it.stat(follow_symlinks=False)
+                lines.append(f"{it.name} {found.st_ino} {found.st_mtime_ns}")
+        return "\n".join(lines)
+
+    def has(self, name):
+        """Returns whether a crate's library is that of its present sources."""
+        try:
+            return (self.crates.folder(name) / "out" / MARK).read_text() == self.text(name)
+        except OSError:
+            return False
+
+    def set(self, name):
+        """Notes that a crate's library is that of its present sources."""
+        (self.crates.folder(name) / "out" / MARK).write_text(self.text(name))
+
+
+class Lane:
+    """A folder with the crates below a program, in which one call of `rt` works at a time."""
+
+    def __init__(self, crates, room):
+        self.crates, self.room, self.linked = crates, room, set()
+        self.process, self.processor_time, self.is_stopped = None, 0, False
+        self.libraries = crates.names[:-1]
+        (room / "crates").mkdir(parents=True)
+        rows = [crates.rows[name] for name in self.libraries]
+        (room / "crates.txt").write_text("".join(f"{row}\n" for row in rows))
+        if (crates.top / "HANDLES").is_file():
+            link(crates.top / "HANDLES", room / "HANDLES")
+        for name in self.libraries:
+            link_tree(crates.folder(name), self.folder(name), "out")
+
+    def folder(self, name):
+        return self.room / "crates" / name
+
+    def take(self, name):
+        """Brings the libraries below a crate, and what was kept of the crate itself."""
+        for below in self.crates.below(name):
+            if below not in self.linked:
+                self.bring(below, KEPT)
+                self.linked.add(below)
+        if (self.crates.folder(name) / "out").is_dir():
+            self.bring(name)
+
+    def bring(self, name, *left_out):
+        """Makes links of what stands in a crate's out/."""
+        with alone_in(self.crates.folder(name)):
+            link_tree(self.crates.folder(name) / "out", self.folder(name) / "out", *left_out)
+
+    def give(self, name):
+        """Puts what `rt` left of a crate into the place of what its own folder has."""
+        made, out = self.folder(name) / "out", self.crates.folder(name) / "out"
+        with alone_in(self.crates.folder(name)):
+            if made.is_dir():
+                shutil.rmtree(out, ignore_errors=True)
+                made.rename(out)
+
+    def prove(self, name, jobs, log):
+        """Has `rt` prove a crate and build its library, and returns the exit status."""
+        self.take(name)
+        words = ["rt", "lib", "--jobs", str(jobs)]
+        status = self.call(words, self.folder(name), log)
+        if not self.is_stopped:
+            self.give(name)
+        return status
+
+    def call(self, words, folder, log):
+        """Runs a command whose texts go to a file, and returns its exit status. It notes the
+        processor time that the command and what it started took, in seconds."""
+        how = {"stdin": subprocess.DEVNULL, "stdout": log, "stderr": subprocess.STDOUT}
+        self.process, self.processor_time = subprocess.Popen(words, cwd=folder, **how), 0
+        try:
+            _, status, usage = os.wait4(self.process.pid, 0)
+        except ChildProcessError:
+            # Another thread has waited for it, to end it.
+            return self.process.wait()
+        self.process.returncode = os.waitstatus_to_exitcode(status)
+        self.processor_time = usage.ru_utime + usage.ru_stime
+        return self.process.returncode
+
+    def stop(self):
+        """Ends the command under way; `rt` takes along what it started."""
+        self.is_stopped = True
+        if self.process is not None and self.process.poll() is None:
+            self.process.terminate()
+            self.process.wait()

@@ -1,0 +1,155 @@
+"""Which crate is proved next, with how many jobs, and how long the rest takes.
+
+Seconds are those of seconds.txt, for one job and for four. The clock of this machine is compared
+with them by `Pace`.
+"""
+
+MOST_JOBS = 4
+# A crate that seconds.txt does not list: seconds a line of its sources, how much faster four jobs
+# are, and MB of memory.
+SECONDS_A_LINE, GAIN, MEMORY = 0.2, 1.5, 1_600
+# How much more memory each job beside the first one takes, as a share.
+JOB_SHARE = 0.5
+# The part of an even share of the rest from which on a chain decides when all is over, and how many
+# processors are idle where one more crate is started.
+DECIDES, LEAST_IDLE = 1.0, 0.2
+# The part of its own time so far that a crate is taken to need still when its time is over.
+OVERDUE = 0.15
+
+
+class Costs:
+    """What the proof of each crate takes: seconds with one job and with four, and MB of memory."""
+
+    def __init__(self, text, lines):
+        """`text` is that of seconds.txt, `lines` returns how many lines of code a crate has."""
+        self.listed, self.lines = {}, lines
+        for line in text.splitlines():
+            words = line.partition("#")[0].split()
+            if words:
+                self.listed[words[0]] = tuple(map(float, words[1:]))
+
+    def of(self, name):
+        """Returns seconds with one job, seconds with four, and MB."""
+        if name not in self.listed:
+            one = SECONDS_A_LINE * self.lines(name)
+            self.listed[name] = one, one / GAIN, MEMORY
+        return self.listed[name]
+
+    def seconds(self, name, jobs):
+        """Returns about how many seconds a crate takes with so many jobs."""
+        one, four, _ = self.of(name)
+        share = (1 - 1 / min(jobs, MOST_JOBS)) / (1 - 1 / MOST_JOBS)
+        return one + (four - one) * share
+
+    def memory(self, name, jobs):
+        """Returns about how many MB a crate takes with so many jobs."""
+        return self.of(name)[2] * (1 + JOB_SHARE * (jobs - 1))
+
+
+class Schedule:
+    """Starts crates on the longest chain first, each once those below it are proved.
+
+    A crate with several jobs uses as many processors on average as it gets faster by them. So more
+    crates are started until all processors are in use; a crate on a chain that decides when all is
+    over gets several jobs, and so does one beside which nothing else can be started."""
+
+    def __init__(self, crates, costs, processors, memory, most=None):
+        """`processors` is how many may be used, `memory` how many MB, and `most` how many crates
+        may be under way at a time, if that is bounded."""
+        self.crates, self.costs, self.most = crates, costs, most or len(crates.names)
+        self.processors, self.memory = processors, memory
+        self.behind = dict.fromkeys(crates.names, 0)
+        for name in reversed(crates.names):
+            self.behind[name] += costs.seconds(name, 1)
+            for below in crates.uses[name]:
+                self.behind[below] = max(self.behind[below], self.behind[name])
+
+    def speed(self, name, jobs):
+        """Returns how much faster a crate is with so many jobs."""
+        return self.costs.seconds(name, 1) / self.costs.seconds(name, jobs)
+
+    def used(self, running):
+        """Returns how many processors some crates use on average; `running` has their jobs."""
+        return sum(self.speed(name, jobs) for name, jobs in running.items())
+
+    def rate(self, running):
+        """Returns the part of their speed that crates have which share the processors."""
+        return min(1, self.processors / max(1, self.used(running)))
+
+    def ready(self, waiting, done):
+        """Returns the crates that can be started, the longest chain first."""
+        found = [name for name in waiting if done.issuperset(self.crates.uses[name])]
+        return sorted(found, key=lambda name: -self.behind[name])
+
+    def jobs_of(self, name, share, waiting):
+        """Returns how many jobs a crate gets that may use a share of the processors."""
+        most = min(MOST_JOBS, self.processors)
+        rest = sum(self.costs.seconds(it, 1) for it in waiting) / self.processors
+        if self.most > 1 and self.behind[name] / self.speed(name, most) < DECIDES * rest:
+            most = max([1, *(it for it in range(2, most + 1) if self.speed(name, it) <= share)])
+        while most > 1 and self.costs.memory(name, most) > self.memory / 3:
+            most -= 1
+        return most
+
+    def next(self, waiting, done, running):
+        """Returns the crate to start now and its jobs, or none. `running` has the jobs of those
+        under way."""
+        ready = self.ready(waiting, done)
+        idle = self.processors - self.used(running)
+        if not ready or len(running) >= self.most or running and idle < LEAST_IDLE:
+            return None
+        taken = sum(self.costs.memory(*it) for it in running.items())
+        for place, name in enumerate(ready):
+            jobs = self.jobs_of(name, idle / (len(ready) - place), waiting)
+            if taken + self.costs.memory(name, jobs) <= self.memory:
+                return name, jobs
+        return None if running else (ready[0], 1)
+
+    def left(self, waiting, done, running, pace):
+        """Returns about how many seconds the rest takes, by playing it through. `running` has jobs
+        and the seconds so far at full speed."""
+        clock, waiting, done = 0, set(waiting), set(done)
+        jobs = {name: it for name, (it, _) in running.items()}
+        rest = {
+            name: max(pace * self.costs.seconds(name, it) - so_far, OVERDUE * so_far)
+            for name, (it, so_far) in running.items()
+        }
+        while waiting or rest:
+            while found := self.next(waiting, done, jobs):
+                name, jobs[found[0]] = found
+                waiting.discard(name)
+                rest[name] = pace * self.costs.seconds(*found)
+            name, rate = min(rest, key=rest.get), self.rate(jobs)
+            took = rest.pop(name)
+            clock += took / rate
+            rest = {other: it - took for other, it in rest.items()}
+            del jobs[name]
+            done.add(name)
+        return clock
+
+
+class Pace:
+    """How many seconds of this machine a second of seconds.txt takes."""
+
+    # The seconds for which the list is believed before anything was proved here.
+    PRIOR = 20
+    # The part of its listed seconds below which a crate was proved earlier, and says nothing.
+    LEAST = 0.1
+
+    def __init__(self, costs):
+        self.costs, self.took, self.listed = costs, self.PRIOR, self.PRIOR
+
+    def add(self, name, jobs, seconds):
+        """Notes what a crate took at full speed."""
+        listed = self.costs.seconds(name, jobs)
+        if seconds >= self.LEAST * listed:
+            self.took, self.listed = self.took + seconds, self.listed + listed
+
+    def value(self, running):
+        """Returns the pace; of the crates under way those count that are slower than it."""
+        took, listed = self.took, self.listed
+        for name, (jobs, so_far) in running.items():
+            own = self.costs.seconds(name, jobs)
+            if so_far * listed > took * own:
+                took, listed = took + so_far, listed + own
+        return took / listed
