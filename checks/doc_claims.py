@@ -162,7 +162,7 @@ def claim_ends(document, clone):
         folder for folder in os.environ["PATH"].split(":") if not os.path.exists(f"{folder}/rt")
     ]
     clone.run(
-        "mkdir -p unbuilt/crates failing && cp psi crates.txt unbuilt/ && "
+        "git clone -q . unbuilt && mkdir failing && "
         "printf '#!/bin/sh\nexit 1\n' >failing/rt && chmod +x failing/rt"
     )
     absent = clone.run(f"PATH='{':'.join(bare)}' unbuilt/psi")[0]

@@ -4,6 +4,7 @@ in `doc_claims.py`.
 """
 
 import csv
+import math
 import re
 import tomllib
 
@@ -46,6 +47,8 @@ QUEUES = r"""
     printf '[[queue]]\nname = "q%s"\ncapacity = 1\n' $queue
 done; printf '[[event]]\nname = "in"\nkind = "arrival"\nrate = 1\nto = ["q1"]\n'; }} >queues.toml
 ./psi check queues.toml"""
+# A row of README's table of commands.
+ROW = r"^\| `\./psi ([^`]*)` \| \w+"
 SHOWS_PICTURE = re.compile(r"^!\[[^\]]+\]\([^)]+\.svg\)$", re.M)
 # What stands for a word of README's table of commands.
 EXAMPLES = {
@@ -57,7 +60,7 @@ EXAMPLES = {
 def claim_words(document, clone):
     """The table of README's commands: each is one, and takes such words."""
     clone.run("./psi sample examples/tandem-blocking.toml 0 0 log >tandem-0.log")
-    rows = re.findall(r"^\| `\./psi ([^`]*)` \| \w+", document.text, re.M)
+    rows = re.findall(ROW, document.text, re.M)
     commands = [row.split()[0] for row in rows]
     document.hold(len(rows) == 10 and len({*commands}) == 9, f"other commands: {rows}")
     for row in rows:
@@ -118,11 +121,29 @@ def claim_readme(document, clone):
     tour = text_of(clone, "docs/TOUR.md")
     steps = NUMBERS[len(re.findall(r"^## \d", tour, re.M))]
     document.claim(f"{steps} steps with pictures")
-    last = said(document, clone, "tools/self-test")[-1]
-    document.hold(re.fullmatch(r"\d{4,} passed, 0 failed", last), f"self-test ends with {last}")
-    document.claim("tries the built program in two minutes and ends with `0 failed`")
+    last = said(document, clone, "./psi --test")[-1]
+    document.hold(re.fullmatch(r"\d{4,} passed, 0 failed", last), f"./psi --test ends with {last}")
+    document.claim("`./psi --test` tries the built program in two minutes and ends with `0 failed`")
+    claim_help(document, clone)
     claim_words(document, clone)
     claim_bounds(document, clone)
+
+
+def claim_help(document, clone):
+    """The script's own arguments."""
+    status, out, _ = clone.run("./psi --help")
+    commands = {row.split()[0] for row in re.findall(ROW, document.text, re.M)}
+    missing = [name for name in commands if not re.search(rf"^  {name} ", out, re.M)]
+    document.hold(status == 0 and not missing, f"./psi --help has no {missing}: {out}")
+    document.claim("`./psi --help` lists all commands")
+    status, out, _ = clone.run("./psi help sample")
+    is_so = (status, out.splitlines()[0]) == (0, "Usage: psi sample NET SEED STREAM")
+    document.hold(is_so, f"./psi help sample ends with {status}: {out}")
+    document.claim("`./psi help sample` explains one command.")
+    status, out, error = clone.run("./psi --build")
+    document.hold((status, out) == (0, ""), f"status {status} of ./psi --build: {out}{error}")
+    document.claim("`./psi --build` builds and does nothing else")
+    document.cover("`./psi --test` tests the result")
 
 
 def claim_first_screen(document, clone):
@@ -168,8 +189,9 @@ def claim_start(document, clone):
     claim_many_samples(document, clone)
     claim_web(document, clone)
     found = re.search(r"`(tools/psi-new line [^`]*)`", document.prose)
-    status, out, error = clone.run(found[1])
-    document.hold(status == 0 and out.count("[[queue]]") == 3, f"psi-new writes {out}{error}")
+    _, out, error = clone.run(found[1])
+    same = out and shape_of(out) == shape_of(text_of(clone, "web.toml"))
+    document.hold(same, f"psi-new writes another network than web.toml: {out}{error}")
     document.cover(found[0])
     lines = said(document, clone, f"./psi replay {TANDEM} sample.log")
     document.claim(
@@ -178,6 +200,14 @@ def claim_start(document, clone):
         f"{lines[1].split()[1]} at time zero."
     )
     claim_checker(document, clone, "checks a log in {} lines of Python that share nothing with")
+
+
+def shape_of(text):
+    """The capacities, servers and rates of a network file, in their order; of rates the proportion."""
+    net = tomllib.loads(text)
+    queues = [(queue["capacity"], queue.get("servers", 1)) for queue in net["queue"]]
+    rates = [event["rate"] for event in net["event"]]
+    return queues, [rate // math.gcd(*rates) for rate in rates]
 
 
 def claim_web(document, clone):

@@ -4,6 +4,7 @@
 Compares the version that CITATION.cff has, the one place where a release sets it, with
 
 - the first release in CHANGELOG.md, and its date with the date of CITATION.cff;
+- what `./psi --version` prints;
 - `psi_tools.__version__`, which the tools print, the module `psi` has, and pyproject.toml names;
 - the version of the package and the archive that make_package.py makes;
 - a tag of the commit at hand, where it has one that begins with `v` and a digit.
@@ -42,6 +43,7 @@ def places(version, date):
     release = RELEASE.search(text_of("CHANGELOG.md"))
     yield "CHANGELOG.md", release[1], version
     yield "CHANGELOG.md, the date,", release[2], date
+    yield "./psi", said("./psi", "--version"), f"psi {version}"
     yield "python/psi_tools/__init__.py", psi_tools.__version__, version
     module = "import sys; sys.path.insert(0, 'python'); import psi; print(psi.__version__)"
     yield "the module psi", said("/usr/bin/python3", "-c", module), version
