@@ -83,9 +83,10 @@ class Law:
     def carried(self) -> str | None:
         """The line that tells that few samples carry the mean; none where many do, or where there
         are two values alone."""
-        many, mean = self.known, self.mean().mean
+        many = self.known
         if self.span.two or many < 2:
             return None
+        mean = sum(value * count for value, count in self.counts) / many
         squares = sum(count * (value - mean) ** 2 for value, count in self.counts)
         error = (squares / (many - 1) / many) ** 0.5
         return carried_by_few(self.name, carriers(mean, error, many, self.counts[0][0]), many)
