@@ -1,5 +1,5 @@
 -- A run of the program, from how its work ended and how that was written.
-use Rattle.std.specs.Prelude.{◌≡◌, ℕ, List, Option, refl}
+use Rattle.std.specs.Prelude.{ℕ, List, Option, refl}
 use Rattle.psi_program.specs.Seen.{ShelfCall, seen_with, AgreesWith, SinkSeen}
 use Rattle.psi_program.specs.Written.{IsWrittenAs}
 use Rattle.psi_program.specs.Ending.{ending_reply}

@@ -1,5 +1,5 @@
 -- What is found of files.
-use Rattle.std.specs.Prelude.{◌≡◌, Vec, ℕ, ◌+◌, ◌-◌, ◌<◌, ◌≤◌, List, [], ◌∷◌, ◌++◌, take, length, map, drop, Option, Some, None, option_and_then, Result, Ok, Err, IsOk, IfSome, IfOk, IfErr, true, false, refl}
+use Rattle.std.specs.Prelude.{◌≡◌, Vec, ℕ, ◌+◌, ◌<◌, ◌≤◌, List, [], ◌∷◌, ◌++◌, take, length, map, drop, Option, Some, None, option_and_then, Result, Ok, Err, IsOk, IfSome, IfOk, IfErr, true, false, refl}
 use Rattle.std.proofs.Common.{get_or, ap, sym, ◌∙◌, subst, append_assoc, inl, inr, arith}
 use Rattle.std.proofs.lemmas.Bool.{cases_order, lt-leb}
 use Rattle.std.proofs.lemmas.List.{take_all, length-take-le, take-append-drop, drop_more, map_more, map-append, append-nil}

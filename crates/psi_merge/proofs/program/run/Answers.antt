@@ -1,5 +1,5 @@
 -- Answers in the proof of `run`.
-use Rattle.psi_program.specs.Seen.{ShelfCall, SinkSeen}
+use Rattle.psi_program.specs.Seen.{ShelfCall}
 use Rattle.psi_program.proofs.SparingLemmas.{spared}
 use Rattle.psi_merge.specs.Ended.{faults}
 use Rattle.psi_merge.proofs.RunningLemmas.{run_is}
