@@ -13,19 +13,31 @@ returns-in-Ok g c =
     let old = c.args.shelf.now in
     let new = c.perform.new.shelf in
     let shelf : ShelfCall = record {
-      gave_before = g.F.Shelf.gave old; gave_after = g.F.Shelf.gave new; asked_before = g.F.Shelf.asked old; asked_after = g.F.Shelf.asked new;
-      faults_before = g.F.Shelf.faults old; faults_after = g.F.Shelf.faults new;
+      gave_before = g.F.Shelf.gave old;
+      gave_after = g.F.Shelf.gave new;
+      asked_before = g.F.Shelf.asked old;
+      asked_after = g.F.Shelf.asked new;
+      faults_before = g.F.Shelf.faults old;
+      faults_after = g.F.Shelf.faults new;
     } in
     let gives = g.F.Shelf.gives old in
     let told = g.F.Shelf.told old in
     let agrees = c.perform.ensures.agrees in
     let out : SinkSeen = record {
-      before = g.O.Sink.held c.args.out.now; after = g.O.Sink.held c.perform.new.out; took_before = g.O.Sink.took c.args.out.now; took_after = g.O.Sink.took c.perform.new.out;
-      faults_before = g.O.Sink.faults c.args.out.now; faults_after = g.O.Sink.faults c.perform.new.out;
+      before = g.O.Sink.held c.args.out.now;
+      after = g.O.Sink.held c.perform.new.out;
+      took_before = g.O.Sink.took c.args.out.now;
+      took_after = g.O.Sink.took c.perform.new.out;
+      faults_before = g.O.Sink.faults c.args.out.now;
+      faults_after = g.O.Sink.faults c.perform.new.out;
     } in
     let err : SinkSeen = record {
-      before = g.E.Sink.held c.args.err.now; after = g.E.Sink.held c.perform.new.err; took_before = g.E.Sink.took c.args.err.now; took_after = g.E.Sink.took c.perform.new.err;
-      faults_before = g.E.Sink.faults c.args.err.now; faults_after = g.E.Sink.faults c.perform.new.err;
+      before = g.E.Sink.held c.args.err.now;
+      after = g.E.Sink.held c.perform.new.err;
+      took_before = g.E.Sink.took c.args.err.now;
+      took_after = g.E.Sink.took c.perform.new.err;
+      faults_before = g.E.Sink.faults c.args.err.now;
+      faults_after = g.E.Sink.faults c.perform.new.err;
     } in
     let words = map string_bytes c.args.words.now in
     let call : Call = record { words = words; shelf = seen_with shelf told; out = out; err = err } in
@@ -46,19 +58,31 @@ pub returns-in-Err : goal.returns-in-Err
 returns-in-Err g c =
     let old = c.args.shelf.now in
     let shelf : ShelfCall = record {
-      gave_before = g.F.Shelf.gave old; gave_after = g.F.Shelf.gave old; asked_before = g.F.Shelf.asked old; asked_after = g.F.Shelf.asked old;
-      faults_before = g.F.Shelf.faults old; faults_after = g.F.Shelf.faults old;
+      gave_before = g.F.Shelf.gave old;
+      gave_after = g.F.Shelf.gave old;
+      asked_before = g.F.Shelf.asked old;
+      asked_after = g.F.Shelf.asked old;
+      faults_before = g.F.Shelf.faults old;
+      faults_after = g.F.Shelf.faults old;
     } in
     let gives = g.F.Shelf.gives old in
     let told = g.F.Shelf.told old in
     let agrees = agrees_unmoved told (g.F.Shelf.gave old) in
     let out : SinkSeen = record {
-      before = g.O.Sink.held c.args.out.now; after = g.O.Sink.held c.finish.new.out; took_before = g.O.Sink.took c.args.out.now; took_after = g.O.Sink.took c.finish.new.out;
-      faults_before = g.O.Sink.faults c.args.out.now; faults_after = g.O.Sink.faults c.finish.new.out;
+      before = g.O.Sink.held c.args.out.now;
+      after = g.O.Sink.held c.finish.new.out;
+      took_before = g.O.Sink.took c.args.out.now;
+      took_after = g.O.Sink.took c.finish.new.out;
+      faults_before = g.O.Sink.faults c.args.out.now;
+      faults_after = g.O.Sink.faults c.finish.new.out;
     } in
     let err : SinkSeen = record {
-      before = g.E.Sink.held c.args.err.now; after = g.E.Sink.held c.finish.new.err; took_before = g.E.Sink.took c.args.err.now; took_after = g.E.Sink.took c.finish.new.err;
-      faults_before = g.E.Sink.faults c.args.err.now; faults_after = g.E.Sink.faults c.finish.new.err;
+      before = g.E.Sink.held c.args.err.now;
+      after = g.E.Sink.held c.finish.new.err;
+      took_before = g.E.Sink.took c.args.err.now;
+      took_after = g.E.Sink.took c.finish.new.err;
+      faults_before = g.E.Sink.faults c.args.err.now;
+      faults_after = g.E.Sink.faults c.finish.new.err;
     } in
     let words = map string_bytes c.args.words.now in
     let call : Call = record { words = words; shelf = seen_with shelf told; out = out; err = err } in
