@@ -41,7 +41,8 @@ from psi_tools.completion import completion
 TOP = pathlib.Path(__file__).resolve().parent.parent
 NAME = "psi-sampler"
 TOOLS = (
-    "packaged.py", "merge_reports.py", "plotting", "check_log.py", "mean_values.py", "command",
+    "packaged.py", "merge_reports.py", "plotting", "check_log.py", "check_interval.py",
+    "mean_values.py", "command",
     *(f"psi-{name}" for name in NAMES),
 )
 # The folders of python/ that are packed.
