@@ -198,6 +198,28 @@ def test_a_greater_claim_is_not_proved():
             assert (low if side == "low" else high) is None
 
 
+@pytest.mark.parametrize("seen, greatest, q, proof, wrong, ends", [
+    ({"counts": [[0, 2], [1, 8]]}, 1, 100, {"by": "binomial", "r": 44}, 45, "0.440000 to 1.000000"),
+    ({"sum": 18}, 2, 10, {"by": "chernoff", "r": 9, "a": 2, "b": 1}, 19, "0.900000 to 2.000000"),
+    ({"counts": [[1, 2], [2, 8]]}, 2, 10, {"by": "bets", "r": 11, "t": 10, "stakes": [7]}, 12,
+     "1.100000 to 2.000000"),
+])
+def test_files_of_certificates_that_are_worked_by_hand(
+    tmp_path, seen, greatest, q, proof, wrong, ends
+):
+    """The certificates are those that the proof computes; a greater claim is not proved."""
+    claim = {"of": "mean", "q": q, "unit": 1, "low": proof, "high": None}
+    row = {"name": "row", "samples": 10, "uncoupled": 0, "least": 0, "greatest": greatest, **seen}
+    path = tmp_path / "file.json"
+    for r, status in ((proof["r"], 0), (wrong, 4)):
+        proof["r"] = r
+        path.write_text(json.dumps({"d": 40, "rows": [{**row, "claims": [claim]}]}))
+        done = subprocess.run([*CHECKER, path], capture_output=True, text=True)
+        shown = ends if status == 0 else f"not proved to {ends.split()[-1]}"
+        assert (done.returncode, done.stderr) == (status, "")
+        assert done.stdout.splitlines()[0] == f"row: mean: {shown}"
+
+
 @pytest.mark.parametrize("wrong", [
     {"d": 0}, {"d": 40.0}, {"d": True}, {"d": "40"}, {}, {"d": 40, "rows": [{}]}, [], 7,
 ])
