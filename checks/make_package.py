@@ -44,7 +44,8 @@ TOP = pathlib.Path(__file__).resolve().parent.parent
 BUILT = "crates/psi/out/psi"
 NAME = "psi-sampler"
 TOOLS = (
-    "packaged.py", "merge_reports.py", "plotting", "check_log.py", "mean_values.py", "command",
+    "packaged.py", "merge_reports.py", "plotting", "check_log.py", "check_interval.py",
+    "mean_values.py", "command",
     *(f"psi-{name}" for name in NAMES),
 )
 # The folders of python/ that are packed.

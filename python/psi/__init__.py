@@ -24,9 +24,12 @@ import pandas
 
 from psi_tools import __version__
 from psi_tools.batches import REWARD, batches_of
+from psi_tools.blocks import digest_of
 from psi_tools.closed import samples_of
 from psi_tools.draws import blocks_of, reports_of, size_of
-from psi_tools.law import RECORD, law_of
+from psi_tools.guaranteed import ASSUMED, file_of
+from psi_tools.law import RECORD, guaranteed_law_of, law_of
+from psi_tools.means import guaranteed_means
 from psi_tools.merging import together
 from psi_tools.networks import Network, data_of, network_of
 from psi_tools.plotting.read_exact import Shrinking, read_exact
@@ -111,7 +114,7 @@ def report(net, seed=0, first=0, count=1_000):
     return table
 
 
-def means(net, seed=0, first=0, count=10_000, level=0.95):
+def means(net, seed=0, first=0, count=10_000, level=0.95, guaranteed=False):
     """The means over the samples of `count` streams: a DataFrame with a row for each queue, in
     customers, and each reward, in its unit, by their names in two levels, 'queue' or 'reward'
     first. The columns are mean; half, low and high, of a confidence interval for the stationary
@@ -120,36 +123,55 @@ def means(net, seed=0, first=0, count=10_000, level=0.95):
     has the interval of Clopper and Pearson. `half` is half of the width: where `low` and `high` are
     not symmetric, they say more. Streams that aren't coupled widen an interval by the least and the
     greatest that the row may have (warning Uncoupled); FewSamples warns where a few samples carry
-    a mean."""
+    a mean. With `guaranteed` the coverage of each interval is a theorem, by the sums alone; the
+    DataFrame's `attrs` has the certificates, and what is assumed."""
     seed, first, count = _streams(seed, first, count)
     level, data = level_argument(level), data_of(net)
     blocks = blocks_of(first, count, size_of(count))
     batches = batches_of(reports_of(_psi(), data, seed, blocks)).of_network(network_of(net))
     _warn(batches.uncoupled, count, "the means are of the others, and biased; intervals are wider")
+    columns = ["mean", "half", "low", "high", "least", "greatest"]
+    names = [("reward" if row.sort == REWARD else "queue", row.name) for row in batches.rows]
+    index = pandas.MultiIndex.from_tuples(names, names=["sort", "name"])
+    if guaranteed:
+        claims, records = guaranteed_means(batches, level)
+        table = pandas.DataFrame(records, index=index, columns=columns)
+        return _with_certificates(table, claims, data, seed, first, count)
     for line in batches.carried():
         warnings.warn(line, FewSamples, stacklevel=2)
-    rows, names = [], []
+    rows = []
     for row in batches.rows:
         mean = batches.mean(row, level)
         rows.append((mean.mean, mean.half, mean.low, mean.high, row.least, row.greatest))
-        names.append(("reward" if row.sort == REWARD else "queue", row.name))
-    index = pandas.MultiIndex.from_tuples(names, names=["sort", "name"])
-    columns = ["mean", "half", "low", "high", "least", "greatest"]
     return pandas.DataFrame(rows, index=index, columns=columns)
 
 
-def law(net, name, seed=0, first=0, count=10_000, reward=False):
+def _with_certificates(table, rows, data, seed, first, count, pilot=None):
+    """A DataFrame with the certificates of its intervals, as tools/check_interval.py reads them."""
+    drawn = {"network": digest_of(data), "seed": seed, "first": first, "count": count}
+    if pilot:
+        drawn["pilot"] = {"first": pilot.first, "count": pilot.count}
+    table.attrs.update(certificates=file_of(rows, drawn), assumed=ASSUMED)
+    return table
+
+
+def law(net, name, seed=0, first=0, count=10_000, reward=False, guaranteed=False):
     """The distribution of a queue's customers or of a reward over the samples of `count` streams: a
     DataFrame with a row for each value that came, by the value. The columns are count, in samples;
     probability, low and high; at_most, the probability of no greater value, at_most_low and
-    at_most_high. Each interval holds its probability in 95 % of all repetitions, or more often."""
+    at_most_high. Each interval holds its probability in 95 % of all repetitions, or more often. With
+    `guaranteed` that is a theorem; the DataFrame's `attrs` has the certificates, those of the mean
+    and of quantiles too, and what is assumed."""
     seed, first, count = _streams(seed, first, count)
     psi, net = _psi(), network_of(net)
     psi.ask("check", net.data)
-    found = law_of(psi, net, name, seed, first, count, reward, "psi.law")
+    make = guaranteed_law_of if guaranteed else law_of
+    found = make(psi, net, name, seed, first, count, reward, "psi.law")
     _warn(found.unknown, found.many)
-    records = found.records()
-    return pandas.DataFrame(records, columns=RECORD).set_index("value")
+    table = pandas.DataFrame(found.records(), columns=RECORD).set_index("value")
+    if not guaranteed:
+        return table
+    return _with_certificates(table, [found.row], net.data, seed, first, count, found.pilot)
 
 
 def samples(net, seed=0, first=0, count=1_000, keep=False):

@@ -5,18 +5,24 @@ import dataclasses
 
 from psi_tools import tables
 from psi_tools.batches import Batches, Row, batches_of
+from psi_tools.blocks import digest_of
+from psi_tools.closed import samples_of
 from psi_tools.draws import blocks_of, reports_of, size_of
+from psi_tools.guaranteed import (
+    ASSUMED, Guarantee, Pilot, add_guaranteed, file_of, mean_between, misses, one_in, pilots_of,
+    rounded_out, shown_out, written_out,
+)
 from psi_tools.intervals import (
     LEVEL, Mean, Span, between, carried_by_few, carriers, ends_shown, figures, half_shown,
     mean_of_values, probability, quantile, read_ahead,
 )
-from psi_tools.networks import MOST_REWARDS, Network, checked, value_of
+from psi_tools.networks import MOST_REWARDS, Network, checked, value_of, values_of
 from psi_tools.program import Psi
 from psi_tools.spans import Spans
 from psi_tools.told import Told
 from psi_tools.words import (
-    Progress, Words, add_form, add_picture, add_program, add_streams, give, last_stream_is_one,
-    look_at, look_at_picture, run, tell, write,
+    GREATEST, Progress, Words, add_form, add_picture, add_program, add_streams, give,
+    last_stream_is_one, look_at, look_at_picture, number, run, tell, write,
 )
 
 COMMAND, COUNT = "psi-law", 10_000
@@ -34,7 +40,7 @@ of a reward. Each value that came has its probability and the ends of an interva
 The samples of a queue, or of a reward of one queue, are drawn by psi report, with rewards that
 count the numbers of customers; those of a reward of several queues one by one, by psi reward. Where
 streams weren't coupled this is said first, and each interval is as wide as what they might hold
-makes it."""
+makes it. With --guaranteed the coverage of each interval is a theorem."""
 # A queue of more places than this has a first look at the numbers that come.
 NARROW = 63
 # A value of a reward's table is at most so great, so its sum over a block counts several numbers;
@@ -109,6 +115,71 @@ class Law:
             low = self.ends[0] if low is None else low
             yield share, value, low, self.ends[1] if high is None else high
 
+    def shown(self, key: str, number: float) -> str:
+        """A number of a record as text."""
+        return f"{number:.5f}"
+
+    def mean_line(self) -> str:
+        """The line of the mean."""
+        mean = self.mean()
+        shown = figures(mean.mean, mean.half)
+        if mean.is_even:
+            shown += f" {half_shown(mean)}"
+        return "mean {}, {} to {}".format(shown, *ends_shown(mean))
+
+    def remarks(self) -> list[str]:
+        """What is to be known of the intervals, each as a line."""
+        return [*filter(None, [self.carried()])]
+
+
+@dataclasses.dataclass
+class GuaranteedLaw(Law):
+    """A distribution whose intervals carry a theorem: each misses for at most 2 in d lists of
+    random words."""
+
+    pilot: Pilot | None = None
+    d: int = one_in(LEVEL)
+
+    def __post_init__(self):
+        self.row = Guarantee(
+            self.name, self.many, self.unknown, self.span, self.d, self.counts, pilot=self.pilot
+        )
+        values = sum(value * count for value, count in self.counts)
+        self.own_mean = mean_between(values / self.known, self.row.mean())
+        below, self.own_records = 0, []
+        for value, count in self.counts:
+            below += count
+            ends = rounded_out(*self.row.share(value, value))
+            most = rounded_out(*self.row.share(self.counts[0][0], value))
+            shares = count / self.known, *ends, below / self.known, *most
+            self.own_records.append(dict(zip(RECORD, (value, count, *shares))))
+        self.own_quantiles = [
+            (share, quantile(self.counts, share)[0], *self.row.quantile(share)) for share in SHARES
+        ]
+
+    def mean(self) -> Mean:
+        return self.own_mean
+
+    def records(self) -> list[dict]:
+        return self.own_records
+
+    def quantiles(self) -> list[tuple]:
+        return self.own_quantiles
+
+    def shown(self, key, number):
+        """Ends are rounded outwards."""
+        if key.endswith(("low", "high")):
+            return written_out(number, 5, key.endswith("high"))
+        return super().shown(key, number)
+
+    def mean_line(self):
+        mean = self.mean()
+        return "mean {}, {} to {}".format(figures(mean.mean, mean.half), *shown_out(mean))
+
+    def remarks(self):
+        """By what the mean has its interval, and what is assumed."""
+        return [*self.row.ways(), misses(self.d), ASSUMED]
+
 
 def reader():
     """The reader of the words."""
@@ -123,15 +194,23 @@ def reader():
     add_program(words)
     add_form(words)
     add_picture(words)
+    add_guaranteed(words)
+    words.add_argument(
+        "--pilot", metavar="N", type=number(0, 2**20),
+        help="with --guaranteed, how many more streams are drawn that choose the stakes of the "
+        "mean's bets and aren't counted; a twentieth of --count, and 1,000 at most, where it isn't "
+        "given, and with 0 the stakes are those of the range",
+    )
     return words
 
 
 def law_of(
     psi: Psi, net: Network, name: str, seed: int = 0, first: int = 0, count: int = COUNT,
-    is_reward: bool = False, command: str = COMMAND,
+    is_reward: bool = False, command: str = COMMAND, by_states: bool = False,
 ) -> Law:
     """The distribution of a queue's customers or of a reward's value, over `count` streams of a
-    seed."""
+    seed. `by_states` takes a reward of several queues of the states of samples, and not of psi
+    reward, which may know a value where the states haven't met."""
     if name in net.queues and not is_reward:
         numbers, unknown = counts_of_queue(psi, net, name, seed, first, count, command)
         span = Spans(net, seen_in(name, numbers)).of_queue(name)
@@ -140,7 +219,7 @@ def law_of(
         raise Told(f"the network has no {'' if is_reward else 'queue and no '}reward {name}")
     reward = net.table["reward"][net.rewards.index(name)]
     if len(reward["queues"]) > 1:
-        counts, unknown = counts_of_reward(psi, net, name, seed, first, count, command)
+        counts, unknown = counts_of_reward(psi, net, name, seed, first, count, command, by_states)
         return Law(name, "value", sorted(counts.items()), unknown, Spans(net, {}).of_reward(name))
     [queue] = reward["queues"]
     numbers, unknown = counts_of_queue(psi, net, queue, seed, first, count, command)
@@ -149,6 +228,25 @@ def law_of(
         counts[value_of(reward, [number])] += many
     span = Spans(net, seen_in(queue, numbers)).of_reward(name)
     return Law(name, "value", sorted(counts.items()), unknown, span)
+
+
+def guaranteed_law_of(
+    psi: Psi, net: Network, name: str, seed: int = 0, first: int = 0, count: int = COUNT,
+    is_reward: bool = False, command: str = COMMAND, pilots: int | None = None,
+) -> GuaranteedLaw:
+    """As law_of, with intervals that carry a theorem. Where the mean is found by bets, the pilot
+    streams follow those that are counted."""
+    law = law_of(psi, net, name, seed, first, count, is_reward, command, True)
+    if not law.known:
+        raise Told(f"none of {law.many:,} streams is coupled; psi-why tells what may help", 1)
+    pilots, begin = pilots_of(count) if pilots is None else pilots, first + count
+    pilot = None
+    if pilots and not law.span.two and law.span.least < law.span.greatest:
+        if begin + pilots - 1 > GREATEST:
+            raise Told(f"the last pilot stream would be above {GREATEST}; --pilot 0 wants none")
+        seen = law_of(psi, net, name, seed, begin, pilots, is_reward, command, True)
+        pilot = Pilot(seen.counts, seen.unknown, begin, pilots)
+    return GuaranteedLaw(law.name, law.what, law.counts, law.unknown, law.span, pilot)
 
 
 def seen_in(queue: str, numbers: dict[int, int]) -> dict[str, tuple[int, int]]:
@@ -259,12 +357,15 @@ def drawn(
     return batches_of(found)
 
 
-def counts_of_reward(psi, net, name, seed, first, count, command):
+def counts_of_reward(psi, net, name, seed, first, count, command, by_states=False):
     """How many samples have each value of a reward, and of how many streams it isn't known: each is
-    asked of psi reward, by as many threads as there are processes at once."""
-    data, progress = net.data, Progress(command, count)
+    asked of psi reward, or of psi sample, by as many threads as there are processes at once."""
+    data, progress, place = net.data, Progress(command, count), net.rewards.index(name)
 
     def values(block):
+        if by_states:
+            states = [state_of_stream(psi, data, seed, stream) for stream in block]
+            return [state and values_of(net, state)[place] for state in states]
         return [value_of_stream(psi, data, name, seed, stream) for stream in block]
 
     size = max(1, min(64, count // psi.jobs))
@@ -282,6 +383,13 @@ def value_of_stream(psi, data, name, seed, stream):
     return int(answer.out.split()[-1]) if answer.status == 0 else None
 
 
+def state_of_stream(psi, data, seed, stream):
+    """The state of the sample of a stream, none where it isn't coupled."""
+    answer = psi.ask("sample", data, seed, stream, statuses=(0, 1))
+    [sample] = samples_of(answer.out.encode())
+    return sample and sample[1]
+
+
 def notes_of(law: Law) -> list[str]:
     """What has to be known before a probability is read."""
     if not law.unknown:
@@ -292,31 +400,25 @@ def notes_of(law: Law) -> list[str]:
     ]
 
 
-def mean_line(law: Law) -> str:
-    """The line of the mean."""
-    mean = law.mean()
-    shown = figures(mean.mean, mean.half)
-    if mean.is_even:
-        shown += f" {half_shown(mean)}"
-    return "mean {}, {} to {}".format(shown, *ends_shown(mean))
-
-
 def text_of(law: Law, words) -> str:
     """The answer for people."""
     lines = notes_of(law)
     last = words.first + words.count - 1
     head = f"{law.name}: {law.known:,} samples, streams {words.first} to {last}"
-    lines.append(f"{head} of seed {words.seed}; intervals of 95 %")
+    sort = "guaranteed intervals" if words.guaranteed else "intervals"
+    lines.append(f"{head} of seed {words.seed}; {sort} of 95 %")
     rows = [(law.what, "samples", "probability", "from", "to", "at most", "from", "to")]
     for each in law.records():
-        shown = [f"{each[key]:.5f}" for key in RECORD[2:]]
+        shown = [law.shown(key, each[key]) for key in RECORD[2:]]
         rows.append((each["value"], each["count"], *shown))
     lines.append(tables.aligned(rows, right=range(8)).rstrip("\n"))
-    lines += [mean_line(law), *filter(None, [law.carried()])]
+    lines.append(law.mean_line())
+    lines += [] if words.guaranteed else law.remarks()
     rows = [("quantile", law.what, "from", "to")]
     for share, *ends in law.quantiles():
         rows.append((f"{share * 100:g} %", *("-" if end is None else end for end in ends)))
     lines.append(tables.aligned(rows, right=range(4)).rstrip("\n"))
+    lines += law.remarks() if words.guaranteed else []
     return "".join(f"{line}\n" for line in lines)
 
 
@@ -329,7 +431,7 @@ def answer_of(law: Law, words) -> str:
         return tables.as_csv(records)
     mean = law.mean()
     keys = "share", "value", "low", "high"
-    notes = [*notes_of(law), *filter(None, [law.carried()])]
+    notes = [*notes_of(law), *law.remarks()]
     ends = {"mean": mean.mean, "half": mean.half, "low": mean.low, "high": mean.high}
     return tables.as_json({
         "name": law.name, "samples": law.many, "unknown": law.unknown, "notes": notes,
@@ -338,14 +440,36 @@ def answer_of(law: Law, words) -> str:
     })
 
 
+def drawn_of(net: Network, words, law: GuaranteedLaw) -> dict:
+    """Of which samples a file of certificates is."""
+    pilot = law.pilot and {"first": law.pilot.first, "count": law.pilot.count}
+    return {
+        "network": digest_of(net.data), "seed": words.seed, "first": words.first,
+        "count": words.count, "pilot": pilot,
+    }
+
+
+def look_at_words(words) -> None:
+    """Refuses words that don't fit together, and files that can't be written."""
+    last_stream_is_one(words)
+    for option in ("certificate", "pilot"):
+        if getattr(words, option) is not None and not words.guaranteed:
+            raise Told(f"--{option} goes with --guaranteed")
+    look_at(words.out)
+    look_at(words.certificate, "--certificate")
+    look_at_picture(words.picture)
+
+
 def work(arguments):
     words = reader().parse_args(arguments)
-    last_stream_is_one(words)
-    look_at(words.out)
-    look_at_picture(words.picture)
+    look_at_words(words)
     psi = Psi(words.psi, words.jobs)
     net = checked(psi, words.net)
-    law = law_of(psi, net, words.name, words.seed, words.first, words.count, words.reward)
+    streams = words.seed, words.first, words.count, words.reward, COMMAND
+    if words.guaranteed:
+        law = guaranteed_law_of(psi, net, words.name, *streams, words.pilot)
+    else:
+        law = law_of(psi, net, words.name, *streams)
     if not law.known:
         raise Told(f"none of {law.many:,} streams is coupled; psi-why tells what may help", 1)
     if words.picture:
@@ -353,7 +477,12 @@ def work(arguments):
         from psi_tools.plotting.style import saved
 
         write(words.picture, saved(draw_law(law, ""), words.picture.rpartition(".")[2].lower()))
+    if words.certificate:
+        found = tables.as_json(file_of([law.row], drawn_of(net, words, law)))
+        write(words.certificate, found.encode())
     give(answer_of(law, words), words.out)
+    if words.guaranteed and words.format == "csv":
+        tell(COMMAND, ASSUMED)
     if notes_of(law) and words.format != "text":
         tell(COMMAND, notes_of(law)[0])
     return 0

@@ -1,0 +1,416 @@
+"""Guaranteed intervals: their certificates, the checker, and what they hold."""
+
+import copy
+import fractions
+import json
+import math
+import random
+import subprocess
+import sys
+
+import pytest
+from conftest import TOP
+
+from psi_tools import check_interval
+from psi_tools.guaranteed import (
+    Guarantee, Pilot, by_count, file_of, is_binomial, is_chernoff, is_won, one_in, parts_of,
+    pilots_of, rounded_out, stakes_of_range, written_out,
+)
+from psi_tools.intervals import Span, probability
+
+# The lengths of the trials in this test; the study has more of them.
+REPEATED, CHANGED = 10, 400
+CHECKER = [sys.executable, "-IS", TOP / "tools/check_interval.py"]
+
+
+def tail(u, v, k, i):
+    """Of k draws that are ones in u of u + v cases: the cases with i ones or more."""
+    return sum(math.comb(k, n) * u**n * v ** (k - n) for n in range(i, k + 1))
+
+
+def holds_binomial(k, i, r, q, d):
+    return 0 <= i and 0 <= r <= q and d * tail(r, q - r, k, i) <= q**k
+
+
+def holds_chernoff(k, z, i, r, q, d, a, b):
+    if not 0 <= i <= k * z or not 1 <= a or not b <= a or not r <= q * z:
+        return False
+    left = d * (r * a**z + (q * z - r) * b**z) ** k
+    return left <= a**i * b ** (k * z - i) * (q * z) ** k
+
+
+def holds_bets(scores, r, q, d, t, stakes):
+    won = sum(math.prod((t * q - s * r + s * q * v) ** c for v, c in scores) for s in stakes)
+    begun = d * len(stakes) * (t * q) ** sum(c for _, c in scores)
+    return bool(stakes) and t * q >= 1 and all(s * r <= t * q for s in stakes) and begun <= won
+
+
+BOTH = pytest.mark.parametrize("way", ["tool", "checker"])
+DECIDE = {
+    "tool": (is_binomial, is_chernoff, is_won),
+    "checker": (check_interval.is_binomial, check_interval.is_chernoff, check_interval.is_won),
+}
+
+
+@BOTH
+def test_certificates_that_are_worked_by_hand(way):
+    """The numbers are those of the proof, which its checker computes."""
+    binomial, chernoff, won = DECIDE[way]
+    assert [r for r in range(100) if binomial(10, 8, r, 100, 40)][-1] == 44
+    assert [i for i in range(1, 11) if binomial(10, i, 1, 2, 40)] == [9, 10]
+    assert chernoff(10, 1, 8, 38, 100, 40, 61, 10) and chernoff(10, 2, 18, 9, 10, 40, 2, 1)
+    scores = [(1, 2), (2, 8)]
+    assert won(scores, 11, 10, 40, 10, [7]) and not won(scores, 12, 10, 40, 10, [7])
+
+
+@BOTH
+def test_the_inequalities_are_those_in_whole_numbers(way):
+    """Neither rounding nor a bound of the rest accepts more than the plain inequality, nor less."""
+    binomial, chernoff, won = DECIDE[way]
+    draw, accepted = random.Random(54), [0, 0, 0]
+    for _ in range(400):
+        k, z, d = draw.randint(1, 40), draw.randint(1, 5), draw.choice([2, 20, 40])
+        q, i = draw.choice([7, 100]), draw.randint(0, k)
+        r = draw.randint(1, max(1, i * q // k))
+        assert binomial(k, i, r, q, d) == holds_binomial(k, i, r, q, d)
+        accepted[0] += binomial(k, i, r, q, d)
+        i, a = draw.randint(1, k * z), draw.randint(0, 60)
+        b, r = draw.randint(0, a + 1), draw.randint(1, i * q // k + 2)
+        assert chernoff(k, z, i, r, q, d, a, b) == holds_chernoff(k, z, i, r, q, d, a, b)
+        accepted[1] += chernoff(k, z, i, r, q, d, a, b)
+        scores = [(v, draw.randint(0, 9)) for v in range(z)] + [(z, draw.randint(1, 9))]
+        t, stakes = draw.choice([10, 30]), [draw.randint(0, 9) for _ in range(draw.randint(1, 3))]
+        mean = sum(v * c for v, c in scores) / sum(c for _, c in scores)
+        r = draw.randint(1, max(1, int(mean * q)))
+        assert won(scores, r, q, d, t, stakes) == holds_bets(scores, r, q, d, t, stakes)
+        accepted[2] += won(scores, r, q, d, t, stakes)
+    assert all(40 < count < 360 for count in accepted), accepted
+
+
+def ends_in_whole_numbers(row, claim, d):
+    """The ends of a claim by the plain inequalities; none for one that isn't proved."""
+    k, lost, least, greatest = (row[key] for key in ("samples", "uncoupled", "least", "greatest"))
+    values = [v for v, c in row.get("counts", []) for _ in range(c)]
+    assert k == len(values) + lost or "counts" not in row
+    assert all(least <= v <= greatest for v in values)
+    if claim["of"] == "quantile":
+        r, q, j, i = (claim[key] for key in ("r", "q", "low", "high"))
+        low = sorted(values)[-j] if j <= len(values) else least
+        high = sorted(values)[i - 1] if i <= len(values) else greatest
+        return (low if holds_binomial(k, j, q - r, q, d) else None,
+                high if holds_binomial(k, i, r, q, d) else None)
+    q, unit = claim["q"], claim["unit"]
+    if claim["of"] == "share":
+        values = [int(claim["from"] <= v <= claim["to"]) for v in values]
+        least, greatest, unit = 0, 1, 1
+    ends, z = [], fractions.Fraction(greatest - least, unit)
+    assert z == int(z)
+    for side, sign, base in (("low", 1, least), ("high", -1, greatest)):
+        scores = [(0, lost), *((fractions.Fraction(sign * (v - base), unit), 1) for v in values)]
+        total = sum(v * c for v, c in scores)
+        if "counts" not in row:
+            total = fractions.Fraction(sign * (row["sum"] - base * (k - lost)), unit)
+        proof = claim[side]
+        proves = proof is None or {
+            "binomial": lambda: z == 1 and holds_binomial(k, int(total), proof["r"], q, d),
+            "chernoff": lambda: holds_chernoff(
+                k, int(z), int(total), proof["r"], q, d, proof["a"], proof["b"]),
+            "bets": lambda: holds_bets(scores, proof["r"], q, d, proof["t"], proof["stakes"]),
+        }[proof["by"]]()
+        r = 0 if proof is None else proof["r"]
+        ends.append(base + sign * unit * fractions.Fraction(r, q) if proves else None)
+    return tuple(ends)
+
+
+def small_file():
+    """A file of certificates whose numbers are small enough for the plain inequalities."""
+    counts = [(-1, 9), (0, 14), (1, 8), (2, 4)]
+    span, pilot = Span(-1, 3, -1, 3), Pilot([(-1, 3), (0, 5), (1, 4), (2, 1)], 1, 100, 14)
+    by_bets = Guarantee("bets", 37, 2, span, 20, counts, pilot=pilot)
+    by_range = Guarantee("range", 37, 2, span, 20, counts)
+    by_sum = Guarantee("sum", 37, 2, span, 20, total=7)
+    by_hits = Guarantee("hits", 37, 2, Span(0, 5, 0, 5, True), 20, total=60)
+    rows = [by_bets, by_range, by_sum, by_hits]
+    for row in rows:
+        # In few parts, so that the numbers are small.
+        row.q = 100
+        row.mean()
+    by_bets.share(-1, 0)
+    by_bets.quantile(0.5)
+    return json.loads(json.dumps(file_of(rows, {})))
+
+
+def places_of(value, path=()):
+    """The paths of all whole numbers in a file."""
+    if type(value) is int:
+        yield path
+    elif isinstance(value, (dict, list)):
+        for key, item in value.items() if isinstance(value, dict) else enumerate(value):
+            yield from places_of(item, (*path, key))
+
+
+def proved(file):
+    """The ends that the checker says of each claim."""
+    return [(row, claim, check_interval.interval(row, claim, *check_interval.whole([file["d"]], 1)))
+            for row in file["rows"] for claim in row["claims"]]
+
+
+def test_changed_certificates_do_not_prove_more():
+    file = small_file()
+    assert all(None not in ends for *_, ends in proved(file))
+    assert {claim[side]["by"] for row in file["rows"] for claim in row["claims"]
+            for side in ("low", "high") if isinstance(claim[side], dict)} == {
+                "bets", "binomial", "chernoff"}
+    draw, places, outcomes = random.Random(7), [*places_of(file)], {}
+    for _ in range(CHANGED):
+        changed, path = copy.deepcopy(file), draw.choice(places)
+        inner = changed
+        for key in path[:-1]:
+            inner = inner[key]
+        old = inner[path[-1]]
+        others = [old + 1, old - 1, old + draw.randint(2, 9), 2 * old, 0, -old]
+        inner[path[-1]] = draw.choice(others)
+        try:
+            found = proved(changed)
+        except ValueError:
+            outcomes["refused"] = outcomes.get("refused", 0) + 1
+            continue
+        for row, claim, (low, high, q) in found:
+            wanted = ends_in_whole_numbers(row, claim, changed["d"])
+            for end, other in zip((low, high), wanted):
+                assert end is None or fractions.Fraction(end, q) == other, (path, old, claim)
+            kind = "proved" if None not in (low, high) else "not proved"
+            outcomes[kind] = outcomes.get(kind, 0) + 1
+    assert min(outcomes[kind] for kind in ("refused", "proved", "not proved")) > 20, outcomes
+
+
+def test_a_greater_claim_is_not_proved():
+    """Each end is the greatest that its certificate proves, to some parts."""
+    file = small_file()
+    for row, claim, _ in proved(file):
+        for side in ("low", "high"):
+            entry = copy.deepcopy(claim)
+            if claim["of"] == "quantile":
+                entry[side] -= 1
+            else:
+                entry[side]["r"] += 4
+            low, high, _ = check_interval.interval(row, entry, file["d"])
+            assert (low if side == "low" else high) is None
+
+
+@pytest.mark.parametrize("seen, greatest, q, proof, wrong, ends", [
+    ({"counts": [[0, 2], [1, 8]]}, 1, 100, {"by": "binomial", "r": 44}, 45, "0.440000 to 1.000000"),
+    ({"sum": 18}, 2, 10, {"by": "chernoff", "r": 9, "a": 2, "b": 1}, 19, "0.900000 to 2.000000"),
+    ({"counts": [[1, 2], [2, 8]]}, 2, 10, {"by": "bets", "r": 11, "t": 10, "stakes": [7]}, 12,
+     "1.100000 to 2.000000"),
+])
+def test_files_of_certificates_that_are_worked_by_hand(
+    tmp_path, seen, greatest, q, proof, wrong, ends
+):
+    """The certificates are those that the proof computes; a greater claim is not proved."""
+    claim = {"of": "mean", "q": q, "unit": 1, "low": proof, "high": None}
+    row = {"name": "row", "samples": 10, "uncoupled": 0, "least": 0, "greatest": greatest, **seen}
+    path = tmp_path / "file.json"
+    for r, status in ((proof["r"], 0), (wrong, 4)):
+        proof["r"] = r
+        path.write_text(json.dumps({"d": 40, "rows": [{**row, "claims": [claim]}]}))
+        done = subprocess.run([*CHECKER, path], capture_output=True, text=True)
+        shown = ends if status == 0 else f"not proved to {ends.split()[-1]}"
+        assert (done.returncode, done.stderr) == (status, "")
+        assert done.stdout.splitlines()[0] == f"row: mean: {shown}"
+
+
+@pytest.mark.parametrize("wrong", [
+    {"d": 0}, {"d": 40.0}, {"d": True}, {"d": "40"}, {}, {"d": 40, "rows": [{}]}, [], 7,
+])
+def test_what_is_no_file_of_certificates(tmp_path, wrong):
+    path = tmp_path / "file.json"
+    path.write_text(json.dumps(wrong))
+    done = subprocess.run([*CHECKER, path], capture_output=True, text=True)
+    assert (done.returncode, done.stdout) == (3, "")
+    assert done.stderr.startswith(f"check_interval: {path} is no file of certificates: ")
+
+
+def test_a_share_holds_for_each_probability():
+    """Computed, and not drawn: the chance that the interval misses, over all counts."""
+    k, d = 30, 20
+    q = parts_of(k)
+    claims = [(by_count(k, i, q, d) or {"r": 0})["r"] for i in range(k + 1)]
+    for parts in range(1, 40):
+        r = parts * q // 40 + parts
+        missed = sum(math.comb(k, i) * r**i * (q - r) ** (k - i) for i in range(k + 1)
+                     if claims[i] > r or q - claims[k - i] < r)
+        assert d * missed <= 2 * q**k
+    # It is that of Clopper and Pearson, but for what is rounded.
+    for i in range(1, k):
+        low, high = probability(i, k, level=1 - 2 / d)
+        assert low - 2 / q <= claims[i] / q <= low
+        assert high <= 1 - claims[k - i] / q <= high + 2 / q
+
+
+def test_bets_hold_for_a_list_of_values():
+    """Computed, and not drawn: over all counts of three values of a distribution."""
+    k, d, chances = 12, 4, (6, 3, 1)
+    mean, missed = fractions.Fraction(3 * 1 + 1 * 2, 10), 0
+    for ones in range(k + 1):
+        for twos in range(k - ones + 1):
+            counts = [(v, c) for v, c in enumerate((k - ones - twos, ones, twos)) if c]
+            row = Guarantee("row", k, 0, Span(0, 2, 0, 2), d, counts)
+            low, high = row.mean()
+            cases = math.comb(k, ones) * math.comb(k - ones, twos)
+            weight = math.prod(chance ** dict(counts).get(v, 0) for v, chance in enumerate(chances))
+            missed += cases * weight * (not low <= mean <= high)
+    assert 0 < d * missed <= 2 * 10**k
+
+
+def test_what_is_not_coupled_widens_each_end():
+    counts = [(0, 40), (1, 30), (2, 30)]
+    whole, cut = (Guarantee("row", 100 + lost, lost, Span(0, 4, 0, 4), 40, counts)
+                  for lost in (0, 25))
+    for low, high, other_low, other_high in (
+        (*whole.mean(), *cut.mean()), (*whole.share(1, 2), *cut.share(1, 2)),
+    ):
+        assert other_low < low < high < other_high
+    assert cut.mean()[1] > fractions.Fraction(90 + 4 * 25, 125)
+    assert cut.mean()[0] < fractions.Fraction(90, 125)
+
+
+def test_levels_and_parts():
+    assert [one_in(level) for level in (0.9, 0.95, 0.99, 0.97, 0.5)] == [20, 40, 200, 67, 4]
+    assert [pilots_of(count) for count in (1, 100, 10_000, 10**6)] == [1, 5, 500, 1_000]
+    t, stakes = stakes_of_range(20_000, 10, 40)
+    assert t == 10**7 and all(0 < stake <= 10**6 for stake in stakes) and len(stakes) == 5
+    third = fractions.Fraction(1, 3)
+    low, high = rounded_out(third, third)
+    assert fractions.Fraction(low) < third < fractions.Fraction(high)
+    assert math.nextafter(low, 1) == high
+    assert [written_out(0.12345, 3, is_high) for is_high in (False, True)] == ["0.123", "0.124"]
+    assert [written_out(-0.12345, 3, is_high) for is_high in (False, True)] == ["-0.124", "-0.123"]
+
+
+def test_a_mean_alike_in_all_states_is_known():
+    assert Guarantee("row", 10, 3, Span(4, 4, 4, 4), 40, [(4, 7)]).mean() == (4, 4)
+
+
+def test_twenty_thousand_streams_are_fast():
+    """Counted by processor time, with ten times what an idle machine takes."""
+    import time
+
+    counts = [(v, 2_000 - 20 * v) for v in range(10)] + [(10, 900)]
+    begun = time.process_time()
+    row = Guarantee("row", 20_000, 0, Span(0, 10, 0, 10), 40, counts)
+    row.mean()
+    for value in range(11):
+        row.share(value, value)
+        row.share(0, value)
+    assert time.process_time() - begun < 20
+
+
+@pytest.fixture
+def files(tool, tmp_path):
+    """A file of certificates of each tool, with what the tool has printed."""
+    net = TOP / "examples/short-past.toml"
+    told = {}
+    call = ("psi-law", net, "desk", "--count", 300, "--guaranteed", "--certificate", "law.json")
+    told["law.json"] = tool(*call)
+    tool("psi-many", net, 0, 0, 300, "--block", 15, "--folder", "short")
+    call = ("psi-means", "short", "--guaranteed", "--certificate", "means.json")
+    told["means.json"] = tool(*call)
+    assert [status for status, *_ in told.values()] == [0, 0], told
+    return {name: (tmp_path / name, out) for name, (_, out, _) in told.items()}
+
+
+def test_the_tools_write_what_the_checker_proves(files):
+    for path, out in files.values():
+        assert out.startswith("NOT COUPLED: ")
+        assert out.endswith("were drawn evenly and independently\n")
+        done = subprocess.run([*CHECKER, path], capture_output=True, text=True)
+        assert (done.returncode, done.stderr) == (0, ""), done.stdout
+        assert "not proved" not in done.stdout
+        assert done.stdout.endswith("each misses for at most 2 in 40 lists of the streams' random words\n")
+    means = files["means.json"][1].splitlines()
+    checked = subprocess.run([*CHECKER, files["means.json"][0]], capture_output=True, text=True)
+    for line in checked.stdout.splitlines()[:-1]:
+        name, _, ends = line.partition(": mean: ")
+        _, _, mean, low, high, *_ = next(
+            line for line in means if " ".join(line.split()[:2]) == name).split()
+        exact = [float(end) for end in ends.split(" to ")]
+        assert float(low) <= exact[0] <= exact[1] <= float(high)
+
+
+def test_the_means_that_the_guide_has(tool):
+    call = ("psi-law", TOP / "examples/call-centre.toml", "calls", "--count", 20_000)
+    guide = (TOP / "docs/TOOLS.md").read_text()
+    for more in ((), ("--guaranteed",), ("--guaranteed", "--pilot", 0)):
+        out = tool(*call, *more)[1].splitlines()
+        assert f"`{next(line for line in out if line.startswith('mean '))}`" in guide
+
+
+def test_forms_and_levels(tool, tmp_path, files):
+    told = json.loads(tool("psi-means", "short", "--guaranteed", "--format", "json")[1])
+    assert [row["item"] for row in told["rows"]] == ["mean", "reward-mean"]
+    assert any(note.startswith("assumed: ") for note in told["notes"])
+    wide = tool("psi-means", "short", "--guaranteed", "--format", "json", "--level", 99)[1]
+    for one, other in zip(told["rows"], json.loads(wide)["rows"]):
+        assert other["low"] < one["low"] < one["high"] < other["high"]
+    status, out, error = tool("psi-means", "short", "--guaranteed", "--format", "csv")
+    assert status == 0 and "assumed: " in error
+    assert [line.split(",")[0] for line in out.splitlines()] == ["item", "mean", "reward-mean"]
+    net = TOP / "examples/first.toml"
+    call = ("psi-law", net, "a", "--count", 100, "--guaranteed", "--pilot", 0)
+    assert "stakes from the number of streams and the range" in tool(*call)[1]
+
+
+def test_what_is_refused(tool, tmp_path):
+    net = TOP / "examples/first.toml"
+    status, out, error = tool("psi-law", net, "a", "--certificate", "file")
+    assert (status, out, error) == (2, "", "psi-law: --certificate goes with --guaranteed\n")
+    status, out, error = tool("psi-law", net, "a", "--pilot", "5")
+    assert (status, out, error) == (2, "", "psi-law: --pilot goes with --guaranteed\n")
+    last = ("--first", 2**64 - 100, "--count", 100, "--guaranteed")
+    status, out, error = tool("psi-law", net, "a", *last)
+    assert (status, out) == (2, "") and "--pilot 0" in error
+    assert tool("psi-law", net, "a", *last, "--pilot", 0)[0] == 0
+    tool("psi-many", net, 0, 0, 200, "--block", 10, "--folder", "kept")
+    blocks = sorted((tmp_path / "kept/blocks").iterdir())
+    status, out, error = tool("psi-means", blocks[0], "--guaranteed")
+    assert (status, out) == (2, "") and "--net NET" in error
+    assert tool("psi-means", blocks[0], "--guaranteed", "--net", net)[0] == 0
+    blocks[3].unlink()
+    status, out, error = tool("psi-means", "kept", "--guaranteed")
+    assert (status, out) == (2, "") and "fixed beforehand" in error
+
+
+def test_in_python(psi, tmp_path):
+    net = TOP / "examples/call-classes.toml"
+    means = psi.means(net, seed=3, count=200, guaranteed=True)
+    law = psi.law(net, "near", seed=3, count=200, guaranteed=True)
+    plain = psi.law(net, "near", seed=3, count=200)
+    assert (law["count"] == plain["count"]).all()
+    assert (means["low"] < means["mean"]).all() and (means["mean"] < means["high"]).all()
+    for table in (means, law):
+        assert "evenly and independently" in table.attrs["assumed"]
+        path = tmp_path / "file.json"
+        path.write_text(json.dumps(table.attrs["certificates"]))
+        done = subprocess.run([*CHECKER, path], capture_output=True, text=True)
+        assert done.returncode == 0, done.stdout + done.stderr
+
+
+def test_a_reward_of_several_queues_goes_by_states(psi, tmp_path):
+    """Its value counts where the states have met, also where psi reward knows it before."""
+    net = psi.Network.read(TOP / "examples/tandem-blocking.toml")
+    net.heads["limit"] = 5
+    states = psi.samples(net, count=60, keep=True)
+    known = [sum(state) for state in states.tolist() if state[0] >= 0]
+    assert 0 < len(known) < 60
+    with pytest.warns(psi.Uncoupled):
+        found = psi.law(net, "parts", count=60, guaranteed=True)
+    assert dict(found["count"]) == {value: known.count(value) for value in sorted({*known})}
+
+
+def test_guaranteed_intervals_hold(program):
+    """A few repetitions of the study, which report a fault that is great; 400 are made by hand."""
+    call = [TOP / "checks/try_guaranteed.py", program, "--repetitions", REPEATED, "--count", 60]
+    done = subprocess.run([*map(str, call)], capture_output=True, text=True)
+    assert done.returncode == 0, done.stdout + done.stderr
+    assert done.stdout.count(" of 100  width ") == 48
