@@ -52,7 +52,7 @@ DOCUMENTS = "README.md", "CITATION.cff", "SECURITY.md", "docs"
 BUILT = "crates/psi/out/psi"
 DEPENDS = (
     "python3 (>= 3.11)", "python3-numpy", "python3-scipy", "python3-pandas", "python3-matplotlib",
-    "parallel",
+    "parallel", "graphviz",
 )
 CONTROL = """Package: {name}
 Version: {version}

@@ -413,7 +413,9 @@ def try_tour(tried):
     text = (TOP / "docs/TOUR.md").read_text()
     shown = re.findall(r"!\[[^\]]+\]\(pictures/([^)]+)\)", text)
     there = {path.name: path for path in (TOP / "docs/pictures").iterdir()}
-    tried.hold(len(shown) == 9 and {*shown} == {*there}, "the tour doesn't show all pictures")
+    networks = {f"network-{net.stem}.svg" for net in (TOP / "examples").glob("*.toml")}
+    is_all = len(shown) == 12 and {*shown} | networks == {*there}
+    tried.hold(is_all, "the tour and the gallery do not show all pictures")
     for name, path in there.items():
         tried.hold(path.stat().st_size < MOST_BYTES_SHOWN, f"{name} is too great")
         xml.etree.ElementTree.parse(path)
