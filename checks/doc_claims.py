@@ -33,7 +33,7 @@ KNOWN = re.compile(
 NAMES = {
     "rt", "bin/", "split", "limit", "sample", "report", "couple", "exact", "closed", "replay",
     "check", "trial", "reward", "not coupled", "rt ci", "run", "psi", "psi-sampler",
-    "import psi",
+    "import psi", "H", "Enter",
 }
 # Passages in which nothing is compared, by their first and last words, each with the reason.
 UNTRIED = {
