@@ -204,7 +204,7 @@ def test_answers_are_hidden_until_a_key_is_pressed(browser, pages, tmp_path):
 
 
 def test_a_long_log_opens_soon(browser, pages, program, tmp_path):
-    """A page of 4,096 steps opens within a second, where the machine is not busy with other work."""
+    """A page of 4,096 steps opens within a second; on a busy machine a slower one is not held against it."""
     stream = next(
         stream for stream in range(200)
         if subprocess.run([program, "sample", path_of("longest-queue"), "0", str(stream)], capture_output=True,
@@ -214,7 +214,7 @@ def test_a_long_log_opens_soon(browser, pages, program, tmp_path):
     opened(browser, tmp_path, text)
     loaded = browser.execute_script("return performance.getEntriesByType('navigation')[0].domComplete")
     assert len(text) < 200_000 + 3 * len(log)
-    if os.getloadavg()[0] > len(os.sched_getaffinity(0)):
+    if loaded >= 1_000 and os.getloadavg()[0] > len(os.sched_getaffinity(0)):
         pytest.skip(f"the machine is busy; the page opened within {loaded:.0f} ms")
     assert loaded < 1_000
 
