@@ -120,6 +120,20 @@ def claim_gallery(document, clone):
     document.hold(sorted(rows) == sorted(files), f"the gallery has {files}, the table {rows}")
     for row in rows:
         document.cover(f"`{row}`")
+        claim_means(document, clone, row)
+
+
+def claim_means(document, clone, name):
+    """The means of the samples of a network of the gallery; of one that is never coupled there are none."""
+    report = report_of(clone.run(f"./psi report examples/{name} 0 0 1000")[1].splitlines())
+    sums = [(queue, total) for (item, queue), total in report.items() if item == "sum"]
+    met = report["met", "-"]
+    if not met:
+        document.hold(f"samples of `{name}`" not in document.prose, f"{name} has no samples")
+        return
+    means = [f"`{queue}` {total / met:.3f}" for queue, total in sums]
+    noun = "means" if len(means) > 1 else "mean"
+    document.claim(f"{met:,} samples of `{name}` have the {noun} {listed(means)}.")
 
 
 def claim_statuses(document, clone):
@@ -343,7 +357,7 @@ def claim_tries(document, clone, horizon):
 def listed(numbers):
     """Numbers as a sentence has them."""
     *front, last = map(str, numbers)
-    return f"{', '.join(front)} and {last}"
+    return f"{', '.join(front)} and {last}" if front else last
 
 
 def desk_walk(clone):
