@@ -32,6 +32,7 @@ PAGES = (
     ("docs/course/README.md", None),
     ("docs/course/exercises.md", None),
     ("docs/course/solutions.md", None),
+    ("docs/course/sheet.md", None),
 )
 
 # What to avoid, what to write instead, and a sentence that has it.

@@ -121,7 +121,7 @@ def test_1_where_the_runs_coalesce():
                 assert {*states} == {(2,)}
         ends[steps] = [number for number, in states]
     assert ends[1] == ends[2] == [0, 0, 1] and {*ends[4]} == {1}
-    says(1, "the states 0, 1, 2 become 0, 0, 1,", "So the horizon is 4 and the sample is 1.", "The runs became one in 2, two steps early.")
+    says(1, "the states 0, 1, 2 become 0, 0, 1,", f"do as well: {len({*ends[2]})} states are left.", "So the horizon is 4 and the sample is 1.", "The runs became one in 2, two steps early.")
 
 
 def test_2_forward_runs():
@@ -222,7 +222,8 @@ def test_10_a_closed_network(answer):
     assert len(states) == 6 and sum(weights) == 1249
     sums = [sum(state[queue] * weight for state, weight in zip(states, weights)) for queue in range(3)]
     pieces = [f"{number:,}/1,249 = {number / 1249:.3f}" for number in sums]
-    says(10, "which are as 15 to 10 to 18.", f"The means are {pieces[0]}, {pieces[1]} and {pieces[2]}.")
+    says(10, "with probability 2/8 and for the drum with 6/8. Its work per cycle is 1/8 at the processor, 1/4 of 1/3 at the "
+             "disk and 3/4 of 1/5 at the drum, which are as 15 to 10 to 18.", "as weights, 1,249 in all.", f"The means are {pieces[0]}, {pieces[1]} and {pieces[2]}.")
     rates = {event["name"]: event["rate"] for event in tomllib.loads((GALLERY / "central-server.toml").read_text())["event"]}
     assert rates == {"read-disk": 2, "read-drum": 6, "disk-done": 3, "drum-done": 5}
     printed = answer("closed", "examples/central-server.toml", 0, 0, 2)
@@ -251,10 +252,11 @@ def test_12_how_many_lines(answer):
     (queue,), (ring, hang_up), (busy,) = net["queue"], net["event"], net["reward"]
     load = ring["rate"] / hang_up["rate"]
     assert (queue["servers"], queue["capacity"], load, busy["level"]) == (14, 14, 8, 13)
-    says(12, f"Erlang's formula B gives {100 * erlang_b(14, 8):.3f} % for 14 lines and {100 * erlang_b(15, 8):.3f} % for 15")
+    says(12, f"Erlang's formula B gives {100 * erlang_b(14, 8):.3f} % for 14 lines and {100 * erlang_b(15, 8):.3f} % for 15, "
+             "so 15 lines are needed.")
     assert erlang_b(15, 8) < 0.01 < erlang_b(14, 8)
     needed = [math.ceil(1.96**2 * (1 - share) / (share * 0.01) - 1e-6) for share in (0.01, 1e-6)]
-    says(12, f"at n = {needed[0]:,} for 1 %, and at n = {needed[1]:,} for a millionth:")
+    says(12, f"It is p / 10 at n = {needed[0]:,} for 1 %, and at n = {needed[1]:,} for a millionth:")
     report = report_of(answer("report", "docs/course/lines.toml", 0, 0, 4000))
     share = report["reward-sum", "busy"] / 4000
     assert abs(share - erlang_b(14, 8)) < 3 * math.sqrt(erlang_b(14, 8) / 4000)
