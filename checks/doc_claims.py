@@ -11,6 +11,7 @@ import tomllib
 
 import on_path  # noqa: F401
 from psi_tools import mean_values
+from psi_tools.check_log import block
 from forward_laws import law_of_meeting, moves_of, worst
 from psi_tools.plotting.read_exact import read_exact
 from psi_tools.plotting.read_log import read_log
@@ -32,7 +33,7 @@ KNOWN = re.compile(
 NAMES = {
     "rt", "bin/", "split", "limit", "sample", "report", "couple", "exact", "closed", "replay",
     "check", "trial", "reward", "not coupled", "rt ci", "run", "psi", "psi-sampler",
-    "import psi",
+    "import psi", "H", "Enter",
 }
 # Passages in which nothing is compared, by their first and last words, each with the reason.
 UNTRIED = {
@@ -119,6 +120,20 @@ def claim_gallery(document, clone):
     document.hold(sorted(rows) == sorted(files), f"the gallery has {files}, the table {rows}")
     for row in rows:
         document.cover(f"`{row}`")
+        claim_means(document, clone, row)
+
+
+def claim_means(document, clone, name):
+    """The means of the samples of a network of the gallery; of one that is never coupled there are none."""
+    report = report_of(clone.run(f"./psi report examples/{name} 0 0 1000")[1].splitlines())
+    sums = [(queue, total) for (item, queue), total in report.items() if item == "sum"]
+    met = report["met", "-"]
+    if not met:
+        document.hold(f"samples of `{name}`" not in document.prose, f"{name} has no samples")
+        return
+    means = [f"`{queue}` {total / met:.3f}" for queue, total in sums]
+    noun = "means" if len(means) > 1 else "mean"
+    document.claim(f"{met:,} samples of `{name}` have the {noun} {listed(means)}.")
 
 
 def claim_statuses(document, clone):
@@ -300,6 +315,7 @@ def claim_doubling(document, clone):
         f"cut the past at {2**limit} steps: `short-past.toml` is the same desk with "
         f"`limit = {limit}`."
     )
+    claim_tries(document, clone, horizon)
     short = report_of(said(document, clone, "./psi report examples/short-past.toml 0 0 1000"))
     whole = written(document, clone, f"./psi report {DESK} 0 0 1000 >all-of-the-past.csv")
     met, samples, total = short["met", "-"], short["samples", "-"], short["sum", "desk"]
@@ -320,6 +336,44 @@ def claim_doubling(document, clone):
     document.claim("why `sample` says `not coupled` rather than something")
     out = clone.run("./psi sample examples/short-past.toml 0 0")[1]
     document.hold(out.startswith("not coupled "), f"a stream that isn't coupled: {out}")
+
+
+def claim_tries(document, clone, horizon):
+    """How the tries end, with the same random words and with new ones: by walks of the desk alone."""
+    room, walk = key_of(clone, "single-server.toml", "capacity"), desk_walk(clone)
+    lengths = [1 << power for power in range(horizon.bit_length())]
+    left = [len({*walk(0, length)}) for length in lengths]
+    document.claim(
+        f"The tries from {listed(lengths)} steps end with {listed(left)} of the {NUMBERS[room + 1]} "
+        "states."
+    )
+    ends = [{*walk(stream, length)} for stream, length in enumerate(lengths)]
+    first = next(place for place, states in enumerate(ends) if len(states) == 1)
+    document.claim(
+        f"The try of {lengths[first]} steps happens to end in one state, {min(ends[first])}, and nobody"
+    )
+
+
+def listed(numbers):
+    """Numbers as a sentence has them."""
+    *front, last = map(str, numbers)
+    return f"{', '.join(front)} and {last}" if front else last
+
+
+def desk_walk(clone):
+    """A function that gives where all numbers of customers at the desk end after some steps."""
+    room, (rate, service) = key_of(clone, "single-server.toml", "capacity"), rates_of_desk(clone)
+    modulus = 1 << (rate + service - 1).bit_length()
+
+    def walk(stream, steps):
+        states = range(room + 1)
+        for time in range(steps, 0, -1):
+            number = block(0, stream, (time - 1) // 16)[(time - 1) % 16] % modulus
+            by = 1 if number < rate else -1 if number < rate + service else 0
+            states = [min(room, max(0, state + by)) for state in states]
+        return states
+
+    return walk
 
 
 def claim_certificate(document, clone):

@@ -29,6 +29,10 @@ PAGES = (
     ("docs/TOUR.md", "## 2. "),
     ("docs/TOOLS.md", "## psi-means"),
     ("examples/README.md", None),
+    ("docs/course/README.md", None),
+    ("docs/course/exercises.md", None),
+    ("docs/course/solutions.md", None),
+    ("docs/course/sheet.md", None),
 )
 
 # What to avoid, what to write instead, and a sentence that has it.

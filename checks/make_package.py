@@ -53,7 +53,7 @@ MODULES = "psi", "psi_tools"
 DOCUMENTS = "README.md", "CITATION.cff", "SECURITY.md", "docs"
 DEPENDS = (
     "python3 (>= 3.11)", "python3-numpy", "python3-scipy", "python3-pandas", "python3-matplotlib",
-    "parallel",
+    "parallel", "graphviz",
 )
 CONTROL = """Package: {name}
 Version: {version}

@@ -1,11 +1,11 @@
 #!/usr/bin/env python3
 """pictures.py [PSI [FOLDER]]
 
-Makes the pictures of docs/TOUR.md anew: it runs each of its blocks in which tools/psi-plot is
-called, one after the other, as they stand there, and moves the pictures that these draw to FOLDER,
-docs/pictures where it isn't given. PSI is the built program, crates/psi/out/psi where it isn't
-given. A picture above 200,000 bytes, or that the tour doesn't show, is told; the exit status is 1
-where there is one or a block fails.
+Draws the pictures of docs/TOUR.md and of examples/README.md: it runs each block of the tour in which
+tools/psi-plot is called, one after the other, as they stand there, draws each network of the
+gallery, and moves the pictures to FOLDER, docs/pictures if it is not given. PSI is the built program,
+crates/psi/out/psi if it is not given. A picture above 200,000 bytes, or one that is not shown, is
+reported; the exit status is 1 where there is one, or a block fails.
 """
 
 import os
@@ -17,10 +17,10 @@ import sys
 import tempfile
 
 TOP = pathlib.Path(__file__).resolve().parent.parent
-TOUR = TOP / "docs/TOUR.md"
+TOUR, GALLERY = TOP / "docs/TOUR.md", TOP / "examples/README.md"
 MOST_BYTES = 200_000
 BLOCK = re.compile(r"^```\n(.*?)^```\n", re.M | re.S)
-SHOWN = re.compile(r"!\[[^\]]*\]\(pictures/([^)]*)\)")
+SHOWN = re.compile(r"!\[[^\]]*\]\((?:\.\./docs/)?pictures/([^)]*\.svg)\)")
 
 
 def room_of(program, folder):
@@ -30,6 +30,15 @@ def room_of(program, folder):
     (folder / "psi").symlink_to(program)
     (folder / "crates/psi/out").mkdir(parents=True)
     (folder / "crates/psi/out/psi").symlink_to(program)
+
+
+def draw_gallery(room):
+    """Draws each network of the gallery; returns how many cannot be drawn."""
+    wrong = 0
+    for net in sorted((TOP / "examples").glob("*.toml")):
+        call = ["tools/psi-plot", "network", f"examples/{net.name}", "-o", f"network-{net.stem}.svg"]
+        wrong += subprocess.run(call, cwd=room).returncode != 0
+    return wrong
 
 
 def main():
@@ -44,13 +53,15 @@ def main():
             if "tools/psi-plot" in block:
                 env = {**os.environ, "PATH": f"{room}:{os.environ['PATH']}"}
                 wrong += subprocess.run(["sh", "-c", block], cwd=room, env=env).returncode != 0
+        wrong += draw_gallery(room)
         drawn = sorted(room.glob("*.svg"))
         for picture in drawn:
             if os.path.getsize(picture) > MOST_BYTES:
                 print(f"{picture.name} has {os.path.getsize(picture)} bytes")
                 wrong += 1
             shutil.copyfile(picture, folder / picture.name)
-    for name in {*SHOWN.findall(text)} ^ {picture.name for picture in drawn}:
+    shown = {*SHOWN.findall(text), *SHOWN.findall(GALLERY.read_text())}
+    for name in shown ^ {picture.name for picture in drawn}:
         print(f"{name} is drawn or shown, but not both")
         wrong += 1
     print(f"{len(drawn)} pictures are drawn")

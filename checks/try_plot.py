@@ -411,9 +411,11 @@ def try_words(tried, room):
 def try_tour(tried):
     """The pictures of the tour are there, and what mean_values.py prints is what it says."""
     text = (TOP / "docs/TOUR.md").read_text()
-    shown = re.findall(r"!\[[^\]]+\]\(pictures/([^)]+)\)", text)
-    there = {path.name: path for path in (TOP / "docs/pictures").iterdir()}
-    tried.hold(len(shown) == 9 and {*shown} == {*there}, "the tour doesn't show all pictures")
+    shown = re.findall(r"!\[[^\]]+\]\(pictures/([^)]+\.svg)\)", text)
+    there = {path.name: path for path in (TOP / "docs/pictures").glob("*.svg")}
+    networks = {f"network-{net.stem}.svg" for net in (TOP / "examples").glob("*.toml")}
+    is_all = len(shown) == 12 and {*shown} | networks == {*there}
+    tried.hold(is_all, "the tour and the gallery do not show all pictures")
     for name, path in there.items():
         tried.hold(path.stat().st_size < MOST_BYTES_SHOWN, f"{name} is too great")
         xml.etree.ElementTree.parse(path)

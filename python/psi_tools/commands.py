@@ -41,5 +41,5 @@ def _command(name):
 
 
 many, plot, means, law = map(_command, ("many", "plot", "means", "law"))
-sweep, where, why, new = map(_command, ("sweep", "where", "why", "new"))
-NAMES = "many", "plot", "means", "law", "sweep", "where", "why", "new"
+sweep, where, why, new, page = map(_command, ("sweep", "where", "why", "new", "page"))
+NAMES = "many", "plot", "means", "law", "sweep", "where", "why", "new", "page"

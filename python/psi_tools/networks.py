@@ -203,6 +203,16 @@ class Network:
         with open(path, "w", encoding="utf-8") as file:
             file.write(self.toml())
 
+    def _repr_svg_(self) -> str | None:
+        """The network's picture, which a notebook shows; none where it cannot be drawn."""
+        try:
+            from psi_tools.plotting.draw_network import draw_network, style
+            from psi_tools.plotting.network_scene import NetworkPicture
+
+            return style.saved(draw_network(NetworkPicture(self, "")), "svg").decode()
+        except (ArithmeticError, AttributeError, ImportError, LookupError, Told, TypeError, ValueError):
+            return None
+
     @property
     def data(self) -> bytes:
         """The bytes of the network's file; of one that was read, and not changed since, its own."""

@@ -31,6 +31,9 @@ psi-plot forward NET [STEPS..] -o FILE a network of one queue: where forward run
                                        end, from each state, and where all of them meet, computed
                                        and beside the law of a sample; 8, 32 and 128 steps where
                                        they aren't given
+psi-plot past NET SEED STREAM -o FILE  the runs of a sample from 1, 2, 4, .. steps before time zero
+                                       until all states have coalesced, those that fail included
+psi-plot network NET -o FILE           the network: queues, servers, and events as arrows
 
 The exit status is 0 where the picture is drawn; 2 where a word or an input isn't what it should be,
 as one line on standard error tells; 7 where the picture can't be written; 1 where it can't be

@@ -3,6 +3,7 @@
 import itertools
 import os
 import pathlib
+import re
 import subprocess
 import sys
 import tomllib
@@ -20,6 +21,8 @@ from psi_tools.plotting.network_scene import NetworkPicture, Node, scene_of
 
 GALLERY = sorted((TOP / "examples").glob("*.toml"))
 SVG = "{http://www.w3.org/2000/svg}"
+# The graphviz that laid out the pictures in docs/pictures, and the events that servers make.
+GRAPHVIZ = "graphviz version 2.43.0"
 SERVING = "service", "index", "negative", "fork"
 
 
@@ -129,6 +132,29 @@ def test_names_are_only_names():
     _, ids, root = drawn(net, with_legend=True)
     assert counted(ids, "queue") == len(names) and counted(ids, "arrow") == len(names)
     assert not [each for each in root.iter() if each.tag.rpartition("}")[2] == "script"]
+
+
+@pytest.mark.parametrize("path", GALLERY, ids=lambda path: path.stem)
+def test_the_gallery_shows_the_picture(path):
+    """The gallery's page shows the picture of each network, and it is what is drawn of the file."""
+    name = f"network-{path.stem}.svg"
+    assert f"](../docs/pictures/{name})" in (TOP / "examples/README.md").read_text()
+    shown = (TOP / "docs/pictures" / name).read_bytes()
+    drawn = style.saved(draw_network(NetworkPicture(Network.read(path), path.stem)), "svg")
+    versions = {re.search(rb"Matplotlib v[\d.]+", data)[0] for data in (shown, drawn)}
+    graphviz = subprocess.run(["dot", "-V"], capture_output=True, text=True, check=True).stderr
+    if len(versions) > 1 or GRAPHVIZ not in graphviz:
+        pytest.skip(f"the picture was drawn by other versions than {versions} and {graphviz}")
+    assert drawn == shown
+
+
+def test_a_notebook_shows_the_picture():
+    """A notebook shows a network as its picture, and one that cannot be drawn yet as Python does."""
+    root = xml.etree.ElementTree.fromstring(Network.read(TOP / "examples/overflow.toml")._repr_svg_())
+    assert sum(each.get("id", "").startswith("queue-") for each in root.iter(f"{SVG}g")) == 2
+    assert Network().queue("desk", 3)._repr_svg_() is not None
+    unfinished = Network().event("serve", "service", 1, "nowhere", [])
+    assert Network()._repr_svg_() is None and unfinished._repr_svg_() is None
 
 
 def test_tables_are_drawn_on_demand():

@@ -61,6 +61,7 @@ class Canvas:
         )
 
 
+@style.styled
 def draw_network(picture: NetworkPicture, title: str = "") -> Any:
     """The figure of a network, as large as what is drawn; a title of its own may replace the picture's."""
     net, title = picture.net, style.printable(title or picture.title)

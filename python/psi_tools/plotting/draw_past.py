@@ -4,9 +4,9 @@ from __future__ import annotations
 
 from typing import Any
 
-import matplotlib.collections
 import matplotlib.lines
 import matplotlib.patches
+import matplotlib.path
 import matplotlib.ticker
 
 from psi_tools.past import Past, Run, State
@@ -19,6 +19,7 @@ NAMES_HEIGHT = 0.6
 MARGINS = {"left": 0.09, "right": 0.83}
 
 
+@style.styled
 def draw_past(picture: tuple[Past, int | None], title: str) -> Any:
     """The figure of all runs; the second part says which queue is drawn, or none for all customers."""
     past, queue = picture
@@ -81,15 +82,17 @@ def draw_run(axes: Any, past: Past, run: Run, queue: int | None) -> None:
 
 
 def draw_paths(axes: Any, run: Run, queue: int | None, colour: str) -> None:
-    """The paths from all states, each piece once."""
+    """The paths from all states, each piece once, as one shape, so that a picture stays small."""
     assert run.paths is not None
     pieces = set()
     for path in run.paths:
         numbers = [number_of(state, queue) for state in path]
         for step, piece in enumerate(zip(numbers, numbers[1:])):
             pieces.add((step - run.horizon, *piece))
-    lines = [((time, begin), (time + 1, end)) for time, begin, end in sorted(pieces)]
-    axes.add_collection(matplotlib.collections.LineCollection(lines, colors=colour, lw=0.8, gid="paths"))
+    points = [point for time, begin, end in sorted(pieces) for point in ((time, begin), (time + 1, end))]
+    codes = [matplotlib.path.Path.MOVETO, matplotlib.path.Path.LINETO] * len(pieces)
+    whole = matplotlib.path.Path(points, codes)
+    axes.add_patch(matplotlib.patches.PathPatch(whole, fill=False, ec=colour, lw=0.8, gid="paths"))
 
 
 def verdict(run: Run) -> str:

@@ -1,0 +1,292 @@
+"""psi-page: the page shows what the log has, step by step, in a real browser where there is one; and refuses what
+`psi replay` does not accept."""
+
+import base64
+import hashlib
+import html.parser
+import json
+import os
+import re
+import shutil
+import subprocess
+import tomllib
+
+import pytest
+from conftest import TOP
+from plain_network import Network as Plain
+from try_plot import regions_of as regions_of_text
+
+from psi_tools import page
+from psi_tools.check_log import block
+from psi_tools.networks import Network
+from psi_tools.past import past_of
+
+NETS = (
+    "first", "tandem-blocking", "overflow", "reset", "negative-customers", "batch-arrivals", "breakdowns",
+    "longest-queue-split", "consolidation", "hyperexponential-service",
+)
+HOSTILE = (
+    "</script><script>alert(1)</script>", "<img src=x onerror=alert(1)>", '"]]>--><svg onload="alert(1)">{{DATA}}',
+)
+# Steps on through the chosen run by its button, and returns what the page shows at each time.
+WALK = """
+const [run] = arguments, at = (id) => document.getElementById(id), rows = [];
+at("run").value = run;
+at("run").dispatchEvent(new Event("change"));
+for (;;) {
+  rows.push({
+    customers: [...at("queues").rows].map((row) => row.cells[1].textContent),
+    drawn: [...document.querySelectorAll(".gauge text")].map((text) => text.textContent),
+    size: at("size").textContent, event: at("event").textContent, word: at("word").textContent,
+    fires: [...document.querySelectorAll(".fires")].map((arrow) => arrow.id),
+    checks: [...at("checks").children].map((item) => item.textContent),
+  });
+  const before = at("time").value;
+  at("next").click();
+  if (at("time").value === before) return rows;
+}
+"""
+
+
+class Elements(html.parser.HTMLParser):
+    """The names of the elements of a page, and the text of each script."""
+
+    def __init__(self, text):
+        super().__init__()
+        self.found, self.scripts = [], []
+        self.feed(text)
+
+    def handle_starttag(self, tag, attrs):
+        self.found.append((tag, dict(attrs)))
+        if tag == "script":
+            self.scripts.append("")
+
+    def handle_data(self, data):
+        if self.cdata_elem == "script":
+            self.scripts[-1] += data
+
+
+def path_of(name):
+    return TOP / f"examples/{name}.toml"
+
+
+def log_of(program, name, stream=0):
+    """The log of a sample of a network of the gallery."""
+    words = [program, "sample", path_of(name), "0", str(stream), "log"]
+    return subprocess.run(words, capture_output=True, check=True).stdout
+
+
+@pytest.fixture(scope="module")
+def pages(program):
+    """The page of a network of the gallery, and its log; each is made once."""
+    made = {}
+
+    def page_of(name, stream=0):
+        if (name, stream) not in made:
+            log, net = log_of(program, name, stream), Network.read(path_of(name))
+            made[name, stream] = page.page_of(page.runs_of(net, log, name)), log.decode()
+        return made[name, stream]
+
+    return page_of
+
+
+@pytest.fixture(scope="module")
+def browser():
+    """Headless Chromium."""
+    webdriver = pytest.importorskip("selenium.webdriver", reason="without python3-selenium no browser tries the page")
+    if not shutil.which("chromium") or not shutil.which("chromedriver"):
+        pytest.skip("without chromium and chromium-driver no browser tries the page")
+    from selenium.webdriver.chrome.service import Service
+
+    options = webdriver.ChromeOptions()
+    options.binary_location = shutil.which("chromium")
+    for word in ("--headless=new", "--no-sandbox", "--disable-gpu", "--disable-dev-shm-usage", "--window-size=1280,1000"):
+        options.add_argument(word)
+    options.set_capability("goog:loggingPrefs", {"browser": "ALL"})
+    driver = webdriver.Chrome(service=Service(shutil.which("chromedriver")), options=options)
+    driver.set_script_timeout(120)
+    yield driver
+    driver.quit()
+
+
+def opened(browser, tmp_path, text):
+    """Opens a page from disk."""
+    (tmp_path / "page.html").write_text(text)
+    browser.get((tmp_path / "page.html").as_uri())
+    return browser
+
+
+def data_of(text):
+    """The data of a page."""
+    return json.loads(Elements(text).scripts[0])
+
+
+def interval(low, high):
+    return f"{low:,}" if low == high else f"{low:,} to {high:,}"
+
+
+def states_left(size):
+    return f"{size:,} state{'s' * (size != 1)} left"
+
+
+@pytest.mark.parametrize("name", NETS)
+def test_the_page_shows_the_log(browser, pages, program, tmp_path, name):
+    """Each step of each run shows the region that the log has, or the plain follower of a run that fails, in the
+    table and in the picture; the event and its random word; and nothing is wrong on the console."""
+    text, log = pages(name)
+    opened(browser, tmp_path, text)
+    past = past_of(program, str(path_of(name)), 0, 0)
+    regions = [
+        [*zip(run.low, run.high, run.counts)] for run in past.runs[:-1]
+    ] + [[(low, high, size) for low, high, size, _ in regions_of_text(log)]]
+    for run, wanted in enumerate(regions):
+        rows = browser.execute_script(WALK, run)
+        assert len(rows) == len(wanted)
+        for row, (low, high, size) in zip(rows, wanted):
+            assert row["customers"] == row["drawn"] == [*map(interval, low, high)]
+            assert row["size"] == states_left(size)
+    hold_events(rows, name, log)
+    assert browser.get_log("browser") == []
+
+
+def hold_events(rows, name, log):
+    """The last run shows the events of the log, by their names, the random words that pick them, the arrows that
+    they have, and what replay checks."""
+    plain = Plain(tomllib.loads(path_of(name).read_text()))
+    numbers = [int(line.split()[2]) for line in log.split("\n")[6:-2]]
+    assert len(rows) == len(numbers) + 1
+    for place, (row, number) in enumerate(zip(rows[1:], numbers)):
+        time = len(numbers) - place
+        word = block(0, 0, (time - 1) // 16)[(time - 1) % 16]
+        event = plain.events[number] if number < len(plain.events) else None
+        assert row["word"].startswith(f"Random word {word:,}; modulo {plain.modulus:,} it is {word % plain.modulus:,}, ")
+        is_idle = row["event"] == "Event: idle: nothing happens"
+        assert is_idle == (event is None) == (row["fires"] == [])
+        assert f"step {time:,} before time zero" in row["checks"][0]
+    assert rows[-1]["checks"][-1].endswith(log.split("\n")[-2].removeprefix("end ") + ".")
+
+
+@pytest.mark.parametrize("name", HOSTILE)
+def test_names_are_only_text(browser, pages, tmp_path, name):
+    """A name or a title that looks like markup is shown as text, and runs nothing."""
+    log = pages("first")[1].encode()
+    table = tomllib.loads(path_of("first").read_text().replace('"a"', json.dumps(name)))
+    net = Network()
+    net.table |= {key: table[key] for key in ("queue", "event")}
+    opened(browser, tmp_path, page.page_of(page.runs_of(net, log, name)))
+    assert browser.find_element("css selector", "h1").text == name
+    assert browser.find_element("css selector", "#queues td").text == name
+    assert len(browser.find_elements("css selector", "script")) == 2
+    assert not browser.find_elements("css selector", "img, svg[onload]")
+    assert browser.get_log("browser") == []
+
+
+def test_answers_are_hidden_until_a_key_is_pressed(browser, pages, tmp_path):
+    """While answers are hidden a step shows its event and the region before it; Enter shows the region."""
+    text, log = pages("tandem-blocking")
+    opened(browser, tmp_path, text)
+    regions = [*regions_of_text(log)]
+    press = "document.dispatchEvent(new KeyboardEvent('keydown', {key: arguments[0], bubbles: true}))"
+    press = press.replace("document.dispatch", "document.body.dispatch")
+    shown = "return [...document.querySelectorAll('.gauge text')].map((text) => text.textContent)"
+    browser.execute_script(press, "h")
+    for place in range(1, 6):
+        browser.execute_script(press, "ArrowRight")
+        before = [*map(interval, *regions[place - 1][:2])]
+        assert browser.execute_script(shown) == [f"{one} → ?" for one in before]
+        assert browser.find_element("id", "question").is_displayed()
+        browser.execute_script(press, "Enter")
+        assert browser.execute_script(shown) == [*map(interval, *regions[place][:2])]
+        assert not browser.find_element("id", "question").is_displayed()
+    for key, time in (("End", len(regions) - 1), ("Home", 0), ("PageDown", 10), ("PageUp", 0)):
+        browser.execute_script(press, key)
+        assert browser.execute_script("return Number(document.getElementById('time').value)") == time
+
+
+def test_a_long_log_opens_soon(browser, pages, program, tmp_path):
+    """A page of 4,096 steps opens within a second; on a busy machine a slower one is not held against it."""
+    stream = next(
+        stream for stream in range(200)
+        if subprocess.run([program, "sample", path_of("longest-queue"), "0", str(stream)], capture_output=True,
+                          text=True).stdout.startswith("met 4096\n")
+    )
+    text, log = pages("longest-queue", stream)
+    opened(browser, tmp_path, text)
+    loaded = browser.execute_script("return performance.getEntriesByType('navigation')[0].domComplete")
+    assert len(text) < 200_000 + 3 * len(log)
+    if loaded >= 1_000 and os.getloadavg()[0] > len(os.sched_getaffinity(0)):
+        pytest.skip(f"the machine is busy; the page opened within {loaded:.0f} ms")
+    assert loaded < 1_000
+
+
+@pytest.mark.parametrize("name", ["first", "tandem-blocking", "longest-queue-split"])
+def test_the_data_are_the_log(pages, name):
+    """The last run of the data is the log, and the plain follower's run of that length is the same."""
+    text, log = pages(name)
+    data = data_of(text)
+    low, high, found = *data["runs"][-1]["begin"].get("box", (None, None)), []
+    for change in [data["runs"][-1]["begin"], *data["runs"][-1]["steps"]]:
+        if isinstance(change, dict) and "set" in change:
+            low, high = [[*map(end, zip(*change["set"]))] for end in (min, max)]
+        elif isinstance(change, dict):
+            low, high = change["box"]
+        for queue, *ends in change if isinstance(change, list) else ():
+            low, high = [*low], [*high]
+            low[queue], high[queue] = ends
+        found.append((low, high))
+    assert found == [(low, high) for low, high, *_ in regions_of_text(log)]
+    assert [len(run["steps"]) for run in data["runs"]] == [1 << power for power in range(len(data["runs"]))]
+
+
+def test_the_page_needs_nothing_else(pages):
+    """The page has its own script alone, whose hash its policy names, and no address but those of namespaces."""
+    text, _ = pages("tandem-blocking")
+    found = Elements(text)
+    own = base64.b64encode(hashlib.sha256(found.scripts[1].encode()).digest()).decode()
+    policy = next(attrs["content"] for tag, attrs in found.found if "http-equiv" in attrs)
+    assert len(found.scripts) == 2 and f"script-src 'sha256-{own}'" in policy and "default-src 'none'" in policy
+    addresses = {address for address in re.findall(r"https?://[^\"'\s)]+", text)}
+    assert {address.split("/")[2] for address in addresses} == {"www.w3.org"}
+    assert not [attrs for _, attrs in found.found if attrs.get("src") or attrs.get("href", "#")[:1] not in "#d"]
+    assert len(text) < 150_000
+
+
+@pytest.mark.parametrize("name", HOSTILE)
+def test_hostile_names_are_no_elements(pages, name):
+    """As the test in a browser, by Python's parser: a hostile name adds no element."""
+    log = pages("first")[1].encode()
+    table = tomllib.loads(path_of("first").read_text().replace('"a"', json.dumps(name)))
+    net = Network()
+    net.table |= {key: table[key] for key in ("queue", "event")}
+    found = Elements(page.page_of(page.runs_of(net, log, name)))
+    tags = [tag for tag, _ in found.found]
+    assert tags.count("script") == 2 and "img" not in tags and tags.count("svg") == 2
+    assert json.loads(found.scripts[0])["queues"][0]["name"] == name
+
+
+def test_the_command_writes_a_page(tool, tmp_path, program):
+    """The page of a sample, and that of its log, are the same bytes."""
+    (tmp_path / "own.log").write_bytes(log_of(program, "overflow"))
+    assert tool("psi-page", path_of("overflow"), "0", "0", "-o", "one.html") == (0, "", "")
+    assert tool("psi-page", path_of("overflow"), "--log", "own.log", "-o", "two.html") == (0, "", "")
+    text = (tmp_path / "one.html").read_text()
+    assert text.startswith("<!DOCTYPE html>") and text == (tmp_path / "two.html").read_text()
+
+
+def test_what_replay_does_not_accept_is_refused(tool, tmp_path, program):
+    """A changed log, one that is too long, a sample that is not coupled and wrong arguments are refused by one line,
+    and no page is written."""
+    log = log_of(program, "overflow")
+    (tmp_path / "changed.log").write_bytes(log.replace(b"seed 0", b"seed 1"))
+    with open(tmp_path / "long.log", "wb") as file:
+        file.write(log)
+        file.truncate(page.MOST_LOG + 1)
+    net, short = path_of("overflow"), path_of("short-past")
+    for words, status, said in (
+        ((net, "--log", "changed.log"), 4, "log rejected 3"), ((net, "--log", "long.log"), 2, "20,000,000 bytes"),
+        ((net, "--log", "absent.log"), 6, "can't be read"), ((short, "0", "0"), 1, "not coupled within 64"),
+        ((net, "0"), 2, "SEED and STREAM"), ((net, "0", "0", "--log", "changed.log"), 2, "--log"),
+    ):
+        found, out, err = tool("psi-page", *words, "-o", "page.html")
+        assert (found, out, err.count("\n")) == (status, "", 1) and said in err
+    assert not (tmp_path / "page.html").exists()
