@@ -32,12 +32,12 @@ def room_of(program, folder):
     (folder / "crates/psi/out/psi").symlink_to(program)
 
 
-def draw_gallery(room):
+def draw_gallery(room, env):
     """Draws each network of the gallery; returns how many cannot be drawn."""
     wrong = 0
     for net in sorted((TOP / "examples").glob("*.toml")):
         call = ["tools/psi-plot", "network", f"examples/{net.name}", "-o", f"network-{net.stem}.svg"]
-        wrong += subprocess.run(call, cwd=room).returncode != 0
+        wrong += subprocess.run(call, cwd=room, env=env).returncode != 0
     return wrong
 
 
@@ -49,11 +49,11 @@ def main():
     with tempfile.TemporaryDirectory() as name:
         room = pathlib.Path(name)
         room_of(program.resolve(), room)
+        env = {**os.environ, "PATH": f"{room}:{os.environ['PATH']}"}
         for block in BLOCK.findall(text):
             if "tools/psi-plot" in block:
-                env = {**os.environ, "PATH": f"{room}:{os.environ['PATH']}"}
                 wrong += subprocess.run(["sh", "-c", block], cwd=room, env=env).returncode != 0
-        wrong += draw_gallery(room)
+        wrong += draw_gallery(room, env)
         drawn = sorted(room.glob("*.svg"))
         for picture in drawn:
             if os.path.getsize(picture) > MOST_BYTES:

@@ -67,7 +67,7 @@ def reader() -> Words:
     words.add_argument("net", metavar="NET", help="a network file")
     words.add_argument("streams", metavar="SEED STREAM", nargs="*", help="the sample's seed and stream, 0 to 2^64 - 1")
     words.add_argument("--log", metavar="FILE", help="a log of `psi sample NET SEED STREAM log`, instead of SEED STREAM")
-    words.add_argument("-o", "--out", metavar="FILE", required=True, help="the page")
+    words.add_argument("-o", "--out", metavar="FILE", required=True, help="the page that is written, one HTML file")
     words.add_argument("-t", "--title", metavar="TITLE", default="", help="a title instead of the file's name")
     words.add_argument(
         "--psi", metavar="PSI", help="the built program; crates/psi/out/psi, or psi on the PATH, if not given"

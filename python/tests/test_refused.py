@@ -10,7 +10,7 @@ import case_files
 import pytest
 from conftest import SECONDS, TOP
 
-from psi_tools import closed, law, many, mean_values, plot, sweep, where, why
+from psi_tools import closed, law, many, mean_values, page, plot, sweep, where, why
 
 NET = TOP / "examples/single-server.toml"
 # Of each tool its work, and words that are right but for the file.
@@ -20,6 +20,7 @@ CALLS = {
     "psi-why": (why, ["{}"]),
     "psi-many": (many, ["{}", "0", "0", "2"]),
     "psi-plot": (plot, ["forward", "{}", "-o", "drawn.svg"]),
+    "psi-page": (page, ["{}", "0", "0", "-o", "drawn.html"]),
     "mean_values": (mean_values, ["{}", "1"]),
     "closed_report": (closed, ["{}", "1", "1"]),
 }
@@ -35,6 +36,7 @@ WRITES = {
     "psi-where": (where, [NET, "-o", "{}"]),
     "psi-many": (many, [NET, "0", "0", "20", "-o", "{}"]),
     "psi-plot": (plot, ["forward", NET, "-o", "{}.svg"]),
+    "psi-page": (page, [NET, "0", "0", "-o", "{}"]),
 }
 
 

@@ -20,7 +20,7 @@ RIGHT = {
     "many": ["{}", "0", "0", "20"], "plot": ["report", "{}", "-o", "p.svg"], "means": ["{}"],
     "law": ["{}", "desk", "--count", "20"],
     "sweep": ["{}", "desk.capacity=2,3", "--anyway", "--count", "20"],
-    "where": ["{}"], "why": ["{}"],
+    "where": ["{}"], "why": ["{}"], "page": ["{}", "0", "0", "-o", "p.html"],
 }
 
 
@@ -120,7 +120,7 @@ def test_a_full_disk(environment, tmp_path, name):
     words = [word.format(NET) for word in RIGHT.get(name, [])]
     words = {
         "new": ["mm1k", "--arrival", "1", "--service", "2", "--places", "3"],
-        "plot": ["--help"], "means": ["--help"],
+        "plot": ["--help"], "means": ["--help"], "page": [str(NET), "0", "0", "-o", "/dev/stdout"],
     }.get(name, words)
     with open("/dev/full", "wb") as full:
         done = subprocess.run(
