@@ -26,7 +26,7 @@ UNTRIED = {
         # What the first build takes: measured.
         ("The first call of `./psi` proves", "before anything is proved, use"),
         # `rt ci` proves and tests it.
-        ("## What is proved", "confidence intervals are common statistics."),
+        ("## What is proved", "which rest on a [theorem](docs/LAW.md#many-samples)."),
     ],
     "SECURITY.md": [
         # docs/LIMITS.md has each status, which is tried there.
