@@ -64,9 +64,10 @@ def verdict(count: int, bound: int | None) -> str:
     """What is reported of a run: that it is above its bound, has none, or is well below it."""
     if bound is None:
         return "no bound"
+    off = f"{100 * (count / bound - 1):+.1f} %"
     if count > bound * (1 + SLACK):
-        return f"above its bound, {count / bound - 1:+.1%}"
-    return f"below its bound, {count / bound - 1:+.1%}" if count < bound * (1 - SLACK) else ""
+        return f"above its bound, {off}"
+    return f"below its bound, {off}" if count < bound * (1 - SLACK) else ""
 
 
 def compare(counts: dict[str, int], level: str, bounds: dict[tuple[str, str], int]) -> int:

@@ -107,7 +107,7 @@ def growth(name: str, family: dict[str, Sampling]) -> str:
     first, *_ = family.values()
     base = first.net_seconds / first.samples
     rows = [
-        [value, f"{one.net_seconds / one.samples / base:.2g}", shown(one.steps / one.samples),
+        [value, shown(one.net_seconds / one.samples / base), shown(one.steps / one.samples),
          shown(one.net_seconds / one.steps * 1e9), shown(one.instructions)]
         for value, one in family.items()
     ]
@@ -134,13 +134,14 @@ def estimate(found: Found | None) -> str:
 
 
 def mean_table(comparisons: list[Comparison]) -> str:
-    """The table of the means that the methods found."""
+    """The table of the means that the methods found. SimPy's runs are too short for one."""
+    methods = [method for method in METHODS if method != "simpy"]
     rows = [
         [one.case.name, shown_states(one.states), estimate(one.psi),
-         *(estimate(one.others[method]) for method in METHODS)]
+         *(estimate(one.others[method]) for method in methods)]
         for one in comparisons
     ]
-    return table(["network", "states", "PSI", *(CALLED[method] for method in METHODS)], rows)
+    return table(["network", "states", "PSI", *(CALLED[method] for method in methods)], rows)
 
 
 def shown_states(count: int) -> str:
@@ -151,7 +152,8 @@ def shown_states(count: int) -> str:
 def bias_table(biases: list[Bias]) -> str:
     """The table of what a wrong warm-up gives."""
     rows = [
-        [f"{one.warm:,}", f"{one.mean:.3f} ± {one.half:.3f}", f"{one.off:+.1%}"] for one in biases
+        [f"{one.warm:,}", f"{one.mean:.3f} ± {one.half:.3f}", f"{100 * one.off:+.1f} %"]
+        for one in biases
     ]
     return table(["steps of warm-up", "mean of all runs", "off by"], rows)
 

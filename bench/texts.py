@@ -30,8 +30,11 @@ its samples is a process of its own, so the start of the program is part of the 
 PSI = """
 PSI is the tool where a chain is too large to be solved, has no product form, and nobody knows how
 long a warm-up has to be. It is also the tool where samples have to be independent, have to be the
-same again from a seed and a stream, or have to be certified by a log. It is not the tool for the
-mean of a small chain, nor for long averages of a chain whose warm-up is known.
+same again from a seed and a stream, or have to be certified by a log.
+
+It is not the tool for more than some figures of a mean, since its time grows with the square of the
+precision; for long averages of a chain whose warm-up is known; nor for the mean of a closed
+network.
 """
 ADVICE = {
     "chain": "It is the tool for long averages, where you know a warm-up that is long enough: all "
@@ -40,11 +43,11 @@ ADVICE = {
     "simpy": "It is the tool where service times are not exponential, or where the model has rules "
     "that PSI's events cannot express. It needs a warm-up as well.",
     "scipy": "It is the tool for small chains: its answer is exact up to rounding, and has the "
-    "probability of every state. Its memory and time grow with the number of states, which "
-    "multiplies with each queue.",
-    "octave": "It is the tool where the network has product form: its answer is exact and quick "
-    "for any number of queues. Blocking, finite queues, forks and index routing have no product "
-    "form in general.",
+    "probability of every state. Its time includes the start of Python, which is most of it for "
+    "the smallest networks. It grows with the number of states, which multiplies with each queue.",
+    "octave": "It is the tool where the network has product form: its answer is exact, and most of "
+    "its time is the start of Octave. Blocking, finite queues, forks and index routing have no "
+    "product form in general.",
 }
 BIAS = """
 A forward simulation begins at some state, and its user guesses when that is forgotten. Here
@@ -73,6 +76,7 @@ seed is 0 and the first stream 0, so the samples are the same on each machine. M
 greatest that was seen resident.
 """
 MEANS = """
-These means were found in the time that was measured, with half of the 95 % confidence interval.
-The run of SimPy was short: it shows that the model is the same, and has no interval.
+These means were found in the time that was measured, with half of the 95 % confidence interval. A
+mean without one is exact up to rounding. The runs in SimPy are too short for an estimate; on small
+networks the tests of this repository compare it with the solved chain.
 """

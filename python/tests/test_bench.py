@@ -173,8 +173,8 @@ def test_the_ten_networks_are_as_they_are_said_to_be():
 
 def test_verdicts_on_instructions():
     assert instructions.verdict(1_030, 1_000) == "" and instructions.verdict(970, 1_000) == ""
-    assert instructions.verdict(1_031, 1_000) == "above its bound, +3.1%"
-    assert instructions.verdict(960, 1_000) == "below its bound, -4.0%"
+    assert instructions.verdict(1_031, 1_000) == "above its bound, +3.1 %"
+    assert instructions.verdict(960, 1_000) == "below its bound, -4.0 %"
     assert instructions.verdict(1, None) == "no bound"
 
 
