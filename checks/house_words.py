@@ -23,6 +23,7 @@ PAGES = (
     ("README.md", None),
     ("SECURITY.md", None),
     ("CHANGELOG.md", "## 0.1.0"),
+    ("PERFORMANCE.md", None),
     ("docs/START.md", None),
     ("docs/NOT-SUPPORTED.md", None),
     ("docs/RELEASING.md", None),

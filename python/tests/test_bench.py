@@ -1,0 +1,215 @@
+"""The programs of bench/ that PSI is compared with: on small networks all agree with the solved
+chain."""
+
+import math
+import random
+import shutil
+import statistics
+import subprocess
+import sys
+
+import pytest
+from conftest import TOP
+
+sys.path.append(str(TOP / "bench"))
+
+import events
+import instructions
+import measure
+import networks
+import page
+import rivals
+import solve
+import solving
+from psi_tools.networks import Network
+
+HAS_SIMPY = subprocess.run(
+    [rivals.PYTHON, "-c", "import SimPy.Simulation"], capture_output=True
+).returncode == 0
+HAS_OCTAVE = shutil.which("octave-cli") and subprocess.run(
+    ["octave-cli", "--eval", "pkg load queueing"], capture_output=True
+).returncode == 0
+
+
+def small():
+    """A network with each kind of event that the programs have."""
+    net = Network().queue("a", 3, 2).queue("b", 2).queue("c", 3)
+    net.event("come", "arrival", 3, to=["a", "b"])
+    net.event("pair", "fork", 1, to=["b", "c"])
+    net.event("join", "index", 2, to=["b", "c"], table=[[0, 1], [0, 1, 2]])
+    net.event("move", "service", 2, source="a", to=["c"], full="stay")
+    net.event("drop", "service", 3, source="b", to=["c"], full="lost")
+    net.event("meet", "join", 2, source=["a", "b"], to="c")
+    net.event("leave", "service", 4, source="c")
+    return networks.watching(net, "c")
+
+
+def case_of(net, watched, total=None, has_product_form=False):
+    return networks.Case("small", "", net, watched, 100, 10, total, has_product_form)
+
+
+CASES = {
+    "open": case_of(small(), "c"),
+    "single": case_of(networks.watching(networks.one_queue(10, 4, 5), "desk"), "desk", None, True),
+    "closed": case_of(networks.central_server(6), "cpu", 6, True),
+    "ring": case_of(networks.ring(3, 3), "q1", 5),
+}
+
+
+@pytest.fixture(scope="module")
+def chain(tmp_path_factory):
+    """The plain chain, built by cargo."""
+    built = rivals.built_chain(tmp_path_factory.mktemp("chain"))
+    return built or pytest.skip("cargo is not there")
+
+
+@pytest.fixture(params=CASES)
+def case(request):
+    return CASES[request.param]
+
+
+def exact(case):
+    """The mean of the watched queue, from the plain program's events."""
+    return solving.means_of(case.net, case.total)[0][case.watched]
+
+
+def written(case, folder):
+    """The network's file, and that of the plain chain."""
+    file, plain = folder / "net.toml", folder / "chain.net"
+    case.net.write(file)
+    plain.write_text(events.text_of(case.net, case.watched, case.total))
+    return str(file), str(plain)
+
+
+def test_the_stationary_equations_have_the_mean(case):
+    mean, states = solve.mean_of(case.net, case.watched, case.total)
+    assert math.isclose(mean, exact(case), rel_tol=1e-9)
+    assert states == len(solving.law_of(case.net, case.total)[0])
+    assert states == solve.count_of(case.net.capacities, case.total)
+
+
+def test_the_iteration_has_the_mean_that_is_solved_directly(monkeypatch):
+    net = networks.line(3, 8, 1, 4, 5, "stay")
+    direct = solve.mean_of(net, "q2", None)[0]
+    monkeypatch.setattr(solve, "DIRECT", 0)
+    assert math.isclose(solve.mean_of(net, "q2", None)[0], direct, rel_tol=1e-6)
+
+
+def test_the_plain_chain_has_the_mean(case, chain, tmp_path):
+    found = rivals.by_chain(chain, written(case, tmp_path)[1], 2_000_000)
+    # Three half-widths: such an interval misses the mean once in some 370 times.
+    assert abs(found.mean - exact(case)) < 3 * found.half / rivals.T_QUANTILE * 1.5
+    assert found.half < 0.02 * exact(case)
+
+
+def test_the_plain_chain_refuses_other_texts(chain, tmp_path):
+    file = tmp_path / "chain.net"
+    for text in ("", "capacities 1\nstart 0\nwatched 1\nevent first 1 - 1 0 leave\n", "nonsense\n"):
+        file.write_text(text)
+        assert subprocess.run([chain, file, "1", "1", "0", "1", "1"]).returncode == 2
+
+
+@pytest.mark.skipif(not HAS_SIMPY, reason="python3-simpy is not there")
+def test_simpy_has_the_mean(case, tmp_path):
+    file, _ = written(case, tmp_path)
+    more = [] if case.total is None else ["--total", str(case.total)]
+    means = []
+    for seed in range(8):
+        words = [rivals.PYTHON, str(TOP / "bench/forward_simpy.py"), file, str(seed), "200", "20"]
+        done = measure.run([*words, "--watched", case.watched, *more])
+        means.append(float(done.out.split()[0]))
+    # Student's t for 7 degrees of freedom and 99.9 %.
+    half = 5.41 * statistics.stdev(means) / math.sqrt(len(means))
+    assert abs(statistics.fmean(means) - exact(case)) < half < 0.3 * exact(case)
+
+
+@pytest.mark.skipif(not HAS_OCTAVE, reason="octave-queueing is not there")
+def test_octave_has_the_mean_where_there_is_product_form(case):
+    found = rivals.by_product_form(case)
+    assert (found is not None) == case.has_product_form
+    assert found is None or math.isclose(found.mean, exact(case), rel_tol=1e-9)
+
+
+def test_psi_has_the_mean(case, program, tmp_path):
+    if case.name == "small" and case.total is None:
+        samples = 4_000
+    else:
+        samples = 200
+    found = rivals.by_psi(program, written(case, tmp_path)[0], case, samples)
+    assert abs(found.mean - exact(case)) < 1.7 * found.half < 0.5 * exact(case)
+
+
+def test_the_events_of_other_kinds_are_refused():
+    net = Network().queue("a", 2).event("clear", "negative", 1, on="a")
+    with pytest.raises(ValueError, match="no event of the kind negative"):
+        events.events_of(net)
+
+
+def test_the_time_until_the_target_grows_with_the_square_of_the_width():
+    assert math.isclose(rivals.scaled(2.0, 0.04, 0.5, 1.5), 0.5 + 4)
+    assert math.isclose(rivals.scaled(2.0, 0.01, 0.5, 1.5), 0.5 + 0.25)
+
+
+def test_a_wrong_warm_up_is_measured(chain, tmp_path):
+    mean, (none, long) = rivals.biases(chain, tmp_path, (0, 50_000), 2_000, 400)
+    # M/M/1/K by its textbook formula.
+    weights = [0.95**number for number in range(101)]
+    assert math.isclose(mean, sum(n * w for n, w in enumerate(weights)) / sum(weights))
+    assert none.mean + 3 * none.half < mean and none.off < -0.2
+    assert abs(long.mean - mean) < 2 * long.half
+
+
+def test_the_ten_networks_are_as_they_are_said_to_be():
+    cases = networks.cases()
+    assert len(cases) == len({case.name for case in cases}) == 10
+    sizes = [len(case.net.queues) for case in cases]
+    assert min(sizes) == 1 and max(sizes) == 32
+    for family in networks.growing().values():
+        assert len({case.name for case in family.values()}) == len(family)
+    counts = [sum(net.servers_of(event) for event in net.table["event"])
+              for net in (case.net for case in networks.growing()["events"].values())]
+    assert counts == [10, 100, 1_000]
+
+
+def test_verdicts_on_instructions():
+    assert instructions.verdict(1_030, 1_000) == "" and instructions.verdict(970, 1_000) == ""
+    assert instructions.verdict(1_031, 1_000) == "above its bound, +3.1 %"
+    assert instructions.verdict(960, 1_000) == "below its bound, -4.0 %"
+    assert instructions.verdict(1, None) == "no bound"
+
+
+def test_a_run_above_its_bound_or_without_one_is_a_fault(capsys):
+    bounds = {("x86-64", "one"): 100, ("x86-64", "two"): 100}
+    assert instructions.compare({"one": 100, "two": 104, "three": 1}, "x86-64", bounds) == 2
+    assert capsys.readouterr().out.splitlines()[-1] == "1 runs within their bounds, 2 above"
+
+
+def test_every_run_has_a_bound_for_its_level():
+    bounds = instructions.read_bounds()
+    levels = {level for level, _ in bounds}
+    assert levels and set(bounds) == {(lv, name) for lv in levels for name in instructions.RUNS}
+
+
+def found(seconds):
+    return rivals.Found(1.0, 0.01, seconds, seconds)
+
+
+def test_the_page_names_where_a_method_takes_less_time():
+    others = {"chain": found(1), "simpy": found(40), "scipy": None, "octave": None}
+    one = page.Comparison(CASES["open"], 48, found(2), others)
+    said = page.where_right([one])
+    assert "**plain chain**: less time than PSI on small. " in said
+    assert "**SimPy**: more on small. " in said and "**octave-queueing**: not measured" in said
+    assert page.time_table([one]).splitlines()[-1] == "| small | 0.50 | 20.0 | - | - | 2.00 |"
+
+
+def test_numbers_are_shown_in_two_or_three_figures():
+    shown = [page.shown(value) for value in (12_345, 123, 45.67, 1.234, 0.1234, 0.01234, None)]
+    assert shown == ["12,000", "120", "45.7", "1.23", "0.12", "0.01", "-"]
+
+
+def test_the_samples_of_a_seed_are_the_same(program, tmp_path):
+    file, _ = written(CASES["open"], tmp_path)
+    streams = random.Random(1).sample(range(1_000), 2)
+    outs = [measure.run([program, "report", file, "0", str(streams[0]), "50"]).out for _ in "ab"]
+    assert outs[0] == outs[1] and measure.steps_of(outs[0]) >= 50
