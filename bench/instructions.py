@@ -32,6 +32,7 @@ RUNS = {
     "replay-forks": ("forks", "replay {net} {log}"),
 }
 HEAD = "# Instructions by callgrind, which `bench/instructions.py PSI --write` writes.\n"
+KIT = "# Made with "
 
 
 def read_bounds() -> dict[tuple[str, str], int]:
@@ -41,10 +42,23 @@ def read_bounds() -> dict[tuple[str, str], int]:
     return {(level, name): int(count) for level, name, count in rows}
 
 
+def kit() -> str:
+    """The toolchain's kit, as `rt version` prints it; nothing where there is no `rt`."""
+    if not shutil.which("rt"):
+        return ""
+    return measure.run(["rt", "version"]).out.strip()
+
+
+def kit_of_bounds() -> str:
+    """The kit that made the programs whose instructions the bounds are."""
+    lines = BOUNDS.read_text().splitlines() if BOUNDS.exists() else []
+    return next((line.removeprefix(KIT) for line in lines if line.startswith(KIT)), "")
+
+
 def write_bounds(bounds: dict[tuple[str, str], int]) -> None:
-    """Writes the bounds, in the order of levels and of runs."""
+    """Writes the bounds, in the order of levels and of runs, with the kit that is there."""
     rows = sorted(bounds, key=lambda row: (row[0], [*RUNS].index(row[1])))
-    BOUNDS.write_text(HEAD + "".join(f"{lv} {name} {bounds[lv, name]}\n" for lv, name in rows))
+    BOUNDS.write_text(f"{HEAD}{KIT}{kit()}\n" + "".join(f"{lv} {name} {bounds[lv, name]}\n" for lv, name in rows))
 
 
 def calls_of(program: str, folder: pathlib.Path) -> dict[str, list[str]]:
@@ -89,6 +103,9 @@ def main() -> int:
     if not shutil.which("valgrind") or not shutil.which("objdump"):
         print("instructions: valgrind or objdump is not there", file=sys.stderr)
         return 2
+    if not given.write and kit() != kit_of_bounds():
+        print(f"the bounds were made with {kit_of_bounds()}, not with {kit() or 'this toolchain'}: nothing is compared")
+        return 0
     program = str(pathlib.Path(given.program).resolve())
     level, bounds = measure.level(program), read_bounds()
     with tempfile.TemporaryDirectory() as folder:
