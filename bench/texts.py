@@ -6,8 +6,14 @@ the same answer. Read it before you choose a method. `bench/run` measures everyt
 page.
 
 Compare ratios, not seconds. The machine may have been busy, as its load at the end of this page
-shows: each time of PSI is the least processor time of {rounds} runs, and the runs of all networks
-take turns. Instructions are counted by callgrind, and do not depend on what else runs.
+shows. Two kinds of times stand here:
+
+- The times of samples, and of how they grow, are the least processor times of {rounds} runs. The
+runs of all networks of a table take turns.
+- The times beside other methods are of single runs. On a busy machine read those ratios as orders
+of magnitude.
+
+Instructions are counted by callgrind, and hardly depend on what else runs.
 """
 COMPARED = """
 Every method finds the mean length of one queue within 1 % of itself, at a confidence level of 95 %.
