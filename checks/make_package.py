@@ -50,7 +50,7 @@ TOOLS = (
 )
 # The folders of python/ that are packed.
 MODULES = "psi", "psi_tools"
-DOCUMENTS = "README.md", "CITATION.cff", "SECURITY.md", "docs"
+DOCUMENTS = "README.md", "CITATION.cff", "SECURITY.md", "PERFORMANCE.md", "docs"
 DEPENDS = (
     "python3 (>= 3.11)", "python3-numpy", "python3-scipy", "python3-pandas", "python3-matplotlib",
     "parallel", "graphviz",
