@@ -23,7 +23,7 @@ UNTRIED = {
         ("**Speed.** Until a mean", "(measured once)."),
         # Two machines have them.
         ("The kits `rattle-kit-13b`", "are known to work."),
-        # What the first build takes: measured.
+        # What the first build takes: a plan, from builds that were seen with other work beside them.
         ("The first call of `./psi` proves", "before anything is proved, use"),
         # `rt ci` proves and tests it.
         ("## What is proved", "which rest on a [theorem](docs/LAW.md#many-samples)."),

@@ -164,7 +164,7 @@ def try_failures(tried, trial):
 
 
 def played(schedule, true_seconds):
-    """Plays a build through, and returns its length and, for each moment at which progress is told,
+    """Plays a build through, and returns its length and, for each moment at which progress is reported,
     the seconds until then and the time left that would be told."""
     waiting, done, jobs, so_far, told = [*schedule.crates.names], set(), {}, {}, []
     pace, clock, tick = Pace(schedule.costs), 0.0, 60
