@@ -9,8 +9,8 @@ use Rattle.psi_state.specs.Ascending.{IsRising}
 use Rattle.psi_state.proofs.MembersLemmas.{In-map, In-of_map, In-flat_map, In-of_flat_map, In-numbers_from, In-of_numbers_from}
 use Rattle.psi_state.proofs.BoxesLemmas.{In-all_states, In-of_all_states}
 use Rattle.psi_state.proofs.AscendingLemmas.{box-rising}
-use Rattle.psi_arcs.specs.declared.ends.Arc.{Arc}
-use Rattle.psi_arcs.specs.Walks.{customers, IsArc}
+use Rattle.psi_closed_arcs.specs.declared.ends.Arc.{Arc}
+use Rattle.psi_closed_arcs.specs.Walks.{customers, IsArc}
 use Rattle.psi_closed.specs.Closed.{IsOfTotal, total_states, arc_at, arcs_of, all_arcs, is_same, has_arc, held_states}
 use Rattle.psi_closed.proofs.ListsLemmas.{In-filter, In-of_filter, filter-agree, filter-rising, list_all-true, list_all-each, list_any-found, list_any-some, same-bool}
 

@@ -9,17 +9,17 @@ use Rattle.psi_state.proofs.BoxesLemmas.{below-cons}
 use Rattle.psi_state.specs.Members.{In}
 use Rattle.psi_state.specs.Sets.{image}
 use Rattle.psi_state.proofs.SetsLemmas.{In-image, In-of_image}
-use Rattle.psi_arcs.specs.declared.ends.Arc.{Arc}
-use Rattle.psi_arcs.specs.Walks.{customers, Held, IsArc, Useful}
-use Rattle.psi_arcs.specs.Held.{ArcList, Listed, IsAny}
-use Rattle.psi_arcs.specs.Joining.{Joined}
+use Rattle.psi_closed_arcs.specs.declared.ends.Arc.{Arc}
+use Rattle.psi_closed_arcs.specs.Walks.{customers, Held, IsArc, Useful}
+use Rattle.psi_closed_arcs.specs.Held.{ArcList, Listed, IsAny}
+use Rattle.psi_closed_arcs.specs.Joining.{Joined}
 use Rattle.psi_kinds.specs.declared.moves.Move.{Move}
 use Rattle.psi_kinds.specs.Moves.{moved, IsMove}
 use Rattle.psi_closed.specs.Closed.{IsOfTotal, total_states, all_arcs, has_arc, held_states, arc_hull, each_once, arc_count}
 use Rattle.psi_closed.specs.Diagram.{Shown, IsTotal, AreWhole, IsDiagram, AreArcsOf}
 use Rattle.psi_closed.proofs.ArcsLemmas.{arc, has_arc-member, member-has_arc, In-all_arcs, In-of_all_arcs, In-total_states, In-of_total_states, In-held, In-of_held, held-agree}
 use Rattle.psi_closed.proofs.WalksLemmas.{held-total, held-each, held-of}
-use Rattle.psi_arcs.proofs.WalksLemmas.{useful-held, held-useful}
+use Rattle.psi_closed_arcs.proofs.WalksLemmas.{useful-held, held-useful}
 use Rattle.psi_closed.proofs.MovesLemmas.{moved-keeps}
 use Rattle.psi_closed.proofs.JoiningLemmas.{joined-moved, moved-joined}
 use Rattle.psi_closed.proofs.HullLemmas.{hull-has}

@@ -6,7 +6,7 @@ use Rattle.psi_state.specs.Sets.{image}
 use Rattle.psi_state.specs.Ascending.{IsRising}
 use Rattle.psi_state.proofs.SetsLemmas.{In-image, In-of_image}
 use Rattle.psi_state.proofs.AscendingLemmas.{rising-same, image-identity}
-use Rattle.psi_arcs.specs.Walks.{IsArc}
+use Rattle.psi_closed_arcs.specs.Walks.{IsArc}
 use Rattle.psi_closed.specs.Closed.{IsOfTotal, total_states, all_arcs, arc_hull, IsHull}
 use Rattle.psi_closed.proofs.ArcsLemmas.{arc, In-all_arcs, In-of_all_arcs, In-total_states, In-of_total_states, total_states-rising, In-held, In-of_held, held-rising}
 

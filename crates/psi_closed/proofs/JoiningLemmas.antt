@@ -2,12 +2,12 @@
 use Rattle.std.specs.Prelude.{◌≡◌, ℕ, ◌+◌, ◌<◌, ◌≤◌, List, length, take, slice_index, refl}
 use Rattle.std.proofs.Common.{inl, inr, sym, subst, arith}
 use Rattle.std.proofs.lemmas.Bool.{cases_lt}
-use Rattle.psi_arcs.specs.Walks.{customers, Held, IsArc, Useful}
-use Rattle.psi_arcs.specs.Joining.{past, here, Only, IsChanging, IsShort, IsFull, HasShifted, Joined}
+use Rattle.psi_closed_arcs.specs.Walks.{customers, Held, IsArc, Useful}
+use Rattle.psi_closed_arcs.specs.Joining.{past, here, Only, IsChanging, IsShort, IsFull, HasShifted, Joined}
 use Rattle.psi_kinds.specs.declared.moves.Move.{Move}
 use Rattle.psi_kinds.specs.Moves.{moved, IsMove}
 use Rattle.psi_closed.proofs.WalksLemmas.{held-each, held-map}
-use Rattle.psi_arcs.proofs.WalksLemmas.{useful-held, held-useful}
+use Rattle.psi_closed_arcs.proofs.WalksLemmas.{useful-held, held-useful}
 use Rattle.psi_closed.proofs.MovesLemmas.{changed, moved-changed, moved-short, moved-full, length-changed, sums-changed, owns-changed}
 
 own-arc : (x : List ℕ) (l : ℕ) → l < length x → IsArc x l (customers (take l x)) (slice_index x l)

@@ -4,8 +4,8 @@ use Rattle.std.proofs.Common.{inl, inr, ap, sym, ◌∙◌, subst, arith, get_or
 use Rattle.std.proofs.lemmas.List.{take-set-le}
 use Rattle.std.proofs.lemmas.Bool.{cases_lt, lt-ltb, le-leb, le-ltb, lt-leb, and_left, and_right, and_from, eq-eqb, ne_eqb, cases_eq}
 use Rattle.psi_state.proofs.BoxesLemmas.{set-below}
-use Rattle.psi_arcs.specs.Walks.{customers}
-use Rattle.psi_arcs.specs.Joining.{past, here}
+use Rattle.psi_closed_arcs.specs.Walks.{customers}
+use Rattle.psi_closed_arcs.specs.Joining.{past, here}
 use Rattle.psi_kinds.specs.declared.moves.Move.{Move}
 use Rattle.psi_kinds.specs.Moves.{moved, IsMove}
 use Rattle.psi_closed.specs.Closed.{IsOfTotal}

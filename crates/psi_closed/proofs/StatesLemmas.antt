@@ -7,9 +7,9 @@ use Rattle.psi_state.specs.Sets.{single}
 use Rattle.psi_state.proofs.MembersLemmas.{In-append, In-append_left, In-append_right}
 use Rattle.psi_state.proofs.BoxesLemmas.{same-from_below}
 use Rattle.psi_state.proofs.SetsLemmas.{single-apart}
-use Rattle.psi_arcs.specs.declared.ends.Arc.{Arc}
-use Rattle.psi_arcs.specs.Walks.{customers, Held, IsArc}
-use Rattle.psi_arcs.specs.Held.{Listed, IsThis, IsFirst}
+use Rattle.psi_closed_arcs.specs.declared.ends.Arc.{Arc}
+use Rattle.psi_closed_arcs.specs.Walks.{customers, Held, IsArc}
+use Rattle.psi_closed_arcs.specs.Held.{Listed, IsThis, IsFirst}
 use Rattle.psi_closed.specs.Closed.{all_arcs, held_states}
 use Rattle.psi_closed.specs.Diagram.{AreWhole, IsOnly, IsForked}
 use Rattle.psi_closed.proofs.ArcsLemmas.{arc, In-all_arcs, In-of_all_arcs, In-of_held, held-rising}

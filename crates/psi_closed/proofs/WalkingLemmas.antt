@@ -9,7 +9,7 @@ use Rattle.psi_state.specs.Sets.{image, single}
 use Rattle.psi_state.proofs.BoxesLemmas.{same-from_below}
 use Rattle.psi_kinds.specs.declared.moves.Move.{Move}
 use Rattle.psi_kinds.specs.Moves.{moved}
-use Rattle.psi_arcs.specs.Walks.{customers, IsArc}
+use Rattle.psi_closed_arcs.specs.Walks.{customers, IsArc}
 use Rattle.psi_closed.specs.Closed.{IsOfTotal, all_arcs, arc_hull, follow_closed, walk_of}
 use Rattle.psi_closed.specs.Planned.{AreMoves}
 use Rattle.psi_closed.proofs.ArcsLemmas.{arc, In-of_all_arcs, held-rising}

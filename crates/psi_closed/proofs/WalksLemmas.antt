@@ -1,8 +1,8 @@
 -- A state is held by a set of arcs exactly where each of its arcs is one of them.
 use Rattle.std.specs.Prelude.{◌≡◌, ℕ, suc, ◌+◌, ◌<◌, List, [], ◌∷◌, length, take, slice_index, refl}
 use Rattle.std.proofs.Common.{subst, arith}
-use Rattle.psi_arcs.proofs.WalksLemmas.{walk-at, walk-sum}
-use Rattle.psi_arcs.specs.Walks.{customers, Walk, Held, IsArc}
+use Rattle.psi_closed_arcs.proofs.WalksLemmas.{walk-at, walk-sum}
+use Rattle.psi_closed_arcs.specs.Walks.{customers, Walk, Held, IsArc}
 
 -- a set of arcs that is the same at numbers that are
 pub along : (A : ℕ → ℕ → ℕ → Type 0) (i j s t v w : ℕ) → i ≡ j → s ≡ t → v ≡ w → A i s v → A j t w

@@ -9,8 +9,8 @@ use Rattle.psi_state.specs.State.{IsBelow, numbers_from, all_states}
 use Rattle.psi_state.specs.Members.{AreAmong}
 use Rattle.psi_state.specs.Sets.{image, single}
 use Rattle.psi_rate.specs.Composition.{Functions}
-use Rattle.psi_arcs.specs.declared.ends.Arc.{Arc}
-use Rattle.psi_arcs.specs.Walks.{customers}
+use Rattle.psi_closed_arcs.specs.declared.ends.Arc.{Arc}
+use Rattle.psi_closed_arcs.specs.Walks.{customers}
 
 -- a state of the capacities that holds k customers
 pub record IsOfTotal (caps : List ℕ) (k : ℕ) (x : List ℕ) : Type 0 where

@@ -2,9 +2,9 @@
 use Rattle.std.specs.Prelude.{◌≡◌, ◌≢◌, ℕ, ◌≤◌, List, length}
 use Rattle.psi_state.specs.State.{AreCapacities}
 use Rattle.psi_state.specs.Members.{In}
-use Rattle.psi_arcs.specs.declared.ends.Arc.{Arc}
-use Rattle.psi_arcs.specs.Walks.{customers, IsArc}
-use Rattle.psi_arcs.specs.Held.{ArcList, Listed}
+use Rattle.psi_closed_arcs.specs.declared.ends.Arc.{Arc}
+use Rattle.psi_closed_arcs.specs.Walks.{customers, IsArc}
+use Rattle.psi_closed_arcs.specs.Held.{ArcList, Listed}
 use Rattle.psi_closed.specs.Closed.{IsOfTotal, all_arcs, held_states}
 
 -- the capacities, the number of customers in all, and the states that the diagram holds

@@ -3,12 +3,12 @@
 ghost use Rattle.std.specs.Prelude.{◌≡◌, ℕ, ◌+◌, ◌<◌, ◌≤◌, ◌↔◌, ◌⊎◌, List, [], IsTrue, Some, None, MatchOption, length};
 ghost use Rattle.psi_state.specs.Members.{In};
 ghost use Rattle.psi_state.specs.Sets.{single};
-ghost use Rattle.psi_arcs.specs.Walks.{Held, IsArc};
-ghost use Rattle.psi_arcs.specs.Held.{Listed};
+ghost use Rattle.psi_closed_arcs.specs.Walks.{Held, IsArc};
+ghost use Rattle.psi_closed_arcs.specs.Held.{Listed};
 ghost use Rattle.psi_closed.specs.Closed.{IsOfTotal, total_states, all_arcs, held_states};
 ghost use Rattle.psi_closed.specs.Diagram.{AreWhole, AreArcsOf, HasRoom, IsLeft, IsOnly, IsForked};
 
-use psi_arcs::{Arc, Arcs, Reach};
+use psi_closed_arcs::{Arc, Arcs, Reach};
 use psi_state::State;
 
 // The arcs of all states of the total.

@@ -10,7 +10,7 @@ ghost use Rattle.psi_closed.specs.Diagram.{IsTotal};
 
 use crate::OutOfMemory;
 use crate::arcs::{is_walk, only_state, put_all, put_states};
-use psi_arcs::{Arcs, Reach};
+use psi_closed_arcs::{Arcs, Reach};
 use psi_kinds::Move;
 use psi_state::State;
 use std::alloc::Global;

@@ -97,6 +97,14 @@ impl<'n, P: Past + Drop> ClosedPlan<'n, P> {
         })
     }
 
+    /// Takes other words for the next samples. The network and the number of its customers stay. It does not allocate.
+    pub fn replace(&mut self, past: P)
+        ensures { self.new ≡ record self.old { past = past } }
+    {
+        self.past = past;
+        self.numbers.clear();
+    }
+
     /// The sample: the least horizon among 1, 2, 4, .., 2 to the power `limit` whose closed run ends with one state,
     /// with that state, which is within the capacities and holds the total. Every state that holds the total and
     /// starts there or earlier is in it at time zero. It isn't met exactly where none of these runs ends with one

@@ -3,3 +3,4 @@ pub mod Command
 pub mod Words
 pub mod Request
 pub mod Status
+pub mod Tables

@@ -27,7 +27,7 @@ greatest_number = 18446744073709551615
 -- missing, isn't what must stand there, or is one too many. What must stand at a place may depend on the words before it.
 
 -- where something is read of the word at this place, what follows is judged for it; where nothing is, the word is missing or wrong
-abbrev pub or_offends : {A : Type 0} → Option A → (A → ℕ → List (List ℕ) → Result Command ℕ) → ℕ → List (List ℕ) → Result Command ℕ
+abbrev pub or_offends : {A B : Type 0} → Option A → (A → ℕ → List (List ℕ) → Result B ℕ) → ℕ → List (List ℕ) → Result B ℕ
 or_offends None next place words = Err place
 or_offends (Some read) next place words = next read (place + 1) (drop 1 words)
 
@@ -47,11 +47,11 @@ is_over [] = true
 is_over (word ∷ words) = false
 
 -- at this place any word must stand
-abbrev pub text_word : (List ℕ → ℕ → List (List ℕ) → Result Command ℕ) → ℕ → List (List ℕ) → Result Command ℕ
+abbrev pub text_word : {B : Type 0} → (List ℕ → ℕ → List (List ℕ) → Result B ℕ) → ℕ → List (List ℕ) → Result B ℕ
 text_word next place words = or_offends (first_text words) next place words
 
 -- at this place a number of at most `most` must stand
-abbrev pub number_word : ℕ → (ℕ → ℕ → List (List ℕ) → Result Command ℕ) → ℕ → List (List ℕ) → Result Command ℕ
+abbrev pub number_word : {B : Type 0} → ℕ → (ℕ → ℕ → List (List ℕ) → Result B ℕ) → ℕ → List (List ℕ) → Result B ℕ
 number_word most next place words = or_offends (number_in most (first_text words)) next place words
 
 -- whether so many streams can follow one another from the first on: at least one, and the last of them is a stream
@@ -63,9 +63,9 @@ abbrev pub counted : ℕ → Option ℕ → Option ℕ
 counted first None = None
 counted first (Some count) = if is_count first count then Some count else None
 
--- at this place a number of streams from the first on must stand, at most 65,536
-abbrev pub count_word : ℕ → (ℕ → ℕ → List (List ℕ) → Result Command ℕ) → ℕ → List (List ℕ) → Result Command ℕ
-count_word first next place words = or_offends (counted first (number_in 65536 (first_text words))) next place words
+-- at this place a number of streams from the first on must stand, at most `most`
+abbrev pub count_word : {B : Type 0} → (most first : ℕ) → (ℕ → ℕ → List (List ℕ) → Result B ℕ) → ℕ → List (List ℕ) → Result B ℕ
+count_word most first next place words = or_offends (counted first (number_in most (first_text words))) next place words
 
 -- whether a word is left: none is, or this one is the first; another offends
 abbrev pub follows : List ℕ → List (List ℕ) → Option Bool
@@ -73,12 +73,12 @@ follows last [] = Some false
 follows last (word ∷ words) = if bytes_eq word last then Some true else None
 
 -- at this place this word may stand, or none
-abbrev pub last_word : List ℕ → (Bool → ℕ → List (List ℕ) → Result Command ℕ) → ℕ → List (List ℕ) → Result Command ℕ
+abbrev pub last_word : {B : Type 0} → List ℕ → (Bool → ℕ → List (List ℕ) → Result B ℕ) → ℕ → List (List ℕ) → Result B ℕ
 last_word last next place words = or_offends (follows last words) next place words
 
 -- at this place no word may stand: one that does is one too many
-abbrev pub no_word : Command → ℕ → List (List ℕ) → Result Command ℕ
-no_word command place words = if is_over words then Ok command else Err place
+abbrev pub no_word : {B : Type 0} → B → ℕ → List (List ℕ) → Result B ℕ
+no_word asked place words = if is_over words then Ok asked else Err place
 
 -- a sample, or its log
 abbrev pub sampling : (net : List ℕ) (seed stream : ℕ) → Bool → Command
@@ -97,7 +97,7 @@ check_words = text_word (λ net. no_word (check net))
 -- the words of a report after the first: NET, SEED, FIRST and COUNT
 abbrev pub report_words : ℕ → List (List ℕ) → Result Command ℕ
 report_words =
-    text_word (λ net. number_word greatest_number (λ seed. number_word greatest_number (λ first. count_word first (λ count. no_word (report net seed first count)))))
+    text_word (λ net. number_word greatest_number (λ seed. number_word greatest_number (λ first. count_word 65536 first (λ count. no_word (report net seed first count)))))
 
 -- the words of a trial after the first: NUMBER
 abbrev pub trial_words : ℕ → List (List ℕ) → Result Command ℕ

@@ -1,8 +1,11 @@
-//! What the program can be asked for: its commands, the words that ask for them, and the statuses of the answers.
+//! What the programs can be asked for: the commands of `psi`, the words that ask for them, and the statuses of the
+//! answers; and the words of `psi_states`, which ask for a table of samples.
 #![tactic(auto)]
 
 mod status;
+mod table;
 mod words;
 
 pub use status::Status;
+pub use table::{Table, table_of};
 pub use words::{Question, Request, command_of};

@@ -4,7 +4,7 @@ ghost use Rattle.std.specs.Prelude.{◌≡◌, ◌+◌, ◌<◌, map, string_byt
 ghost use Rattle.psi_command.specs.Words.{sample_words, check_words, report_words, trial_words, couple_words, reward_words, exact_words, closed_words, replay_words, command_of};
 ghost use Rattle.psi_command.specs.Request.{GivesCommand, AsksInRange};
 
-mod cursor;
+pub(crate) mod cursor;
 mod numeral;
 
 use cursor::Cursor;
@@ -137,7 +137,7 @@ fn report_of<'w>(words: &mut Cursor<'w>) -> Result<Request<'w>, u8>
     let net = words.next_text()?;
     let seed = words.next_number(u64::MAX)?;
     let first = words.next_number(u64::MAX)?;
-    let count = words.next_count(first)?;
+    let count = words.next_count(65_536, first)?;
     words.finish()?;
     let question = Question::Report { seed, first, count };
     Ok(Request::About { net, question })

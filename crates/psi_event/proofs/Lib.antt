@@ -3,3 +3,4 @@ pub mod ChoiceLemmas
 pub mod IdleLemmas
 pub mod LawLemmas
 pub mod NumbersLemmas
+pub mod TestingLemmas

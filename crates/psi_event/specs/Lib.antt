@@ -4,3 +4,5 @@ pub mod Numbers
 pub mod Choice
 pub mod Idle
 pub mod IdleLaws
+pub mod SidesKept
+pub mod Piecewise

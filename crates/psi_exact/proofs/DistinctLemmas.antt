@@ -9,8 +9,8 @@ use Rattle.psi_state.specs.Sets.{ascending, insert_state}
 use Rattle.psi_state.proofs.SetsLemmas.{In-insert_state, In-of_insert_state, In-ascending, In-of_ascending}
 use Rattle.psi_state.specs.Ascending.{IsRising}
 use Rattle.psi_state.proofs.AscendingLemmas.{ascending-rising, insert_state-rising, rising-same, length-insert_state}
-use Rattle.psi_ranks.specs.Ranks.{state_at}
-use Rattle.psi_ranks.proofs.PlacesLemmas.{In-place, state_at-apart}
+use Rattle.psi_exact.specs.Ranks.{state_at}
+use Rattle.psi_exact.proofs.PlacesLemmas.{In-place, state_at-apart}
 use Rattle.psi_exact.specs.TableKept.{AreRanks}
 use Rattle.psi_exact.specs.Distinct.{stands, distinct_count}
 

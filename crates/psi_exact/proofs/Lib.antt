@@ -1,9 +1,14 @@
 -- The lemmas of this crate.
+pub mod PlacesLemmas
+pub mod WalkLemmas
+pub mod VisitsLemmas
+pub mod DigitsLemmas
+pub mod AlikeLemmas
+pub mod SpreadLemmas
 pub mod TablesLemmas
 pub mod SentLemmas
 pub mod DistinctLemmas
-pub mod MovesLemmas
-pub mod ShiftsLemmas
+pub mod ImagesLemmas
 pub mod SizesLemmas
 pub mod SurveysLemmas
 pub mod RegionsLemmas

@@ -3,9 +3,9 @@ use Rattle.std.specs.Prelude.{◌≡◌, ℕ, ◌<◌, List, slice_get, slice_in
 use Rattle.std.proofs.Common.{ap, sym, ◌∙◌, subst, arith}
 use Rattle.std.proofs.lemmas.List.{get_or_default}
 use Rattle.psi_state.specs.State.{Corners, IsBelow, box}
-use Rattle.psi_ranks.specs.Ranks.{rank_of, state_at}
-use Rattle.psi_ranks.proofs.PlacesLemmas.{state_at-below}
-use Rattle.psi_ranks.proofs.WalkLemmas.{whole, rank-whole}
+use Rattle.psi_exact.specs.Ranks.{rank_of, state_at}
+use Rattle.psi_exact.proofs.PlacesLemmas.{state_at-below}
+use Rattle.psi_exact.proofs.WalkLemmas.{whole, rank-whole}
 use Rattle.psi_exact.specs.Mapping.{sends}
 use Rattle.psi_exact.specs.TableKept.{table_of, AreRanks}
 use Rattle.psi_exact.proofs.TablesLemmas.{sends-table_of}

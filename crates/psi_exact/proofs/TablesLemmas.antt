@@ -10,8 +10,8 @@ use Rattle.psi_state.specs.Sets.{ascending, image, single}
 use Rattle.psi_state.proofs.SetsLemmas.{In-image, single-image, single-apart}
 use Rattle.psi_state.proofs.AscendingLemmas.{image-agree}
 use Rattle.psi_event.specs.Law.{IsClosed}
-use Rattle.psi_ranks.specs.Ranks.{rank_of, state_at, AreRanksOf}
-use Rattle.psi_ranks.proofs.PlacesLemmas.{state_at-rank_of, rank_of-small, state_at-below, state_at-member, state_at-apart, rank_of-state_at}
+use Rattle.psi_exact.specs.Ranks.{rank_of, state_at, AreRanksOf}
+use Rattle.psi_exact.proofs.PlacesLemmas.{state_at-rank_of, rank_of-small, state_at-below, state_at-member, state_at-apart, rank_of-state_at}
 use Rattle.psi_exact.specs.Mapping.{Mapped, map_of, sends, IsMapOf}
 use Rattle.psi_exact.specs.TableKept.{table_of, AreRanks}
 use Rattle.psi_exact.specs.Distinct.{AreAll, AreMixed}

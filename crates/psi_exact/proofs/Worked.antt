@@ -4,7 +4,7 @@ use Rattle.psi_rate.specs.Rates.{least_power, event_of}
 use Rattle.psi_rate.specs.Composition.{function_at, compose}
 use Rattle.psi_rate.specs.Least.{least_answer}
 use Rattle.psi_rate.specs.Outcomes.{meeting_at}
-use Rattle.psi_ranks.specs.Ranks.{rank_of}
+use Rattle.psi_exact.specs.Ranks.{rank_of, state_at}
 use Rattle.psi_exact.specs.declared.answers.Meeting.TheVariants.{Constant, NotConstant}
 use Rattle.psi_exact.specs.Mapping.{Mapped, map_of, sends}
 use Rattle.psi_exact.specs.Distinct.{distinct_count}
@@ -60,3 +60,15 @@ sent_to_one = refl
 -- three different numbers of five
 three_of_five : distinct_count (4 ∷ 7 ∷ 4 ∷ 0 ∷ 7 ∷ []) ≡ 3
 three_of_five = refl
+
+-- two queues with room for one and for two customers: 00, 01, 02, 10, 11, 12
+abbrev two_caps : List ℕ
+two_caps = 1 ∷ 2 ∷ []
+
+rank_of_fourth : rank_of two_caps (1 ∷ 0 ∷ []) ≡ 3
+unfolding rank_of
+rank_of_fourth = refl
+
+state_of_rank_five : state_at two_caps 5 ≡ 1 ∷ 2 ∷ []
+unfolding state_at
+state_of_rank_five = refl

@@ -1,7 +1,7 @@
 -- Maps of the states of given capacities.
 use Rattle.std.specs.Prelude.{◌≡◌, ℕ, List, [], map, slice_index_or}
 use Rattle.psi_state.specs.State.{IsBelow, all_states}
-use Rattle.psi_ranks.specs.Ranks.{rank_of}
+use Rattle.psi_exact.specs.Ranks.{rank_of}
 
 -- a map of the states within these capacities: the states that they are sent to, in the order of the list of all states
 pub record Mapped : Type 0 where

@@ -1,7 +1,7 @@
 -- A map of states kept as a table of ranks.
 use Rattle.std.specs.Prelude.{◌≡◌, ℕ, ◌<◌, ◌≤◌, List, length, map, slice_index}
 use Rattle.psi_state.specs.State.{all_states}
-use Rattle.psi_ranks.specs.Ranks.{state_at}
+use Rattle.psi_exact.specs.Ranks.{state_at}
 use Rattle.psi_exact.specs.Mapping.{Mapped}
 
 -- the map of a table, which has for the rank of each state the rank of the state that it is sent to

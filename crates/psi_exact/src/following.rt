@@ -6,13 +6,13 @@ ghost use Rattle.psi_rate.specs.Composition.{compose, picked, system_functions};
 ghost use Rattle.psi_rate.specs.Least.{TellsLeast};
 ghost use Rattle.psi_rate.specs.Outcomes.{meeting_at};
 ghost use Rattle.psi_exact.specs.Mapping.{map_of};
-ghost use Rattle.psi_exact.specs.ImagesKept.{AreImageRows, AreLearned};
+ghost use Rattle.psi_exact.specs.ImagesKept.{AreImages, AreLearned};
 ghost use Rattle.psi_exact.specs.Sizes.{image_sizes};
 ghost use Rattle.psi_exact.specs.Surveys.{meeting_of, meeting_within, IsMeeting, ReachesMeeting, MeetsBelow};
 
 use crate::answers::{Meeting, Survey};
+use crate::learned::LearnedImages;
 use crate::map_table::MapTable;
-use crate::moves::{ImageRows, wide_for};
 use crate::sizes::Sizes;
 use crate::table::Table;
 use psi_event::EventLaw;
@@ -51,40 +51,30 @@ pub fn survey<E: EventLaw, P: Past>(
 {
     // Called for its clause: the events are of the system's capacities.
     let _caps = system.caps();
-    learn_each(system, &mut table.moves, 1 << h);
-    follow_all(system, past, &mut table.table, &table.moves, h)
+    learn(system, &mut table.table, &mut table.images, 1 << h);
+    follow_all(system, past, &mut table.table, &table.images, h)
 }
 
-// Learns the first events of the system, at most so many, as far as there is room: in wide rows, which are
-// quicker, where these have room for all of them.
-fn learn_each<E: EventLaw>(system: &System<'_, E>, moves: &mut ImageRows, most: u16)
-    requires few { length (all_states system.now.caps) ≤ 65536 }
-    requires valid { AreImageRows (length (all_states system.now.caps)) moves.old }
-    ensures valid { AreImageRows (length (all_states system.now.caps)) moves.new }
-    ensures learned { AreLearned system.now.caps (map E.function system.now.events) moves.new }
+// Learns the first events of the system, at most so many, as far as there is room.
+fn learn<E: EventLaw>(
+    system: &System<'_, E>,
+    table: &mut Table,
+    images: &mut LearnedImages,
+    most: u16,
+)
+    requires same_caps { table.old.caps ≡ system.now.caps }
+    requires valid { AreImages (length (all_states system.now.caps)) images.old }
+    ensures same { table.new ≡ table.old }
+    ensures valid { AreImages (length (all_states system.now.caps)) images.new }
+    ensures learned { AreLearned system.now.caps (map E.function system.now.events) images.new }
 {
-    let events = system.wheel().events().min(most);
-    learn_rows(system, moves, events, wide_for(events));
-    if moves.known < events {
-        learn_rows(system, moves, events, 0);
-    }
-}
-
-// Learns the first events of the system, at most so many, as far as there is room, in rows of `limit`
-// states at most, where they have the least width without more.
-fn learn_rows<E: EventLaw>(system: &System<'_, E>, moves: &mut ImageRows, most: u16, limit: u32)
-    requires few { length (all_states system.now.caps) ≤ 65536 }
-    requires limit { limit ≤ 65536 }
-    requires valid { AreImageRows (length (all_states system.now.caps)) moves.old }
-    ensures valid { AreImageRows (length (all_states system.now.caps)) moves.new }
-    ensures learned { AreLearned system.now.caps (map E.function system.now.events) moves.new }
-{
-    moves.clear(&system.caps(), limit);
+    // Called for its clause: the events are of the system's capacities.
+    let _caps = system.caps();
+    images.clear();
     for number in 0..system.wheel().events().min(most) {
-        if !moves.place(system.event(number)) {
+        if !table.add_images(system.event(number), images) {
             return;
         }
-        moves.known = number + 1;
     }
 }
 
@@ -93,13 +83,13 @@ fn follow_all<E: EventLaw, P: Past>(
     system: &System<'_, E>,
     past: &mut P,
     table: &mut Table,
-    moves: &ImageRows,
+    images: &LearnedImages,
     h: u8,
 ) -> Survey
     requires same_caps { table.old.caps ≡ system.now.caps }
     requires most { h ≤ 12 }
-    requires valid { AreImageRows (length (all_states system.now.caps)) moves.now }
-    requires learned { AreLearned system.now.caps (map E.function system.now.events) moves.now }
+    requires valid { AreImages (length (all_states system.now.caps)) images.now }
+    requires learned { AreLearned system.now.caps (map E.function system.now.events) images.now }
     ensures sizes { result.sizes ≡ image_sizes (system_functions E.function system.now (P.words past.old)) system.now.caps h }
     ensures least { let f = system_functions E.function system.now (P.words past.old) in
         IsMeeting (meeting_at f system.now.caps) h result.meeting }
@@ -109,11 +99,11 @@ fn follow_all<E: EventLaw, P: Past>(
     // Called for its clause: the events are of the system's capacities.
     let _caps = system.caps();
     table.reset();
-    let mut found = follow(system, past, table, moves, 0, 1, None);
+    let mut found = follow(system, past, table, images, 0, 1, None);
     let mut sizes = Sizes::one(table.image_size());
     for exponent in 1..h + 1 {
         let horizon = 1 << exponent;
-        found = follow(system, past, table, moves, horizon / 2, horizon, found);
+        found = follow(system, past, table, images, horizon / 2, horizon, found);
         sizes.push(table.image_size());
     }
     Survey {
@@ -138,14 +128,14 @@ fn follow<E: EventLaw, P: Past>(
     system: &System<'_, E>,
     past: &mut P,
     table: &mut Table,
-    moves: &ImageRows,
+    images: &LearnedImages,
     from: u32,
     to: u32,
     found: Option<(u32, State)>,
 ) -> Option<(u32, State)>
     requires order { from ≤ to }
-    requires valid { AreImageRows (length (all_states system.now.caps)) moves.now }
-    requires learned { AreLearned system.now.caps (map E.function system.now.events) moves.now }
+    requires valid { AreImages (length (all_states system.now.caps)) images.now }
+    requires learned { AreLearned system.now.caps (map E.function system.now.events) images.now }
     requires map { table.old ≡ map_of system.now.caps (compose (system_functions E.function system.now (P.words past.old)) from) }
     requires found { TellsLeast (meeting_at (system_functions E.function system.now (P.words past.old)) system.now.caps) from found }
     ensures map { table.new ≡ map_of system.now.caps (compose (system_functions E.function system.now (P.words past.old)) to) }
@@ -154,7 +144,7 @@ fn follow<E: EventLaw, P: Past>(
 {
     let mut least = found;
     for place in from..to {
-        least = step(system, past, table, moves, place, least);
+        least = step(system, past, table, images, place, least);
     }
     least
 }
@@ -164,13 +154,13 @@ fn step<E: EventLaw, P: Past>(
     system: &System<'_, E>,
     past: &mut P,
     table: &mut Table,
-    moves: &ImageRows,
+    images: &LearnedImages,
     place: u32,
     found: Option<(u32, State)>,
 ) -> Option<(u32, State)>
     requires few { place < 4294967295 }
-    requires valid { AreImageRows (length (all_states system.now.caps)) moves.now }
-    requires learned { AreLearned system.now.caps (map E.function system.now.events) moves.now }
+    requires valid { AreImages (length (all_states system.now.caps)) images.now }
+    requires learned { AreLearned system.now.caps (map E.function system.now.events) images.now }
     requires map { table.old ≡ map_of system.now.caps (compose (system_functions E.function system.now (P.words past.old)) place) }
     requires found { TellsLeast (meeting_at (system_functions E.function system.now (P.words past.old)) system.now.caps) place found }
     ensures map { table.new ≡ map_of system.now.caps (compose (system_functions E.function system.now (P.words past.old)) (place + 1)) }
@@ -183,7 +173,7 @@ fn step<E: EventLaw, P: Past>(
         return found;
     }
     let word = past.word(place);
-    put_before(system, word, table, moves);
+    put_before(system, word, table, images);
     match table.constant() {
         Some(state) => Some((place + 1, state)),
         None => None,
@@ -191,18 +181,23 @@ fn step<E: EventLaw, P: Past>(
 }
 
 // Puts the event of a word before the map of the table; an idle word changes nothing.
-fn put_before<E: EventLaw>(system: &System<'_, E>, word: u32, table: &mut Table, moves: &ImageRows)
+fn put_before<E: EventLaw>(
+    system: &System<'_, E>,
+    word: u32,
+    table: &mut Table,
+    images: &LearnedImages,
+)
     requires same_caps { table.old.caps ≡ system.now.caps }
-    requires valid { AreImageRows (length (all_states system.now.caps)) moves.now }
-    requires learned { AreLearned system.now.caps (map E.function system.now.events) moves.now }
+    requires valid { AreImages (length (all_states system.now.caps)) images.now }
+    requires learned { AreLearned system.now.caps (map E.function system.now.events) images.now }
     ensures { (f : List ℕ → List ℕ) → table.old ≡ map_of system.now.caps f
         → table.new ≡ map_of system.now.caps (λ x. f (picked (map E.function system.now.events) system.now.rates word x)) }
 {
     // Called for its clause: the events are of the system's capacities.
     let _caps = system.caps();
     let (number, event) = system.pick(word);
-    if number < moves.known {
-        table.follow(moves, number as u32);
+    if number < images.known {
+        table.follow(images.of(number));
         return;
     }
     match event {

@@ -2,14 +2,15 @@
 //! Wilson 1996) followed exactly, state by state, so that it can be told what boxes of states lose.
 #![tactic(auto)]
 
+mod alike;
 mod answers;
 mod following;
+mod images;
+mod learned;
 mod map_table;
-mod moves;
 mod ranks;
-mod rows;
-mod shifts;
 mod sizes;
+mod spread;
 mod table;
 
 pub use answers::{Meeting, Survey};

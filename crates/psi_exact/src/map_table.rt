@@ -4,7 +4,7 @@ ghost use Rattle.std.specs.Prelude.{◌≡◌, ◌≤◌, ℕ, List, length, IfO
 ghost use Rattle.psi_state.specs.State.{IsBelow, all_states};
 ghost use Rattle.psi_state.specs.Sets.{image, single};
 
-use crate::moves::ImageRows;
+use crate::learned::LearnedImages;
 use crate::table::Table;
 use psi_event::EventLaw;
 use psi_state::{Bounds, State};
@@ -36,25 +36,25 @@ impl From<AllocError> for MapRefusal {
 /// A map of all states within given capacities: for each of them the state that it is sent to.
 ///
 /// It is seen as the capacities and the map. It keeps the rank of each image, which is its place in the
-/// lexicographic list of all states, and has room for what events make of all states. All its memory, one
-/// megabyte at most, is taken by `reserve`.
+/// lexicographic list of all states, and has room for what events make of all states. All its memory, 4.5
+/// megabytes at most, is taken by `reserve`.
 #[derive(Drop)]
 pub struct MapTable {
     pub(crate) table: Table,
-    pub(crate) moves: ImageRows,
+    pub(crate) images: LearnedImages,
 }
 
 impl Model for MapTable {
     ghost use Rattle.std.specs.Prelude.{length};
     ghost use Rattle.psi_state.specs.State.{all_states};
     ghost use Rattle.psi_exact.specs.Mapping.{Mapped};
-    ghost use Rattle.psi_exact.specs.ImagesKept.{AreImageRows};
+    ghost use Rattle.psi_exact.specs.ImagesKept.{AreImages};
 
     ghost Value = { Mapped };
 
     ghost view = { λ t. t.table };
 
-    ghost invariant = { λ t. AreImageRows (length (all_states t.table.caps)) t.moves };
+    ghost invariant = { λ t. AreImages (length (all_states t.table.caps)) t.images };
 }
 
 impl MapTable {
@@ -75,8 +75,8 @@ impl MapTable {
             return Err(MapRefusal::TooManyStates);
         };
         let table = Table::reserve(alloc, caps, states)?;
-        let moves = ImageRows::reserve(alloc, &caps, states)?;
-        Ok(MapTable { table, moves })
+        let images = LearnedImages::reserve(alloc, states)?;
+        Ok(MapTable { table, images })
     }
 
     /// Lets the map send each state to itself again.

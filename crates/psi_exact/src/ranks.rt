@@ -6,8 +6,8 @@ ghost use Rattle.psi_exact.specs.Mapping.{map_of, sends};
 ghost use Rattle.psi_exact.specs.TableKept.{table_of, AreRanks};
 ghost use Rattle.psi_exact.specs.Distinct.{distinct_count, AreAll, AreMixed};
 
+use crate::images::write_images;
 use psi_event::EventLaw;
-use psi_ranks::write_images;
 use std::alloc::{AllocError, Global};
 
 /// How many ranks are compared before it is asked whether all were the same.
@@ -44,6 +44,16 @@ pub(crate) fn write_older<E: EventLaw>(e: &E, ranks: &[u16], next: &mut [u16])
 {
     write_images(e, next);
     look_up(ranks, next);
+}
+
+/// Writes for each of these ranks the one that a table has for it.
+pub(crate) fn look_up_all(table: &[u16], ranks: &[u16], next: &mut [u16])
+    requires small { (r : ℕ) → r < length ranks.now → slice_index ranks.now r < length table.now }
+    requires room { length next.old ≡ length ranks.now }
+    ensures { (r : ℕ) → r < length next.new → slice_index next.new r ≡ slice_index table.now (slice_index ranks.now r) }
+{
+    next.copy_from_slice(ranks);
+    look_up(table, next);
 }
 
 /// Puts in the place of each rank the one that a table has for it.

@@ -1,12 +1,13 @@
 //! Maps of all states, kept as ranks.
 
-ghost use Rattle.std.specs.Prelude.{◌≡◌, ◌*◌, ◌/◌, ◌≤◌, ℕ, List, length, IfOk, IfSome};
+ghost use Rattle.std.specs.Prelude.{◌≡◌, ◌<◌, ◌≤◌, ℕ, List, true, false, length, IfOk, IfSome};
 ghost use Rattle.psi_event.specs.Law.{IsClosed};
 ghost use Rattle.psi_state.specs.State.{IsBelow, all_states};
 ghost use Rattle.psi_state.specs.Sets.{image, single};
 
-use crate::moves::ImageRows;
-use crate::ranks::{common, count_distinct, number, write_older, zeroed};
+use crate::images::write_images;
+use crate::learned::LearnedImages;
+use crate::ranks::{common, count_distinct, look_up_all, number, write_older, zeroed};
 use psi_event::EventLaw;
 use psi_state::{Bounds, State};
 use std::alloc::{AllocError, Global};
@@ -34,7 +35,9 @@ impl Model for Table {
 
 impl Table {
     ghost use Rattle.psi_exact.specs.Mapping.{map_of, sends};
-    ghost use Rattle.psi_exact.specs.ImagesKept.{AreImageRows, HasImages, AreImageRowsOf};
+    ghost use Rattle.psi_exact.specs.Ranks.{AreRanksOf};
+    ghost use Rattle.psi_exact.specs.TableKept.{AreRanks};
+    ghost use Rattle.psi_exact.specs.ImagesKept.{AreImages, IsSameImages, IsOneMore};
 
     /// The table of the map that sends each of all states, so many, to itself.
     pub(crate) fn reserve(alloc: Global, caps: State, states: u32) -> Result<Table, AllocError>
@@ -65,15 +68,28 @@ impl Table {
         std::mem::swap(&mut self.ranks, &mut self.spare);
     }
 
-    /// Puts a learned event before the map; events are counted from 0 in the order in which they were learned.
-    pub(crate) fn follow(&mut self, moves: &ImageRows, number: u32)
-        requires number { number ≤ 1024 }
-        requires valid { AreImageRows (length (all_states self.old.caps)) moves.now }
-        requires has { HasImages self.old.caps moves.now (number * (moves.now.size / moves.now.width)) }
-        ensures { (f : List ℕ → List ℕ) → IsClosed self.old.caps f → AreImageRowsOf self.old.caps f moves.now (number * (moves.now.size / moves.now.width))
+    /// Adds the ranks of what the event makes of each state to those of others, if there is room, and tells
+    /// whether there was. The map stays.
+    pub(crate) fn add_images<E: EventLaw>(&mut self, e: &E, images: &mut LearnedImages) -> bool
+        requires same_caps { E.capacities e.now ≡ self.old.caps }
+        requires valid { AreImages (length (all_states self.old.caps)) images.old }
+        requires few { images.old.known < 1024 }
+        ensures same { self.new ≡ self.old }
+        ensures valid { AreImages (length (all_states self.old.caps)) images.new }
+        ensures full { result ≡ false → IsSameImages images.old images.new }
+        ensures learned { result ≡ true → IsOneMore self.old.caps (E.function e.now) images.old images.new }
+    {
+        write_images(e, self.spare.as_mut_slice());
+        images.push(self.spare.as_slice())
+    }
+
+    /// Puts an event before the map, by the ranks of what it makes of each state.
+    pub(crate) fn follow(&mut self, images: &[u16])
+        requires { AreRanks self.old.caps images.now }
+        ensures { (f : List ℕ → List ℕ) → IsClosed self.old.caps f → AreRanksOf self.old.caps f images.now
             → self.new ≡ map_of self.old.caps (λ x. sends self.old (f x)) }
     {
-        moves.look_up(number, self.ranks.as_slice(), self.spare.as_mut_slice());
+        look_up_all(self.ranks.as_slice(), images, self.spare.as_mut_slice());
         std::mem::swap(&mut self.ranks, &mut self.spare);
     }
 

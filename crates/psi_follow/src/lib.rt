@@ -5,9 +5,11 @@
 //! customers join the queue with the least key is followed by its keys.
 #![tactic(auto)]
 
+mod by_words;
 mod making;
 mod monotone;
 mod way;
 
+pub use by_words::ByWords;
 pub use making::{plan_of, way_of};
-pub use way::Way;
+pub use way::{CornersByWords, SetsByWords, Way};

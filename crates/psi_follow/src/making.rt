@@ -1,19 +1,19 @@
 //! Which way a network's runs are followed.
 
-ghost use Rattle.std.specs.Prelude.{◌≡◌, All, map, None, IfOk};
+ghost use Rattle.std.specs.Prelude.{◌≡◌, All, map, None, IfOk, IfSome};
 ghost use Rattle.psi_event.specs.Law.{IsMonotone};
 ghost use Rattle.psi_region.specs.Followed.{followed};
 ghost use Rattle.psi_horizon.specs.Planned.{network_of};
 
+use crate::by_words::{ByWords, words_needed};
 use crate::monotone::are_monotone;
-use crate::way::Way;
-use psi_event::EventLaw;
+use crate::way::{CornersByWords, SetsByWords, Way};
+use psi_event::{EventLaw, PiecewiseLaw};
+use psi_follow_keyed::KeyedCorners;
+use psi_follow_packed::PackedCorners;
+use psi_follow_sets::PackedSets;
 use psi_horizon::{OutOfMemory, Plan};
-use psi_keyed::KeyedCorners;
-use psi_packed::{Layout, PackedCorners};
-use psi_packed_set::PackedSets;
 use psi_past::Past;
-use psi_piecewise::PiecewiseLaw;
 use psi_rate::System;
 use psi_region::{Corners, Course, Follower, Regions};
 use psi_route::RouteLaw;
@@ -67,30 +67,47 @@ fn corners_of<'n, E: PiecewiseLaw + RouteLaw>(
     requires { All (λ f. IsMonotone course.caps f) (map E.function course.events) }
     ensures { IfOk result (λ way. ⟦<Way<'n, E> as Follower>⟧.stands_for way ≡ followed E.function course.entry) }
 {
-    let caps = course.caps();
     if let Some(keyed) = KeyedCorners::new(alloc, &course)? {
         return Ok(Way::Keyed(keyed));
     }
-    if let Some(corners) = PackedCorners::new(alloc, &course)? {
-        return Ok(Way::CornersInOne(corners));
+    match packed_corners(alloc, &course)? {
+        Some(corners) => Ok(Way::PackedCorners(corners)),
+        None => Ok(Way::Corners(Corners::new(course))),
     }
-    // Where fewer words do, an event told no pieces there, and tells none for more.
-    if Layout::<1>::new(caps).is_none() {
-        if let Some(corners) = PackedCorners::new(alloc, &course)? {
-            return Ok(Way::CornersInTwo(corners));
+}
+
+// The corners of a network whose events are monotone, packed into the fewest words that they fit.
+fn packed_corners<'n, E: PiecewiseLaw>(
+    alloc: Global,
+    course: &Course<'n, E>,
+) -> Result<Option<CornersByWords<'n, E>>, OutOfMemory>
+    requires { All (λ f. IsMonotone course.now.caps f) (map E.function course.now.events) }
+    ensures { IfOk result (λ found. IfSome found (λ corners. ⟦<CornersByWords<'n, E> as Follower>⟧.stands_for corners ≡ followed E.function course.now)) }
+{
+    match words_needed(course.caps()) {
+        1 => {
+            if let Some(corners) = PackedCorners::new(alloc, course)? {
+                return Ok(Some(ByWords::One(corners)));
+            }
         }
-    }
-    if Layout::<2>::new(caps).is_none() {
-        if let Some(corners) = PackedCorners::new(alloc, &course)? {
-            return Ok(Way::CornersInThree(corners));
+        2 => {
+            if let Some(corners) = PackedCorners::new(alloc, course)? {
+                return Ok(Some(ByWords::Two(corners)));
+            }
         }
-    }
-    if Layout::<3>::new(caps).is_none() {
-        if let Some(corners) = PackedCorners::new(alloc, &course)? {
-            return Ok(Way::CornersInFour(corners));
+        3 => {
+            if let Some(corners) = PackedCorners::new(alloc, course)? {
+                return Ok(Some(ByWords::Three(corners)));
+            }
         }
+        4 => {
+            if let Some(corners) = PackedCorners::new(alloc, course)? {
+                return Ok(Some(ByWords::Four(corners)));
+            }
+        }
+        _ => {}
     }
-    Ok(Way::Corners(Corners::new(course)))
+    Ok(None)
 }
 
 // The way of any other network.
@@ -100,25 +117,41 @@ fn sets_of<'n, E: PiecewiseLaw>(
 ) -> Result<Way<'n, E>, OutOfMemory>
     ensures { IfOk result (λ way. ⟦<Way<'n, E> as Follower>⟧.stands_for way ≡ followed E.function course.entry) }
 {
-    let caps = course.caps();
-    if let Some(sets) = PackedSets::new(alloc, &course)? {
-        return Ok(Way::SetsInOne(sets));
+    match packed_sets(alloc, &course)? {
+        Some(sets) => Ok(Way::PackedSets(sets)),
+        None => Ok(Way::Regions(Regions::reserve(alloc, course)?)),
     }
-    // Where fewer words do, an event told no pieces there, and tells none for more.
-    if Layout::<1>::new(caps).is_none() {
-        if let Some(sets) = PackedSets::new(alloc, &course)? {
-            return Ok(Way::SetsInTwo(sets));
+}
+
+// The sets of any network, of states that are packed into the fewest words that they fit.
+fn packed_sets<'n, E: PiecewiseLaw>(
+    alloc: Global,
+    course: &Course<'n, E>,
+) -> Result<Option<SetsByWords<'n, E>>, OutOfMemory>
+    ensures { IfOk result (λ found. IfSome found (λ sets. ⟦<SetsByWords<'n, E> as Follower>⟧.stands_for sets ≡ followed E.function course.now)) }
+{
+    match words_needed(course.caps()) {
+        1 => {
+            if let Some(sets) = PackedSets::new(alloc, course)? {
+                return Ok(Some(ByWords::One(sets)));
+            }
         }
-    }
-    if Layout::<2>::new(caps).is_none() {
-        if let Some(sets) = PackedSets::new(alloc, &course)? {
-            return Ok(Way::SetsInThree(sets));
+        2 => {
+            if let Some(sets) = PackedSets::new(alloc, course)? {
+                return Ok(Some(ByWords::Two(sets)));
+            }
         }
-    }
-    if Layout::<3>::new(caps).is_none() {
-        if let Some(sets) = PackedSets::new(alloc, &course)? {
-            return Ok(Way::SetsInFour(sets));
+        3 => {
+            if let Some(sets) = PackedSets::new(alloc, course)? {
+                return Ok(Some(ByWords::Three(sets)));
+            }
         }
+        4 => {
+            if let Some(sets) = PackedSets::new(alloc, course)? {
+                return Ok(Some(ByWords::Four(sets)));
+            }
+        }
+        _ => {}
     }
-    Ok(Way::Regions(Regions::reserve(alloc, course)?))
+    Ok(None)
 }

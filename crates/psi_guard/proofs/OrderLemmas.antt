@@ -38,10 +38,10 @@ slow_to r p v w lawful place small =
 
 -- none of the four tests succeeds
 pub record PassesNone (r : Rule) : Type 0 where
-  pub leap : (p : ℕ) → p < r.queues → r.most p < r.cap p → r.most p + 1 < r.moves p (r.most p) → ⊥
-  pub rise : (p q : ℕ) → p < r.queues → q < r.queues → (p ≡ q → ⊥) → r.most p < r.cap p → r.least q < r.moves q (r.least q) → ⊥
-  pub plunge : (p : ℕ) → p < r.queues → 0 < r.least p → r.moves p (r.least p) < r.least p - 1 → ⊥
-  pub fall : (p q : ℕ) → p < r.queues → q < r.queues → (p ≡ q → ⊥) → 0 < r.least p → r.moves q (r.most q) < r.most q → ⊥
+  pub own_above : (p : ℕ) → p < r.queues → r.most p < r.cap p → r.most p + 1 < r.moves p (r.most p) → ⊥
+  pub other_above : (p q : ℕ) → p < r.queues → q < r.queues → (p ≡ q → ⊥) → r.most p < r.cap p → r.least q < r.moves q (r.least q) → ⊥
+  pub own_below : (p : ℕ) → p < r.queues → 0 < r.least p → r.moves p (r.least p) < r.least p - 1 → ⊥
+  pub other_below : (p q : ℕ) → p < r.queues → q < r.queues → (p ≡ q → ⊥) → 0 < r.least p → r.moves q (r.most q) < r.most q → ⊥
 
 -- the larger state is refused, so it is above the guard of some queue
 only_lower : (r : Rule) (caps : List ℕ) (x y : List ℕ) (q : ℕ) → IsRule r → PassesNone r → (r.queues ≡ length caps) → ((p : ℕ) → r.cap p ≡ slice_index caps p)
@@ -63,14 +63,14 @@ only_lower r caps x y q lawful none queues cap within below allowed refused plac
           let own : r.most q < r.cap q = subst (λ i. r.most i < r.cap i) same room in
           let up : r.moves q (slice_index x q) ≤ r.moves q (r.most q) = rises_to r q (slice_index x q) (r.most q) lawful place (allowed.high q place) in
           elim (cases_lt (r.most q + 1) (r.moves q (r.most q))) [
-            | inl leaps ↦ absurd (none.leap q place own leaps)
+            | inl own_above ↦ absurd (none.own_above q place own own_above)
             | inr stays ↦ omega arith
           ])
       | inr other ↦ (let slow : r.moves q (slice_index x q) ≤ r.moves q (r.least q) + (slice_index x q - r.least q) =
           slow_to r q (r.least q) (slice_index x q) lawful place (allowed.low q place) in
           let least : r.least q ≤ slice_index x q = allowed.low q place in
           elim (cases_lt (r.least q) (r.moves q (r.least q))) [
-            | inl up ↦ absurd (none.rise p q refused.place place other room up)
+            | inl up ↦ absurd (none.other_above p q refused.place place other room up)
             | inr stays ↦ omega arith
           ])
     ]
@@ -94,14 +94,14 @@ only_upper r caps x y q lawful none queues within below refused allowed place =
           let own : 0 < r.least q = subst (λ i. 0 < r.least i) same some in
           let up : r.moves q (r.least q) ≤ r.moves q (slice_index y q) = rises_to r q (r.least q) (slice_index y q) lawful place (allowed.low q place) in
           elim (cases_lt (r.moves q (r.least q)) (r.least q - 1)) [
-            | inl plunges ↦ absurd (none.plunge q place own plunges)
+            | inl own_below ↦ absurd (none.own_below q place own own_below)
             | inr stays ↦ omega arith
           ])
       | inr other ↦ (let slow : r.moves q (r.most q) ≤ r.moves q (slice_index y q) + (r.most q - slice_index y q) =
           slow_to r q (slice_index y q) (r.most q) lawful place (allowed.high q place) in
           let most : slice_index y q ≤ r.most q = allowed.high q place in
           elim (cases_lt (r.moves q (r.most q)) (r.most q)) [
-            | inl down ↦ absurd (none.fall p q refused.place place other some down)
+            | inl down ↦ absurd (none.other_below p q refused.place place other some down)
             | inr stays ↦ omega arith
           ])
     ]

@@ -7,7 +7,7 @@ use Rattle.psi_event.specs.Choice.{first_or}
 use Rattle.psi_event.proofs.ChoiceLemmas.{first_some-of_none, first_some-of_found}
 use Rattle.psi_event.specs.Law.{IsMonotone, IsUpset, ShowsUpset}
 use Rattle.psi_guard.specs.declared.parts.Part.{Part}
-use Rattle.psi_guard.specs.Guarding.{moved, guarded, part_of, leasts, around_most, around_least, both_with, exceeds, falls_short, leap, rise, plunge, fall, over_queues, over_pairs, upset_of}
+use Rattle.psi_guard.specs.Guarding.{moved, guarded, part_of, leasts, around_most, around_least, both_with, exceeds, falls_short, own_above, other_above, own_below, other_below, over_queues, over_pairs, upset_of}
 use Rattle.psi_guard.specs.Refusals.{AreGuards}
 use Rattle.psi_guard.specs.Rule.{Rule, rule, AllowsAll}
 use Rattle.psi_guard.specs.RuleLaws.{fits_guard}
@@ -109,9 +109,9 @@ up-shows caps parts p q u v guards place other room first_at second_at less =
     (allows-around r p most a (slice_set a p most) all first (law.lawful.guard p place) (omega arith))
     (record { queue = p; place = place; out = inr (omega (arith, second.here)) }) first_at second_at less
 
-leap-shows : (caps : List ℕ) (parts : List Part) (p : ℕ) (pair : List ℕ × List ℕ) → AreGuards caps parts → p < length caps
-    → leap caps parts p ≡ Some pair → IsShown caps parts pair
-leap-shows caps parts p pair guards place is =
+own_above-shows : (caps : List ℕ) (parts : List Part) (p : ℕ) (pair : List ℕ × List ℕ) → AreGuards caps parts → p < length caps
+    → own_above caps parts p ≡ Some pair → IsShown caps parts pair
+own_above-shows caps parts p pair guards place is =
     let r = rule caps parts in
     let a = leasts caps parts in
     let most = (part_of caps parts p).most in
@@ -121,9 +121,9 @@ leap-shows caps parts p pair guards place is =
     (up-shows caps parts p p most (most + 1) guards place place both.0 (around-set r p most a (length-leasts caps parts) place).here
     (around-set r p (most + 1) a (length-leasts caps parts) place).here (ltb-true (most + 1) (moved (part_of caps parts p) most) both.1))
 
-rise-shows : (caps : List ℕ) (parts : List Part) (p q : ℕ) (pair : List ℕ × List ℕ) → AreGuards caps parts → p < length caps → q < length caps
-    → rise caps parts p q ≡ Some pair → IsShown caps parts pair
-rise-shows caps parts p q pair guards place other is =
+other_above-shows : (caps : List ℕ) (parts : List Part) (p q : ℕ) (pair : List ℕ × List ℕ) → AreGuards caps parts → p < length caps → q < length caps
+    → other_above caps parts p q ≡ Some pair → IsShown caps parts pair
+other_above-shows caps parts p q pair guards place other is =
     let a = leasts caps parts in
     let most = (part_of caps parts p).most in
     let least = (part_of caps parts q).least in
@@ -152,9 +152,9 @@ down-shows caps parts p q u v x y guards place other some all first second first
     upset_down r caps (guarded parts) x y q u v law two.within two.ordered other
     (record { queue = p; place = place; out = inl (omega (arith, first.here)) }) all first_at second_at less
 
-plunge-shows : (caps : List ℕ) (parts : List Part) (p : ℕ) (pair : List ℕ × List ℕ) → AreGuards caps parts → p < length caps
-    → plunge caps parts p ≡ Some pair → IsShown caps parts pair
-plunge-shows caps parts p pair guards place is =
+own_below-shows : (caps : List ℕ) (parts : List Part) (p : ℕ) (pair : List ℕ × List ℕ) → AreGuards caps parts → p < length caps
+    → own_below caps parts p ≡ Some pair → IsShown caps parts pair
+own_below-shows caps parts p pair guards place is =
     let a = leasts caps parts in
     let least = (part_of caps parts p).least in
     let t = test-some (falls_short caps parts p && nat_lt (moved (part_of caps parts p) least) (least - 1)) (around_least caps parts p) pair is in
@@ -166,9 +166,9 @@ plunge-shows caps parts p pair guards place is =
     (record { long = length-leasts caps parts; here = held; there = λ i small ne. refl }) first.here held
     (ltb-true (moved (part_of caps parts p) least) (least - 1) both.1))
 
-fall-shows : (caps : List ℕ) (parts : List Part) (p q : ℕ) (pair : List ℕ × List ℕ) → AreGuards caps parts → p < length caps → q < length caps
-    → fall caps parts p q ≡ Some pair → IsShown caps parts pair
-fall-shows caps parts p q pair guards place other is =
+other_below-shows : (caps : List ℕ) (parts : List Part) (p q : ℕ) (pair : List ℕ × List ℕ) → AreGuards caps parts → p < length caps → q < length caps
+    → other_below caps parts p q ≡ Some pair → IsShown caps parts pair
+other_below-shows caps parts p q pair guards place other is =
     let r = rule caps parts in
     let a = leasts caps parts in
     let least = (part_of caps parts p).least in
@@ -196,10 +196,10 @@ fall-shows caps parts p q pair guards place other is =
 
 -- no test succeeds
 pub record FindsNone (caps : List ℕ) (parts : List Part) : Type 0 where
-  pub leaps : over_queues caps (leap caps parts) ≡ None
-  pub rises : over_pairs caps (rise caps parts) ≡ None
-  pub plunges : over_queues caps (plunge caps parts) ≡ None
-  pub falls : over_pairs caps (fall caps parts) ≡ None
+  pub own_above : over_queues caps (own_above caps parts) ≡ None
+  pub other_above : over_pairs caps (other_above caps parts) ≡ None
+  pub own_below : over_queues caps (own_below caps parts) ≡ None
+  pub other_below : over_pairs caps (other_below caps parts) ≡ None
 
 queue-none : (caps : List ℕ) (f : ℕ → Option (List ℕ × List ℕ)) (p : ℕ) → over_queues caps f ≡ None → p < length caps → f p ≡ None
 queue-none caps f p none place = first_some-of_none f 0 (length caps) none p (omega arith) (omega arith)
@@ -209,26 +209,26 @@ pair-none caps f p q none place other = queue-none caps (f p) q (queue-none caps
 
 passes-none : (caps : List ℕ) (parts : List Part) → FindsNone caps parts → PassesNone (rule caps parts)
 passes-none caps parts none = record {
-  leap = λ p place room over.
+  own_above = λ p place room over.
       (let most = (part_of caps parts p).most in
       test-none (exceeds caps parts p && nat_lt (most + 1) (moved (part_of caps parts p) most)) (around_most caps parts p)
-      (queue-none caps (leap caps parts) p none.leaps place)
+      (queue-none caps (own_above caps parts) p none.own_above place)
       (and_from (exceeds caps parts p) (nat_lt (most + 1) (moved (part_of caps parts p) most)) (lt-ltb most (slice_index caps p) room) (lt-ltb (most + 1) (moved (part_of caps parts p) most) over)));
-  rise = λ p q place other apart room over.
+  other_above = λ p q place other apart room over.
       (let least = (part_of caps parts q).least in
       test-none (exceeds caps parts p && (not (nat_eq p q) && nat_lt least (moved (part_of caps parts q) least))) (around_most caps parts p)
-      (pair-none caps (rise caps parts) p q none.rises place other)
+      (pair-none caps (other_above caps parts) p q none.other_above place other)
       (and_from (exceeds caps parts p) (not (nat_eq p q) && nat_lt least (moved (part_of caps parts q) least)) (lt-ltb (part_of caps parts p).most (slice_index caps p) room)
       (and_from (not (nat_eq p q)) (nat_lt least (moved (part_of caps parts q) least)) (not_from_false (nat_eq p q) (ne_eqb p q apart)) (lt-ltb least (moved (part_of caps parts q) least) over))));
-  plunge = λ p place some under.
+  own_below = λ p place some under.
       (let least = (part_of caps parts p).least in
       test-none (falls_short caps parts p && nat_lt (moved (part_of caps parts p) least) (least - 1)) (around_least caps parts p)
-      (queue-none caps (plunge caps parts) p none.plunges place)
+      (queue-none caps (own_below caps parts) p none.own_below place)
       (and_from (falls_short caps parts p) (nat_lt (moved (part_of caps parts p) least) (least - 1)) (lt-ltb 0 least some) (lt-ltb (moved (part_of caps parts p) least) (least - 1) under)));
-  fall = λ p q place other apart some under.
+  other_below = λ p q place other apart some under.
       (let most = (part_of caps parts q).most in
       test-none (falls_short caps parts p && (not (nat_eq p q) && nat_lt (moved (part_of caps parts q) most) most)) (both_with q most (around_least caps parts p))
-      (pair-none caps (fall caps parts) p q none.falls place other)
+      (pair-none caps (other_below caps parts) p q none.other_below place other)
       (and_from (falls_short caps parts p) (not (nat_eq p q) && nat_lt (moved (part_of caps parts q) most) most) (lt-ltb 0 (part_of caps parts p).least some)
       (and_from (not (nat_eq p q)) (nat_lt (moved (part_of caps parts q) most) most) (not_from_false (nat_eq p q) (ne_eqb p q apart)) (lt-ltb (moved (part_of caps parts q) most) most under))));
 }
@@ -245,56 +245,56 @@ queue-shows caps parts f pair each is =
     let high : found.0 < 0 + length caps = found.2 in
     each found.0 pair (omega arith) found.3
 
-pub leaps-show : (caps : List ℕ) (parts : List Part) (pair : List ℕ × List ℕ) → AreGuards caps parts → over_queues caps (leap caps parts) ≡ Some pair → IsShown caps parts pair
-leaps-show caps parts pair guards is = queue-shows caps parts (leap caps parts) pair (λ p found place at. leap-shows caps parts p found guards place at) is
+pub own_above-show : (caps : List ℕ) (parts : List Part) (pair : List ℕ × List ℕ) → AreGuards caps parts → over_queues caps (own_above caps parts) ≡ Some pair → IsShown caps parts pair
+own_above-show caps parts pair guards is = queue-shows caps parts (own_above caps parts) pair (λ p found place at. own_above-shows caps parts p found guards place at) is
 
-pub plunges-show : (caps : List ℕ) (parts : List Part) (pair : List ℕ × List ℕ) → AreGuards caps parts → over_queues caps (plunge caps parts) ≡ Some pair → IsShown caps parts pair
-plunges-show caps parts pair guards is = queue-shows caps parts (plunge caps parts) pair (λ p found place at. plunge-shows caps parts p found guards place at) is
+pub own_below-show : (caps : List ℕ) (parts : List Part) (pair : List ℕ × List ℕ) → AreGuards caps parts → over_queues caps (own_below caps parts) ≡ Some pair → IsShown caps parts pair
+own_below-show caps parts pair guards is = queue-shows caps parts (own_below caps parts) pair (λ p found place at. own_below-shows caps parts p found guards place at) is
 
-pub rises-show : (caps : List ℕ) (parts : List Part) (pair : List ℕ × List ℕ) → AreGuards caps parts → over_pairs caps (rise caps parts) ≡ Some pair → IsShown caps parts pair
-rises-show caps parts pair guards is =
-    queue-shows caps parts (λ p. over_queues caps (rise caps parts p)) pair (λ p found place at.
-    queue-shows caps parts (rise caps parts p) found (λ q last other there. rise-shows caps parts p q last guards place other there) at) is
+pub other_above-show : (caps : List ℕ) (parts : List Part) (pair : List ℕ × List ℕ) → AreGuards caps parts → over_pairs caps (other_above caps parts) ≡ Some pair → IsShown caps parts pair
+other_above-show caps parts pair guards is =
+    queue-shows caps parts (λ p. over_queues caps (other_above caps parts p)) pair (λ p found place at.
+    queue-shows caps parts (other_above caps parts p) found (λ q last other there. other_above-shows caps parts p q last guards place other there) at) is
 
-pub falls-show : (caps : List ℕ) (parts : List Part) (pair : List ℕ × List ℕ) → AreGuards caps parts → over_pairs caps (fall caps parts) ≡ Some pair → IsShown caps parts pair
-falls-show caps parts pair guards is =
-    queue-shows caps parts (λ p. over_queues caps (fall caps parts p)) pair (λ p found place at.
-    queue-shows caps parts (fall caps parts p) found (λ q last other there. fall-shows caps parts p q last guards place other there) at) is
+pub other_below-show : (caps : List ℕ) (parts : List Part) (pair : List ℕ × List ℕ) → AreGuards caps parts → over_pairs caps (other_below caps parts) ≡ Some pair → IsShown caps parts pair
+other_below-show caps parts pair guards is =
+    queue-shows caps parts (λ p. over_queues caps (other_below caps parts p)) pair (λ p found place at.
+    queue-shows caps parts (other_below caps parts p) found (λ q last other there. other_below-shows caps parts p q last guards place other there) at) is
 
 -- the pair is that of the first test that succeeds
-pub upset_of-leaps : (caps : List ℕ) (parts : List Part) (pair : List ℕ × List ℕ) → over_queues caps (leap caps parts) ≡ Some pair → upset_of caps parts ≡ Some pair
+pub upset_of-own_above : (caps : List ℕ) (parts : List Part) (pair : List ℕ × List ℕ) → over_queues caps (own_above caps parts) ≡ Some pair → upset_of caps parts ≡ Some pair
 unfolding upset_of
-upset_of-leaps caps parts pair is =
-    ap (λ o. first_or o (first_or (over_pairs caps (rise caps parts)) (first_or (over_queues caps (plunge caps parts)) (over_pairs caps (fall caps parts))))) is
+upset_of-own_above caps parts pair is =
+    ap (λ o. first_or o (first_or (over_pairs caps (other_above caps parts)) (first_or (over_queues caps (own_below caps parts)) (over_pairs caps (other_below caps parts))))) is
 
-pub upset_of-later : (caps : List ℕ) (parts : List Part) → over_queues caps (leap caps parts) ≡ None
-    → upset_of caps parts ≡ first_or (over_pairs caps (rise caps parts)) (first_or (over_queues caps (plunge caps parts)) (over_pairs caps (fall caps parts)))
+pub upset_of-later : (caps : List ℕ) (parts : List Part) → over_queues caps (own_above caps parts) ≡ None
+    → upset_of caps parts ≡ first_or (over_pairs caps (other_above caps parts)) (first_or (over_queues caps (own_below caps parts)) (over_pairs caps (other_below caps parts)))
 unfolding upset_of
 upset_of-later caps parts none =
-    ap (λ o. first_or o (first_or (over_pairs caps (rise caps parts)) (first_or (over_queues caps (plunge caps parts)) (over_pairs caps (fall caps parts))))) none
+    ap (λ o. first_or o (first_or (over_pairs caps (other_above caps parts)) (first_or (over_queues caps (own_below caps parts)) (over_pairs caps (other_below caps parts))))) none
 
-pub upset_of-rises : (caps : List ℕ) (parts : List Part) (pair : List ℕ × List ℕ) → over_queues caps (leap caps parts) ≡ None
-    → over_pairs caps (rise caps parts) ≡ Some pair → upset_of caps parts ≡ Some pair
-upset_of-rises caps parts pair none is =
-    upset_of-later caps parts none ∙ ap (λ o. first_or o (first_or (over_queues caps (plunge caps parts)) (over_pairs caps (fall caps parts)))) is
+pub upset_of-other_above : (caps : List ℕ) (parts : List Part) (pair : List ℕ × List ℕ) → over_queues caps (own_above caps parts) ≡ None
+    → over_pairs caps (other_above caps parts) ≡ Some pair → upset_of caps parts ≡ Some pair
+upset_of-other_above caps parts pair none is =
+    upset_of-later caps parts none ∙ ap (λ o. first_or o (first_or (over_queues caps (own_below caps parts)) (over_pairs caps (other_below caps parts)))) is
 
-pub upset_of-plunges : (caps : List ℕ) (parts : List Part) (pair : List ℕ × List ℕ) → over_queues caps (leap caps parts) ≡ None
-    → over_pairs caps (rise caps parts) ≡ None → over_queues caps (plunge caps parts) ≡ Some pair → upset_of caps parts ≡ Some pair
-upset_of-plunges caps parts pair none empty is =
+pub upset_of-own_below : (caps : List ℕ) (parts : List Part) (pair : List ℕ × List ℕ) → over_queues caps (own_above caps parts) ≡ None
+    → over_pairs caps (other_above caps parts) ≡ None → over_queues caps (own_below caps parts) ≡ Some pair → upset_of caps parts ≡ Some pair
+upset_of-own_below caps parts pair none empty is =
     upset_of-later caps parts none
-    ∙ (ap (λ o. first_or o (first_or (over_queues caps (plunge caps parts)) (over_pairs caps (fall caps parts)))) empty
-    ∙ ap (λ o. first_or o (over_pairs caps (fall caps parts))) is)
+    ∙ (ap (λ o. first_or o (first_or (over_queues caps (own_below caps parts)) (over_pairs caps (other_below caps parts)))) empty
+    ∙ ap (λ o. first_or o (over_pairs caps (other_below caps parts))) is)
 
-pub upset_of-falls : (caps : List ℕ) (parts : List Part) → over_queues caps (leap caps parts) ≡ None
-    → over_pairs caps (rise caps parts) ≡ None → over_queues caps (plunge caps parts) ≡ None → upset_of caps parts ≡ over_pairs caps (fall caps parts)
-upset_of-falls caps parts none empty gone =
+pub upset_of-other_below : (caps : List ℕ) (parts : List Part) → over_queues caps (own_above caps parts) ≡ None
+    → over_pairs caps (other_above caps parts) ≡ None → over_queues caps (own_below caps parts) ≡ None → upset_of caps parts ≡ over_pairs caps (other_below caps parts)
+upset_of-other_below caps parts none empty gone =
     upset_of-later caps parts none
-    ∙ (ap (λ o. first_or o (first_or (over_queues caps (plunge caps parts)) (over_pairs caps (fall caps parts)))) empty
-    ∙ ap (λ o. first_or o (over_pairs caps (fall caps parts))) gone)
+    ∙ (ap (λ o. first_or o (first_or (over_queues caps (own_below caps parts)) (over_pairs caps (other_below caps parts)))) empty
+    ∙ ap (λ o. first_or o (over_pairs caps (other_below caps parts))) gone)
 
 -- the last test decides
-pub falls-decide : (caps : List ℕ) (parts : List Part) (o : Option (List ℕ × List ℕ)) → AreGuards caps parts → over_queues caps (leap caps parts) ≡ None
-    → over_pairs caps (rise caps parts) ≡ None → over_queues caps (plunge caps parts) ≡ None → o ≡ over_pairs caps (fall caps parts) → ShowsUpset caps (guarded parts) o
-falls-decide caps parts None guards none empty gone is =
-    none-monotone caps parts guards (record { leaps = none; rises = empty; plunges = gone; falls = sym is })
-falls-decide caps parts (Some pair) guards none empty gone is = falls-show caps parts pair guards (sym is)
+pub other_below-decide : (caps : List ℕ) (parts : List Part) (o : Option (List ℕ × List ℕ)) → AreGuards caps parts → over_queues caps (own_above caps parts) ≡ None
+    → over_pairs caps (other_above caps parts) ≡ None → over_queues caps (own_below caps parts) ≡ None → o ≡ over_pairs caps (other_below caps parts) → ShowsUpset caps (guarded parts) o
+other_below-decide caps parts None guards none empty gone is =
+    none-monotone caps parts guards (record { own_above = none; other_above = empty; own_below = gone; other_below = sym is })
+other_below-decide caps parts (Some pair) guards none empty gone is = other_below-show caps parts pair guards (sym is)

@@ -3,11 +3,11 @@ use Rattle.std.specs.Prelude.{◌≡◌, ◌≢◌, ℕ, zero, suc, ◌+◌, ◌
 use Rattle.std.proofs.Common.{inl, inr, ap, sym, ◌∙◌, subst, arith}
 use Rattle.std.proofs.lemmas.Bool.{cases_lt, cases_eq, cases_Bool, lt-ltb, le-ltb, le-leb, lt-leb, leb-true, eq-eqb, ne_eqb, eqb-true, and_parts, and_cases, and_from, and_left, and_right, or_cases}
 use Rattle.psi_state.specs.State.{AreCapacities, IsBelow}
-use Rattle.psi_piecewise.specs.declared.sides.Side.{Side}
-use Rattle.psi_piecewise.specs.declared.sides.Side.TheVariants.{Any, AtLeast, Below}
-use Rattle.psi_piecewise.specs.declared.piecewise.Piecewise.{Piecewise}
-use Rattle.psi_piecewise.specs.Piecewise.{is_on, all_on, if_on, first_on, second_on, IsSum, IsPiecewise, Does}
-use Rattle.psi_piecewise.proofs.TestingLemmas.{sum-by}
+use Rattle.psi_event.specs.declared.sides.Side.{Side}
+use Rattle.psi_event.specs.declared.sides.Side.TheVariants.{Any, AtLeast, Below}
+use Rattle.psi_event.specs.declared.piecewise.Piecewise.{Piecewise}
+use Rattle.psi_event.specs.Piecewise.{is_on, all_on, if_on, first_on, second_on, IsSum, IsPiecewise, Does}
+use Rattle.psi_event.proofs.TestingLemmas.{sum-by}
 use Rattle.psi_guard.specs.declared.parts.Part.{Part}
 use Rattle.psi_guard.specs.declared.pieces.PiecesAt.{PiecesAt}
 use Rattle.psi_guard.specs.Guarding.{shifted, moved, guarded, part_of}

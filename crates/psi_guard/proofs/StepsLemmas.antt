@@ -6,7 +6,7 @@ use Rattle.std.proofs.lemmas.List.{ext_get_or}
 use Rattle.psi_state.specs.State.{IsBelow, numbers_from}
 use Rattle.psi_event.proofs.ChoiceLemmas.{first_some-found, first_some-none}
 use Rattle.psi_guard.specs.declared.parts.Part.{Part}
-use Rattle.psi_guard.specs.Guarding.{moved, allows, all_allow, guarded, free_part, part_of, leasts, around_most, around_least, both_with, exceeds, falls_short, rise, fall, over_queues}
+use Rattle.psi_guard.specs.Guarding.{moved, allows, all_allow, guarded, free_part, part_of, leasts, around_most, around_least, both_with, exceeds, falls_short, other_above, other_below, over_queues}
 use Rattle.psi_guard.specs.Refusals.{AreGuards, at, names}
 use Rattle.psi_guard.specs.PlacesLaws.{named_or_free, part_of-at}
 use Rattle.psi_guard.specs.Rule.{RefusesSome, rule}
@@ -146,15 +146,15 @@ pub queues-none : {A : Type 0} (caps : List ℕ) (f : ℕ → Option A) (i : ℕ
 queues-none caps f i over before = first_some-none f 0 (length caps) (λ j low high. before j (omega arith))
 
 -- no queue is shown to rise beside one that can't hold more than its most
-pub rises-none : (caps : List ℕ) (parts : List Part) (p : ℕ) → exceeds caps parts p ≡ false → over_queues caps (rise caps parts p) ≡ None
-rises-none caps parts p out =
-    queues-none caps (rise caps parts p) (length caps) (omega arith) (λ q small.
+pub other_above-none : (caps : List ℕ) (parts : List Part) (p : ℕ) → exceeds caps parts p ≡ false → over_queues caps (other_above caps parts p) ≡ None
+other_above-none caps parts p out =
+    queues-none caps (other_above caps parts p) (length caps) (omega arith) (λ q small.
     ap (λ b. if b && (not (nat_eq p q) && nat_lt (part_of caps parts q).least (moved (part_of caps parts q) (part_of caps parts q).least))
     then Some (around_most caps parts p) else None) out)
 
 -- and none to fall beside one that can't hold less than its least
-pub falls-none : (caps : List ℕ) (parts : List Part) (p : ℕ) → falls_short caps parts p ≡ false → over_queues caps (fall caps parts p) ≡ None
-falls-none caps parts p out =
-    queues-none caps (fall caps parts p) (length caps) (omega arith) (λ q small.
+pub other_below-none : (caps : List ℕ) (parts : List Part) (p : ℕ) → falls_short caps parts p ≡ false → over_queues caps (other_below caps parts p) ≡ None
+other_below-none caps parts p out =
+    queues-none caps (other_below caps parts p) (length caps) (omega arith) (λ q small.
     ap (λ b. if b && (not (nat_eq p q) && nat_lt (moved (part_of caps parts q) (part_of caps parts q).most) (part_of caps parts q).most)
     then Some (both_with q (part_of caps parts q).most (around_least caps parts p)) else None) out)

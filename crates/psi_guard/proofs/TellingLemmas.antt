@@ -3,11 +3,11 @@ use Rattle.std.specs.Prelude.{◌≡◌, ◌≢◌, ℕ, ◌+◌, ◌<◌, List,
 use Rattle.std.proofs.Common.{inl, inr, ap, sym, ◌∙◌, subst, arith, below_more, length-set, get_or-set_same, get_or-set_other}
 use Rattle.std.proofs.lemmas.Bool.{cases_eq}
 use Rattle.std.proofs.lemmas.List.{length-replicate}
-use Rattle.psi_piecewise.specs.declared.sides.Side.{Side}
-use Rattle.psi_piecewise.specs.declared.sides.Side.TheVariants.{Any}
-use Rattle.psi_piecewise.specs.declared.piecewise.Piece.{Piece}
-use Rattle.psi_piecewise.specs.declared.piecewise.Piecewise.{Piecewise}
-use Rattle.psi_piecewise.specs.Piecewise.{empty_piece}
+use Rattle.psi_event.specs.declared.sides.Side.{Side}
+use Rattle.psi_event.specs.declared.sides.Side.TheVariants.{Any}
+use Rattle.psi_event.specs.declared.piecewise.Piece.{Piece}
+use Rattle.psi_event.specs.declared.piecewise.Piecewise.{Piecewise}
+use Rattle.psi_event.specs.Piecewise.{empty_piece}
 use Rattle.psi_guard.specs.declared.parts.Part.{Part}
 use Rattle.psi_guard.specs.declared.pieces.PieceAt.{PieceAt}
 use Rattle.psi_guard.specs.declared.pieces.PiecesAt.{PiecesAt}

@@ -86,32 +86,32 @@ module _ (caps : List ℕ) (parts : List Part) where
   falls_short p = nat_lt 0 (part_of caps parts p).least
 
   -- queue p at its most moves past what it keeps with one more
-  abbrev pub leap : ℕ → Option (List ℕ × List ℕ)
-  leap p =
+  abbrev pub own_above : ℕ → Option (List ℕ × List ℕ)
+  own_above p =
       if exceeds p && nat_lt ((part_of caps parts p).most + 1) (moved (part_of caps parts p) (part_of caps parts p).most)
       then Some (around_most p) else None
 
   -- another queue q at its least rises, unless p holds more than its most
-  abbrev pub rise : ℕ → ℕ → Option (List ℕ × List ℕ)
-  rise p q =
+  abbrev pub other_above : ℕ → ℕ → Option (List ℕ × List ℕ)
+  other_above p q =
       if exceeds p && (not (nat_eq p q) && nat_lt (part_of caps parts q).least (moved (part_of caps parts q) (part_of caps parts q).least))
       then Some (around_most p) else None
 
   -- queue p at its least moves below what it keeps with one less
-  abbrev pub plunge : ℕ → Option (List ℕ × List ℕ)
-  plunge p =
+  abbrev pub own_below : ℕ → Option (List ℕ × List ℕ)
+  own_below p =
       if falls_short p && nat_lt (moved (part_of caps parts p) (part_of caps parts p).least) ((part_of caps parts p).least - 1)
       then Some (around_least p) else None
 
   -- another queue q at its most falls, unless p holds less than its least
-  abbrev pub fall : ℕ → ℕ → Option (List ℕ × List ℕ)
-  fall p q =
+  abbrev pub other_below : ℕ → ℕ → Option (List ℕ × List ℕ)
+  other_below p q =
       if falls_short p && (not (nat_eq p q) && nat_lt (moved (part_of caps parts q) (part_of caps parts q).most) (part_of caps parts q).most)
       then Some (both_with q (part_of caps parts q).most (around_least p)) else None
 
   -- the one pair of states that shows that a guarded event doesn't keep the order: that of the first of four tests that succeeds
   unfoldable pub upset_of : Option (List ℕ × List ℕ)
   upset_of =
-      first_or (over_queues caps leap)
-      (first_or (over_pairs caps rise)
-      (first_or (over_queues caps plunge) (over_pairs caps fall)))
+      first_or (over_queues caps own_above)
+      (first_or (over_pairs caps other_above)
+      (first_or (over_queues caps own_below) (over_pairs caps other_below)))

@@ -1,10 +1,10 @@
 -- The pieces of a guarded event, queue by queue: the parts that are exact change their queues in the first piece, and one that is
 -- clipped changes its queue in the second.
 use Rattle.std.specs.Prelude.{◌≡◌, ℕ, suc, ◌+◌, ◌<◌, ℤ, pos, negsuc, ◌⊎◌, Bool, true, false, ◌&&◌, ◌||◌, nat_eq, nat_lt, nat_le, if◌then◌else◌, List, length, slice_index, slice_index_or, slice_set}
-use Rattle.psi_piecewise.specs.declared.sides.Side.{Side}
-use Rattle.psi_piecewise.specs.declared.sides.Side.TheVariants.{Any, AtLeast, Below}
-use Rattle.psi_piecewise.specs.declared.piecewise.Piece.{Piece}
-use Rattle.psi_piecewise.specs.declared.piecewise.Piecewise.{Piecewise}
+use Rattle.psi_event.specs.declared.sides.Side.{Side}
+use Rattle.psi_event.specs.declared.sides.Side.TheVariants.{Any, AtLeast, Below}
+use Rattle.psi_event.specs.declared.piecewise.Piece.{Piece}
+use Rattle.psi_event.specs.declared.piecewise.Piecewise.{Piecewise}
 use Rattle.psi_guard.specs.declared.parts.Part.{Part}
 use Rattle.psi_guard.specs.declared.pieces.PieceAt.{PieceAt}
 use Rattle.psi_guard.specs.declared.pieces.PiecesAt.{PiecesAt}

@@ -40,16 +40,16 @@ impl EventLaw for Guarded {
     }
 
     fn upset(&self) -> Option<(State, State)> {
-        if let Some(pair) = self.first_leap() {
+        if let Some(pair) = self.first_own_above() {
             return Some(pair);
         }
-        if let Some(pair) = self.first_rise() {
+        if let Some(pair) = self.first_other_above() {
             return Some(pair);
         }
-        if let Some(pair) = self.first_plunge() {
+        if let Some(pair) = self.first_own_below() {
             return Some(pair);
         }
-        self.first_fall()
+        self.first_other_below()
     }
 
     fn monotone(&self) -> bool {

@@ -1,7 +1,7 @@
 //! The four tests that tell whether a guarded event keeps the order of states, and the pair that they show.
 
 ghost use Rattle.std.specs.Prelude.{◌≡◌, ℕ, ◌<◌, ◌≤◌, List, Option, IsTrue, IfSome, length, slice_index, unsigned_abs};
-ghost use Rattle.psi_guard.specs.Guarding.{AnswersAs, around_least, around_most, exceeds, fall, leap, leasts, over_pairs, over_queues, part_of, plunge, rise};
+ghost use Rattle.psi_guard.specs.Guarding.{AnswersAs, around_least, around_most, exceeds, other_below, own_above, leasts, over_pairs, over_queues, part_of, own_below, other_above};
 ghost use Rattle.psi_guard.specs.Rule.{FitsGuard};
 
 use crate::event::moved;
@@ -10,32 +10,32 @@ use crate::parts::Part;
 use psi_state::State;
 
 impl Guarded {
-    // The first queue that leaps past its most.
-    pub(crate) fn first_leap(&self) -> Option<(State, State)>
-        ensures { result ≡ over_queues self.now.caps (leap self.now.caps self.now.parts) }
+    // The first upset pair that a queue shows by itself, above its most.
+    pub(crate) fn first_own_above(&self) -> Option<(State, State)>
+        ensures { result ≡ over_queues self.now.caps (own_above self.now.caps self.now.parts) }
     {
-        self.first_over(|p| self.leap(p))
+        self.first_over(|p| self.own_above(p))
     }
 
-    // The first two queues of which the second rises.
-    pub(crate) fn first_rise(&self) -> Option<(State, State)>
-        ensures { result ≡ over_pairs self.now.caps (rise self.now.caps self.now.parts) }
+    // The first upset pair that one queue above its most shows by another, which grows.
+    pub(crate) fn first_other_above(&self) -> Option<(State, State)>
+        ensures { result ≡ over_pairs self.now.caps (other_above self.now.caps self.now.parts) }
     {
-        self.first_over(|p| self.rise_beside(p))
+        self.first_over(|p| self.other_above_of(p))
     }
 
-    // The first queue that plunges below its least.
-    pub(crate) fn first_plunge(&self) -> Option<(State, State)>
-        ensures { result ≡ over_queues self.now.caps (plunge self.now.caps self.now.parts) }
+    // The first upset pair that a queue shows by itself, below its least.
+    pub(crate) fn first_own_below(&self) -> Option<(State, State)>
+        ensures { result ≡ over_queues self.now.caps (own_below self.now.caps self.now.parts) }
     {
-        self.first_over(|p| self.plunge(p))
+        self.first_over(|p| self.own_below(p))
     }
 
-    // The first two queues of which the second falls.
-    pub(crate) fn first_fall(&self) -> Option<(State, State)>
-        ensures { result ≡ over_pairs self.now.caps (fall self.now.caps self.now.parts) }
+    // The first upset pair that one queue below its least shows by another, which shrinks.
+    pub(crate) fn first_other_below(&self) -> Option<(State, State)>
+        ensures { result ≡ over_pairs self.now.caps (other_below self.now.caps self.now.parts) }
     {
-        self.first_over(|p| self.fall_beside(p))
+        self.first_over(|p| self.other_below_of(p))
     }
 
     // The first answer of a test over the queues, by their numbers.
@@ -51,10 +51,10 @@ impl Guarded {
         None
     }
 
-    // Queue `p` leaps: at its most it moves past what it keeps with one customer more.
-    fn leap(&self, p: u8) -> Option<(State, State)>
+    // An upset pair of queue `p` by itself: at its most it moves past what it keeps with one customer more.
+    fn own_above(&self, p: u8) -> Option<(State, State)>
         requires { p < length self.now.caps }
-        ensures { result ≡ leap self.now.caps self.now.parts p }
+        ensures { result ≡ own_above self.now.caps self.now.parts p }
     {
         let own = self.part_of(p);
         if own.most < self.caps.get(p) && own.most + 1 < moved(own, own.most) {
@@ -63,23 +63,23 @@ impl Guarded {
         None
     }
 
-    // The first queue that rises, unless queue `p` holds more than its most: none where it can't hold more.
-    fn rise_beside(&self, p: u8) -> Option<(State, State)>
+    // The first queue that shows an upset pair with queue `p` above its most: none where `p` can't hold more.
+    fn other_above_of(&self, p: u8) -> Option<(State, State)>
         requires { p < length self.now.caps }
-        ensures { result ≡ over_queues self.now.caps (rise self.now.caps self.now.parts p) }
+        ensures { result ≡ over_queues self.now.caps (other_above self.now.caps self.now.parts p) }
     {
         if self.part_of(p).most < self.caps.get(p) {
-            self.first_over(|q| self.rise(p, q))
+            self.first_over(|q| self.other_above(p, q))
         } else {
             None
         }
     }
 
-    // Queue `q` rises, unless queue `p` holds more than its most.
-    fn rise(&self, p: u8, q: u8) -> Option<(State, State)>
+    // An upset pair by queue `q`, which grows at its least unless queue `p` holds more than its most.
+    fn other_above(&self, p: u8, q: u8) -> Option<(State, State)>
         requires first { p < length self.now.caps }
         requires second { q < length self.now.caps }
-        ensures { result ≡ rise self.now.caps self.now.parts p q }
+        ensures { result ≡ other_above self.now.caps self.now.parts p q }
     {
         let other = self.part_of(q);
         if self.part_of(p).most < self.caps.get(p)
@@ -91,10 +91,10 @@ impl Guarded {
         None
     }
 
-    // Queue `p` plunges: at its least it moves below what it keeps with one customer less.
-    fn plunge(&self, p: u8) -> Option<(State, State)>
+    // An upset pair of queue `p` by itself: at its least it moves below what it keeps with one customer less.
+    fn own_below(&self, p: u8) -> Option<(State, State)>
         requires { p < length self.now.caps }
-        ensures { result ≡ plunge self.now.caps self.now.parts p }
+        ensures { result ≡ own_below self.now.caps self.now.parts p }
     {
         let own = self.part_of(p);
         if 0 < own.least && moved(own, own.least) < own.least - 1 {
@@ -103,22 +103,22 @@ impl Guarded {
         None
     }
 
-    // The first queue that falls, unless queue `p` holds less than its least: none where it can't hold less.
-    fn fall_beside(&self, p: u8) -> Option<(State, State)>
+    // The first queue that shows an upset pair with queue `p` below its least: none where `p` can't hold less.
+    fn other_below_of(&self, p: u8) -> Option<(State, State)>
         requires { p < length self.now.caps }
-        ensures { result ≡ over_queues self.now.caps (fall self.now.caps self.now.parts p) }
+        ensures { result ≡ over_queues self.now.caps (other_below self.now.caps self.now.parts p) }
     {
         if self.part_of(p).least == 0 {
             return None;
         }
-        self.first_over(|q| self.fall(p, q))
+        self.first_over(|q| self.other_below(p, q))
     }
 
-    // Queue `q` falls, unless queue `p` holds less than its least.
-    fn fall(&self, p: u8, q: u8) -> Option<(State, State)>
+    // An upset pair by queue `q`, which shrinks at its most unless queue `p` holds less than its least.
+    fn other_below(&self, p: u8, q: u8) -> Option<(State, State)>
         requires first { p < length self.now.caps }
         requires second { q < length self.now.caps }
-        ensures { result ≡ fall self.now.caps self.now.parts p q }
+        ensures { result ≡ other_below self.now.caps self.now.parts p q }
     {
         let other = self.part_of(q);
         if 0 < self.part_of(p).least && p != q && moved(other, other.most) < other.most {

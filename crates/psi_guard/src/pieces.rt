@@ -1,12 +1,12 @@
 //! The pieces of a guarded event.
 
 ghost use Rattle.std.specs.Prelude.{◌≡◌, ◌<◌, ◌≤◌, IfSome, MatchBool, length, unsigned_abs};
-ghost use Rattle.psi_piecewise.specs.Piecewise.{Does};
+ghost use Rattle.psi_event.specs.Piecewise.{Does};
 ghost use Rattle.psi_guard.specs.Pieces.{AreTold, Tell, clipped_at, downs, exact_at, is_clipped, is_exact, piece_with, pieces_at, ups};
 
 use crate::guarded::Guarded;
 use crate::parts::Part;
-use psi_piecewise::{Piece, Piecewise, PiecewiseLaw, Side};
+use psi_event::{Piece, Piecewise, PiecewiseLaw, Side};
 use psi_state::State;
 
 impl PiecewiseLaw for Guarded {

@@ -54,7 +54,7 @@ impl<'r, R: Files> DiskShelf<'r, R> {
     }
 }
 
-/// The answer to an error of the system: want of memory, or else a fault.
+/// The answer to an error of the system: `OutOfMemory`, or else a fault.
 fn fault_of(error: &Error) -> ShelfFault
     ensures { (result ≡ ShelfFault.OutOfMemory) ↔ (error_kind error.now ≡ ErrorKind.OutOfMemory) }
 {

@@ -26,6 +26,7 @@ pub use consumer::Consumer;
 pub use disk_shelf::DiskShelf;
 pub use memory_shelf::MemoryShelf;
 pub use memory_sink::MemorySink;
+pub use noted::Noted;
 pub use shelf::{Shelf, ShelfFault};
 pub use sink::{Sink, SinkFault, write_all};
 pub use std_sink::StdSink;

@@ -7,7 +7,7 @@ use std::marker::Model;
 
 /// Bytes that were passed on, oldest first. It has no size: only clauses read it.
 #[derive(Drop)]
-pub(crate) struct Noted {
+pub struct Noted {
     pub ghost bytes: { List ℕ },
 }
 
@@ -17,14 +17,14 @@ impl Model for Noted {
 
 impl Noted {
     /// No byte.
-    pub(crate) fn new() -> Noted
+    pub fn new() -> Noted
         ensures { result.bytes ≡ [] }
     {
         Noted {}
     }
 
     /// These bytes followed by a piece.
-    pub(crate) fn and(&self, _piece: &[u8]) -> Noted
+    pub fn and(&self, _piece: &[u8]) -> Noted
         ensures { result.bytes ≡ self.now.bytes ++ _piece.now }
     {
         Noted {}

@@ -88,7 +88,7 @@ impl Read for Breaking {
     }
 }
 
-/// With ample memory each call on a shelf in memory answers something else than want of memory: the
+/// With ample memory each call on a shelf in memory answers something else than `OutOfMemory`: the
 /// third read fails by its number, the fourth since nothing is under its name.
 #[test]
 fn a_shelf_in_memory_gives_the_bytes_that_were_last_put(rt: HostRuntime) -> Result<(), Fail> {
@@ -177,7 +177,7 @@ fn a_shelf_over_files_gives_their_bytes_up_to_a_bound(rt: HostRuntime) -> Result
 }
 
 /// A file of three chunks, the last of them short, comes chunk by chunk in its order; one in memory
-/// comes as one piece. A piece that the consumer refuses is want of memory.
+/// comes as one piece. A piece that the consumer refuses is `OutOfMemory`.
 #[test]
 fn a_file_is_handed_on_in_pieces(rt: HostRuntime) -> Result<(), Fail> {
     let alloc = rt.alloc();

@@ -55,7 +55,7 @@ of_parts part.OutOfRange = PartRange
 of_parts part.Repeated = Repeated
 of_parts part.Empty = EmptyGuard
 
--- what a refusal says of the cause that there is; want of memory says nothing
+-- what a refusal says of the cause that there is; `OutOfMemory` says nothing
 abbrev pub IsKindRefusal : KindRefusal → Option KindRefusal → Type 0
 IsKindRefusal SelfTarget cause = cause ≡ Some SelfTarget
 IsKindRefusal Repeated cause = cause ≡ Some Repeated

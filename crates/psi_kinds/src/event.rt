@@ -4,12 +4,11 @@ ghost use Rattle.std.specs.Prelude.{◌≡◌, ℕ, ◌↔◌, List, Option, IfS
 ghost use Rattle.psi_state.specs.State.{AreCapacities, IsBelow, box};
 ghost use Rattle.psi_state.specs.Sets.{image};
 ghost use Rattle.psi_state.specs.Hull.{corners, IsTight};
-ghost use Rattle.psi_piecewise.specs.Piecewise.{Does};
+ghost use Rattle.psi_event.specs.Piecewise.{Does};
 ghost use Rattle.psi_event.specs.Law.{IsClosed, IsMonotone, ShowsUpset};
 
-use psi_event::{EventLaw, Idle};
+use psi_event::{EventLaw, Idle, Piecewise, PiecewiseLaw};
 use psi_guard::Guarded;
-use psi_piecewise::{Piecewise, PiecewiseLaw};
 use psi_route::Route;
 use psi_state::{Bounds, State};
 

@@ -12,7 +12,7 @@ use psi_route::{Source, is_self_target, is_size_off};
 use psi_state::{Queues, State};
 
 /// Why a kind makes no event in a network of these capacities, if it makes none: the refusal of
-/// [`lower`](crate::lower), of which none is want of memory.
+/// [`lower`](crate::lower), none of which is `OutOfMemory`.
 ///
 /// `caps` and the kind are such as `lower` takes.
 pub fn refusal_of(caps: &State, kind: &Kind) -> Option<KindRefusal>

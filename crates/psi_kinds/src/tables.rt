@@ -52,7 +52,7 @@ impl Tables {
         self.push_row(Row::Plain(row))
     }
 
-    // The same of a row.
+    // As above, for a row.
     fn push_row(&mut self, row: Row) -> Result<(), OutOfMemory>
         ensures pushed { OnOk result (self.new ≡ self.old ++ row_of row ∷ []) }
         ensures refused { OnErr result (self.new ≡ self.old) }

@@ -15,7 +15,7 @@ use Rattle.psi_rate.specs.Composition.{Functions, function_at, compose, Keeps, A
 use Rattle.psi_rate.specs.Outcomes.{outcome_within}
 use Rattle.psi_rate.proofs.OutcomesLemmas.{outcome_within-is, outcome_within-only}
 use Rattle.psi_rate.proofs.FunctionsLemmas.{function_at-keeping}
-use Rattle.psi_arcs.specs.Walks.{customers}
+use Rattle.psi_closed_arcs.specs.Walks.{customers}
 use Rattle.psi_closed.specs.Closed.{IsOfTotal, total_states, all_arcs, arc_hull, closed_after, closed_run, closed_ending}
 use Rattle.psi_closed.specs.Diagram.{IsTotal}
 use Rattle.psi_closed.specs.Planned.{AreMoves, IsClosedSample}
@@ -24,8 +24,8 @@ use Rattle.psi_closed.proofs.DiagramLemmas.{total-some}
 use Rattle.psi_closed.proofs.HullLemmas.{hull-has, hull-of, hull-arcs}
 use Rattle.psi_closed.proofs.MovesLemmas.{moved-keeps}
 use Rattle.psi_closed.proofs.RunsLemmas.{rising-same_each, single-member, run-each, endings-last, outcome-reached, outcome-decides, outcome-of}
-use Rattle.psi_model.specs.Network.{Network, caps_of, rates_of, functions_of}
-use Rattle.psi_model.specs.Valid.{IsNetwork, IsAccepted}
+use Rattle.psi_net_model.specs.Network.{Network, caps_of, rates_of, functions_of}
+use Rattle.psi_net_model.specs.Valid.{IsNetwork, IsAccepted}
 use Rattle.psi_law.specs.Counting.{Words}
 use Rattle.psi_law.specs.Chains.{Chain, IsChain}
 use Rattle.psi_law.specs.Statements.{UncoalescedFalls, UnmetIsUncoalesced, LimitSquares, LooksAtFirst}

@@ -22,8 +22,8 @@ use Rattle.psi_couple.specs.declared.answers.Valued.{Valued}
 use Rattle.psi_couple.specs.Coupling.{IsCoupled}
 use Rattle.psi_couple.specs.Valuing.{common_value, value_at, IsValued}
 use Rattle.psi_couple.proofs.ValuingLemmas.{value-reached}
-use Rattle.psi_model.specs.Network.{Network, caps_of, rates_of, functions_of}
-use Rattle.psi_model.specs.Valid.{IsNetwork}
+use Rattle.psi_net_model.specs.Network.{Network, caps_of, rates_of, functions_of}
+use Rattle.psi_net_model.specs.Valid.{IsNetwork}
 use Rattle.psi_law.specs.Counting.{Words}
 use Rattle.psi_law.specs.Samples.{Reaches}
 use Rattle.psi_law.specs.Networks.{network_chain, network_ending, network_sample}

@@ -25,9 +25,9 @@ use Rattle.psi_horizon.specs.Runs.{follow, ending_at}
 use Rattle.psi_horizon.specs.Sample.{IsSample}
 use Rattle.psi_horizon.proofs.RunsLemmas.{endings-last, outcome-reached}
 use Rattle.psi_horizon.proofs.SampleLemmas.{sample-is}
-use Rattle.psi_model.specs.Network.{Network, caps_of, rates_of, functions_of}
-use Rattle.psi_model.specs.Valid.{IsNetwork, IsAccepted}
-use Rattle.psi_model.proofs.QueueLemmas.{capacities_kept}
+use Rattle.psi_net_model.specs.Network.{Network, caps_of, rates_of, functions_of}
+use Rattle.psi_net_model.specs.Valid.{IsNetwork, IsAccepted}
+use Rattle.psi_net_model.proofs.QueueLemmas.{capacities_kept}
 use Rattle.psi_law.specs.Counting.{Words}
 use Rattle.psi_law.specs.Chains.{Chain, IsChain}
 use Rattle.psi_law.specs.Statements.{UncoalescedFalls, UnmetIsUncoalesced, LimitSquares, UnmetIsApart, LooksAtFirst}

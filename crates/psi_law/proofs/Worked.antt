@@ -29,10 +29,10 @@ use Rattle.psi_couple.specs.Valuing.{valued_within}
 use Rattle.psi_rate.specs.Outcomes.{outcome_within}
 use Rattle.psi_region.specs.Region.{step}
 use Rattle.psi_closed.specs.Closed.{total_states, all_arcs, held_states, closed_run}
-use Rattle.psi_model.specs.Network.{Network}
-use Rattle.psi_model.specs.Valid.{IsNetwork, IsQueue, IsAccepted}
-use Rattle.psi_model.specs.declared.entries.Queue.{Queue}
-use Rattle.psi_model.specs.declared.entries.NamedEvent.{NamedEvent}
+use Rattle.psi_net_model.specs.Network.{Network}
+use Rattle.psi_net_model.specs.Valid.{IsNetwork, IsQueue, IsAccepted}
+use Rattle.psi_net_model.specs.declared.entries.Queue.{Queue}
+use Rattle.psi_net_model.specs.declared.entries.NamedEvent.{NamedEvent}
 use Rattle.psi_law.specs.Elimination.{Matrix, censored, rate_between, stationary_weight}
 use Rattle.psi_law.specs.Counting.{Words, distance, signed, sum_below, count_below, sum_pasts, count_pasts}
 use Rattle.psi_law.specs.Wheel.{word_count, words_for}

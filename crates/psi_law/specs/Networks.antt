@@ -9,7 +9,7 @@ use Rattle.psi_rate.specs.Outcomes.{outcome_within}
 use Rattle.psi_horizon.specs.Runs.{ending_at}
 use Rattle.psi_closed.specs.Closed.{total_states, closed_ending}
 use Rattle.psi_closed.specs.Planned.{closed_functions as moves_by_time}
-use Rattle.psi_model.specs.Network.{Network, caps_of, rates_of, functions_of}
+use Rattle.psi_net_model.specs.Network.{Network, caps_of, rates_of, functions_of}
 use Rattle.psi_law.specs.Counting.{Words}
 use Rattle.psi_law.specs.Chains.{Chain}
 

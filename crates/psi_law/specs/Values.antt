@@ -11,7 +11,7 @@ use Rattle.psi_rate.specs.Composition.{function_at}
 use Rattle.psi_couple.specs.declared.answers.Valued.{Valued}
 use Rattle.psi_couple.specs.declared.answers.Valued.TheVariants.{At, NotAt}
 use Rattle.psi_couple.specs.Valuing.{value_at, valued_within}
-use Rattle.psi_model.specs.Network.{Network, caps_of, rates_of, functions_of}
+use Rattle.psi_net_model.specs.Network.{Network, caps_of, rates_of, functions_of}
 use Rattle.psi_law.specs.Counting.{Words, count_pasts}
 use Rattle.psi_law.specs.Wheel.{word_count}
 use Rattle.psi_law.specs.Chains.{Chain, end_of, whole, IsBalanced}

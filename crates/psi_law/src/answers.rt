@@ -10,7 +10,7 @@ ghost use Rattle.psi_law.specs.Couplings.{network_coupling, coupled_outcome, Agr
 ghost use Rattle.psi_law.specs.Values.{network_value, ReachesValue, BalanceIsValueLaw, AgreesValued};
 ghost use Rattle.psi_law.specs.Statements.{BalanceIsLaw, BalanceIsMean, BalanceIsSignedMean, LooksAtFirst};
 
-use psi_model::Net;
+use psi_net_model::Net;
 
 /// The law of the least couplings that the command `couple` prints for a network.
 ///

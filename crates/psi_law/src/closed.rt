@@ -7,7 +7,7 @@ ghost use Rattle.psi_rate.specs.Composition.{function_at};
 ghost use Rattle.psi_closed.specs.Diagram.{IsTotal};
 ghost use Rattle.psi_closed.specs.Planned.{AreMoves, IsClosedSample};
 ghost use Rattle.psi_closed.specs.Planned.{closed_functions as moves_by_time};
-ghost use Rattle.psi_model.specs.Network.{caps_of, rates_of, functions_of};
+ghost use Rattle.psi_net_model.specs.Network.{caps_of, rates_of, functions_of};
 ghost use Rattle.psi_law.specs.Counting.{Words};
 ghost use Rattle.psi_law.specs.Chains.{IsChain};
 ghost use Rattle.psi_law.specs.Samples.{Reaches, HasStationaryLaw};
@@ -15,7 +15,7 @@ ghost use Rattle.psi_law.specs.Networks.{closed_chain, moves_ending, closed_samp
 ghost use Rattle.psi_law.specs.Statements.{BalanceStays, BalanceIsLaw, BalanceIsOne, BalanceIsMean, BalanceIsSignedMean, ApartFalls, MixesAsCoupled, UncoalescedFalls, UnmetIsUncoalesced, LimitSquares, LooksAtFirst};
 
 use psi_kinds::Move;
-use psi_model::Net;
+use psi_net_model::Net;
 use psi_rate::Wheel;
 use psi_state::State;
 

@@ -5,7 +5,7 @@ ghost use Rattle.psi_state.specs.declared.Outcome.{Outcome};
 ghost use Rattle.psi_state.specs.State.{all_states};
 ghost use Rattle.psi_event.specs.Law.{IsMonotone};
 ghost use Rattle.psi_horizon.specs.Sample.{IsSample};
-ghost use Rattle.psi_model.specs.Network.{caps_of, rates_of, functions_of};
+ghost use Rattle.psi_net_model.specs.Network.{caps_of, rates_of, functions_of};
 ghost use Rattle.psi_law.specs.Counting.{Words};
 ghost use Rattle.psi_law.specs.Chains.{IsChain};
 ghost use Rattle.psi_law.specs.Samples.{Reaches, HasStationaryLaw};
@@ -13,7 +13,7 @@ ghost use Rattle.psi_law.specs.Networks.{chain_of, ending_of, sample_of, network
 ghost use Rattle.psi_law.specs.Statements.{BalanceStays, BalanceIsLaw, BalanceIsOne, BalanceIsMean, BalanceIsSignedMean, ApartFalls, MixesAsCoupled, UnmetIsApart, UncoalescedFalls, UnmetIsUncoalesced, LimitSquares, LooksAtFirst};
 
 use psi_event::EventLaw;
-use psi_model::Net;
+use psi_net_model::Net;
 use psi_rate::System;
 
 /// The law of the samples that `Plan::sample` answers for a system.

@@ -10,8 +10,8 @@ use Rattle.psi_state.specs.declared.Outcome.TheVariants.{Met, NotMet}
 use Rattle.psi_state.specs.Members.{In}
 use Rattle.psi_state.proofs.MembersLemmas.{In-append_left, In-append_right, In-map, In-flat_map}
 use Rattle.psi_reward.specs.Worth.{worth_of}
-use Rattle.psi_model.specs.Network.{Network, NamedReward}
-use Rattle.psi_model.specs.declared.entries.Queue.{Queue}
+use Rattle.psi_net_model.specs.Network.{Network, NamedReward}
+use Rattle.psi_net_model.specs.declared.entries.Queue.{Queue}
 use Rattle.psi_report.specs.Samples.{met_states}
 use Rattle.psi_report.specs.Quantities.{Quantity, queues_from, queue_quantities, reward_quantities, sum_of}
 use Rattle.psi_report.specs.declared.figure.Item.TheVariants.{Sum, RewardSum}

@@ -16,9 +16,9 @@ use Rattle.psi_rate.specs.Rates.{total, least_power, event_of}
 use Rattle.psi_rate.specs.Doubling.{first_answer}
 use Rattle.psi_rate.specs.Outcomes.{outcome_within}
 use Rattle.psi_region.specs.Region.{step}
-use Rattle.psi_model.specs.Network.{Network}
-use Rattle.psi_model.specs.Valid.{IsNetwork, IsQueue, IsAccepted}
-use Rattle.psi_model.specs.declared.entries.NamedEvent.{NamedEvent}
+use Rattle.psi_net_model.specs.Network.{Network}
+use Rattle.psi_net_model.specs.Valid.{IsNetwork, IsQueue, IsAccepted}
+use Rattle.psi_net_model.specs.declared.entries.NamedEvent.{NamedEvent}
 use Rattle.psi_report.specs.Samples.{met_states}
 use Rattle.psi_report.specs.Report.{contents_of}
 use Rattle.psi_law.specs.Counting.{sum_below}

@@ -3,8 +3,8 @@ use Rattle.std.specs.Prelude.{◌≡◌, ℕ, ◌+◌, ◌-◌, ◌*◌, ◌<◌
 use Rattle.psi_state.specs.declared.Outcome.{Outcome}
 use Rattle.psi_state.specs.Members.{In}
 use Rattle.psi_reward.specs.Worth.{worth_of}
-use Rattle.psi_model.specs.Network.{Network, NamedReward}
-use Rattle.psi_model.specs.declared.entries.Queue.{Queue}
+use Rattle.psi_net_model.specs.Network.{Network, NamedReward}
+use Rattle.psi_net_model.specs.declared.entries.Queue.{Queue}
 use Rattle.psi_report.specs.declared.figure.Item.TheVariants.{Sum, RewardSum}
 use Rattle.psi_report.specs.Contents.{Contents}
 use Rattle.psi_report.specs.Report.{figure, contents_of}

@@ -4,14 +4,14 @@ ghost use Rattle.std.specs.Prelude.{◌≡◌, ◌^◌, length, All, IsSome};
 ghost use Rattle.psi_kinds.specs.Moves.{move_of};
 ghost use Rattle.psi_closed.specs.Diagram.{IsTotal};
 ghost use Rattle.psi_closed.specs.Planned.{AreMoves};
-ghost use Rattle.psi_model.specs.Network.{caps_of};
+ghost use Rattle.psi_net_model.specs.Network.{caps_of};
 ghost use Rattle.psi_law.specs.Networks.{closed_chain, closed_sample, network_total_chain, network_total_sample};
 ghost use Rattle.psi_law_many.specs.Intervals.{HasIntervals};
 ghost use Rattle.psi_law_many.specs.Bets.{HasBets};
 ghost use Rattle.psi_law_many.specs.Statements.{HasTails, StationaryIsMeasured, BalanceIsNear, BalanceHas, BalanceHasQuantiles, UnmetAdds};
 
 use psi_kinds::Move;
-use psi_model::Net;
+use psi_net_model::Net;
 use psi_rate::Wheel;
 use psi_state::State;
 

@@ -3,13 +3,13 @@
 ghost use Rattle.std.specs.Prelude.{ℕ, ◌≤◌, ◌^◌, All, IsSome};
 ghost use Rattle.psi_kinds.specs.Moves.{move_of};
 ghost use Rattle.psi_closed.specs.Diagram.{IsTotal};
-ghost use Rattle.psi_model.specs.Network.{caps_of};
+ghost use Rattle.psi_net_model.specs.Network.{caps_of};
 ghost use Rattle.psi_law.specs.Networks.{network_chain, network_sample, network_total_chain, network_total_sample};
 ghost use Rattle.psi_law_many.specs.Intervals.{HasIntervals};
 ghost use Rattle.psi_law_many.specs.Bets.{HasBets};
 ghost use Rattle.psi_law_many.specs.Statements.{HasTails, DifferenceHas};
 
-use psi_model::Net;
+use psi_net_model::Net;
 
 /// The law of the difference of two networks, each sample of which is drawn from the same past.
 ///

@@ -8,7 +8,7 @@ ghost use Rattle.psi_law_many.specs.Reports.{IsReported};
 ghost use Rattle.psi_law_many.specs.Statements.{HasTails, StationaryIsMeasured, BalanceIsNear, BalanceHas, BalanceHasQuantiles, UnmetAdds};
 
 use psi_event::EventLaw;
-use psi_model::Net;
+use psi_net_model::Net;
 use psi_rate::System;
 
 /// The law of k samples that `Plan::sample` returns of a system.

@@ -28,8 +28,8 @@ use Rattle.psi_exact.specs.declared.answers.Meeting.{Meeting}
 use Rattle.psi_exact.specs.declared.answers.Meeting.TheVariants.{Constant}
 use Rattle.psi_exact.specs.Surveys.{meeting_of, meeting_within, IsMeeting}
 use Rattle.psi_exact.proofs.SurveysLemmas.{meeting_at-reached}
-use Rattle.psi_model.specs.Network.{Network, caps_of, rates_of, functions_of}
-use Rattle.psi_model.specs.Valid.{IsNetwork}
+use Rattle.psi_net_model.specs.Network.{Network, caps_of, rates_of, functions_of}
+use Rattle.psi_net_model.specs.Valid.{IsNetwork}
 use Rattle.psi_reply.specs.Sample.{functions_by_time, sampled}
 use Rattle.psi_reply.specs.Couple.{endings, coupling}
 use Rattle.psi_reply.specs.Reward.{values, valuation}

@@ -1,7 +1,7 @@
 -- The network of a file's bytes keeps what every network does.
 use Rattle.std.specs.Prelude.{◌≡◌, ℕ, List, Ok}
-use Rattle.psi_model.specs.Network.{Network}
-use Rattle.psi_model.specs.Valid.{IsNetwork}
+use Rattle.psi_net_model.specs.Network.{Network}
+use Rattle.psi_net_model.specs.Valid.{IsNetwork}
 use Rattle.psi_net_document.proofs.ReadingLemmas.{bind_ok}
 use Rattle.psi_net.specs.Reading.{file_text, text_network, network_of}
 use Rattle.psi_net.proofs.NetworkLemmas.{network_kept}

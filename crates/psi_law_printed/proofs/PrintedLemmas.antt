@@ -8,17 +8,17 @@ use Rattle.psi_reward.specs.declared.kinds.RewardKind.{RewardKind}
 use Rattle.psi_kinds.specs.declared.moves.Move.{Move}
 use Rattle.psi_kinds.specs.Moves.{move_of}
 use Rattle.psi_rate.proofs.PowersLemmas.{pow-order}
-use Rattle.psi_arcs.specs.Walks.{customers}
+use Rattle.psi_closed_arcs.specs.Walks.{customers}
 use Rattle.psi_closed.specs.Diagram.{IsTotal}
-use Rattle.psi_model.specs.Network.{Network, caps_of, rates_of}
-use Rattle.psi_model.specs.declared.entries.NamedEvent.{NamedEvent}
-use Rattle.psi_model.specs.Valid.{IsNetwork}
+use Rattle.psi_net_model.specs.Network.{Network, caps_of, rates_of}
+use Rattle.psi_net_model.specs.declared.entries.NamedEvent.{NamedEvent}
+use Rattle.psi_net_model.specs.Valid.{IsNetwork}
 use Rattle.psi_net_document.specs.declared.refusals.NetRefusal.{NetRefusal}
 use Rattle.psi_net.specs.Reading.{network_of}
 use Rattle.psi_command.specs.declared.status.Status.TheVariants.{NoSuchTotal}
 use Rattle.psi_command.specs.Command.{sample, couple, reward, closed}
 use Rattle.psi_program.specs.Reply.{line_reply}
-use Rattle.psi_answers.specs.Lines.{no_total_line}
+use Rattle.psi_reply.specs.Lines.{no_total_line}
 use Rattle.psi_reply.specs.Sample.{functions_by_time, sampled}
 use Rattle.psi_reply.specs.Couple.{endings, coupling}
 use Rattle.psi_reply.specs.Reward.{values, valuation}

@@ -1,5 +1,5 @@
 -- The network of `first.toml`, worked out by the checker for seed 0 and stream 0. That its sample is met at 4 and its coupling at 3, both in the state 1, is what the plain program
--- of checks/plain.py says too.
+-- of oracle/plain.py says too.
 use Rattle.std.specs.Prelude.{◌≡◌, ℕ, List, [], ◌∷◌, codes, refl}
 use Rattle.std.proofs.Common.{inl, inr}
 use Rattle.rand_core.specs.Steps.{u32_at}
@@ -16,8 +16,8 @@ use Rattle.psi_rate.specs.Outcomes.{outcome_within}
 use Rattle.psi_region.specs.Region.{step}
 use Rattle.psi_couple.specs.declared.answers.Coupled.TheVariants.{At}
 use Rattle.psi_couple.specs.Coupling.{coupled_within}
-use Rattle.psi_model.specs.Network.{Network}
-use Rattle.psi_model.specs.Valid.{IsNetwork}
+use Rattle.psi_net_model.specs.Network.{Network}
+use Rattle.psi_net_model.specs.Valid.{IsNetwork}
 use Rattle.psi_reply.specs.Sample.{functions_by_time, sampled}
 use Rattle.psi_reply.specs.Couple.{endings, coupling}
 use Rattle.psi_law_printed.specs.Agreement.{IsLogged}

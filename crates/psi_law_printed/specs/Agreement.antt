@@ -6,8 +6,8 @@ use Rattle.psi_reward.specs.Worth.{worth_of}
 use Rattle.psi_couple.specs.declared.answers.Coupled.TheVariants as coupled
 use Rattle.psi_couple.specs.declared.answers.Valued.TheVariants as valued
 use Rattle.psi_exact.specs.declared.answers.Meeting.TheVariants.{Constant}
-use Rattle.psi_log_text.specs.Log.{Certificate}
-use Rattle.psi_model.specs.Network.{Network}
+use Rattle.psi_log_format.specs.Log.{Certificate}
+use Rattle.psi_net_model.specs.Network.{Network}
 use Rattle.psi_net.specs.Reading.{network_of}
 use Rattle.psi_reply.specs.Sample.{sampled}
 use Rattle.psi_reply.specs.Couple.{coupling}

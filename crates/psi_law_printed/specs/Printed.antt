@@ -5,12 +5,12 @@ use Rattle.psi_reward.specs.declared.kinds.RewardKind.{RewardKind}
 use Rattle.psi_reward.specs.Worth.{worth_of}
 use Rattle.psi_closed.specs.Diagram.{IsTotal}
 use Rattle.psi_event.specs.Law.{IsMonotone}
-use Rattle.psi_model.specs.Network.{Network, caps_of, rates_of, functions_of}
+use Rattle.psi_net_model.specs.Network.{Network, caps_of, rates_of, functions_of}
 use Rattle.psi_net.specs.Reading.{network_of}
 use Rattle.psi_command.specs.Command.{sample, couple, reward, closed}
 use Rattle.psi_program.specs.Reply.{text_reply}
-use Rattle.psi_answers.specs.Couplings.{coupling_text}
-use Rattle.psi_answers.specs.Values.{value_text}
+use Rattle.psi_reply.specs.Couplings.{coupling_text}
+use Rattle.psi_reply.specs.Values.{value_text}
 use Rattle.psi_reply.specs.Couple.{coupling_status}
 use Rattle.psi_reply.specs.Reward.{kind_named, value_status}
 use Rattle.psi_reply.specs.Closed.{first_other}

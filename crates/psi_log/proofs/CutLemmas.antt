@@ -6,7 +6,7 @@ use Rattle.psi_log_words.specs.Refusal.{refused}
 use Rattle.psi_log_words.specs.declared.refusals.Cause.TheVariants.{Shape}
 use Rattle.psi_log_words.specs.Regions.{form_of}
 use Rattle.psi_log.specs.Reading.{read_begin, read_end}
-use Rattle.psi_log_lines.proofs.CutLemmas.{cut, either_way, form_fails, form_long}
+use Rattle.psi_log_scan.proofs.CutLemmas.{cut, either_way, form_fails, form_long}
 
 -- too many words for a line
 end_long : (n queues : ℕ) (words : List (List ℕ)) → 2 < length words → read_end n queues words ≡ Err (refused n Shape)

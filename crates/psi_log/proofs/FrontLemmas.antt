@@ -1,40 +1,46 @@
 -- What is read of a text is read of a longer one that it begins, with more text left behind it.
-use Rattle.std.specs.Prelude.{◌≡◌, ℕ, ◌-◌, ◌+◌, ◌<◌, ◌≤◌, ◌^◌, List, ◌++◌, length, take, drop, codes, nat_le, nat_lt, Bool, true, ◌==◌, Option, None, Some, Result, Ok, Err, cond, refl}
+use Rattle.std.specs.Prelude.{◌≡◌, ℕ, ◌-◌, ◌+◌, ◌<◌, ◌≤◌, ◌^◌, List, [], ◌++◌, length, take, drop, codes, nat_le, nat_lt, Bool, true, ◌==◌, Option, None, Some, Result, Ok, Err, cond, refl}
 use Rattle.std.specs.List.{position, position_or_len}
-use Rattle.std.proofs.Common.{ap, ◌∙◌, arith, length-append}
+use Rattle.std.proofs.Common.{ap, sym, ◌∙◌, subst, arith, append_assoc, length-append}
 use Rattle.std.proofs.lemmas.Bool.{le-leb, lt-ltb}
-use Rattle.std.proofs.lemmas.List.{get_or_append_left, take-append-le, drop-append-le}
+use Rattle.std.proofs.lemmas.List.{get_or_append_left, take-append-le, drop-append-le, take-append-drop}
 use Rattle.std.proofs.lemmas.List.Quantifiers.{position-Some}
 use Rattle.std.proofs.lemmas.List.Sums.{position_or_len_is}
 use Rattle.psi_state.specs.State.{Corners}
-use Rattle.psi_log_text.specs.declared.header.Header.{Header}
-use Rattle.psi_log_text.specs.Log.{LogRegion, Entry, greatest_horizon}
+use Rattle.psi_log_format.specs.declared.header.Header.{Header}
+use Rattle.psi_log_format.specs.Log.{LogRegion, Entry, greatest_horizon}
 use Rattle.psi_log_words.specs.Refusal.{Refusal, refused, ◌>>=◌, holds_or}
 use Rattle.psi_log_words.specs.Words.{is_feed, cut_at, line_of, words_of, read_version, read_named}
 use Rattle.psi_log_words.specs.declared.refusals.Cause.TheVariants.{TooLong}
 use Rattle.psi_log_words.proofs.WordLemmas.{bind_ok, ok_same}
-use Rattle.psi_log_lines.specs.Lines.{named_line, read_header, read_step}
-use Rattle.psi_log_lines.specs.Scanned.{next_step}
+use Rattle.psi_log_scan.specs.Lines.{named_line, read_header, read_step}
+use Rattle.psi_log_scan.specs.Scanned.{next_step}
 use Rattle.psi_log.specs.Reading.{read_begin}
-use Rattle.psi_log.specs.Cursor.{Cursor, begin_line, begun}
+use Rattle.psi_log.specs.Cursor.{Cursor, EndsAs, begin_line, begun}
 
--- a reading of a front of the text: what it gives, and the text that it leaves, stay when more text follows
+-- a reading of a front of the text: what it leaves is the end of the text, and what it gives stays when more text follows
 abbrev IsFront : {A : Type 0} → (List ℕ → Result (A × List ℕ) Refusal) → Type 0
-IsFront {A = A} reading = (text more : List ℕ) (x : A × List ℕ) → reading text ≡ Ok x → reading (text ++ more) ≡ Ok (x.0, x.1 ++ more)
+IsFront {A = A} reading =
+    (text : List ℕ) (x : A × List ℕ) → reading text ≡ Ok x → EndsAs text x.1 × ((more : List ℕ) → reading (text ++ more) ≡ Ok (x.0, x.1 ++ more))
+
+pub ends_then : (text mid rest : List ℕ) → EndsAs text mid → EndsAs mid rest → EndsAs text rest
+ends_then text mid rest one two = (one.0 ++ two.0, one.1 ∙ ap (λ (t : List ℕ). one.0 ++ t) two.1 ∙ sym (append_assoc one.0 two.0 rest))
 
 -- such are nothing read, one after another, and one behind what isn't read of the text
 none_front : {A : Type 0} (a : A) → IsFront (λ (text : List ℕ). Ok (a, text))
-none_front {A = A} a text more x h = ap (λ (p : A × List ℕ). Ok (p.0, p.1 ++ more)) (ok_same (a, text) x h)
+none_front {A = A} a text x h = (([], ap (λ (p : A × List ℕ). p.1) (ok_same (a, text) x h)), λ more. ap (λ (p : A × List ℕ). Ok (p.0, p.1 ++ more)) (ok_same (a, text) x h))
 
 then_front : {A B : Type 0} (first : List ℕ → Result (A × List ℕ) Refusal) (next : A → List ℕ → Result (B × List ℕ) Refusal)
     → IsFront first → ((a : A) → IsFront (next a)) → IsFront (λ (text : List ℕ). first text >>= (λ (p : A × List ℕ). next p.0 p.1))
-then_front {A = A} first next one two text more x h =
+then_front {A = A} first next one two text x h =
     let read = bind_ok (first text) (λ (p : A × List ℕ). next p.0 p.1) x h in
-    rw (one text more read.0 read.1) (two read.0.0 read.0.1 more x read.2)
+    let here = one text read.0 read.1 in
+    let there = two read.0.0 read.0.1 x read.2 in
+    (ends_then text read.0.1 x.1 here.0 there.0, λ more. rw (here.1 more) (there.1 more))
 
 given_front : {A B : Type 0} (r : Result A Refusal) (next : A → List ℕ → Result (B × List ℕ) Refusal) → ((a : A) → IsFront (next a)) → IsFront (λ (text : List ℕ). r >>= (λ (a : A). next a text))
 given_front (Ok a) next two = two a
-given_front (Err refusal) next two = λ text more x h. absurd cc
+given_front (Err refusal) next two = λ text x h. absurd cc
 
 -- the first line feed stays the first
 feed_front : (text more : List ℕ) (at : ℕ) → position is_feed text ≡ Some at → (position is_feed (text ++ more) ≡ Some at) × (at + 1 ≤ length text)
@@ -51,22 +57,24 @@ feed_front text more at is =
     )
 
 -- a line
-pub line_front : (n : ℕ) (text line rest more : List ℕ) → line_of n text ≡ Ok (line, rest) → line_of n (text ++ more) ≡ Ok (line, rest ++ more)
+line_front : (n : ℕ) → IsFront (line_of n)
 unfolding line_of
-line_front n text line rest more h = go (position is_feed text) refl h
+line_front n text x h = go (position is_feed text) refl h
   where
-    go : (found : Option ℕ) → position is_feed text ≡ found → cut_at n text found ≡ Ok (line, rest) → cut_at n (text ++ more) (position is_feed (text ++ more)) ≡ Ok (line, rest ++ more)
+    go : (found : Option ℕ) → position is_feed text ≡ found → cut_at n text found ≡ Ok x → EndsAs text x.1 × ((more : List ℕ) → cut_at n (text ++ more) (position is_feed (text ++ more)) ≡ Ok (x.0, x.1 ++ more))
     go None is cut = absurd cc
     go (Some at) is cut =
-        let feed = feed_front text more at is in
-        let same = ok_same (take at text, drop (at + 1) text) (line, rest) cut in
-        rw (feed.0, take-append-le at text more (omega (arith, feed.1)), drop-append-le (at + 1) text more feed.1)
-        (ap (λ (p : List ℕ × List ℕ). Ok (p.0, p.1 ++ more)) same)
+        let same = ok_same (take at text, drop (at + 1) text) x cut in (
+          (take (at + 1) text, sym (take-append-drop (at + 1) text) ∙ ap (λ (p : List ℕ × List ℕ). take (at + 1) text ++ p.1) same),
+          λ more. (let feed = feed_front text more at is in
+              rw (feed.0, take-append-le at text more (omega (arith, feed.1)), drop-append-le (at + 1) text more feed.1)
+              (ap (λ (p : List ℕ × List ℕ). Ok (p.0, p.1 ++ more)) same)),
+        )
 
 -- what is read of a line
 of_line : {A : Type 0} (n : ℕ) (f : List ℕ → Result A Refusal) → IsFront (λ (text : List ℕ). line_of n text >>= (λ (l : List ℕ × List ℕ). f l.0 >>= (λ (a : A). Ok (a, l.1))))
 of_line {A = A} n f =
-    then_front (line_of n) (λ (line text : List ℕ). f line >>= (λ (a : A). Ok (a, text))) (λ text more x h. line_front n text x.0 x.1 more h)
+    then_front (line_of n) (λ (line text : List ℕ). f line >>= (λ (a : A). Ok (a, text))) (line_front n)
     (λ line. given_front (f line) (λ (a : A) (text : List ℕ). Ok (a, text)) none_front)
 
 -- so are the lines of a name and a number, and the one of the region at which the run begins
@@ -79,15 +87,21 @@ unfolding begin_line
 begin_front queues = of_line 6 (λ (line : List ℕ). read_begin queues (words_of line))
 
 -- a step
-pub next_front : (h : Header) (n : ℕ) (before : Option Corners) (text rest more : List ℕ) (e : Entry) → next_step h n before text ≡ Ok (e, rest) → next_step h n before (text ++ more) ≡ Ok (e, rest ++ more)
+step_front : (h : Header) (n : ℕ) (before : Option Corners) → IsFront (next_step h n before)
 unfolding next_step
-next_front h n before text rest more e read = of_line n (λ (line : List ℕ). read_step h n before (words_of line)) text more (e, rest) read
+step_front h n before = of_line n (λ (line : List ℕ). read_step h n before (words_of line))
+
+pub next_front : (h : Header) (n : ℕ) (before : Option Corners) (text rest more : List ℕ) (e : Entry) → next_step h n before text ≡ Ok (e, rest) → next_step h n before (text ++ more) ≡ Ok (e, rest ++ more)
+next_front h n before text rest more e read = (step_front h n before text (e, rest) read).1 more
+
+pub next_ends : (h : Header) (n : ℕ) (before : Option Corners) (text rest : List ℕ) (e : Entry) → next_step h n before text ≡ Ok (e, rest) → EndsAs text rest
+next_ends h n before text rest e read = (step_front h n before text (e, rest) read).0
 
 -- a header
 header_front : IsFront read_header
 unfolding read_header
 header_front =
-    then_front (line_of 1) (λ (line text : List ℕ). read_version line >>= (λ (v : ℕ). behind_version v text)) (λ text more x h. line_front 1 text x.0 x.1 more h)
+    then_front (line_of 1) (λ (line text : List ℕ). read_version line >>= (λ (v : ℕ). behind_version v text)) (line_front 1)
     (λ line. given_front (read_version line) behind_version version_front)
   where
     behind_version : ℕ → List ℕ → Result (Header × List ℕ) Refusal
@@ -101,21 +115,32 @@ header_front =
         then_front _ _ (named_front 5 (codes "horizon") 1 (greatest_horizon v)) (λ k. none_front (record { version = v; queues = q; seed = s; stream = n; horizon = k })))))
 
 -- what stands before the steps, where the longer text isn't too long
-pub begun_front : (text more : List ℕ) (c : Cursor) → begun text ≡ Ok c → length (text ++ more) ≤ 33554432
-    → begun (text ++ more) ≡ Ok (record { header = c.header; done = c.done; before = c.before; region = c.region; rest = c.rest ++ more })
+begins : (text : List ℕ) (c : Cursor) → begun text ≡ Ok c → EndsAs text c.rest
+    × ((more : List ℕ) → length (text ++ more) ≤ 33554432 → begun (text ++ more) ≡ Ok (record { header = c.header; done = c.done; before = c.before; region = c.region; rest = c.rest ++ more }))
 unfolding begun
-begun_front text more c h few =
+begins text c h =
     let rule = bind_ok (holds_or (refused 0 TooLong) (nat_le (length text) 33554432)) (λ (u : Unit {0}). read_header text >>= (λ (p : Header × List ℕ).
     begin_line p.0.queues p.1 >>= (λ (b : LogRegion × List ℕ). Ok (cursor p.0 b)))) c h in
     let header = bind_ok (read_header text) (λ (p : Header × List ℕ). begin_line p.0.queues p.1 >>= (λ (b : LogRegion × List ℕ). Ok (cursor p.0 b))) c rule.2 in
     let begin = bind_ok (begin_line header.0.0.queues header.0.1) (λ (b : LogRegion × List ℕ). Ok (cursor header.0.0 b)) c header.2 in
-    let fits : nat_le (length (text ++ more)) 33554432 ≡ true = le-leb (length (text ++ more)) 33554432 few in
-    rw (fits, header_front text more header.0 header.1, begin_front header.0.0.queues header.0.1 more begin.0 begin.1) (longer (cursor header.0.0 begin.0) begin.2)
+    let first = header_front text header.0 header.1 in
+    let second = begin_front header.0.0.queues header.0.1 begin.0 begin.1 in (
+      subst (λ (k : Cursor). EndsAs text k.rest) (ok_same (cursor header.0.0 begin.0) c begin.2) (ends_then text header.0.1 begin.0.1 first.0 second.0),
+      λ more few. (let fits : nat_le (length (text ++ more)) 33554432 ≡ true = le-leb (length (text ++ more)) 33554432 few in
+          rw (fits, first.1 more, second.1 more) (longer more (cursor header.0.0 begin.0) begin.2)),
+    )
   where
     cursor : Header → LogRegion × List ℕ → Cursor
     cursor h b = record { header = h; done = 0; before = b.0; region = b.0; rest = b.1 }
 
-    longer : (k : Cursor) → ◌≡◌ {A = Result Cursor Refusal} (Ok k) (Ok c)
+    longer : (more : List ℕ) (k : Cursor) → ◌≡◌ {A = Result Cursor Refusal} (Ok k) (Ok c)
         → ◌≡◌ {A = Result Cursor Refusal} (Ok (record { header = k.header; done = k.done; before = k.before; region = k.region; rest = k.rest ++ more }))
         (Ok (record { header = c.header; done = c.done; before = c.before; region = c.region; rest = c.rest ++ more }))
-    longer k same = ap (λ (j : Cursor). Ok (record { header = j.header; done = j.done; before = j.before; region = j.region; rest = j.rest ++ more })) (ok_same k c same)
+    longer more k same = ap (λ (j : Cursor). Ok (record { header = j.header; done = j.done; before = j.before; region = j.region; rest = j.rest ++ more })) (ok_same k c same)
+
+pub begun_front : (text more : List ℕ) (c : Cursor) → begun text ≡ Ok c → length (text ++ more) ≤ 33554432
+    → begun (text ++ more) ≡ Ok (record { header = c.header; done = c.done; before = c.before; region = c.region; rest = c.rest ++ more })
+begun_front text more c h few = (begins text c h).1 more few
+
+pub begun_ends : (text : List ℕ) (c : Cursor) → begun text ≡ Ok c → EndsAs text c.rest
+begun_ends text c h = (begins text c h).0

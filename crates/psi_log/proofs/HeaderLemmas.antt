@@ -7,9 +7,9 @@ use Rattle.std.proofs.Common.{ap, sym, ◌∙◌, subst, arith, inl, inr, append
 use Rattle.std.proofs.lemmas.Bool.{and_parts, and_from}
 use Rattle.std.proofs.lemmas.Fmt.{decimal_digit}
 use Rattle.std.proofs.lemmas.List.{take-append-drop}
-use Rattle.psi_log_text.specs.declared.header.Header.{Header}
-use Rattle.psi_log_text.specs.Log.{LogRegion, greatest_horizon, IsHeader, IsState, IsRegion}
-use Rattle.psi_log_text.specs.Text.{line_text, numbers_text, number_words, region_words, header_text}
+use Rattle.psi_log_format.specs.declared.header.Header.{Header}
+use Rattle.psi_log_format.specs.Log.{LogRegion, greatest_horizon, IsHeader, IsState, IsRegion}
+use Rattle.psi_log_format.specs.Text.{line_text, numbers_text, number_words, region_words, header_text}
 use Rattle.psi_log_words.specs.Refusal.{Refusal, refused, ◌>>=◌, holds_or}
 use Rattle.psi_log_words.specs.Words.{line_of, has_pieces, read_version}
 use Rattle.psi_log_words.specs.declared.refusals.Cause.TheVariants.{NotLog, Version, Shape}
@@ -17,9 +17,9 @@ use Rattle.psi_log_words.proofs.WordLemmas.{bind_ok, ok_same, held, same_word, l
 use Rattle.psi_log_words.specs.Regions.{Given, form_of, read_state, read_given}
 use Rattle.psi_log_words.proofs.StateLemmas.{state_found, state_again, state_shaped, state_lacks}
 use Rattle.psi_log_words.proofs.GivenLemmas.{region_found, region_again, words_lack}
-use Rattle.psi_log_lines.specs.Lines.{named_line, read_header}
+use Rattle.psi_log_scan.specs.Lines.{named_line, read_header}
 use Rattle.psi_log.specs.Reading.{read_begin, read_end}
-use Rattle.psi_log_lines.proofs.LineLemmas.{named_line_found, named_line_again, horizon_small}
+use Rattle.psi_log_scan.proofs.LineLemmas.{named_line_found, named_line_again, horizon_small}
 
 -- the first line
 version_found : (line : List ℕ) (v : ℕ) → read_version line ≡ Ok v → (line ≡ codes "psi-log " ++ decimal v) × ((v ≡ 1) ⊎ (v ≡ 2))

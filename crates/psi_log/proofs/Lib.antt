@@ -5,8 +5,9 @@ pub mod ReadLemmas
 mod CutLemmas
 pub mod ToldLemmas
 pub mod StepLemmas
-mod SpotLemmas
+mod SlotLemmas
 mod ReaderLemmas
 pub mod PassLemmas
+pub mod LogLemmas
 pub mod FrontLemmas
 mod Worked

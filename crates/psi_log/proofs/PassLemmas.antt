@@ -1,12 +1,12 @@
 -- The log that a text is, by the three parts of its reading in one pass: up to the steps, these, and the end.
 use Rattle.std.specs.Prelude.{◌≡◌, ℕ, ◌+◌, List, length, ◌==◌, nat_le, Result, Ok, Err, refl}
 use Rattle.std.proofs.Common.{sym, ◌∙◌}
-use Rattle.psi_log_text.specs.declared.header.Header.{Header}
-use Rattle.psi_log_text.specs.Log.{LogRegion, Entry}
+use Rattle.psi_log_format.specs.declared.header.Header.{Header}
+use Rattle.psi_log_format.specs.Log.{LogRegion, Entry}
 use Rattle.psi_log_words.specs.Refusal.{Refusal, refused, ◌>>=◌, holds_or}
 use Rattle.psi_log_words.specs.Words.{line_of, words_of}
 use Rattle.psi_log_words.specs.declared.refusals.Cause.TheVariants.{TrailingText, TooLong}
-use Rattle.psi_log_lines.specs.Lines.{read_header}
+use Rattle.psi_log_scan.specs.Lines.{read_header}
 use Rattle.psi_log_words.specs.Regions.{box_before}
 use Rattle.psi_log.specs.Reading.{read_begin, read_steps, read_end, after_header, read}
 use Rattle.psi_log.specs.Cursor.{Cursor, begin_line, begun, ended, log_of, left_of}

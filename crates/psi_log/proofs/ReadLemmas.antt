@@ -3,9 +3,9 @@ use Rattle.std.specs.Prelude.{◌≡◌, ◌⊎◌, ℕ, ◌+◌, ◌≤◌, Lis
 use Rattle.std.proofs.Common.{ap, sym, ◌∙◌, subst, arith, append_assoc, inl, inr}
 use Rattle.std.proofs.lemmas.Bool.{le-leb, leb-true, eqb-true}
 use Rattle.std.proofs.lemmas.List.{append-nil, nil_from_length}
-use Rattle.psi_log_text.specs.declared.header.Header.{Header}
-use Rattle.psi_log_text.specs.Log.{LogRegion, Entry, Certificate, IsHeader, IsLog}
-use Rattle.psi_log_text.specs.Text.{line_text, numbers_text, region_words, header_text, begin_text, entries_text, end_text, log_text, IsLogOf}
+use Rattle.psi_log_format.specs.declared.header.Header.{Header}
+use Rattle.psi_log_format.specs.Log.{LogRegion, Entry, Certificate, IsHeader, IsLog}
+use Rattle.psi_log_format.specs.Text.{line_text, numbers_text, region_words, header_text, begin_text, entries_text, end_text, log_text, IsLogOf}
 use Rattle.psi_log_words.specs.Refusal.{refused, ◌>>=◌, holds_or, Gives}
 use Rattle.psi_log_words.specs.declared.refusals.LogError.{LogError}
 use Rattle.psi_log_words.specs.declared.refusals.LogError.TheVariants.{Refused, OutOfMemory}
@@ -13,10 +13,10 @@ use Rattle.psi_log_words.specs.Words.{line_of, words_of}
 use Rattle.psi_log_words.specs.declared.refusals.Cause.TheVariants.{TrailingText, TooLong}
 use Rattle.psi_log_words.proofs.WordLemmas.{bind_ok, ok_same, held}
 use Rattle.psi_log_words.specs.Regions.{box_before}
-use Rattle.psi_log_lines.specs.Lines.{read_header}
+use Rattle.psi_log_scan.specs.Lines.{read_header}
 use Rattle.psi_log.specs.Reading.{read_begin, read_steps, read_end, after_header, read}
 use Rattle.psi_log.proofs.StepsLemmas.{steps_found, steps_again}
-use Rattle.psi_log_lines.proofs.LineLemmas.{words_found, line_of_words, words_line, words_again}
+use Rattle.psi_log_scan.proofs.LineLemmas.{words_found, line_of_words, words_line, words_again}
 use Rattle.psi_log.proofs.HeaderLemmas.{header_found, header_again, begin_found, begin_again, begin_lacks, end_found, end_again, end_lacks}
 
 abbrev made : Header → LogRegion → List Entry → List ℕ → Certificate

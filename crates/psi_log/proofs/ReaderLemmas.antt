@@ -2,22 +2,22 @@
 use Rattle.std.specs.Prelude.{◌≡◌, ℕ, ◌+◌, ◌<◌, ◌≤◌, List, length, Bool, true, false, ◌==◌, nat_le, Ok, refl}
 use Rattle.std.proofs.Common.{ap, sym, ◌∙◌, subst, arith}
 use Rattle.psi_state.specs.declared.outcome.Step.{Step}
-use Rattle.psi_log_text.specs.declared.header.Header.{Header}
-use Rattle.psi_log_text.specs.Log.{LogRegion, Entry, IsHeader, IsRegion, IsState}
+use Rattle.psi_log_format.specs.declared.header.Header.{Header}
+use Rattle.psi_log_format.specs.Log.{LogRegion, Entry, IsHeader, IsRegion, IsState}
 use Rattle.psi_log_words.specs.Refusal.{refused, ◌>>=◌, holds_or}
 use Rattle.psi_log_words.specs.Words.{line_of, words_of}
 use Rattle.psi_log_words.specs.declared.refusals.Cause.TheVariants.{TrailingText, TooLong}
 use Rattle.psi_log_words.proofs.WordLemmas.{bind_ok, ok_same}
-use Rattle.psi_log_lines.specs.Lines.{read_header, read_step}
+use Rattle.psi_log_scan.specs.Lines.{read_header, read_step}
 use Rattle.psi_log_words.specs.Regions.{box_before}
 use Rattle.psi_log.specs.Reading.{read_begin, read_end}
-use Rattle.psi_log_lines.specs.Scanned.{next_step}
+use Rattle.psi_log_scan.specs.Scanned.{next_step}
 use Rattle.psi_log.specs.Cursor.{Cursor, begin_line, begun, ended, IsCursor}
-use Rattle.psi_log.specs.SpotsViews.{region_in, either, HasQueues, IsFilled}
+use Rattle.psi_log.specs.SlotsViews.{region_in, either, HasQueues, IsFilled}
 use Rattle.psi_log.specs.ReaderViews.{cursor_of, IsKept}
-use Rattle.psi_log.specs.declared.spot.Spot.{Spot}
+use Rattle.psi_log.specs.declared.slot.RegionSlot.{RegionSlot}
 use Rattle.psi_log.proofs.HeaderLemmas.{header_found, begin_found, end_found}
-use Rattle.psi_log_lines.proofs.LineLemmas.{step_found}
+use Rattle.psi_log_scan.proofs.LineLemmas.{step_found}
 
 -- the region of a step that is read is in its ranges
 pub next_found : (h : Header) (n : ℕ) (before : LogRegion) (text : List ℕ) (x : Entry × List ℕ) → IsHeader h → IsRegion h.queues before
@@ -30,8 +30,8 @@ next_found h n before text x is region r =
     subst (λ (p : Entry × List ℕ). IsRegion h.queues p.0.region) (ok_same (entry.0, line.0.1) x entry.2) found.1.region
 
 -- what a reader holds behind a step that leaves the region in its place
-module _ (h : Header) (done : ℕ) (rest rest' : List ℕ) (spot spare : Spot) (old : Bool) (kept : IsKept h done spot spare old rest) (small : done < h.horizon) where
-  pub stays_kept : (to : Spot) (stays : Bool) → stays ≡ true → HasQueues h.queues to → IsKept h (done + 1) spot to stays rest'
+module _ (h : Header) (done : ℕ) (rest rest' : List ℕ) (slot spare : RegionSlot) (old : Bool) (kept : IsKept h done slot spare old rest) (small : done < h.horizon) where
+  pub stays_kept : (to : RegionSlot) (stays : Bool) → stays ≡ true → HasQueues h.queues to → IsKept h (done + 1) slot to stays rest'
   stays_kept to false is queues = absurd cc
   stays_kept to true is queues = record {
     cursor = record { header = kept.cursor.header; before = kept.cursor.region; region = kept.cursor.region; done = omega arith };
@@ -40,14 +40,14 @@ module _ (h : Header) (done : ℕ) (rest rest' : List ℕ) (spot spare : Spot) (
     before = kept.region;
   }
 
-  behind : (step : Step) (to : Spot) → IsFilled h.queues to
-      → next_step h (7 + done) (box_before h.version (region_in spot)) rest ≡ Ok (record { step = step; region = region_in to }, rest')
-      → IsKept h (done + 1) to spot false rest'
+  behind : (step : Step) (to : RegionSlot) → IsFilled h.queues to
+      → next_step h (7 + done) (box_before h.version (region_in slot)) rest ≡ Ok (record { step = step; region = region_in to }, rest')
+      → IsKept h (done + 1) to slot false rest'
   behind step to filled next = record {
     cursor = record {
       header = kept.cursor.header;
       before = kept.cursor.region;
-      region = next_found h (7 + done) (region_in spot) rest (record { step = step; region = region_in to }, rest') kept.cursor.header kept.cursor.region next;
+      region = next_found h (7 + done) (region_in slot) rest (record { step = step; region = region_in to }, rest') kept.cursor.header kept.cursor.region next;
       done = omega arith;
     };
     queues = kept.region.states;
@@ -55,15 +55,15 @@ module _ (h : Header) (done : ℕ) (rest rest' : List ℕ) (spot spare : Spot) (
     before = kept.region;
   }
 
-  -- and behind one that puts it into the spare spot
-  pub moves_kept : (step : Step) (from to spot' spare' : Spot) (stays : Bool) → from ≡ spot → spot' ≡ to → spare' ≡ spot → stays ≡ false → (stays ≡ false → IsFilled h.queues to)
+  -- and behind one that puts it into the spare slot
+  pub moves_kept : (step : Step) (from to slot' spare' : RegionSlot) (stays : Bool) → from ≡ slot → slot' ≡ to → spare' ≡ slot → stays ≡ false → (stays ≡ false → IsFilled h.queues to)
       → next_step h (7 + done) (box_before h.version (region_in from)) rest ≡ Ok (record { step = step; region = either stays (region_in from) (region_in to) }, rest')
-      → IsKept h (done + 1) spot' spare' stays rest'
-  moves_kept step from to spot' spare' true first one two is filled next = absurd cc
-  moves_kept step from to spot' spare' false first one two is filled next =
-      subst (λ (s : Spot). IsKept h (done + 1) s spare' false rest') (sym one)
-      (subst (λ (s : Spot). IsKept h (done + 1) to s false rest') (sym two) (behind step to (filled refl)
-      (ap (λ (s : Spot). next_step h (7 + done) (box_before h.version (region_in s)) rest) (sym first) ∙ next)))
+      → IsKept h (done + 1) slot' spare' stays rest'
+  moves_kept step from to slot' spare' true first one two is filled next = absurd cc
+  moves_kept step from to slot' spare' false first one two is filled next =
+      subst (λ (s : RegionSlot). IsKept h (done + 1) s spare' false rest') (sym one)
+      (subst (λ (s : RegionSlot). IsKept h (done + 1) to s false rest') (sym two) (behind step to (filled refl)
+      (ap (λ (s : RegionSlot). next_step h (7 + done) (box_before h.version (region_in s)) rest) (sym first) ∙ next)))
 
 -- what is read before the steps is in its ranges
 begin_line_found : (queues : ℕ) (text : List ℕ) (x : LogRegion × List ℕ) → 1 ≤ queues → queues ≤ 32 → begin_line queues text ≡ Ok x → IsRegion queues x.0
@@ -103,12 +103,12 @@ pub ended_count : (h : Header) (text x : List ℕ) → ended h text ≡ Ok x →
 ended_count h text x r = (ended_found h text x r).count
 
 -- a reader keeps what it begins with
-pub begins_kept : (h : Header) (spot spare : Spot) (rest : List ℕ) → IsCursor (cursor_of h 0 spot spare true rest) → IsFilled h.queues spot → HasQueues h.queues spare
-    → IsKept h 0 spot spare true rest
-begins_kept h spot spare rest cursor filled queues = record { cursor = cursor; queues = queues; region = filled; before = filled }
+pub begins_kept : (h : Header) (slot spare : RegionSlot) (rest : List ℕ) → IsCursor (cursor_of h 0 slot spare true rest) → IsFilled h.queues slot → HasQueues h.queues spare
+    → IsKept h 0 slot spare true rest
+begins_kept h slot spare rest cursor filled queues = record { cursor = cursor; queues = queues; region = filled; before = filled }
 
-pub opens_kept : (h : Header) (begin spot empty spare : Spot) (text rest : List ℕ) → begun text ≡ Ok (record { header = h; done = 0; before = region_in begin; region = region_in begin; rest = rest })
-    → IsFilled h.queues begin → HasQueues h.queues empty → spot ≡ begin → spare ≡ empty → IsKept h 0 spot spare true rest
-opens_kept h begin spot empty spare text rest is filled queues one two =
-    subst (λ (s : Spot). IsKept h 0 s spare true rest) (sym one)
-    (subst (λ (s : Spot). IsKept h 0 begin s true rest) (sym two) (begins_kept h begin empty rest (begun_found text _ is).0 filled queues))
+pub opens_kept : (h : Header) (begin slot empty spare : RegionSlot) (text rest : List ℕ) → begun text ≡ Ok (record { header = h; done = 0; before = region_in begin; region = region_in begin; rest = rest })
+    → IsFilled h.queues begin → HasQueues h.queues empty → slot ≡ begin → spare ≡ empty → IsKept h 0 slot spare true rest
+opens_kept h begin slot empty spare text rest is filled queues one two =
+    subst (λ (s : RegionSlot). IsKept h 0 s spare true rest) (sym one)
+    (subst (λ (s : RegionSlot). IsKept h 0 begin s true rest) (sym two) (begins_kept h begin empty rest (begun_found text _ is).0 filled queues))

@@ -3,16 +3,16 @@ use Rattle.std.specs.Prelude.{◌≡◌, ℕ, zero, suc, ◌+◌, List, [], ◌�
 use Rattle.std.specs.Fmt.{decimal}
 use Rattle.std.proofs.Common.{ap, sym, ◌∙◌, subst, arith, inl, inr, append_assoc}
 use Rattle.psi_state.specs.Members.{In}
-use Rattle.psi_log_text.specs.declared.header.Header.{Header}
-use Rattle.psi_log_text.specs.Log.{LogRegion, Entry, IsHeader, IsRegion, IsEntry}
-use Rattle.psi_log_text.specs.Text.{line_text, next_words, step_text, entries_text}
+use Rattle.psi_log_format.specs.declared.header.Header.{Header}
+use Rattle.psi_log_format.specs.Log.{LogRegion, Entry, IsHeader, IsRegion, IsEntry}
+use Rattle.psi_log_format.specs.Text.{line_text, next_words, step_text, entries_text}
 use Rattle.psi_log_words.specs.Refusal.{◌>>=◌}
 use Rattle.psi_log_words.specs.Words.{line_of, words_of}
 use Rattle.psi_log_words.proofs.WordLemmas.{bind_ok, ok_same}
 use Rattle.psi_log_words.specs.Regions.{box_before}
-use Rattle.psi_log_lines.specs.Lines.{read_step}
+use Rattle.psi_log_scan.specs.Lines.{read_step}
 use Rattle.psi_log.specs.Reading.{read_steps}
-use Rattle.psi_log_lines.proofs.LineLemmas.{words_found, words_line, words_again, step_found, step_again, step_lacks}
+use Rattle.psi_log_scan.proofs.LineLemmas.{words_found, words_line, words_again, step_found, step_again, step_lacks}
 
 -- the lines of steps
 pub steps_found : (h : Header) (count n : ℕ) (before : LogRegion) (text : List ℕ) (x : List Entry × List ℕ) → IsHeader h → IsRegion h.queues before

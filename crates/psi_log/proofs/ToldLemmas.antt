@@ -1,98 +1,97 @@
--- What the readers of a log tell, of its parts.
-use Rattle.std.specs.Prelude.{◌≡◌, ℕ, zero, suc, ◌+◌, ◌-◌, ◌<◌, ◌≤◌, List, [], length, map, take, drop, Option, Some, None, option_map, MatchOption, refl}
+-- What the readers of a log tell, of its fields.
+use Rattle.std.specs.Prelude.{◌≡◌, ℕ, zero, suc, ◌+◌, ◌-◌, ◌<◌, ◌≤◌, List, [], ◌∷◌, ◌++◌, length, drop, Option, Some, None, option_map, refl}
 use Rattle.std.specs.List.{slice_get}
-use Rattle.std.proofs.Common.{get_or, ap, sym, ◌∙◌, subst, arith}
-use Rattle.std.proofs.lemmas.List.{length-map, length-take-le, length-drop, get_or-take, get_or-drop}
-use Rattle.std.proofs.lemmas.List.Elements.{All-get_or}
-use Rattle.std.proofs.lemmas.Option.{slice_get-get_or, get_or_from_slice_get, slice_get_within, slice_get-map}
-use Rattle.psi_log_text.specs.Log.{LogRegion, in_box, in_set, Entry, Certificate, IsLog}
-use Rattle.psi_log_words.specs.RegionsViews.{region_of, IsThere}
-use Rattle.psi_log_lines.specs.LinesViews.{entry_of, HasRegion}
-use Rattle.psi_log.specs.PartsViews.{certificate_of, IsWhole}
-use Rattle.psi_log.specs.Told.{region_at, form, step_at, HasState}
-use Rattle.psi_log.specs.declared.form.Form.{Form}
-use Rattle.psi_log.specs.declared.form.Form.TheVariants as told
-use Rattle.psi_log.specs.declared.parts.Parts.{Parts}
+use Rattle.std.proofs.Common.{inl, inr, get_or, ap, sym, ◌∙◌, subst, arith}
+use Rattle.std.proofs.lemmas.List.{length-drop}
+use Rattle.std.proofs.lemmas.Option.{slice_get-get_or, get_or_from_slice_get}
 use Rattle.psi_state.specs.declared.outcome.Step.{Step}
-use Rattle.psi_state_list.specs.declared.line_list.ListedRegion.{ListedRegion}
-use Rattle.psi_state_list.specs.declared.line_list.Line.{Line}
-use Rattle.psi_state_list.specs.declared.line_list.ListedRegion.TheVariants.{Set}
+use Rattle.psi_log_format.specs.declared.header.Header.{Header}
+use Rattle.psi_state.specs.Members.{In}
+use Rattle.psi_log_format.specs.Log.{LogRegion, in_box, in_set, Entry, Certificate, IsRegion, IsLog}
+use Rattle.psi_log.specs.LogViews.{entries_of, certificate_of, IsWhole}
+use Rattle.psi_log.specs.Told.{region_at, form, step_at, HasState}
+use Rattle.psi_log.specs.declared.log.Form.{Form}
+use Rattle.psi_log.specs.declared.log.Form.TheVariants as told
 
-pub region_zero : (c : Certificate) (i : ℕ) → i ≡ 0 → region_at c i ≡ Some c.begin
-region_zero c i none = rw none refl
+-- as many entries as steps, and one of each at a place
+pub entries_length : (steps : List Step) (regions : List LogRegion) → length regions ≡ length steps → length (entries_of steps regions) ≡ length steps
+entries_length [] regions same = refl
+entries_length (s ∷ steps) [] same = absurd cc
+entries_length (s ∷ steps) (r ∷ regions) same = ap suc (entries_length steps regions (omega arith))
 
-entry_at : {X : Type 0} (states : List (List ℕ)) (told : Line → X) (seen : Entry → X) → ((l : Line) → seen (entry_of states l) ≡ told l) → (ls : List Line) (i : ℕ) (x : X)
-    → option_map told (slice_get ls i) ≡ Some x → option_map seen (slice_get (map (entry_of states) ls) i) ≡ Some x
-entry_at {X} states told seen alike ls i x is = ap (option_map seen) (slice_get-map (entry_of states) ls i) ∙ go (slice_get ls i) is
-  where
-    go : (o : Option Line) → option_map told o ≡ Some x → option_map seen (option_map (entry_of states) o) ≡ Some x
-    go None none = absurd cc
-    go (Some l) some = ap (λ (y : X). Some y) (alike l) ∙ some
+entry_region : (steps : List Step) (regions : List LogRegion) (i : ℕ) → length regions ≡ length steps → option_map (λ (e : Entry). e.region) (slice_get (entries_of steps regions) i) ≡ slice_get regions i
+entry_region [] [] i same = refl
+entry_region [] (r ∷ regions) i same = absurd cc
+entry_region (s ∷ steps) [] i same = absurd cc
+entry_region (s ∷ steps) (r ∷ regions) zero same = refl
+entry_region (s ∷ steps) (r ∷ regions) (suc i) same = entry_region steps regions i (omega arith)
 
-pub region_next : (p : Parts) (i : ℕ) (k : ListedRegion) → 1 ≤ i → option_map (λ (l : Line). l.region) (slice_get p.lines (i - 1)) ≡ Some k
-    → region_at (certificate_of p) i ≡ Some (region_of p.states.states k)
-region_next p zero k some is = absurd (omega arith)
-region_next p (suc i) k some is =
+entry_step : (steps : List Step) (regions : List LogRegion) (i : ℕ) → length regions ≡ length steps → option_map (λ (e : Entry). e.step) (slice_get (entries_of steps regions) i) ≡ slice_get steps i
+entry_step [] [] i same = refl
+entry_step [] (r ∷ regions) i same = absurd cc
+entry_step (s ∷ steps) [] i same = absurd cc
+entry_step (s ∷ steps) (r ∷ regions) zero same = refl
+entry_step (s ∷ steps) (r ∷ regions) (suc i) same = entry_step steps regions i (omega arith)
+
+-- a step and a region more are an entry more
+pub entries_more : (steps : List Step) (regions : List LogRegion) (s : Step) (r : LogRegion) → length regions ≡ length steps
+    → entries_of (steps ++ s ∷ []) (regions ++ r ∷ []) ≡ entries_of steps regions ++ record { step = s; region = r } ∷ []
+entries_more [] [] s r same = refl
+entries_more [] (x ∷ regions) s r same = absurd cc
+entries_more (t ∷ steps) [] s r same = absurd cc
+entries_more (t ∷ steps) (x ∷ regions) s r same = ap (λ (es : List Entry). record { step = t; region = x } ∷ es) (entries_more steps regions s r (omega arith))
+
+-- a region more than steps
+behind_first : (regions : List LogRegion) (steps : List Step) → length regions ≡ length steps + 1 → length (drop 1 regions) ≡ length steps
+behind_first regions steps count = omega (arith, length-drop 1 regions)
+
+drop_first : (regions : List LogRegion) (i : ℕ) → slice_get (drop 1 regions) i ≡ slice_get regions (suc i)
+drop_first [] i = refl
+drop_first (r ∷ regions) i = refl
+
+pub regions_count : (header : Header) (regions : List LogRegion) (steps : List Step) (final : List ℕ) (i : ℕ) → IsWhole header regions steps final → i ≤ header.horizon → i < length regions
+regions_count header regions steps final i is small =
+    let behind = behind_first regions steps is.count in
+    let count : length steps ≡ header.horizon = sym (entries_length steps (drop 1 regions) behind) ∙ is.log.count in
+    let more = is.count in
+    omega arith
+
+pub steps_count : (header : Header) (regions : List LogRegion) (steps : List Step) (final : List ℕ) (i : ℕ) → IsWhole header regions steps final → i ≤ header.horizon → 1 ≤ i → i - 1 < length steps
+steps_count header regions steps final i is small some =
+    let behind = behind_first regions steps is.count in
+    let count : length steps ≡ header.horizon = sym (entries_length steps (drop 1 regions) behind) ∙ is.log.count in
+    omega arith
+
+pub region_told : (header : Header) (regions : List LogRegion) (steps : List Step) (final : List ℕ) (i : ℕ) (r : LogRegion) → IsWhole header regions steps final → slice_get regions i ≡ Some r
+    → region_at (certificate_of header regions steps final) i ≡ Some r
+region_told header regions steps final zero r is there = ap (λ (b : LogRegion). Some b) (get_or_from_slice_get regions 0 r (in_set []) there)
+region_told header regions steps final (suc i) r is there =
+    entry_region steps (drop 1 regions) i (behind_first regions steps is.count) ∙ drop_first regions i ∙ there
+
+pub step_told : (header : Header) (regions : List LogRegion) (steps : List Step) (final : List ℕ) (i : ℕ) (s : Step) → IsWhole header regions steps final → 1 ≤ i → i - 1 < length steps
+    → s ≡ get_or steps (i - 1) s → step_at (certificate_of header regions steps final) i ≡ Some s
+step_told header regions steps final zero s is some small there = absurd (omega arith)
+step_told header regions steps final (suc i) s is some small there =
     let here : suc i - 1 ≡ i = omega arith in
-    entry_at p.states.states (λ (l : Line). region_of p.states.states l.region) (λ (e : Entry). e.region) (λ l. refl) p.lines i (region_of p.states.states k)
-    (kept_as (λ (r : ListedRegion). region_of p.states.states r) p.lines i k (ap (λ (j : ℕ). option_map (λ (l : Line). l.region) (slice_get p.lines j)) (sym here) ∙ is))
-  where
-    kept_as : {X : Type 0} (f : ListedRegion → X) (ls : List Line) (i : ℕ) (k : ListedRegion) → option_map (λ (l : Line). l.region) (slice_get ls i) ≡ Some k → option_map (λ (l : Line). f l.region) (slice_get ls i) ≡ Some (f k)
-    kept_as f ls i k is = go (slice_get ls i) is
-      where
-        go : (o : Option Line) → option_map (λ (l : Line). l.region) o ≡ Some k → option_map (λ (l : Line). f l.region) o ≡ Some (f k)
-        go None none = absurd cc
-        go (Some l) some = ap (λ (r : ListedRegion). Some (f r)) (same l some)
-          where
-            same : (l : Line) → ◌≡◌ {A = Option ListedRegion} (Some l.region) (Some k) → l.region ≡ k
-            same l e = cc
+    entry_step steps (drop 1 regions) i (behind_first regions steps is.count)
+    ∙ slice_get-get_or steps i s (omega arith) ∙ ap (λ (t : Step). Some t) (ap (λ (k : ℕ). get_or steps k s) (sym here) ∙ sym there)
 
-pub there_next : (p : Parts) (i : ℕ) (k : ListedRegion) → IsWhole p → option_map (λ (l : Line). l.region) (slice_get p.lines (i - 1)) ≡ Some k → IsThere p.header.queues p.states.states k
-there_next p i k whole is = go (slice_get p.lines (i - 1)) refl is
+pub In-slice_get : {X : Type 0} (xs : List X) (k : ℕ) (x : X) → slice_get xs k ≡ Some x → In x xs
+In-slice_get [] k x is = absurd cc
+In-slice_get (y ∷ ys) zero x is = inl cc
+In-slice_get (y ∷ ys) (suc k) x is = inr (In-slice_get ys k x is)
+
+pub same_region : (a b : LogRegion) → ◌≡◌ {A = Option LogRegion} (Some a) (Some b) → a ≡ b
+same_region a b is = cc
+
+-- each region of a log is one of its header's queues
+pub regional : (c : Certificate) (i : ℕ) (r : LogRegion) → IsLog c → region_at c i ≡ Some r → IsRegion c.header.queues r
+regional c zero r is there = subst (λ (b : LogRegion). IsRegion c.header.queues b) (same_region c.begin r there) is.begin
+regional c (suc i) r is there = go (slice_get c.entries i) refl there
   where
-    go : (o : Option Line) → slice_get p.lines (i - 1) ≡ o → option_map (λ (l : Line). l.region) o ≡ Some k → IsThere p.header.queues p.states.states k
+    go : (o : Option Entry) → slice_get c.entries i ≡ o → option_map (λ (e : Entry). e.region) o ≡ Some r → IsRegion c.header.queues r
     go None at none = absurd cc
-    go (Some l) at some =
-        let small = slice_get_within p.lines (i - 1) l at in
-        let line : get_or p.lines (i - 1) l ≡ l = get_or_from_slice_get p.lines (i - 1) l l at in
-        let there : HasRegion p.header.queues p.states.states l =
-        subst (λ (m : Line). HasRegion p.header.queues p.states.states m) line (All-get_or (HasRegion p.header.queues p.states.states) p.lines (i - 1) l small whole.lines) in
-        subst (λ (r : ListedRegion). IsThere p.header.queues p.states.states r) (same l some) there
-      where
-        same : (l : Line) → ◌≡◌ {A = Option ListedRegion} (Some l.region) (Some k) → l.region ≡ k
-        same l e = cc
-
-pub step_next : (p : Parts) (i : ℕ) (s : Step) → 1 ≤ i → option_map (λ (l : Line). l.step) (slice_get p.lines (i - 1)) ≡ Some s → step_at (certificate_of p) i ≡ Some s
-step_next p zero s some is = absurd (omega arith)
-step_next p (suc i) s some is =
-    let here : suc i - 1 ≡ i = omega arith in
-    entry_at p.states.states (λ (l : Line). l.step) (λ (e : Entry). e.step) (λ l. refl) p.lines i s (ap (λ (j : ℕ). option_map (λ (l : Line). l.step) (slice_get p.lines j)) (sym here) ∙ is)
-
--- a log has as many lines as its horizon
-pub lines_count : (p : Parts) → IsLog (certificate_of p) → length p.lines ≡ p.header.horizon
-lines_count p is = sym (length-map p.lines (entry_of p.states.states)) ∙ is.count
-
--- a set has as many states as it is kept with
-pub set_count : (queues : ℕ) (states : List (List ℕ)) (first count : ℕ) → IsThere queues states (Set first count) → length (take count (drop first states)) ≡ count
-set_count queues states first count there = length-take-le count (drop first states) (omega (arith, length-drop first states))
-
-pub set_place : (queues : ℕ) (states : List (List ℕ)) (first count place : ℕ) → IsThere queues states (Set first count) → place < length (take count (drop first states)) → first + place < length states
-set_place queues states first count place there small = (let long = set_count queues states first count there in omega arith)
-
-pub set_state : (queues : ℕ) (states : List (List ℕ)) (first count place : ℕ) (x : List ℕ) → IsThere queues states (Set first count) → place < length (take count (drop first states))
-    → slice_get states (first + place) ≡ Some x → slice_get (take count (drop first states)) place ≡ Some x
-set_state queues states first count place x there small is =
-    let long = set_count queues states first count there in
-    let value : get_or (take count (drop first states)) place [] ≡ x =
-    get_or-take count (drop first states) place [] (omega arith) ∙ get_or-drop first states place [] ∙ get_or_from_slice_get states (first + place) x [] is in
-    slice_get-get_or (take count (drop first states)) place [] small ∙ ap (λ (y : List ℕ). Some y) value
-
-pub set_leq : (queues : ℕ) (states : List (List ℕ)) (first count place : ℕ) (P : List ℕ → Type 0) → IsThere queues states (Set first count) → place < length (take count (drop first states))
-    → MatchOption (slice_get states (first + place)) ⊥ P → MatchOption (slice_get (take count (drop first states)) place) ⊥ P
-set_leq queues states first count place P there small tells =
-    let within = set_place queues states first count place there small in
-    let x : slice_get states (first + place) ≡ Some (get_or states (first + place) []) = slice_get-get_or states (first + place) [] within in
-    rw (set_state queues states first count place (get_or states (first + place) []) there small x) (rw x at tells)
+    go (Some e) at some = subst (λ (b : LogRegion). IsRegion c.header.queues b) (same_region e.region r some) (is.entries e (In-slice_get c.entries i e at)).region
 
 -- a region whose form is a set has a state at each place below its count
 pub has_state : (region : Option LogRegion) (count place : ℕ) → option_map form region ≡ Some (told.Set count) → place < count → HasState place region

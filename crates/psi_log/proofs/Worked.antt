@@ -4,7 +4,7 @@ use Rattle.std.specs.Result.{is_ok}
 use Rattle.psi_log_words.specs.Refusal.{each}
 use Rattle.psi_log_words.specs.Words.{line_of, number_in, read_version, read_named}
 use Rattle.psi_log_words.specs.Regions.{box_form, set_form, move_form, form_of, read_state, read_change, read_given}
-use Rattle.psi_log_lines.specs.Lines.{read_header, named_line, read_step}
+use Rattle.psi_log_scan.specs.Lines.{read_header, named_line, read_step}
 use Rattle.psi_log.specs.Reading.{read, after_header, read_begin, read_steps, read_end}
 
 carriage_return_after_the_first_line : read (codes "psi-log 1\r\nqueues 1\nseed 0\nstream 0\nhorizon 4\nbegin box 0 3\nstep 4 1 set 0 1 2\nstep 3 0 set 1 2 3\nstep 2 0 set 2 3\nstep 1 0 set 3\nend 3\n") ≡ Err (record { line = 1; cause = 2 })

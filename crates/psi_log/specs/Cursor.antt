@@ -1,14 +1,14 @@
 -- The reading of a log in one pass: what stands before its steps, step by step, and its end.
-use Rattle.std.specs.Prelude.{◌==◌, ℕ, ◌+◌, ◌≤◌, List, length, nat_le, Result, Ok}
-use Rattle.psi_log_text.specs.declared.header.Header.{Header}
-use Rattle.psi_log_text.specs.Log.{LogRegion, Entry, Certificate, IsHeader, IsRegion}
+use Rattle.std.specs.Prelude.{◌≡◌, ◌==◌, ℕ, ◌+◌, ◌≤◌, List, ◌++◌, length, nat_le, Result, Ok}
+use Rattle.psi_log_format.specs.declared.header.Header.{Header}
+use Rattle.psi_log_format.specs.Log.{LogRegion, Entry, Certificate, IsHeader, IsRegion}
 use Rattle.psi_log_words.specs.Refusal.{Refusal, refused, ◌>>=◌, holds_or}
 use Rattle.psi_log_words.specs.Words.{line_of, words_of}
 use Rattle.psi_log_words.specs.declared.refusals.Cause.TheVariants.{TrailingText, TooLong}
-use Rattle.psi_log_lines.specs.Lines.{read_header}
+use Rattle.psi_log_scan.specs.Lines.{read_header}
 use Rattle.psi_log_words.specs.Regions.{box_before}
 use Rattle.psi_log.specs.Reading.{read_begin, read_steps, read_end}
-use Rattle.psi_log_lines.specs.Scanned.{next_step}
+use Rattle.psi_log_scan.specs.Scanned.{next_step}
 
 -- how far a log is read: its header, how many steps are read, the regions before and after the last one of them, and the text behind it; where
 -- no step is read, both are the region at which the run begins
@@ -18,6 +18,10 @@ pub record Cursor : Type 0 where
   pub before : LogRegion
   pub region : LogRegion
   pub rest : List ℕ
+
+-- what is left of a text is its end
+abbrev pub EndsAs : List ℕ → List ℕ → Type 0
+EndsAs text rest = (front : List ℕ) × (text ≡ front ++ rest)
 
 -- the region at which the run begins, on the line that begins the text, and what follows it
 unfoldable pub begin_line : ℕ → List ℕ → Result (LogRegion × List ℕ) Refusal

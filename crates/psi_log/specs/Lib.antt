@@ -1,7 +1,7 @@
 -- The definitions of this crate.
 pub mod Reading
-pub mod PartsViews
+pub mod LogViews
 pub mod Told
 pub mod Cursor
-pub mod SpotsViews
+pub mod SlotsViews
 pub mod ReaderViews

@@ -2,11 +2,11 @@
 use Rattle.std.specs.Prelude.{ℕ, zero, suc, ◌&&◌, ◌+◌, List, [], ◌∷◌, length, codes, ◌==◌, nat_le, Option, None, Result, Ok, Err}
 use Rattle.std.specs.Str.{bytes_eq}
 use Rattle.psi_state.specs.State.{Corners}
-use Rattle.psi_log_text.specs.declared.header.Header.{Header}
-use Rattle.psi_log_text.specs.Log.{LogRegion, Entry, Certificate}
+use Rattle.psi_log_format.specs.declared.header.Header.{Header}
+use Rattle.psi_log_format.specs.Log.{LogRegion, Entry, Certificate}
 use Rattle.psi_log_words.specs.Refusal.{Refusal, refused, ◌>>=◌, holds_or}
 use Rattle.psi_log_words.specs.Words.{line_of, words_of, has_pieces}
-use Rattle.psi_log_lines.specs.Lines.{read_header, read_step}
+use Rattle.psi_log_scan.specs.Lines.{read_header, read_step}
 use Rattle.psi_log_words.specs.declared.refusals.Cause.TheVariants.{Shape, TrailingText, TooLong}
 use Rattle.psi_log_words.specs.Regions.{form_of, read_state, box_before, read_given}
 

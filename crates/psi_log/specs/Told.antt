@@ -2,11 +2,9 @@
 use Rattle.std.specs.Prelude.{ℕ, zero, suc, ◌<◌, List, length, Option, Some, None, option_map}
 use Rattle.std.specs.List.{slice_get}
 use Rattle.psi_state.specs.declared.outcome.Step.{Step}
-use Rattle.psi_log_text.specs.Log.{LogRegion, in_box, in_set, Certificate}
-use Rattle.psi_log.specs.declared.form.Form.{Form}
-use Rattle.psi_log.specs.declared.form.Form.TheVariants.{Box, Set}
-use Rattle.psi_log.specs.declared.form.BorrowedRegion.{BorrowedRegion as Borrowed}
-use Rattle.psi_log.specs.declared.form.BorrowedRegion.TheVariants as borrowed
+use Rattle.psi_log_format.specs.Log.{LogRegion, in_box, in_set, Certificate}
+use Rattle.psi_log.specs.declared.log.Form.{Form}
+use Rattle.psi_log.specs.declared.log.Form.TheVariants.{Box, Set}
 
 -- the region with a number: 0 is the one at which the run begins, and i the one after the i-th step
 abbrev pub region_at : Certificate → ℕ → Option LogRegion
@@ -17,11 +15,6 @@ region_at c (suc i) = option_map (λ e. e.region) (slice_get c.entries i)
 abbrev pub form : LogRegion → Form
 form (in_box bounds) = Box bounds
 form (in_set states) = Set (length states)
-
--- a region that is borrowed
-abbrev pub shown : Borrowed → LogRegion
-shown (borrowed.Box bounds) = in_box bounds.now
-shown (borrowed.Set rows) = in_set rows.states
 
 -- the step with a number, counted from 1
 abbrev pub step_at : Certificate → ℕ → Option Step

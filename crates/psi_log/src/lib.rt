@@ -2,18 +2,15 @@
 //! the first line that isn't as the grammar has it.
 #![tactic(auto)]
 
-mod form;
+mod cursor;
+mod ends;
 mod log;
-mod parts;
-mod paused;
 mod reader;
-mod spot;
+mod slot;
 mod steps;
 
-pub use form::{BorrowedRegion, Form};
-pub use log::{Log, read_log};
-pub use paused::PausedReader;
-pub use psi_log_text::{Header, LineBuf};
+pub use cursor::LogCursor;
+pub use log::{Form, Log, read_log};
+pub use psi_log_format::{BorrowedRegion, Header, LineBuf, Rows};
 pub use psi_log_words::{Cause, LogError};
-pub use psi_state_list::Rows;
 pub use reader::LogReader;

@@ -1,25 +1,36 @@
 //! A log in memory.
 
-ghost use Rattle.std.specs.Prelude.{◌≡◌, ◌⊎◌, ◌+◌, ◌<◌, ◌≤◌, Ok, Err, Some, length, option_map, option_and_then, IfOk, IsTrue, MatchOption, ◌↔◌};
+ghost use Rattle.std.specs.Prelude.{◌≡◌, ◌⊎◌, ◌+◌, ◌-◌, ◌<◌, ◌≤◌, ◌∷◌, Ok, Err, Some, length, take, drop, option_map, option_and_then, IfOk, IfErr, OnOk, IsTrue, MatchOption, ◌↔◌};
 ghost use Rattle.psi_state.specs.State.{IsBelow};
-ghost use Rattle.psi_log_text.specs.Log.{Certificate, IsLog};
-ghost use Rattle.psi_log_text.specs.Text.{IsLogOf};
-ghost use Rattle.psi_log_words.specs.Refusal.{Gives};
+ghost use Rattle.psi_log_format.specs.Log.{Certificate, IsLog, IsRegion};
+ghost use Rattle.psi_log_format.specs.Text.{IsLogOf};
+ghost use Rattle.psi_log_words.specs.Refusal.{Gives, IsLogError};
+ghost use Rattle.psi_log_words.specs.Regions.{box_before};
 ghost use Rattle.psi_log_words.specs.declared.refusals.LogError.TheVariants.{OutOfMemory};
-ghost use Rattle.psi_log_words.specs.RegionsViews.{region_of, IsThere};
-ghost use Rattle.psi_log.specs.Reading.{read};
-ghost use Rattle.psi_state_list.specs.LinesKept.{owned};
-ghost use Rattle.psi_log.specs.PartsViews.{certificate_of, IsWhole};
-ghost use Rattle.psi_log.specs.Told.{region_at, form, shown, step_at, HasState, state_in};
+ghost use Rattle.psi_log_format.specs.Listed.{shown};
+ghost use Rattle.psi_log.specs.Reading.{read, read_steps};
+ghost use Rattle.psi_log.specs.Cursor.{IsCursor};
+ghost use Rattle.psi_log.specs.LogViews.{entries_of, certificate_of};
+ghost use Rattle.psi_log.specs.Told.{region_at, form, step_at, HasState, state_in};
 
-use crate::form::{BorrowedRegion, Form};
-use crate::parts::{Parts, read_parts};
-use psi_log_text::Header;
+use crate::reader::LogReader;
+use psi_log_format::{BorrowedRegion, Header, RegionList};
 use psi_log_words::LogError;
-use psi_state::{State, Step};
-use psi_state_list::Borrowed;
+use psi_state::{Bounds, State, Step};
 use std::alloc::Global;
 use std::marker::Model;
+
+/// The form of a region.
+#[derive(Clone, Copy, PartialEq, Eq, Debug)]
+pub enum Form {
+    /// The states between two corners.
+    Box(Bounds),
+    /// States one by one.
+    Set {
+        /// The number of states, 1 to 4,096.
+        count: u16,
+    },
+}
 
 /// A log: its header, the region at which the run begins, the steps from the oldest on with the region after
 /// each, and the state at time zero. It is seen as that, and meets the counts, ranges and orders of the grammar.
@@ -28,43 +39,21 @@ use std::marker::Model;
 /// all sets lie in one vector of numbers.
 #[derive(Drop)]
 pub struct Log {
-    parts: Parts,
+    header: Header,
+    regions: RegionList,
+    steps: Vec<Step>,
+    end: State,
 }
 
 impl Model for Log {
-    ghost use Rattle.psi_log_text.specs.Log.{Certificate, IsLog};
-    ghost use Rattle.psi_log.specs.PartsViews.{certificate_of, IsWhole};
+    ghost use Rattle.psi_log_format.specs.Log.{Certificate};
+    ghost use Rattle.psi_log.specs.LogViews.{certificate_of, IsWhole};
 
     ghost Value = { Certificate };
 
-    ghost view = { λ l. certificate_of l.parts };
+    ghost view = { λ l. certificate_of l.header l.regions.regions l.steps.items l.end };
 
-    ghost invariant = { λ l. IsLog (certificate_of l.parts) × IsWhole l.parts };
-}
-
-// The region with a number. A box isn't copied.
-#[inline]
-#[tactic(auto, using(crate::proofs::ToldLemmas::region_zero, crate::proofs::ToldLemmas::region_next, crate::proofs::ToldLemmas::there_next))]
-fn region_of(parts: &Parts, i: u32) -> Borrowed<'_>
-    requires number { i ≤ length parts.now.lines }
-    requires whole { IsWhole parts.now }
-    ensures value { region_at (certificate_of parts.entry.now) i ≡ Some (region_of parts.entry.now.states.states (owned result)) }
-    ensures there { IsThere parts.entry.now.header.queues parts.entry.now.states.states (owned result) }
-{
-    if i == 0 {
-        return parts.begin.borrow();
-    }
-    parts.lines.look(i as usize - 1)
-}
-
-// The step with a number.
-#[tactic(auto, using(crate::proofs::ToldLemmas::step_next))]
-fn step_of(parts: &Parts, i: u32) -> Step
-    requires least { 1 ≤ i }
-    requires most { i ≤ length parts.now.lines }
-    ensures { step_at (certificate_of parts.now) i ≡ Some result }
-{
-    parts.lines.step(i as usize - 1)
+    ghost invariant = { λ l. IsWhole l.header l.regions.regions l.steps.items l.end };
 }
 
 impl Log {
@@ -73,74 +62,65 @@ impl Log {
         ensures value { result ≡ self.now.header }
         ensures log { IsLog self.now }
     {
-        self.parts.header
+        self.header
     }
 
     /// The form of a region: 0 is the region at which the run begins, and `i` the one after the `i`-th step line.
-    #[tactic(auto, using(crate::proofs::ToldLemmas::set_count, crate::proofs::ToldLemmas::lines_count))]
     pub fn region(&self, i: u32) -> Form
         requires { i ≤ self.now.header.horizon }
         ensures { option_map form (region_at self.now i) ≡ Some result }
     {
-        match region_of(&self.parts, i) {
-            Borrowed::Box(bounds) => Form::Box(*bounds),
-            Borrowed::Set { count, .. } => Form::Set { count },
+        match self.look(i) {
+            BorrowedRegion::Box(bounds) => Form::Box(*bounds),
+            BorrowedRegion::Set(states) => Form::Set {
+                count: states.len() as u16,
+            },
         }
     }
 
     /// A region, borrowed: regions are counted as in [`Log::region`]. Nothing is copied.
-    #[tactic(auto, using(crate::proofs::ToldLemmas::lines_count))]
+    #[tactic(auto, using(crate::proofs::ToldLemmas::regions_count, crate::proofs::ToldLemmas::region_told))]
     pub fn look(&self, i: u32) -> BorrowedRegion<'_>
         requires { i ≤ self.now.header.horizon }
-        ensures { region_at self.entry.now i ≡ Some (shown result) }
+        ensures value { region_at self.entry.now i ≡ Some (shown result) }
+        ensures regional { IsRegion self.entry.now.header.queues (shown result) }
     {
-        match region_of(&self.parts, i) {
-            Borrowed::Box(bounds) => BorrowedRegion::Box(bounds),
-            Borrowed::Set { first, count } => {
-                BorrowedRegion::Set(self.parts.states.all().part(first, count as usize))
-            }
-        }
+        self.regions.get(i as usize)
     }
 
     /// The step of the `i`-th step line, counted from 1.
-    #[tactic(auto, using(crate::proofs::ToldLemmas::lines_count))]
+    #[tactic(auto, using(crate::proofs::ToldLemmas::steps_count, crate::proofs::ToldLemmas::step_told))]
     pub fn step(&self, i: u32) -> Step
         requires least { 1 ≤ i }
         requires most { i ≤ self.now.header.horizon }
         ensures { step_at self.now i ≡ Some result }
     {
-        step_of(&self.parts, i)
+        self.steps[i as usize - 1]
     }
 
     /// The state at place `j` of a region that is a set; places are counted from 0, and regions as in
     /// [`Log::region`].
-    #[tactic(auto, using(crate::proofs::ToldLemmas::set_place, crate::proofs::ToldLemmas::set_state, crate::proofs::ToldLemmas::lines_count))]
     pub fn state(&self, i: u32, j: u16) -> State
         requires number { i ≤ self.now.header.horizon }
         requires place { HasState j (region_at self.now i) }
         ensures { option_and_then (state_in j) (region_at self.now i) ≡ Some result }
     {
-        // The number of states fits its type, and so does each place below it.
-        let _count = self.parts.states.len();
-        match region_of(&self.parts, i) {
-            Borrowed::Set { first, .. } => self.parts.states.get(first + j as usize),
-            Borrowed::Box(bounds) => bounds.lo(),
+        match self.look(i) {
+            BorrowedRegion::Set(states) => states.get(j as usize),
+            BorrowedRegion::Box(bounds) => bounds.lo(),
         }
     }
 
     /// Whether the state at place `j` of a region that is a set has at most as many customers in each queue as
     /// `most` has; regions and places are counted as in [`Log::state`].
-    #[tactic(auto, using(crate::proofs::ToldLemmas::set_place, crate::proofs::ToldLemmas::lines_count))]
     pub fn state_leq(&self, i: u32, j: u16, most: &State) -> bool
         requires number { i ≤ self.now.header.horizon }
         requires place { HasState j (region_at self.now i) }
         ensures { MatchOption (option_and_then (state_in j) (region_at self.now i)) ⊥ (λ x. IsTrue result ↔ IsBelow x most.now) }
     {
-        // The number of states fits its type, and so does each place below it.
-        let _count = self.parts.states.len();
-        match region_of(&self.parts, i) {
-            Borrowed::Set { first, .. } => self.parts.states.leq(first + j as usize, most),
-            Borrowed::Box(_) => false,
+        match self.look(i) {
+            BorrowedRegion::Set(states) => states.leq(j as usize, most),
+            BorrowedRegion::Box(_) => false,
         }
     }
 
@@ -148,8 +128,38 @@ impl Log {
     pub fn end(&self) -> State
         ensures { result ≡ self.now.final }
     {
-        self.parts.end
+        self.end
     }
+}
+
+// The steps of a log whose reader has read none yet, and the regions: that at which the run begins, and the one after each
+// step.
+fn read_lines(
+    alloc: Global,
+    reader: &mut LogReader<'_>,
+) -> Result<(Vec<Step>, RegionList), LogError>
+    requires { reader.old.done ≡ 0 }
+    ensures begin { IfOk result (λ read. read.1.regions ≡ reader.old.region ∷ drop 1 read.1.regions) }
+    ensures count { IfOk result (λ read. length read.1.regions ≡ length read.0.items + 1) }
+    ensures value { IfOk result (λ read. read_steps reader.old.header reader.old.header.horizon 7 (box_before reader.old.header.version reader.old.region) reader.old.rest
+        ≡ Ok (entries_of read.0.items (drop 1 read.1.regions), reader.new.rest)) }
+    ensures refused { IfErr result (λ error. IsLogError error (read_steps reader.old.header reader.old.header.horizon 7 (box_before reader.old.header.version reader.old.region) reader.old.rest)) }
+    ensures done { OnOk result (reader.new.done ≡ reader.new.header.horizon) }
+    ensures header { reader.new.header ≡ reader.old.header }
+{
+    let header = reader.header();
+    let mut steps = Vec::new(alloc);
+    let mut regions = RegionList::new(alloc, header.queues);
+    regions.push(&reader.region())?;
+    for done in 0..header.horizon {
+        let step = match reader.next() {
+            Ok(step) => step,
+            Err(error) => return Err(error),
+        };
+        steps.push(step)?;
+        regions.push(&reader.region())?;
+    }
+    Ok((steps, regions))
 }
 
 /// The log that a text is. The clauses `found` and `only` say that what is read is the log of that text, and
@@ -159,14 +169,27 @@ impl Log {
 ///
 /// The first line that isn't as the grammar has it, with its first cause, as [`crate::Cause`] has them;
 /// `OutOfMemory`, and no clause says when that is.
-#[tactic(auto, using(crate::proofs::ReadLemmas::read_found, crate::proofs::ReadLemmas::read_only))]
 pub fn read_log(alloc: Global, bytes: &[u8]) -> Result<Log, LogError>
     ensures value { Gives (λ log. log) result (read bytes.now) }
     ensures found { IfOk result (λ log. IsLogOf bytes.now log) }
     ensures only { (c : Certificate) → IsLogOf bytes.now c → (result ≡ Ok c) ⊎ (result ≡ Err OutOfMemory) }
 {
-    match read_parts(alloc, bytes) {
-        Ok(parts) => Ok(Log { parts }),
-        Err(error) => Err(error),
-    }
+    let mut reader = match LogReader::open(alloc, bytes) {
+        Ok(reader) => reader,
+        Err(error) => return Err(error),
+    };
+    let (steps, regions) = match read_lines(alloc, &mut reader) {
+        Ok(read) => read,
+        Err(error) => return Err(error),
+    };
+    let end = match reader.end() {
+        Ok(end) => end,
+        Err(error) => return Err(error),
+    };
+    Ok(Log {
+        header: reader.header(),
+        regions,
+        steps,
+        end,
+    })
 }

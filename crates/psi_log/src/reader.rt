@@ -1,19 +1,17 @@
 //! A log that is read in one pass, step by step.
 
-ghost use Rattle.std.specs.Prelude.{◌≡◌, ◌+◌, ◌<◌, ◌≤◌, length, Ok, IfOk, IfErr, OnOk, OnErr, IsTrue, ◌↔◌, []};
+ghost use Rattle.std.specs.Prelude.{◌≡◌, ◌+◌, ◌<◌, ◌≤◌, length, Ok, IfOk, IfErr, OnOk, OnErr, IsTrue};
 ghost use Rattle.psi_log_words.specs.Refusal.{Gives, IsLogError};
-ghost use Rattle.psi_log.specs.SpotsViews.{region_in, IsFilled};
-ghost use Rattle.psi_log.specs.Told.{shown};
+ghost use Rattle.psi_log.specs.SlotsViews.{region_in, IsFilled};
+ghost use Rattle.psi_log_format.specs.Listed.{shown, HasWidth};
 ghost use Rattle.psi_log.specs.Cursor.{begin_line, begun, next_of, ended, IsCursor};
 
-use crate::form::BorrowedRegion;
-use crate::parts::{read_begin, read_end};
-use crate::spot::{Spot, read_onto};
-use psi_log_lines::read_header;
-use psi_log_text::{Header, MOST_LOG_BYTES};
+use crate::ends::{read_begin, read_end};
+use crate::slot::{RegionSlot, read_onto};
+use psi_log_format::{BorrowedRegion, Header, ListedRegion, MOST_LOG_BYTES, StateList};
+use psi_log_scan::read_header;
 use psi_log_words::{Cause, LogError, read_words};
 use psi_state::{State, Step};
-use psi_state_list::{ListedRegion, StateList};
 use std::alloc::Global;
 use std::marker::Model;
 
@@ -24,8 +22,8 @@ use std::marker::Model;
 pub struct LogReader<'t> {
     pub(crate) header: Header,
     pub(crate) done: u32,
-    pub(crate) spot: Box<Spot<'t>>,
-    pub(crate) spare: Box<Spot<'t>>,
+    pub(crate) slot: Box<RegionSlot<'t>>,
+    pub(crate) spare: Box<RegionSlot<'t>>,
     pub(crate) stays: bool,
     pub(crate) rest: &'t [u8],
     pub(crate) words: Vec<&'t [u8]>,
@@ -37,12 +35,12 @@ impl<'t> Model for LogReader<'t> {
 
     ghost Value = { Cursor };
 
-    ghost view = { λ r. cursor_of r.header r.done r.spot.value r.spare.value r.stays r.rest.now };
+    ghost view = { λ r. cursor_of r.header r.done r.slot.value r.spare.value r.stays r.rest.now };
 
-    ghost invariant = { λ r. IsKept r.header r.done r.spot.value r.spare.value r.stays r.rest.now };
+    ghost invariant = { λ r. IsKept r.header r.done r.slot.value r.spare.value r.stays r.rest.now };
 }
 
-// The region at which the run begins, on a spot, of the line that begins a text, and what follows it. The vector holds
+// The region at which the run begins, in a slot, of the line that begins a text, and what follows it. The vector holds
 // the line's words.
 #[tactic(auto, unfolding(crate::specs::Cursor::begin_line), using(crate::proofs::CutLemmas::begin_cut))]
 fn begin_line<'t>(
@@ -50,7 +48,7 @@ fn begin_line<'t>(
     queues: u8,
     text: &'t [u8],
     words: &mut Vec<&'t [u8]>,
-) -> Result<(Spot<'t>, &'t [u8]), LogError>
+) -> Result<(RegionSlot<'t>, &'t [u8]), LogError>
     requires some { 1 ≤ queues }
     requires few { queues ≤ 32 }
     ensures value { Gives (λ read. (region_in read.0, read.1.now)) result (begin_line queues text.now) }
@@ -59,17 +57,17 @@ fn begin_line<'t>(
     let mut states = StateList::new(alloc, queues);
     let rest = read_words(6, text, words)?;
     let region = read_begin(queues, words, &mut states)?;
-    Ok((Spot::new(region, states), rest))
+    Ok((RegionSlot::new(region, states), rest))
 }
 
-// What stands before the steps of a text: its header, and the region at which the run begins, on a spot; and what follows
+// What stands before the steps of a text: its header, and the region at which the run begins, in a slot; and what follows
 // its line. The vector holds the words of one line after another.
 #[tactic(auto, unfolding(crate::specs::Cursor::begun))]
 fn begin_of<'t>(
     alloc: Global,
     text: &'t [u8],
     words: &mut Vec<&'t [u8]>,
-) -> Result<(Header, Spot<'t>, &'t [u8]), LogError>
+) -> Result<(Header, RegionSlot<'t>, &'t [u8]), LogError>
     ensures value { Gives (λ read. record { header = read.0; done = 0; before = region_in read.1; region = region_in read.1; rest = read.2.now }) result (begun text.now) }
     ensures filled { IfOk result (λ read. IsFilled read.0.queues read.1) }
     ensures some { IfOk result (λ read. 1 ≤ read.0.queues) }
@@ -80,16 +78,16 @@ fn begin_of<'t>(
     }
     let (header, rest) = read_header(text, words)?;
     match begin_line(alloc, header.queues, rest, words) {
-        Ok((spot, rest)) => Ok((header, spot, rest)),
+        Ok((slot, rest)) => Ok((header, slot, rest)),
         Err(error) => Err(error),
     }
 }
 
-/// A spot on which no region stands yet, with a list for states.
-pub(crate) fn spare_spot<'t>(states: StateList) -> Spot<'t>
+/// A slot in which no region stands yet, with a list for states.
+pub(crate) fn empty_slot<'t>(states: StateList) -> RegionSlot<'t>
     ensures { result.states ≡ states }
 {
-    Spot::new(ListedRegion::Set { first: 0, count: 0 }, states)
+    RegionSlot::new(ListedRegion::Set { first: 0, count: 0 }, states)
 }
 
 // The state at time zero, of the last line, where nothing follows it. The vector holds its words.
@@ -126,13 +124,13 @@ impl<'t> LogReader<'t> {
             Ok(read) => read,
             Err(error) => return Err(error),
         };
-        let spot = Box::new(alloc, begin)?;
+        let slot = Box::new(alloc, begin)?;
         let states = StateList::new(alloc, header.queues);
-        let spare = Box::new(alloc, spare_spot(states))?;
+        let spare = Box::new(alloc, empty_slot(states))?;
         Ok(LogReader {
             header,
             done: 0,
-            spot,
+            slot,
             spare,
             stays: true,
             rest,
@@ -155,13 +153,6 @@ impl<'t> LogReader<'t> {
         self.done
     }
 
-    /// Whether no text is left.
-    pub fn is_over(&self) -> bool
-        ensures { IsTrue result ↔ self.now.rest ≡ [] }
-    {
-        self.rest.is_empty()
-    }
-
     /// The next step.
     ///
     /// # Errors
@@ -182,7 +173,7 @@ impl<'t> LogReader<'t> {
         let read = match read_onto(
             &self.header,
             7 + self.done,
-            &self.spot,
+            &self.slot,
             &mut self.spare,
             self.rest,
             &mut self.words,
@@ -194,7 +185,7 @@ impl<'t> LogReader<'t> {
         self.rest = read.rest;
         self.stays = read.stays;
         if !read.stays {
-            std::mem::swap(&mut self.spot, &mut self.spare);
+            std::mem::swap(&mut self.slot, &mut self.spare);
         }
         Ok(read.step)
     }
@@ -206,14 +197,15 @@ impl<'t> LogReader<'t> {
         if self.stays {
             return self.region();
         }
-        self.spare.look(self.header.queues)
+        self.spare.borrow(self.header.queues)
     }
 
     /// The region after the last step that was read, borrowed. Nothing is copied.
     pub fn region(&self) -> BorrowedRegion<'_>
-        ensures { shown result ≡ self.entry.now.region }
+        ensures value { shown result ≡ self.entry.now.region }
+        ensures width { HasWidth self.entry.now.header.queues result }
     {
-        self.spot.look(self.header.queues)
+        self.slot.borrow(self.header.queues)
     }
 
     /// Whether the last step that was read left the region in its place. It may be false where both regions are the

@@ -6,8 +6,8 @@ use Rattle.std.proofs.lemmas.Bool.{and_parts, leb-true, cases_eq}
 use Rattle.std.proofs.lemmas.List.{length-set, get_or-set_same, get_or-set_other}
 use Rattle.psi_state.specs.State.{Corners}
 use Rattle.psi_state.specs.Members.{In}
-use Rattle.psi_log_text.specs.Log.{IsState, IsBox}
-use Rattle.psi_log_text.specs.Text.{Change}
+use Rattle.psi_log_format.specs.Log.{IsState, IsBox}
+use Rattle.psi_log_format.specs.Text.{Change}
 use Rattle.psi_log_words.specs.Regions.{is_change, changed}
 use Rattle.psi_log_words.proofs.RegionLemmas.{IsChange}
 

@@ -6,8 +6,8 @@ use Rattle.std.proofs.Common.{ap, sym, ◌∙◌, subst, arith}
 use Rattle.std.proofs.lemmas.Bool.{and_parts, and_from, le-leb}
 use Rattle.std.proofs.lemmas.List.{length-map}
 use Rattle.psi_state.specs.State.{Corners}
-use Rattle.psi_log_text.specs.Log.{LogRegion, in_box, in_set, IsBox, IsSet, IsRegion}
-use Rattle.psi_log_text.specs.Text.{numbers_text, region_words, Change, changes, change_text, move_words}
+use Rattle.psi_log_format.specs.Log.{LogRegion, in_box, in_set, IsBox, IsSet, IsRegion}
+use Rattle.psi_log_format.specs.Text.{numbers_text, region_words, Change, changes, change_text, move_words}
 use Rattle.psi_log_words.specs.Refusal.{refused, ◌>>=◌, holds_or, each}
 use Rattle.psi_log_words.specs.Words.{pieces_of, has_pieces}
 use Rattle.psi_log_words.specs.declared.refusals.Cause.TheVariants.{Shape}

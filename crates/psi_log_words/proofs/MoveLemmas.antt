@@ -6,7 +6,7 @@ use Rattle.std.proofs.lemmas.Bool.{and_parts, and_from, le-leb, lt-ltb, ltb-true
 use Rattle.std.proofs.lemmas.List.{length-set, get_or-set_same, get_or-set_other, ext_get_or}
 use Rattle.psi_state.specs.State.{Corners, numbers_from}
 use Rattle.psi_state.specs.Members.{In}
-use Rattle.psi_log_text.specs.Text.{Change, differs, change_to, changes}
+use Rattle.psi_log_format.specs.Text.{Change, differs, change_to, changes}
 use Rattle.psi_log_words.specs.Regions.{queues_ascend, is_change, changed}
 
 -- each queue is at least this one, where the queues ascend

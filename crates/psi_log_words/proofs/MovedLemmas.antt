@@ -6,8 +6,8 @@ use Rattle.std.proofs.Math.Bool.{and_assoc}
 use Rattle.std.proofs.lemmas.Bool.{and_parts, and_from, le-leb, lt-leb, ltb-true, ltb-false}
 use Rattle.std.proofs.lemmas.List.Folds.{list_all-append}
 use Rattle.psi_state.specs.State.{Corners}
-use Rattle.psi_log_text.specs.Log.{in_box}
-use Rattle.psi_log_text.specs.Text.{Change}
+use Rattle.psi_log_format.specs.Log.{in_box}
+use Rattle.psi_log_format.specs.Text.{Change}
 use Rattle.psi_log_words.specs.Refusal.{Refusal, refused, each, IsLogError}
 use Rattle.psi_log_words.specs.Words.{pieces_of}
 use Rattle.psi_log_words.specs.declared.refusals.LogError.{LogError}

@@ -3,7 +3,7 @@ use Rattle.std.specs.Prelude.{◌≡◌, ℕ, ◌+◌, ◌-◌, ◌<◌, ◌≤�
 use Rattle.std.specs.List.{before_first, after_first}
 use Rattle.std.proofs.Common.{set, ap, sym, ◌∙◌, subst, arith}
 use Rattle.std.proofs.lemmas.List.{drop-drop, drop_all, take_all, take_more_set, append-nil, length-drop}
-use Rattle.psi_log_text.specs.Text.{Change}
+use Rattle.psi_log_format.specs.Text.{Change}
 use Rattle.psi_log_words.specs.Refusal.{Refusal, ◌>>=◌, each, IsLogError}
 use Rattle.psi_log_words.specs.Words.{is_comma, pieces_of, has_pieces, number_in}
 use Rattle.psi_log_words.specs.declared.refusals.LogError.{LogError}

@@ -7,8 +7,8 @@ use Rattle.std.proofs.Common.{ap, sym, ◌∙◌, subst, arith, inl, inr}
 use Rattle.std.proofs.lemmas.Bool.{and_parts, and_from, leb-true, eq-eqb}
 use Rattle.psi_state.specs.State.{Corners}
 use Rattle.psi_state.specs.Members.{In}
-use Rattle.psi_log_text.specs.Log.{LogRegion, in_box, in_set, IsBox}
-use Rattle.psi_log_text.specs.Text.{region_words, Change, changes, change_text, move_words}
+use Rattle.psi_log_format.specs.Log.{LogRegion, in_box, in_set, IsBox}
+use Rattle.psi_log_format.specs.Text.{region_words, Change, changes, change_text, move_words}
 use Rattle.psi_log_words.specs.Refusal.{Refusal, refused, ◌>>=◌, holds_or}
 use Rattle.psi_log_words.specs.Words.{pieces_of, has_pieces, number_in}
 use Rattle.psi_log_words.specs.declared.refusals.Cause.TheVariants.{Shape}

@@ -14,8 +14,8 @@ use Rattle.psi_state.specs.Members.{In}
 use Rattle.psi_state.specs.Sets.{state_cmp}
 use Rattle.psi_state.specs.Ascending.{IsRising}
 use Rattle.psi_state.proofs.AscendingLemmas.{cmp-through}
-use Rattle.psi_log_text.specs.Log.{IsState}
-use Rattle.psi_log_text.specs.Text.{numbers_text}
+use Rattle.psi_log_format.specs.Log.{IsState}
+use Rattle.psi_log_format.specs.Text.{numbers_text}
 use Rattle.psi_log_words.specs.Refusal.{Refusal, each}
 use Rattle.psi_log_words.specs.Words.{pieces_of, has_pieces, number_in}
 use Rattle.psi_log_words.specs.Refusal.{◌>>=◌}

@@ -4,4 +4,3 @@ pub mod Words
 pub mod Regions
 pub mod FormsViews
 pub mod ChangesViews
-pub mod RegionsViews

@@ -6,8 +6,8 @@ use Rattle.std.specs.Cmp.Lexicographic.{pointwise}
 use Rattle.std.specs.Ordering.{is_lt}
 use Rattle.psi_state.specs.State.{Corners}
 use Rattle.psi_state.specs.Sets.{state_cmp}
-use Rattle.psi_log_text.specs.Log.{LogRegion, in_box, in_set}
-use Rattle.psi_log_text.specs.Text.{Change}
+use Rattle.psi_log_format.specs.Log.{LogRegion, in_box, in_set}
+use Rattle.psi_log_format.specs.Text.{Change}
 use Rattle.psi_log_words.specs.Refusal.{Refusal, refused, ◌>>=◌, holds_or, each}
 use Rattle.psi_log_words.specs.Words.{pieces_of, has_pieces, number_in}
 use Rattle.psi_log_words.specs.declared.refusals.Cause.TheVariants.{Shape}

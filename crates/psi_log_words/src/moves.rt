@@ -2,7 +2,7 @@
 
 ghost use Rattle.std.specs.Prelude.{◌≡◌, ◌<◌, ◌≤◌, length, map, true, IfOk};
 ghost use Rattle.std.specs.List.{list_all};
-ghost use Rattle.psi_log_text.specs.Log.{in_box};
+ghost use Rattle.psi_log_format.specs.Log.{in_box};
 ghost use Rattle.psi_log_words.specs.Refusal.{Gives};
 ghost use Rattle.psi_log_words.specs.Words.{pieces_of, has_pieces};
 ghost use Rattle.psi_log_words.specs.Regions.{read_change, is_change, read_given, given_move};

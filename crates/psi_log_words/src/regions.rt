@@ -1,20 +1,20 @@
 //! The numbers of a region's words, and the order of these.
 
-ghost use Rattle.std.specs.Prelude.{◌≡◌, ◌&&◌, ℕ, List, IfSome, ◌+◌, ◌-◌, ◌<◌, ◌≤◌, ◌++◌, length, map, take, drop, true, Ok, IfOk, IfErr, OnOk};
+ghost use Rattle.std.specs.Prelude.{◌≡◌, ◌&&◌, ℕ, List, ◌+◌, ◌-◌, ◌<◌, ◌≤◌, ◌++◌, length, map, take, drop, true, Ok, IfOk, IfErr, OnOk};
 ghost use Rattle.std.specs.List.{list_all};
 ghost use Rattle.psi_log_words.specs.Refusal.{Gives, IsLogError, each};
 ghost use Rattle.psi_log_words.specs.Words.{has_pieces, number_in};
-ghost use Rattle.psi_log_words.specs.Regions.{given_box, given_set, read_state, ascends, read_given, box_before};
+ghost use Rattle.psi_log_words.specs.Regions.{given_box, given_set, read_state, ascends, read_given};
 ghost use Rattle.psi_log_words.specs.FormsViews.{given as given_of, HasForm};
-ghost use Rattle.psi_log_words.specs.RegionsViews.{region_of, IsThere};
-ghost use Rattle.psi_log_text.specs.Log.{in_box};
+ghost use Rattle.psi_log_format.specs.Listed.{region_of, IsThere};
+ghost use Rattle.psi_log_format.specs.Log.{in_box};
 
 use crate::forms::Given;
 use crate::moves::read_move;
 use crate::numbers::piece_in;
 use crate::refusals::{Cause, LogError};
+use psi_log_format::{ListedRegion, StateList};
 use psi_state::{Bounds, State};
-use psi_state_list::{ListedRegion, StateList};
 
 /// The numbers of a state, of a word that has one piece for each queue.
 ///
@@ -166,16 +166,5 @@ pub fn read_given(
         Given::Box(lo, hi) => Ok(ListedRegion::Box(read_box(line, queues, lo, hi)?)),
         Given::Set(words) => read_set(line, queues, words, states),
         Given::Move(from, words) => { Ok(ListedRegion::Box(read_move(line, queues, from, words)?)) }
-    }
-}
-
-/// The box from which a box has to be written by what changed: in version 2, the box before.
-pub fn box_before(version: u8, region: &ListedRegion) -> Option<Bounds>
-    ensures value { (states : List (List ℕ)) → result ≡ box_before version (region_of states region.now) }
-    ensures count { (queues : ℕ) (states : List (List ℕ)) → IsThere queues states region.now → IfSome result (λ bounds. length bounds.lo ≡ queues) }
-{
-    match region {
-        ListedRegion::Box(bounds) => { if version == 2 { Some(*bounds) } else { None } }
-        ListedRegion::Set { .. } => None,
     }
 }

@@ -17,8 +17,8 @@ use Rattle.psi_region.proofs.RegionLemmas.{step-has, step-split, step-box}
 use Rattle.psi_horizon.specs.Runs.{region_at, ending_at, region_after}
 use Rattle.psi_horizon.proofs.RunsLemmas.{region_after-whole}
 use Rattle.psi_horizon.proofs.SampleLemmas.{ending-within}
-use Rattle.psi_log_text.specs.declared.header.Header.{Header as Head}
-use Rattle.psi_log_text.specs.Log.{LogRegion, in_box, in_set, Entry, greatest_horizon, IsState, IsRegion, IsEntry, IsLog}
+use Rattle.psi_log_format.specs.declared.header.Header.{Header as Head}
+use Rattle.psi_log_format.specs.Log.{LogRegion, in_box, in_set, Entry, greatest_horizon, IsState, IsRegion, IsEntry, IsLog}
 use Rattle.psi_log_words.specs.Refusal.{Refusal, ◌>>=◌, holds_or}
 use Rattle.psi_log_words.proofs.StateLemmas.{below_again}
 use Rattle.psi_replay.specs.Verdict.{rejected, states_of, has, covers, is_within, is_small, holds_all, judge_step, judge_steps, judge_end, judged, verdict_of, event_numbers}

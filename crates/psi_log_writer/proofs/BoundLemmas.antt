@@ -11,11 +11,11 @@ use Rattle.psi_rate.specs.Composition.{AreClosed}
 use Rattle.psi_region.specs.Region.{Area, splits, step}
 use Rattle.psi_region.proofs.RegionLemmas.{step-split}
 use Rattle.psi_horizon.specs.Runs.{region_after}
-use Rattle.psi_log_text.specs.declared.header.Header.{Header}
-use Rattle.psi_log_text.specs.Log.{in_set, IsState}
-use Rattle.psi_log_text.specs.Text.{numbers_text, region_words, next_words, step_text, end_text, log_text}
-use Rattle.psi_log_text.specs.Room.{spaced_words}
-use Rattle.psi_log_text.proofs.LinePiecesLemmas.{step_pieces, end_pieces}
+use Rattle.psi_log_format.specs.declared.header.Header.{Header}
+use Rattle.psi_log_format.specs.Log.{in_set, IsState}
+use Rattle.psi_log_format.specs.Text.{numbers_text, region_words, next_words, step_text, end_text, log_text}
+use Rattle.psi_log_format.specs.Room.{spaced_words}
+use Rattle.psi_log_format.proofs.LinePiecesLemmas.{step_pieces, end_pieces}
 use Rattle.psi_log_writer.specs.Recorded.{region_of, recorded}
 use Rattle.psi_log_writer.specs.Walking.{step_line, front_text, IsAmple}
 use Rattle.psi_log_writer.proofs.WalkingLemmas.{next-set}

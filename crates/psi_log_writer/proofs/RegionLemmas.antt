@@ -17,7 +17,7 @@ use Rattle.psi_rate.specs.Composition.{AreClosed}
 use Rattle.psi_region.specs.Region.{Area, start, splits, step, next, IsArea}
 use Rattle.psi_region.proofs.RegionLemmas.{start-area, step-area, image-length, tight-high}
 use Rattle.psi_horizon.specs.Runs.{region_after}
-use Rattle.psi_log_text.specs.Log.{LogRegion, in_box, in_set, IsState, IsBox, IsSet, IsRegion}
+use Rattle.psi_log_format.specs.Log.{LogRegion, in_box, in_set, IsState, IsBox, IsSet, IsRegion}
 use Rattle.psi_replay.specs.Verdict.{states_of}
 use Rattle.psi_log_writer.specs.Recorded.{region_of}
 use Rattle.psi_log_writer.proofs.WalkingLemmas.{region_of-set}

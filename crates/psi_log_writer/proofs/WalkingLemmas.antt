@@ -8,9 +8,9 @@ use Rattle.psi_rate.specs.Composition.{Parts, system_functions}
 use Rattle.psi_region.specs.Region.{Area, ShowsBox}
 use Rattle.psi_horizon.specs.Planned.{Running, Planned, onward}
 use Rattle.psi_horizon.specs.Runs.{region_after}
-use Rattle.psi_log_text.specs.declared.header.Header.{Header}
-use Rattle.psi_log_text.specs.Log.{LogRegion, in_box, in_set}
-use Rattle.psi_log_text.specs.Text.{region_words, next_words, step_text}
+use Rattle.psi_log_format.specs.declared.header.Header.{Header}
+use Rattle.psi_log_format.specs.Log.{LogRegion, in_box, in_set}
+use Rattle.psi_log_format.specs.Text.{region_words, next_words, step_text}
 use Rattle.psi_log_writer.specs.Recorded.{region_of}
 use Rattle.psi_replay.specs.Verdict.{event_numbers}
 use Rattle.psi_log_writer.specs.Walking.{box_words, IsTold, step_line, line_of, line_in, IsToldAfter, IsAmpleAfter, IsWalking}

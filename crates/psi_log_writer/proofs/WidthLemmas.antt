@@ -22,11 +22,11 @@ use Rattle.psi_rate.proofs.PowersLemmas.{pow-order}
 use Rattle.psi_region.specs.Region.{Area}
 use Rattle.psi_region.proofs.RegionLemmas.{tight-high}
 use Rattle.psi_horizon.specs.Runs.{region_after}
-use Rattle.psi_log_text.specs.declared.header.Header.{Header}
-use Rattle.psi_log_text.specs.Log.{LogRegion, in_box, in_set}
-use Rattle.psi_log_text.specs.Text.{numbers_text, region_words, differs, change_to, change_text, move_words, next_words, step_text, end_text, log_text}
-use Rattle.psi_log_text.specs.Room.{spaced_words, picked}
-use Rattle.psi_log_text.proofs.JoinedLemmas.{spaced-append, one_word, picked-append, moved}
+use Rattle.psi_log_format.specs.declared.header.Header.{Header}
+use Rattle.psi_log_format.specs.Log.{LogRegion, in_box, in_set}
+use Rattle.psi_log_format.specs.Text.{numbers_text, region_words, differs, change_to, change_text, move_words, next_words, step_text, end_text, log_text}
+use Rattle.psi_log_format.specs.Room.{spaced_words, picked}
+use Rattle.psi_log_format.proofs.JoinedLemmas.{spaced-append, one_word, picked-append, moved}
 use Rattle.psi_replay.specs.Verdict.{event_numbers}
 use Rattle.psi_log_writer.specs.Recorded.{region_of, recorded, log_of}
 use Rattle.psi_log_writer.specs.Walking.{step_line, front_text, text_in, IsRoomy, IsAmpleAfter}

@@ -4,7 +4,7 @@ use Rattle.std.specs.Fmt.{digits}
 use Rattle.psi_state.specs.Hull.{hull}
 use Rattle.psi_region.specs.Region.{step}
 use Rattle.psi_horizon.specs.Runs.{ending_at}
-use Rattle.psi_log_text.specs.Text.{line_text, numbers_text, header_text, changes, begin_text, step_text, end_text, log_text}
+use Rattle.psi_log_format.specs.Text.{line_text, numbers_text, header_text, changes, begin_text, step_text, end_text, log_text}
 use Rattle.psi_replay.specs.Verdict.{judge_step, judge_steps, judge_end, judged}
 use Rattle.psi_log_writer.specs.Recorded.{recorded, header_of}
 

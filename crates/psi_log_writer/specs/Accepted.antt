@@ -3,8 +3,8 @@ use Rattle.std.specs.Prelude.{◌≡◌, ℕ, ◌≤◌, ◌^◌, List, length, 
 use Rattle.psi_state.specs.State.{AreCapacities}
 use Rattle.psi_rate.specs.Composition.{Functions, AreClosed}
 use Rattle.psi_horizon.specs.Runs.{ending_at}
-use Rattle.psi_log_text.specs.declared.header.Header.{Header}
-use Rattle.psi_log_text.specs.Log.{Certificate, IsHeader, IsLog}
+use Rattle.psi_log_format.specs.declared.header.Header.{Header}
+use Rattle.psi_log_format.specs.Log.{Certificate, IsHeader, IsLog}
 use Rattle.psi_replay.specs.declared.answers.Verdict.TheVariants.{Accepted}
 use Rattle.psi_replay.specs.Verdict.{judged, verdict_of}
 use Rattle.psi_log_writer.specs.Recorded.{recorded}

@@ -6,8 +6,8 @@ use Rattle.psi_state.specs.Hull.{corners}
 use Rattle.psi_rate.specs.Composition.{Functions, Parts, system_functions}
 use Rattle.psi_region.specs.Region.{Area, start}
 use Rattle.psi_horizon.specs.Runs.{region_after}
-use Rattle.psi_log_text.specs.declared.header.Header.{Header}
-use Rattle.psi_log_text.specs.Log.{LogRegion, in_box, in_set, Entry, Certificate}
+use Rattle.psi_log_format.specs.declared.header.Header.{Header}
+use Rattle.psi_log_format.specs.Log.{LogRegion, in_box, in_set, Entry, Certificate}
 use Rattle.psi_replay.specs.Verdict.{event_numbers}
 
 -- a region of a run as a log has it: a set where it is split, and else its box

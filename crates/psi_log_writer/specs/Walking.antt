@@ -5,9 +5,9 @@ use Rattle.psi_rate.specs.Composition.{Functions, Parts, system_functions}
 use Rattle.psi_region.specs.Region.{Area, start, ShowsBox}
 use Rattle.psi_horizon.specs.Planned.{Planned}
 use Rattle.psi_horizon.specs.Runs.{region_after}
-use Rattle.psi_log_text.specs.declared.header.Header.{Header}
-use Rattle.psi_log_text.specs.Log.{in_box}
-use Rattle.psi_log_text.specs.Text.{region_words, move_words, next_words, header_text, begin_text, step_text, end_text, entries_text}
+use Rattle.psi_log_format.specs.declared.header.Header.{Header}
+use Rattle.psi_log_format.specs.Log.{in_box}
+use Rattle.psi_log_format.specs.Text.{region_words, move_words, next_words, header_text, begin_text, step_text, end_text, entries_text}
 use Rattle.psi_log_writer.specs.Recorded.{region_of, entry_after}
 use Rattle.psi_replay.specs.Verdict.{event_numbers}
 

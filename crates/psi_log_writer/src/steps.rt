@@ -3,14 +3,14 @@
 ghost use Rattle.std.specs.Prelude.{◌≡◌, ◌+◌, ◌^◌, ◌<◌, ◌≤◌, ◌++◌, suc, Some, length, IsSome, IfSome};
 ghost use Rattle.psi_state.specs.State.{IsBelow};
 ghost use Rattle.psi_region.specs.Region.{start};
-ghost use Rattle.psi_log_text.specs.Text.{begin_text, step_text};
+ghost use Rattle.psi_log_format.specs.Text.{begin_text, step_text};
 ghost use Rattle.psi_horizon.specs.Planned.{onward};
 ghost use Rattle.psi_log_writer.specs.Recorded.{region_of};
 ghost use Rattle.psi_log_writer.specs.Walking.{box_words, line_of, line_in, most_held, IsToldAfter, IsWalking};
 
 use psi_event::EventLaw;
 use psi_horizon::Plan;
-use psi_log_text::{Header, LineBuf};
+use psi_log_format::{Header, LineBuf};
 use psi_past::Past;
 use psi_region::Follower;
 use psi_state::{Bounds, State, Step};

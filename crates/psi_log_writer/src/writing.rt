@@ -6,14 +6,14 @@ ghost use Rattle.psi_io.specs.Sink.{appended, GrewByPrefix, TookPrefix};
 ghost use Rattle.psi_log_writer.specs.Recorded.{log_of};
 ghost use Rattle.psi_log_writer.specs.Sending.{Sends};
 ghost use Rattle.psi_log_writer.specs.Walking.{text_in, IsRoomy, IsToldAfter, IsAmpleAfter, IsWalking};
-ghost use Rattle.psi_log_text.specs.Text.{log_text};
+ghost use Rattle.psi_log_format.specs.Text.{log_text};
 
 use crate::block::Block;
 use crate::steps::{most_held, next_line};
 use psi_event::EventLaw;
 use psi_horizon::Plan;
 use psi_io::{Sink, SinkFault};
-use psi_log_text::{Header, LineBuf, MOST_LOG_BYTES};
+use psi_log_format::{Header, LineBuf, MOST_LOG_BYTES};
 use psi_past::Past;
 use psi_region::Follower;
 use psi_state::{Bounds, State};

@@ -11,9 +11,9 @@ use Rattle.psi_program.specs.Reply.{line_reply}
 use Rattle.psi_program.specs.Ending.{MayReply}
 use Rattle.psi_report.specs.Contents.{Contents}
 use Rattle.psi_report.specs.Text.{text_of}
-use Rattle.psi_reports.specs.Merging.{merged, Merges}
-use Rattle.psi_reports.specs.declared.error.MergeError.{MergeError}
-use Rattle.psi_reports.specs.declared.error.MergeError.TheVariants as merge
+use Rattle.psi_report_reader.specs.Merging.{merged, Merges}
+use Rattle.psi_report_reader.specs.declared.error.MergeError.{MergeError}
+use Rattle.psi_report_reader.specs.declared.error.MergeError.TheVariants as merge
 use Rattle.psi_merge.specs.declared.ending.Ending.{Ending}
 use Rattle.psi_merge.specs.declared.ending.Ending.TheVariants.{Merged, Usage, Refused, OtherNetwork, TooLarge, Unread, OutOfMemory}
 use Rattle.psi_merge.specs.Reports.{report_in}
@@ -75,7 +75,7 @@ unread-found shelf name found ending is rose = record {
   cause = unread-missed shelf name ending is rose;
 }
 
--- an ending for want of a report stays one, whatever follows
+-- an ending without a report stays one, whatever follows
 may-go_on : (next : Contents → Option (Result Contents Reply)) (t : Option (Result Contents Reply)) (ending : Ending) → IfSome t (MayBe (Err ending)) → IfSome (go_on next t) (MayBe (Err ending))
 may-go_on next None ending may = tt
 may-go_on next (Some (Err reply)) ending may = may
@@ -416,7 +416,7 @@ ended-merged shelf words text c are found is =
       asked = inr (record { files = are; last = read.last; all = λ e. read.all });
     }
 
--- an ending for want of a report replies
+-- an ending without a report replies
 may-reply : (ending : Ending) (whole : Result Contents Reply) → MayEnd ending whole → MayReply (ending_of ending) (whole_reply whole)
 may-reply (Merged text) whole may = absurd may
 may-reply Usage whole may = absurd may

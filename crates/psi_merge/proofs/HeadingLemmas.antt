@@ -4,12 +4,12 @@ use Rattle.std.proofs.Common.{inl, inr, ap, sym, ◌∙◌, subst, append_assoc,
 use Rattle.std.proofs.lemmas.Bool.{le-leb}
 use Rattle.std.proofs.lemmas.List.{append-nil, length-append}
 use Rattle.psi_state.specs.declared.Outcome.{Outcome}
-use Rattle.psi_model.specs.Network.{Network}
+use Rattle.psi_net_model.specs.Network.{Network}
 use Rattle.psi_report.specs.Report.{report_text, contents_of}
-use Rattle.psi_reports.proofs.SampleLemmas.{of-left, of-right}
-use Rattle.psi_reports.proofs.SampleLawLemmas.{samples-read, samples-merged}
-use Rattle.psi_reports.proofs.SoundLemmas.{report-sound}
-use Rattle.psi_reports.proofs.ShortLemmas.{reports-short}
+use Rattle.psi_report_reader.proofs.SampleLemmas.{of-left, of-right}
+use Rattle.psi_report_reader.proofs.SampleLawLemmas.{samples-read, samples-merged}
+use Rattle.psi_report_reader.proofs.SoundLemmas.{report-sound}
+use Rattle.psi_report_reader.proofs.ShortLemmas.{reports-short}
 use Rattle.psi_merge.specs.declared.status.Status.{Status}
 use Rattle.psi_merge.specs.declared.status.Status.TheVariants.{OutOfMemory}
 use Rattle.psi_merge.specs.Status.{IsReplied}

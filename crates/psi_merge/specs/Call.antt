@@ -4,9 +4,9 @@ use Rattle.std.specs.List.{flat_map}
 use Rattle.psi_program.specs.Seen.{Grew, IsUnchanged, HasFailed}
 use Rattle.psi_program.specs.Call.{Call, ReadFaulted, OutFaulted, ErrFaulted, MemoryLacked}
 use Rattle.psi_state.specs.declared.Outcome.{Outcome}
-use Rattle.psi_model.specs.Network.{Network}
+use Rattle.psi_net_model.specs.Network.{Network}
 use Rattle.psi_report.specs.Report.{report_text}
-use Rattle.psi_reports.specs.Samples.{AreOf}
+use Rattle.psi_report_reader.specs.Samples.{AreOf}
 use Rattle.psi_merge.specs.declared.status.Status.{Status}
 use Rattle.psi_merge.specs.declared.status.Status.TheVariants.{Done, Usage, ReadFault, WriteFault, OutOfMemory}
 use Rattle.psi_merge.specs.Status.{IsReplied, IsReported}

@@ -40,7 +40,7 @@ ending_of OutOfMemory = no_memory
 abbrev pub ending_reply : Ending → Reply
 ending_reply ending = ended_reply faults (ending_of ending)
 
--- the work on files ends for want of a report: with this reply, unless a file couldn't be read or memory ran out
+-- the work on files ends without a report: with this reply, unless a file couldn't be read or memory ran out
 abbrev pub MayEnd : Ending → Result Contents Reply → Type 0
 MayEnd (Merged text) whole = ⊥
 MayEnd Usage whole = ⊥
@@ -90,7 +90,7 @@ IsTold Usage = ⊥
 IsTold (Unread line) = ⊥
 IsTold ending = Unit {0}
 
--- the answer of the work on files: the report, or the ending for want of one
+-- the answer of the work on files: the report, or the ending where there is none
 abbrev pub MayBe : Result Contents Ending → Result Contents Reply → Type 0
 MayBe (Ok c) whole = whole ≡ Ok c
 MayBe (Err ending) whole = MayEnd ending whole

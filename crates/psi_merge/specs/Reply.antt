@@ -5,9 +5,9 @@ use Rattle.std.specs.Fmt.{decimal}
 use Rattle.psi_program.specs.Reply.{Reply as AnyReply, text_reply as printed, line_reply}
 use Rattle.psi_report.specs.Contents.{Contents}
 use Rattle.psi_report.specs.Text.{text_of}
-use Rattle.psi_reports.specs.Merging.{merged}
-use Rattle.psi_reports.specs.declared.error.MergeError.{MergeError}
-use Rattle.psi_reports.specs.declared.error.MergeError.TheVariants as merge
+use Rattle.psi_report_reader.specs.Merging.{merged}
+use Rattle.psi_report_reader.specs.declared.error.MergeError.{MergeError}
+use Rattle.psi_report_reader.specs.declared.error.MergeError.TheVariants as merge
 use Rattle.psi_merge.specs.declared.status.Status.{Status}
 use Rattle.psi_merge.specs.declared.status.Status.TheVariants.{Done, Usage, Refused, OtherNetwork, TooLarge}
 use Rattle.psi_merge.specs.declared.reports.Cause.{Cause}

@@ -1,8 +1,8 @@
 -- The report that a file has.
 use Rattle.std.specs.Prelude.{ℕ, List, length, ◌==◌, nat_le, Option, Some, None, Result, Ok, Err, if◌then◌else◌}
 use Rattle.psi_report.specs.Contents.{Contents}
-use Rattle.psi_reports.specs.Reading.{read}
-use Rattle.psi_reports.specs.Sound.{flaw_of}
+use Rattle.psi_report_reader.specs.Reading.{read}
+use Rattle.psi_report_reader.specs.Sound.{flaw_of}
 use Rattle.psi_merge.specs.declared.reports.Cause.{Cause}
 use Rattle.psi_merge.specs.declared.reports.Cause.TheVariants.{TooLong, Row, Text, Samples}
 

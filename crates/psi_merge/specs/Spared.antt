@@ -16,7 +16,7 @@ AreNextGiven gives found names = (name : List ℕ) → IsNext found names name �
 abbrev pub AreGiven : (List ℕ → Type 0) → (List ℕ → Option (List ℕ)) → List (List ℕ) → Type 0
 AreGiven gives told words = (name : List ℕ) → IsNeeded told words name → gives name
 
--- out and err take the reply's texts, and where the words are files, err takes the line on want of memory
+-- out and err take the reply's texts, and where the words are files, err takes the line on memory that ran out
 abbrev pub AreTaken : (out_takes err_takes : ℕ → Type 0) → List (List ℕ) → Reply → Type 0
 AreTaken out_takes err_takes words reply = AreTakenOf out_takes err_takes (are_files words ≡ true) memory_line reply
 

@@ -2,7 +2,7 @@
 
 ghost use Rattle.std.specs.Prelude.{◌≡◌, ◌≤◌, ℕ, List, [], ◌∷◌, ◌++◌, Option, Err, map, string_bytes, IfSome, IfErr};
 ghost use Rattle.std.specs.List.{list_all};
-ghost use Rattle.psi_reports.specs.declared.error.MergeError.{MergeError};
+ghost use Rattle.psi_report_reader.specs.declared.error.MergeError.{MergeError};
 ghost use Rattle.psi_merge.specs.declared.status.Status.TheVariants as status;
 ghost use Rattle.psi_io.specs.Shelf.{AgreesSince};
 ghost use Rattle.psi_program.specs.Seen.{seen_with};
@@ -17,7 +17,7 @@ use crate::lines::{refused_line, unmerged_line, unread_line};
 use crate::reports::{Cause, MOST_BYTES, ReportError, report_in};
 use psi_io::{Shelf, ShelfFault};
 use psi_report::Report;
-use psi_reports::{MergeError, merged};
+use psi_report_reader::{MergeError, merged};
 use std::alloc::Global;
 
 // The ending on a file that is no report.
@@ -66,7 +66,7 @@ fn unread(alloc: Global, name: &str) -> Ending
     }
 }
 
-// The report of a file, or the ending for want of one.
+// The report of a file, or the ending where there is none.
 fn report_at<F: Shelf>(alloc: Global, shelf: &mut F, name: &str) -> Result<Report, Ending>
     ensures found { (told : List ℕ → Option (List ℕ)) → AgreesSince told (F.gave shelf.old) (F.gave shelf.new) → IsFound (seen_with (record { gave_before = F.gave shelf.old; gave_after = F.gave shelf.new; asked_before = F.asked shelf.old; asked_after = F.asked shelf.new; faults_before = F.faults shelf.old; faults_after = F.faults shelf.new }) told) name.now
         (report_at told name.now) result }
@@ -94,7 +94,7 @@ fn report_at<F: Shelf>(alloc: Global, shelf: &mut F, name: &str) -> Result<Repor
     }
 }
 
-// The report of those before it and of a file, or the ending for want of one.
+// The report of those before it and of a file, or the ending where there is none.
 fn with_file<F: Shelf>(
     alloc: Global,
     shelf: &mut F,
@@ -125,7 +125,7 @@ fn with_file<F: Shelf>(
     }
 }
 
-// The report of those before them and of files, or the ending for want of one.
+// The report of those before them and of files, or the ending where there is none.
 fn with_files<F: Shelf>(
     alloc: Global,
     shelf: &mut F,
@@ -150,7 +150,7 @@ fn with_files<F: Shelf>(
     Ok(whole)
 }
 
-// The report of all files, or the ending for want of one.
+// The report of all files, or the ending where there is none.
 fn whole_of<F: Shelf>(
     alloc: Global,
     shelf: &mut F,

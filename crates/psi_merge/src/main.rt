@@ -41,7 +41,7 @@ impl Program for Merging {
 
 /// Runs the program over the words, the files and the two outputs of the system.
 ///
-/// It ends for want of words, or as a run of the program: by the bytes that the system answered to its reads, and those
+/// It ends because the system has no words for it, or as a run of the program: by the bytes that the system answered to its reads, and those
 /// that it accepted on its outputs.
 fn run_merge(rt: &HostRuntime) -> ExitCode
     ensures process { HasEnded IsRunOf (exit_status result) }

@@ -79,8 +79,8 @@ pub(crate) fn run<F: Shelf, O: Sink, E: Sink>(
         (record { gave = F.gave shelf.new; out = O.took out.new; err = E.took err.new; tally = record { asked = F.asked shelf.new; files = F.faults shelf.new; out = O.faults out.new; err = E.faults err.new } })
         (status_code result) }
 
-    // Where the shelf gives each file that is needed, and out and err take the reply's texts and the line on want of memory, no
-    // count of faults rises in this call, and the status is the reply's or tells want of memory.
+    // Where the shelf gives each file that is needed, and out and err take the reply's texts and the line on memory that ran out, no
+    // count of faults rises in this call, and the status is the reply's or `OutOfMemory`.
     ensures spared { (reply : Reply) → reply_to (F.told shelf.old) (map string_bytes words.now) ≡ Some reply
         → AreGiven (F.gives shelf.old) (F.told shelf.old) (map string_bytes words.now)
         → AreTaken (O.takes out.old) (E.takes err.old) (map string_bytes words.now) reply

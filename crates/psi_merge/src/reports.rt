@@ -5,7 +5,7 @@ ghost use Rattle.psi_merge.specs.Reports.{unread_at, report_in};
 ghost use Rattle.psi_merge.specs.Gives.{refused, Gives};
 
 use psi_report::Report;
-use psi_reports::{ReadError, flaw_of, read};
+use psi_report_reader::{ReadError, flaw_of, read};
 use std::alloc::Global;
 
 /// The most bytes that a file may have.

@@ -8,18 +8,18 @@ use Rattle.psi_state.specs.State.{AreCapacities}
 use Rattle.psi_rate.specs.Rates.{greatest_total, total}
 use Rattle.psi_net_document.specs.Refusal.{top, event_place}
 use Rattle.psi_net_document.specs.Values.{elements_in, table_in, each}
-use Rattle.psi_model.specs.Expansion.{source_of, servers_at, expanded, AreSourced, values_of, count_key}
+use Rattle.psi_net_model.specs.Expansion.{source_of, servers_at, expanded, AreSourced, values_of, count_key}
 use Rattle.psi_net.specs.EventTables.{event_of, within_limits, are_within, Listed, event_step, events_in, events_of}
-use Rattle.psi_model.specs.Valid.{AreListed}
+use Rattle.psi_net_model.specs.Valid.{AreListed}
 use Rattle.psi_net_document.specs.declared.refusals.Cause.TheVariants.{NoEvents}
 use Rattle.psi_net_document.specs.declared.refusals.Place.{Place}
-use Rattle.psi_model.specs.declared.entries.Queue.{Queue}
-use Rattle.psi_model.specs.declared.entries.NamedEvent.{NamedEvent}
+use Rattle.psi_net_model.specs.declared.entries.Queue.{Queue}
+use Rattle.psi_net_model.specs.declared.entries.NamedEvent.{NamedEvent}
 use Rattle.psi_net_document.proofs.ReadingLemmas.{if_ok, bind_ok, ok_same, number_range, elements_count, each_kept}
-use Rattle.psi_model.proofs.CopyLemmas.{length_more}
-use Rattle.psi_model.proofs.QueueLemmas.{capacities_kept, names_same, servers_most}
+use Rattle.psi_net_model.proofs.CopyLemmas.{length_more}
+use Rattle.psi_net_model.proofs.QueueLemmas.{capacities_kept, names_same, servers_most}
 use Rattle.psi_net.proofs.KeptKindsLemmas.{kind_kept}
-use Rattle.psi_model.proofs.EventLemmas.{IsEvent, source_small, expanded_kept, AreEvents, AreEventsOf, events_of_kept}
+use Rattle.psi_net_model.proofs.EventLemmas.{IsEvent, source_small, expanded_kept, AreEvents, AreEventsOf, events_of_kept}
 
 pub event_kept : (place : Place) (version : ℕ) (earlier names : List (List ℕ)) (caps : List ℕ) → length names ≡ length caps → AreCapacities caps → (ms : Members)
     → IfOk (event_of place version earlier names caps ms) (IsEvent caps)

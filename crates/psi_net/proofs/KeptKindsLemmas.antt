@@ -24,10 +24,10 @@ use Rattle.psi_net_document.specs.References.{is_in, queue_in, targets_in, some_
 use Rattle.psi_net_document.specs.Targets.{AreTargets}
 use Rattle.psi_state.specs.Repeats.{repeats}
 use Rattle.psi_net.specs.KindTables.{source_in, queue_of_source, full_in, number_step, row_step, table_of, size_fits, arrival_of, service_of, index_of, batch_of, negative_of, fork_of, joined_in, join_of}
-use Rattle.psi_model.specs.Expansion.{first_server}
+use Rattle.psi_net_model.specs.Expansion.{first_server}
 use Rattle.psi_net.specs.PartTables.{part_keys, part_queue, part_numbers, unless_empty, part_of, part_step, parts_in, guarded_of}
 use Rattle.psi_net.specs.EventTables.{kind_of}
-use Rattle.psi_model.specs.Valid.{IsAccepted}
+use Rattle.psi_net_model.specs.Valid.{IsAccepted}
 use Rattle.psi_net_document.specs.declared.refusals.Cause.TheVariants.{OutOfRange}
 use Rattle.psi_net_document.specs.declared.refusals.Place.{Place}
 use Rattle.psi_net_document.specs.declared.refusals.NetRefusal.{NetRefusal}
@@ -36,7 +36,7 @@ use Rattle.psi_net.specs.declared.words.KindWord.TheVariants as word
 use Rattle.psi_net_document.proofs.ReadingLemmas.{if_ok, bind_ok, ok_same, held, required_ok, optional_kept, number_range, integer_range, elements_count, each_kept, counted_kept, queue_small}
 use Rattle.psi_net_document.proofs.PigeonLemmas.{no_targets}
 use Rattle.psi_net_document.proofs.TargetLemmas.{AreSomeTargets, targets_kept, some_targets_kept, target_small, target_apart, away, among}
-use Rattle.psi_model.proofs.KindLemmas.{accepted, first_source}
+use Rattle.psi_net_model.proofs.KindLemmas.{accepted, first_source}
 
 -- a list of at least one isn't empty
 pub not_empty : {A : Type 0} (xs : List A) → 0 < length xs → is_empty xs ≡ false

@@ -14,16 +14,16 @@ use Rattle.psi_reward.specs.Rewards.{reward_caps}
 use Rattle.psi_net_document.specs.Values.{required, counted_in, each}
 use Rattle.psi_net_document.specs.References.{some_targets_in}
 use Rattle.psi_net.specs.RewardTables.{integer_step, weights_in, grid_step, grid_in, reward_kind_of}
-use Rattle.psi_model.specs.Draft.{named}
+use Rattle.psi_net_model.specs.Draft.{named}
 use Rattle.psi_net_document.specs.Targets.{are_below}
-use Rattle.psi_model.specs.Valid.{IsReward}
-use Rattle.psi_model.specs.declared.entries.RewardEntry.{RewardEntry}
+use Rattle.psi_net_model.specs.Valid.{IsReward}
+use Rattle.psi_net_model.specs.declared.entries.RewardEntry.{RewardEntry}
 use Rattle.psi_net_document.specs.declared.refusals.Place.{Place}
 use Rattle.psi_net.specs.declared.words.RewardWord.{RewardWord}
 use Rattle.psi_net_document.proofs.ReadingLemmas.{required_ok, integer_range, each_kept, counted_kept}
 use Rattle.psi_net_document.proofs.FoundLemmas.{below_at}
 use Rattle.psi_net_document.proofs.TargetLemmas.{AreSomeTargets, some_targets_kept}
-use Rattle.psi_model.proofs.RewardLemmas.{reward_accepted}
+use Rattle.psi_net_model.proofs.RewardLemmas.{reward_accepted}
 
 listed_some : (qs : List ℕ) → 0 < length qs → is_none_listed qs ≡ false
 listed_some [] h = absurd (omega arith)

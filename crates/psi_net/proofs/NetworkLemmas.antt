@@ -4,14 +4,14 @@ use Rattle.std.proofs.Common.{subst, arith, length-append}
 use Rattle.std.proofs.lemmas.Bool.{leb-true}
 use Rattle.toml.specs.Data.{Data, Members, get_member}
 use Rattle.toml.specs.Parse.{parse_document}
-use Rattle.psi_model.specs.Network.{Network, NamedReward}
+use Rattle.psi_net_model.specs.Network.{Network, NamedReward}
 use Rattle.psi_net_document.specs.Refusal.{holds_or, at_place, top}
 use Rattle.psi_net_document.specs.Values.{no_unknown, required, optional, number_in, array_in}
 use Rattle.psi_net.specs.QueueTables.{queues_of}
 use Rattle.psi_net.specs.EventTables.{events_of}
 use Rattle.psi_net.specs.RewardTables.{reward_step, rewards_in, rewards_of}
 use Rattle.psi_net.specs.Reading.{version_in, top_keys, most_limit, default_limit, default_split, numbers_of, document_network, text_network}
-use Rattle.psi_model.specs.Valid.{IsNetwork}
+use Rattle.psi_net_model.specs.Valid.{IsNetwork}
 use Rattle.psi_net.specs.declared.reading.TopNumbers.{TopNumbers}
 use Rattle.psi_net_document.specs.declared.refusals.Cause.TheVariants.{NotToml}
 use Rattle.psi_net_document.proofs.ReadingLemmas.{bind_ok, ok_same, held, optional_kept, number_range, each_kept}

@@ -1,8 +1,8 @@
 -- What is counted while events are read.
 use Rattle.std.specs.Prelude.{◌≡◌, ℕ, ◌≤◌, List, length, map}
 use Rattle.psi_rate.specs.Rates.{greatest_total, total}
-use Rattle.psi_model.specs.Expansion.{values_of, most_index_values}
-use Rattle.psi_model.specs.declared.entries.NamedEvent.{NamedEvent}
+use Rattle.psi_net_model.specs.Expansion.{values_of, most_index_values}
+use Rattle.psi_net_model.specs.declared.entries.NamedEvent.{NamedEvent}
 
 -- the number of events, their index values and their total rate, within their limits
 pub record IsCounted (events : List NamedEvent) (count values rates : ℕ) : Type 0 where

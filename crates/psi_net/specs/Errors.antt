@@ -4,7 +4,7 @@ use Rattle.psi_net_document.specs.declared.refusals.NetRefusal.{NetRefusal}
 use Rattle.psi_net.specs.declared.net_error.NetError.{NetError}
 use Rattle.psi_net.specs.declared.net_error.NetError.TheVariants.{Refused, OutOfMemory}
 
--- what an error says of what it read: a refusal is the reading's own, want of memory says nothing
+-- what an error says of what it read: a refusal is the reading's own, `OutOfMemory` says nothing
 abbrev pub IsNetError : {Y : Type 0} → NetError → Result Y NetRefusal → Type 0
 IsNetError (Refused refusal) reading = reading ≡ Err refusal
 IsNetError OutOfMemory reading = Unit {0}

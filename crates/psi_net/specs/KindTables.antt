@@ -14,7 +14,7 @@ use Rattle.psi_net_document.specs.References.{queue_in, target_in, targets_in, s
 use Rattle.psi_net_document.specs.declared.refusals.Cause.TheVariants.{WrongType, OutOfRange, BatchTooLarge}
 use Rattle.psi_net_document.specs.declared.refusals.Place.{Place}
 use Rattle.psi_net_document.specs.declared.refusals.NetRefusal.{NetRefusal}
-use Rattle.psi_model.specs.Expansion.{first_server}
+use Rattle.psi_net_model.specs.Expansion.{first_server}
 
 -- the queue of a source may not be among the targets
 abbrev pub queue_of_source : Option Source → List ℕ

@@ -7,7 +7,7 @@ use Rattle.psi_net_document.specs.Names.{name_in, unless_taken}
 use Rattle.psi_net_document.specs.declared.refusals.Cause.TheVariants.{MissingKey}
 use Rattle.psi_net_document.specs.declared.refusals.NetRefusal.{NetRefusal}
 use Rattle.psi_net_document.specs.declared.refusals.Place.{Place}
-use Rattle.psi_model.specs.declared.entries.Queue.{Queue}
+use Rattle.psi_net_model.specs.declared.entries.Queue.{Queue}
 
 -- the keys of a queue's table
 abbrev pub queue_keys : List (List ℕ)

@@ -4,7 +4,7 @@ use Rattle.std.specs.Prelude.{ℕ, pos, negsuc, List, [], ◌∷◌, map, length
 use Rattle.std.specs.Str.{is_utf8}
 use Rattle.toml.specs.Data.{Data, integer, Members, get_member}
 use Rattle.toml.specs.Parse.{parse_document}
-use Rattle.psi_model.specs.Network.{Network}
+use Rattle.psi_net_model.specs.Network.{Network}
 use Rattle.psi_net_document.specs.Refusal.{◌>>=◌, holds_or, at_key, at_place, top}
 use Rattle.psi_net_document.specs.Values.{no_unknown, required, optional, number_in}
 use Rattle.psi_net.specs.QueueTables.{queues_of}

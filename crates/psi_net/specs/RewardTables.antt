@@ -8,7 +8,7 @@ use Rattle.psi_net_document.specs.Refusal.{◌>>=◌, holds_or, at_key, top, rew
 use Rattle.psi_net_document.specs.Values.{no_unknown, required, optional, number_in, integer_in, text_in, array_in, counted_in, table_in, each}
 use Rattle.psi_net_document.specs.Names.{name_in, unless_taken}
 use Rattle.psi_net_document.specs.References.{some_targets_in}
-use Rattle.psi_model.specs.Network.{NamedReward}
+use Rattle.psi_net_model.specs.Network.{NamedReward}
 use Rattle.psi_net_document.specs.declared.refusals.Cause.TheVariants.{UnknownKind, TooMany}
 use Rattle.psi_net_document.specs.declared.refusals.Place.{Place}
 use Rattle.psi_net_document.specs.declared.refusals.NetRefusal.{NetRefusal}

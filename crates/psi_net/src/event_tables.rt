@@ -10,7 +10,7 @@ ghost use Rattle.psi_net_document.specs.declared.refusals.NetRefusal.{NetRefusal
 ghost use Rattle.psi_net_document.specs.Refusal.{Gives};
 ghost use Rattle.psi_net.specs.Errors.{Reads};
 ghost use Rattle.psi_net_document.specs.Values.{seen, no_unknown, required, each};
-ghost use Rattle.psi_model.specs.Expansion.{source_of, servers_at, expanded, AreSourced};
+ghost use Rattle.psi_net_model.specs.Expansion.{source_of, servers_at, expanded, AreSourced};
 ghost use Rattle.psi_net.specs.EventTables.{kind_named, kind_in, event_keys, kind_of, event_of, are_within, event_step, events_of};
 ghost use Rattle.psi_net.specs.Counting.{IsCounted};
 ghost use Rattle.psi_net.specs.Listing.{listed};
@@ -23,11 +23,11 @@ use crate::part_tables::guarded;
 use crate::words::KindWord;
 use indexmap::IndexSet;
 use psi_kinds::Kind;
-use psi_model::{MOST_INDEX_VALUES, Name, NamedEvent, index_values, servers_at, source_of};
 use psi_net_document::{
     Cause, NetRefusal, Place, Section, elements_in, find, no_unknown, present, read, required_name,
     required_number, table_in, text_in, unless_taken,
 };
+use psi_net_model::{MOST_INDEX_VALUES, Name, NamedEvent, index_values, servers_at, source_of};
 use psi_state::{MOST_EVENTS, MOST_TOTAL};
 use std::alloc::Global;
 use toml::{Table, Value};
@@ -172,7 +172,7 @@ struct Counts {
 }
 
 // What the events so far and those of this one come to, which is within the limits.
-#[tactic(auto, using(psi_model::proofs::CopyLemmas::length_more, psi_model::proofs::CopyLemmas::values_more, psi_model::proofs::CopyLemmas::rates_more, psi_model::proofs::CopyLemmas::too_many, psi_model::proofs::QueueLemmas::servers_most), unfolding(crate::specs::EventTables::are_within, crate::specs::EventTables::within_limits))]
+#[tactic(auto, using(psi_net_model::proofs::CopyLemmas::length_more, psi_net_model::proofs::CopyLemmas::values_more, psi_net_model::proofs::CopyLemmas::rates_more, psi_net_model::proofs::CopyLemmas::too_many, psi_net_model::proofs::QueueLemmas::servers_most), unfolding(crate::specs::EventTables::are_within, crate::specs::EventTables::within_limits))]
 fn counted(
     place: Place,
     known: &KnownQueues,
@@ -214,7 +214,7 @@ fn counted(
 }
 
 // One element of the array, with its number and what was read before it.
-#[tactic(auto, using(psi_model::proofs::CopyLemmas::expanded_push), unfolding(crate::specs::EventTables::event_step))]
+#[tactic(auto, using(psi_net_model::proofs::CopyLemmas::expanded_push), unfolding(crate::specs::EventTables::event_step))]
 fn push_event(
     alloc: Global,
     version: u32,

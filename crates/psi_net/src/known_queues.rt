@@ -2,10 +2,10 @@
 
 ghost use Rattle.std.specs.Prelude.{◌≡◌, length, map};
 ghost use Rattle.psi_state.specs.State.{AreCapacities};
-ghost use Rattle.psi_model.specs.Valid.{AreListed};
+ghost use Rattle.psi_net_model.specs.Valid.{AreListed};
 
-use psi_model::Queue;
 use psi_net_document::KnownNames;
+use psi_net_model::Queue;
 use psi_state::State;
 
 /// The queues of a file, with their names and capacities. Queues are numbered from 0 in the file's order.

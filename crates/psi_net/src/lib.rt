@@ -3,8 +3,7 @@
 //! `net_of` gives the network of a file's bytes, or the first refusal. The definition of both,
 //! `specs/Reading.antt` with the files that it names, has one part for each key, table and array of the
 //! format, in the format's order, and each part has one function here that meets it. The events of a
-//! network are expanded over the servers of their sources. `generated` gives a large valid network for
-//! trials, made from a number.
+//! network are expanded over the servers of their sources.
 //!
 //! ```toml
 //! version = 1
@@ -35,6 +34,6 @@ mod reward_tables;
 mod words;
 
 pub use net_error::NetError;
-pub use psi_model::{Name, Net, OutOfMemory, generated};
 pub use psi_net_document::{NetRefusal, Section};
+pub use psi_net_model::{Name, Net, OutOfMemory, generated};
 pub use reading::net_of;

@@ -13,11 +13,11 @@ use crate::judged;
 use crate::known_queues::KnownQueues;
 use crate::net_error::NetError;
 use indexmap::IndexSet;
-use psi_model::{Name, Queue, capacities};
 use psi_net_document::{
     Cause, KnownNames, NetRefusal, Place, Section, elements_in, find, no_unknown, number_or,
     present, read, required_name, required_number, table_in, unless_taken,
 };
+use psi_net_model::{Name, Queue, capacities};
 use psi_state::{MOST_CUSTOMERS, MOST_QUEUES};
 use std::alloc::Global;
 use toml::{Table, Value};

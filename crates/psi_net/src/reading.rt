@@ -5,8 +5,8 @@ ghost use Rattle.psi_net_document.specs.Refusal.{Gives, top};
 ghost use Rattle.psi_net.specs.Errors.{IsNetError, Reads};
 ghost use Rattle.toml.specs.View.{view, table_view};
 ghost use Rattle.psi_net_document.specs.Values.{seen, required};
-ghost use Rattle.psi_model.specs.Draft.{drafted, unexpanded, IsWhole};
-ghost use Rattle.psi_model.specs.Expansion.{AreSourced};
+ghost use Rattle.psi_net_model.specs.Draft.{drafted, unexpanded, IsWhole};
+ghost use Rattle.psi_net_model.specs.Expansion.{AreSourced};
 ghost use Rattle.psi_net.specs.Reading.{version_in, most_limit, numbers_of, document_network, file_text, text_network, network_of};
 
 use crate::event_tables::events;
@@ -14,10 +14,10 @@ use crate::judged;
 use crate::net_error::NetError;
 use crate::queue_tables::queues;
 use crate::reward_tables::rewards;
-use psi_model::{Draft, Net, expand};
 use psi_net_document::{
     Cause, MOST_NET_BYTES, NetRefusal, Place, find, no_unknown, number_or, present, read,
 };
+use psi_net_model::{Draft, Net, expand};
 use psi_state::{MOST_LIMIT, MOST_SPLIT};
 use std::alloc::Global;
 use toml::{Table, Value};

@@ -9,7 +9,7 @@ ghost use Rattle.psi_net_document.specs.Refusal.{Gives};
 ghost use Rattle.psi_net.specs.Errors.{Reads};
 ghost use Rattle.psi_net_document.specs.Values.{seen, no_unknown, required, each};
 ghost use Rattle.psi_net_document.specs.Targets.{AreTargets, are_below};
-ghost use Rattle.psi_model.specs.Draft.{named};
+ghost use Rattle.psi_net_model.specs.Draft.{named};
 ghost use Rattle.psi_net_document.specs.References.{some_targets_in};
 ghost use Rattle.psi_net.specs.RewardTables.{reward_named, reward_kind_in, reward_keys, integer_step, weights_in, grid_step, grid_in, reward_kind_of, reward_of, reward_step, rewards_in, rewards_of};
 
@@ -18,12 +18,12 @@ use crate::known_queues::KnownQueues;
 use crate::net_error::NetError;
 use crate::words::RewardWord;
 use indexmap::IndexSet;
-use psi_model::{Name, RewardEntry, accepted_reward};
 use psi_net_document::{
     Cause, KnownNames, NetRefusal, Place, Section, array_in, counted_in, find, integer_in,
     no_unknown, present, read, required_name, required_number, some_targets_in, table_in, text_in,
     unless_taken,
 };
+use psi_net_model::{Name, RewardEntry, accepted_reward};
 use psi_reward::{Grid, Numbers, RewardKind};
 use psi_state::{MOST_CUSTOMERS, Queues, State};
 use std::alloc::Global;

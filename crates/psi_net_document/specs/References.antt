@@ -3,7 +3,7 @@ use Rattle.std.specs.Prelude.{ℕ, List, [], ◌∷◌, ◌++◌, length, positi
 use Rattle.std.specs.List.{list_any}
 use Rattle.std.specs.Str.{bytes_eq}
 use Rattle.toml.specs.Data.{Data}
-use Rattle.psi_name.specs.Name.{name_of}
+use Rattle.psi_net_model.specs.Name.{name_of}
 use Rattle.psi_net_document.specs.Refusal.{◌>>=◌, holds_or, at_key}
 use Rattle.psi_net_document.specs.Values.{text_in, array_in, each}
 use Rattle.psi_net_document.specs.declared.refusals.Cause.TheVariants.{OutOfRange, UnknownQueue, SelfTarget, RepeatedTarget}

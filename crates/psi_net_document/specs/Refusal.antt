@@ -1,6 +1,6 @@
 -- The refusals of a network file, and what a reading answers.
 use Rattle.std.specs.Prelude.{◌≡◌, ℕ, List, Bool, true, false, None, Result, Ok, Err}
-use Rattle.psi_name.specs.Name.{name_of}
+use Rattle.psi_net_model.specs.Name.{name_of}
 use Rattle.psi_net_document.specs.declared.refusals.Cause.{Cause}
 use Rattle.psi_net_document.specs.declared.refusals.Cause.TheVariants as cause
 use Rattle.psi_net_document.specs.declared.refusals.Place.{Place}

@@ -3,7 +3,7 @@
 ghost use Rattle.std.specs.Prelude.{◌+◌, ◌<◌, ◌≤◌, length};
 
 use indexmap::IndexSet;
-use psi_name::Name;
+use psi_net_model::Name;
 
 // The fingerprints of at most 32 names, by their places; behind the last one stands 0.
 pub(crate) fn fingerprints(names: &IndexSet<Name>) -> [u64; 32] {

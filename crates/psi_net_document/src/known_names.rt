@@ -4,7 +4,7 @@ ghost use Rattle.std.specs.Prelude.{◌≡◌, ◌≤◌, length};
 
 use crate::digests::{fingerprints, slots_of};
 use indexmap::IndexSet;
-use psi_name::Name;
+use psi_net_model::Name;
 
 /// The names of the queues of a file. Queues are numbered from 0 in the file's order.
 #[derive(Drop)]

@@ -2,7 +2,7 @@
 //!
 //! A document is a TOML table. Each reading takes what a look-up of a key found, and gives a value or the
 //! refusal at that key; one reading after another, the first refusal is the answer. No reading here takes
-//! memory, so none can fail for want of it. Names refer to the
+//! memory, so none can run out of it. Names refer to the
 //! queues that were read before ([`KnownNames`]).
 #![tactic(auto)]
 

@@ -12,7 +12,7 @@ use crate::keys::{present, text_in};
 use crate::read;
 use crate::refusals::{Cause, NetRefusal, Place};
 use indexmap::IndexSet;
-use psi_name::{Name, name_of};
+use psi_net_model::{Name, name_of};
 use toml::Value;
 
 // A string in the form of a name.

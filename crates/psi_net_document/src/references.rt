@@ -2,7 +2,7 @@
 
 ghost use Rattle.std.specs.Prelude.{◌≡◌, ◌<◌, ℕ, [], length, map, Some, IfSome, IfOk, IsTrue, OnOk};
 ghost use Rattle.toml.specs.View.{view};
-ghost use Rattle.psi_name.specs.Name.{name_of};
+ghost use Rattle.psi_net_model.specs.Name.{name_of};
 ghost use Rattle.psi_net_document.specs.Refusal.{Gives};
 ghost use Rattle.psi_net_document.specs.Values.{seen, required, each};
 ghost use Rattle.psi_net_document.specs.References.{number_of, is_in, queue_in, target_in, target_step, targets_in, some_targets_in};
@@ -14,7 +14,7 @@ use crate::keys::{array_in, present, text_in};
 use crate::known_names::KnownNames;
 use crate::read;
 use crate::refusals::{Cause, NetRefusal, Place};
-use psi_name::name_of;
+use psi_net_model::name_of;
 use psi_state::Queues;
 use toml::Value;
 

@@ -2,7 +2,7 @@
 
 ghost use Rattle.std.specs.Prelude.{◌≡◌, Option};
 
-use psi_name::{Name, name_of};
+use psi_net_model::{Name, name_of};
 
 /// The most bytes of a network file.
 pub const MOST_NET_BYTES: u32 = 1_048_576;

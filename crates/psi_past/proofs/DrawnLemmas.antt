@@ -31,7 +31,7 @@ draws-four some all at g h i j k vs ws xs ys zs a b c d sum =
     let three = draws-more (2 * some) some (3 * some) at (at + 2 * some) g i j vs xs ys two c refl (omega arith) in
     draws-more (3 * some) some all at (at + 3 * some) g j k vs ys zs three d refl (omega arith)
 
--- a block more, of a generator that is set anew to the place where it stands
+-- a block more, of a generator that is set again to the place where it stands
 pub draws-block : (block first pos : ℕ) (g h set k : ChaCha) (xs ys zs : List ℕ) → Draws (64 * block) 0 g h xs ys → g.word_pos ≡ 64 * first
     → pos ≡ 64 * (first + block) → set ≡ record h { word_pos = pos % 2 ^ 68 } → pos < 2 ^ 36 → Draws 64 (64 * block) set k ys zs
     → Draws (64 * (block + 1)) 0 g k xs zs

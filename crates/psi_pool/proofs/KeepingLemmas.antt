@@ -48,7 +48,7 @@ table-counted : (t : Table) → (length t.nodes.items ≤ 4096) × (length t.hea
     × (t.len ≤ length t.nodes.items) → (IsTrue t.is_linked → AreLinked t.used t.nodes.items t.heads.items t.len) → IsTable t
 table-counted t counts links = record { small = counts.0; buckets = counts.1; some = counts.2; few = counts.3; fits = counts.4; links = links }
 
--- the nodes are linked anew
+-- the nodes are linked again
 pub table-linked : (t : Table) {now : Table} (nodes : List Node) (heads : List ℕ) (xs : List (List ℕ)) → IsTable t → now.nodes.items ≡ nodes → now.heads.items ≡ heads
     → length nodes ≡ length t.nodes.items → length heads ≡ length t.heads.items → now.used ≡ 4 * t.len + 1 → now.len ≤ t.len → HoldSet now.used nodes heads now.len xs
     → IsTable now

@@ -176,7 +176,7 @@ pub(crate) fn move_first<E: EventLaw>(nodes: &mut [Node], len: usize, e: &E)
     move_on(&mut nodes[..len], e);
 }
 
-/// Links the first `len` nodes anew into the first `used` buckets. Answers how many nodes are in use from then on.
+/// Links the first `len` nodes again, into the first `used` buckets. Answers how many nodes are in use from then on.
 pub(crate) fn relink(nodes: &mut [Node], heads: &mut [u16], used: usize, len: usize) -> usize
     requires some { 1 ≤ used }
     requires few { used ≤ 16385 }
@@ -238,7 +238,7 @@ pub(crate) fn list_first(nodes: &mut [Node], len: usize, out: &mut Vec<State>) -
     list_or_merge(&mut nodes[..len], out)
 }
 
-// The same of all the nodes.
+// As above, for all the nodes.
 fn list_or_merge(nodes: &mut [Node], out: &mut Vec<State>) -> usize
     requires { length nodes.old ≤ vec_capacity out.old }
     ensures members { HaveSame (states nodes.new (length out.new.items + result)) (states nodes.old (length nodes.old)) }

@@ -60,7 +60,7 @@ impl Pace {
         self.left == 0
     }
 
-    /// Begins to count anew after `after` of `before` states, or of as many pairs of states, were
+    /// Begins to count again after `after` of `before` states, or of as many pairs of states, were
     /// left: half as many steps as before where at least a quarter fell away, but no fewer than 4, and
     /// twice as many otherwise, but no more than 1,024.
     pub fn adapt(&mut self, before: u16, after: u16)

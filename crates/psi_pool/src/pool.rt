@@ -191,7 +191,7 @@ fn list_all(table: &mut Table, order: &mut Vec<State>)
     table.sort(order);
 }
 
-// Links the nodes anew when it is time to: from then on each state stands in one of them.
+// Links the nodes again when it is time to: from then on each state stands in one of them.
 fn link_when_due(table: &mut Table, pace: &mut Pace)
     requires table { IsTable table.old }
     requires pace { IsPace pace.old }

@@ -1,7 +1,7 @@
 //! The nodes of a set with the buckets that they are linked into.
 //!
 //! A list of states with repeats stands for its set as well, so an event moves the nodes alone. The links are
-//! made anew now and then, and repeats fall away.
+//! rebuilt now and then, and repeats fall away.
 
 ghost use Rattle.std.specs.Prelude.{◌≡◌, ℕ, ◌*◌, ◌+◌, ◌<◌, ◌≤◌, ◌↔◌, ◌⊎◌, true, List, ◌∷◌, IsTrue, IfOk, length, map, vec_capacity};
 ghost use Rattle.psi_state.specs.State.{IsBelow};
@@ -219,7 +219,7 @@ impl Table {
         }
     }
 
-    // Links the nodes anew. It stays out of the way of a step.
+    // Links the nodes again. It stays out of the way of a step.
     #[inline(never)]
     fn link_anew(&mut self)
         requires { IsTable self.old }

@@ -1,4 +1,4 @@
--- A call whose reads and writes are not to fail ends with its reply, or for want of memory.
+-- A call whose reads and writes are not to fail ends with its reply, or because memory ran out.
 use Rattle.std.specs.Prelude.{◌≡◌, ℕ, List, [], Option, Some, IfSome, ◌⊎◌}
 use Rattle.std.proofs.Common.{sym, ap, ◌∙◌, subst, arith, inl, inr}
 use Rattle.psi_program.specs.Reply.{Reply}
@@ -13,7 +13,7 @@ nothing-taken takes text is = record { room = is.room; taken = is.taken; fits = 
 module _ {Status File : Type 0} (faults : Faults Status File) (IsReply : Reply Status → Type 0) (IsUnread : File → Type 0) (IsAsked : Type 0)
     (told : Option (Reply Status)) (reply : Reply Status) (there : told ≡ Some reply)
     (out_takes err_takes : ℕ → Type 0) (taken : AreTaken out_takes err_takes IsAsked faults.memory_line reply) (result : Status) where
-  -- what is so of each sink where it takes its text is so, and the status is the reply's or tells want of memory
+  -- what is so of each sink where it takes its text is so, and the status is the reply's or that of memory that ran out
   pub spared : {Out Err : Type 0} (ending : Ending Status File) → IfSome told (MayReply ending) → IsCaused IsReply IsUnread IsAsked ending → HasRead ending
       → (IsTaken out_takes (ending_reply faults ending).out → IsTaken err_takes (ending_reply faults ending).err → (result ≡ (ending_reply faults ending).status) × Out × Err)
       → Out × Err × ((result ≡ reply.status) ⊎ (result ≡ faults.out_of_memory))

@@ -24,7 +24,7 @@ pub record OutFaulted {Status : Type 0} (call : Call) (reply : Option (Reply Sta
   pub err : IsUnchanged call.err
 
 -- what err holds where it failed: a prefix of the reply's line, of the line on a failed read, or where the words ask for work, of the line on
--- want of memory
+-- memory that ran out
 abbrev pub EndsWithin : {Status Unread : Type 0} → Call → (Unread → List ℕ) → (IsAsked : Type 0) → (memory_line : List ℕ) → Reply Status → Type 0
 EndsWithin {Unread = Unread} call line IsAsked memory_line reply =
     GrewByPart call.err reply.err ⊎ (((cause : Unread) × GrewByPart call.err (line cause)) ⊎ (IsAsked × GrewByPart call.err memory_line))
@@ -41,7 +41,7 @@ pub record MemoryLacked (call : Call) (IsAsked : Type 0) (memory_line : List ℕ
   pub out : IsUnchanged call.out
   pub err : Grew call.err memory_line
 
--- out and err take the reply's texts, and where the words ask for work, err takes the line on want of memory
+-- out and err take the reply's texts, and where the words ask for work, err takes the line on memory that ran out
 pub record AreTaken {Status : Type 0} (out_takes err_takes : ℕ → Type 0) (IsAsked : Type 0) (memory_line : List ℕ) (reply : Reply Status) : Type 0 where
   pub out : IsTaken out_takes reply.out
   pub err : IsTaken err_takes reply.err

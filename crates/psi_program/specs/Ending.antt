@@ -11,7 +11,7 @@ pub data Ending (Status File : Type 0) : Type 0 where
   -- there was not enough memory
   no_memory : Ending Status File
 
--- how a program tells of faults: the statuses on a failed read, on a failed write and on want of memory, and the lines on the first and the last
+-- how a program tells of faults: the statuses on a failed read, on a failed write and where memory ran out, and the lines on the first and the last
 pub record Faults (Status File : Type 0) : Type 0 where
   pub read_fault : Status
   pub write_fault : Status

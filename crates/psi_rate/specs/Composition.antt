@@ -22,7 +22,7 @@ Functions = ℕ → List ℕ → List ℕ
 abbrev pub picked : List (List ℕ → List ℕ) → List ℕ → ℕ → List ℕ → List ℕ
 picked functions rates word = slice_index_or functions (event_of rates word) (λ x. x)
 
--- the function of the event t steps before time zero; its word stands at place t - 1
+-- the function of the event t steps before time zero; its word stands at place t - 1. Times are counted from 1 on: at 0 this would be that of time 1
 abbrev pub function_at : List (List ℕ → List ℕ) → List ℕ → (ℕ → ℕ) → ℕ → List ℕ → List ℕ
 function_at functions rates words t = picked functions rates (words (t - 1))
 

@@ -145,7 +145,7 @@ fn keep_places<P: Past>(
     ensures words { P.words past.new ≡ P.words past.old }
 {
     let mut place = reached;
-    // Made once: all places of the two arrays are written for that.
+    // Made once for all windows of these places: to make them writes all of both arrays.
     let mut words = [0; WINDOW as usize];
     let mut numbers = [0; WINDOW as usize];
     while place < end {

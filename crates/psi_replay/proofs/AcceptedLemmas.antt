@@ -8,7 +8,7 @@ use Rattle.psi_state.specs.Members.{In}
 use Rattle.psi_state.proofs.BoxesLemmas.{In-all_states, zeros-below}
 use Rattle.psi_rate.specs.Composition.{Functions, compose, AreClosed, Below, IsReached}
 use Rattle.psi_rate.proofs.CompositionLemmas.{reached-later, closed-keeping, compose-keeps}
-use Rattle.psi_log_text.specs.Log.{LogRegion, Entry, Certificate, IsLog}
+use Rattle.psi_log_format.specs.Log.{LogRegion, Entry, Certificate, IsLog}
 use Rattle.psi_log_words.specs.Refusal.{Refusal, ◌>>=◌, holds_or}
 use Rattle.psi_log_words.proofs.WordLemmas.{bind_ok, ok_same, held}
 use Rattle.psi_replay.specs.Verdict.{rejected, states_of, has, covers, is_within, is_small, holds_all, judge_step, judge_steps, judge_end, judged, verdict_of, ReachesAccepted, AcceptsWithin}

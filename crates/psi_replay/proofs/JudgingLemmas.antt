@@ -1,5 +1,5 @@
 -- The judging of lines one after another, and of the step that a word picks.
-use Rattle.std.specs.Prelude.{◌≡◌, ℕ, zero, suc, ◌+◌, ◌-◌, ◌<◌, ◌≤◌, List, [], ◌∷◌, length, map, drop, Bool, ◌==◌, Option, Some, None, option_map, MatchOption, Result, Ok, Err, slice_get, refl}
+use Rattle.std.specs.Prelude.{◌≡◌, ℕ, zero, suc, ◌+◌, ◌-◌, ◌≤◌, List, [], ◌∷◌, length, map, drop, Bool, ◌==◌, Option, Some, None, option_map, MatchOption, OnOk, Result, Ok, Err, slice_get, refl}
 use Rattle.std.proofs.Common.{Bor, ap, sym, ◌∙◌, subst, arith}
 use Rattle.std.proofs.lemmas.List.{drop_all, get_or_past}
 use Rattle.std.proofs.lemmas.Option.{get_or_from_slice_get, slice_get-map}
@@ -7,48 +7,51 @@ use Rattle.psi_state.specs.declared.outcome.Step.{Step}
 use Rattle.psi_event.specs.Idle.{unchanged}
 use Rattle.psi_rate.specs.Rates.{event_of}
 use Rattle.psi_rate.specs.Composition.{Functions, picked}
-use Rattle.psi_log_text.specs.Log.{LogRegion, Entry, Certificate, IsLog}
+use Rattle.psi_log_format.specs.Log.{LogRegion, Entry, Certificate, IsRegion}
 use Rattle.psi_log_words.specs.Refusal.{Refusal, holds_or}
 use Rattle.psi_log_words.proofs.WordLemmas.{held}
-use Rattle.psi_log.specs.Told.{step_at}
+use Rattle.psi_log.specs.Told.{region_at, step_at}
+use Rattle.psi_log.proofs.ToldLemmas.{same_region}
 use Rattle.psi_replay.specs.Verdict.{rejected, covers, is_within, is_small, judge_step, judge_steps}
 use Rattle.psi_replay.specs.Judging.{Gives}
-use Rattle.psi_replay.specs.Passes.{and_then}
+use Rattle.psi_replay.specs.Passes.{told, and_then}
 use Rattle.psi_replay.specs.declared.causes.Rejection.{Rejection}
 use Rattle.psi_replay.specs.declared.causes.Cause.TheVariants.{StepNumber, WrongEvent, OutsideBox, NotCovered, SplitTooLarge}
-use Rattle.psi_replay.specs.Numbered.{nth_region}
 use Rattle.psi_replay.proofs.ListLemmas.{drop_get}
-use Rattle.psi_replay.proofs.RegionLemmas.{entry_there, nth_entry}
 
 -- the entry of a step is what is told of the step and of the region after it
-pub entry_is : (c : Certificate) (i k : ℕ) (step : Step) (after : LogRegion) → IsLog c → i < c.header.horizon → k ≡ suc i → step_at c k ≡ Some step → after ≡ nth_region c k
+pub entry_is : (c : Certificate) (i k : ℕ) (step : Step) (after : LogRegion) → k ≡ suc i → step_at c k ≡ Some step → region_at c k ≡ Some after
     → slice_get c.entries i ≡ Some (record { step = step; region = after })
-entry_is c i k step after is small next told region =
-    let found = entry_there c i is small in
-    let e = found.0 in
-    let own : step_at c (suc i) ≡ Some step = subst (λ (j : ℕ). step_at c j ≡ Some step) next told in
-    let first : step_at c (suc i) ≡ Some e.step = ap (λ (o : Option Entry). option_map (λ (d : Entry). d.step) o) found.1 in
-    let steps : e.step ≡ step = some_same e.step step (sym first ∙ own) in
-    let regions : e.region ≡ after = sym (nth_entry c i e found.1) ∙ ap (λ (j : ℕ). nth_region c j) (sym next) ∙ sym region in
-    found.1 ∙ entries e step after steps regions
+entry_is c i k step after next here region =
+    go (slice_get c.entries i) (subst (λ (j : ℕ). step_at c j ≡ Some step) next here) (subst (λ (j : ℕ). region_at c j ≡ Some after) next region)
   where
-    some_same : (s t : Step) → ◌≡◌ {A = Option Step} (Some s) (Some t) → s ≡ t
-    some_same s t same = cc
+    go : (o : Option Entry) → option_map (λ (e : Entry). e.step) o ≡ Some step → option_map (λ (e : Entry). e.region) o ≡ Some after → o ≡ Some (record { step = step; region = after })
+    go None first second = absurd cc
+    go (Some e) first second =
+        ap (λ (s : Step). Some (record { step = s; region = e.region })) (same_step e.step step first)
+        ∙ ap (λ (r : LogRegion). Some (record { step = step; region = r })) (same_region e.region after second)
+      where
+        same_step : (s t : Step) → ◌≡◌ {A = Option Step} (Some s) (Some t) → s ≡ t
+        same_step s t same = cc
 
-    entries : (e : Entry) (step : Step) (after : LogRegion) → e.step ≡ step → e.region ≡ after → ◌≡◌ {A = Option Entry} (Some e) (Some (record { step = step; region = after }))
-    entries e step after first second = ap (λ (s : Step). Some (record { step = s; region = e.region })) first ∙ ap (λ (r : LogRegion). Some (record { step = step; region = r })) second
+pub regional_once : (queues count : ℕ) (r : LogRegion) (judged : Result (Unit {0}) Rejection) → IsRegion queues r → OnOk judged (queues ≡ count) → OnOk judged (IsRegion count r)
+regional_once queues count r (Ok u) is same = subst (λ (q : ℕ). IsRegion q r) same is
+regional_once queues count r (Err rejection) is same = tt
+
+-- what held where no rule was broken before holds where none is broken behind
+pub held_on : (P : Type 0) (before after : Result (Unit {0}) Rejection) → OnOk after (told before ≡ Ok tt) → OnOk before P → OnOk after P
+held_on P (Ok u) (Ok v) is holds = holds
+held_on P (Err rejection) (Ok v) is holds = absurd cc
+held_on P before (Err rejection) is holds = tt
 
 module _ (caps : List ℕ) (limit : ℕ) (events : ℕ → ℕ) (f : Functions) where
-  -- a line that keeps its rules takes the loop one step on, one that breaks one ends it, and behind the last line the region before is the last
-  pub judge_more : (n m t u i : ℕ) (before : LogRegion) (es : List Entry) (e : Entry) → slice_get es i ≡ Some e → m ≡ n + 1 → u ≡ t - 1
-      → judge_step caps limit events f n t before e ≡ Ok tt → judge_steps caps limit events f n t before (drop i es) ≡ judge_steps caps limit events f m u e.region (drop (i + 1) es)
+  -- a line that is judged leaves those behind it, and behind the last one the region before is the last
+  pub judge_turn : (n m t u i : ℕ) (before : LogRegion) (es : List Entry) (e : Entry) (judged : Result (Unit {0}) Refusal) → slice_get es i ≡ Some e → m ≡ n + 1 → u ≡ t - 1
+      → and_then (and_then judged (judge_step caps limit events f n t before e)) (judge_steps caps limit events f m u e.region (drop (i + 1) es))
+      ≡ and_then judged (judge_steps caps limit events f n t before (drop i es))
   unfolding judge_steps
-  judge_more n m t u i before es e is line time kept = rw (drop_get es i e is, kept, line, time) refl
-
-  pub judge_fails : (n t i : ℕ) (before : LogRegion) (es : List Entry) (e : Entry) (refusal : Refusal) → slice_get es i ≡ Some e
-      → judge_step caps limit events f n t before e ≡ Err refusal → judge_steps caps limit events f n t before (drop i es) ≡ Err refusal
-  unfolding judge_steps
-  judge_fails n t i before es e refusal is broken = rw (drop_get es i e is, broken) refl
+  judge_turn n m t u i before es e (Ok kept) is line time = rw (drop_get es i e is, line, time) refl
+  judge_turn n m t u i before es e (Err refusal) is line time = refl
 
   pub judge_over : (n t i : ℕ) (before : LogRegion) (es : List Entry) → length es ≤ i → judge_steps caps limit events f n t before (drop i es) ≡ Ok before
   unfolding judge_steps

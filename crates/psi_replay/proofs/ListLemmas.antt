@@ -1,5 +1,5 @@
 -- Tests of the members of a list, one after another as a loop makes them, and whether a state is one of a list.
-use Rattle.std.specs.Prelude.{◌≡◌, ℕ, zero, suc, ◌+◌, List, [], ◌∷◌, drop, Bool, true, false, ◌&&◌, ◌||◌, Some, slice_get, refl}
+use Rattle.std.specs.Prelude.{◌≡◌, ℕ, suc, ◌+◌, List, [], ◌∷◌, drop, Bool, true, false, ◌&&◌, ◌||◌, Some, slice_get, refl}
 use Rattle.std.specs.List.{list_all}
 use Rattle.std.specs.Str.{bytes_eq}
 use Rattle.std.proofs.Common.{inl, inr, ap, sym, ◌∙◌}
@@ -8,6 +8,7 @@ use Rattle.std.proofs.lemmas.List.{drop_more}
 use Rattle.std.proofs.lemmas.Option.{slice_get_within, get_or_from_slice_get}
 use Rattle.std.proofs.lemmas.Slice.Eq.{bytes_eq-Decides}
 use Rattle.psi_state.specs.Members.{In}
+use Rattle.psi_log.proofs.ToldLemmas.{In-slice_get}
 use Rattle.psi_replay.specs.Verdict.{has}
 
 -- two tests of which each passes where the other does are one
@@ -59,11 +60,6 @@ has-from_In (y ∷ ys) x member = elim member [
     either : (a b : Bool) → b ≡ true → (a || b) ≡ true
     either true b is = refl
     either false b is = is
-
-pub In-slice_get : {X : Type 0} (xs : List X) (k : ℕ) (x : X) → slice_get xs k ≡ Some x → In x xs
-In-slice_get [] k x is = absurd cc
-In-slice_get (y ∷ ys) zero x is = inl cc
-In-slice_get (y ∷ ys) (suc k) x is = inr (In-slice_get ys k x is)
 
 pub place_of : {X : Type 0} (xs : List X) (x : X) → In x xs → (k : ℕ) × (slice_get xs k ≡ Some x)
 place_of [] x member = absurd member

@@ -1,9 +1,9 @@
 -- The reading and the judging of a log side by side.
-use Rattle.std.specs.Prelude.{◌≡◌, ℕ, suc, ◌+◌, ◌-◌, ◌<◌, ◌^◌, List, [], ◌∷◌, ◌++◌, length, min, false, ◌==◌, nat_le, Result, Ok, Err, refl}
+use Rattle.std.specs.Prelude.{◌≡◌, ℕ, suc, ◌+◌, ◌-◌, ◌<◌, ◌^◌, List, [], ◌∷◌, ◌++◌, length, min, false, ◌==◌, nat_le, Some, Result, Ok, Err, refl}
 use Rattle.std.proofs.Common.{ap, sym, ◌∙◌, subst, arith, append-nil}
 use Rattle.psi_rate.specs.Composition.{Functions}
-use Rattle.psi_log_text.specs.declared.header.Header.{Header as LogHeader}
-use Rattle.psi_log_text.specs.Log.{LogRegion, Entry, Certificate}
+use Rattle.psi_log_format.specs.declared.header.Header.{Header as LogHeader}
+use Rattle.psi_log_format.specs.Log.{LogRegion, Entry, Certificate}
 use Rattle.std.proofs.lemmas.Bool.{lt-leb}
 use Rattle.psi_log_words.specs.Refusal.{Refusal, refused, ◌>>=◌, holds_or, IsLogError}
 use Rattle.psi_log_words.specs.declared.refusals.Cause.TheVariants.{TooLong}
@@ -12,25 +12,42 @@ use Rattle.psi_log_words.specs.declared.refusals.LogError.{LogError}
 use Rattle.psi_log_words.specs.declared.refusals.LogError.TheVariants.{Refused, OutOfMemory}
 use Rattle.psi_log_words.proofs.WordLemmas.{bind_ok, ok_same}
 use Rattle.psi_log_words.specs.Regions.{box_before}
-use Rattle.psi_log_lines.specs.Lines.{read_step}
+use Rattle.psi_log_scan.specs.Lines.{read_step}
 use Rattle.psi_log.specs.Reading.{read_steps, read}
-use Rattle.psi_log_lines.specs.Scanned.{next_step}
+use Rattle.psi_log_scan.specs.Scanned.{next_step}
 use Rattle.psi_state.specs.declared.outcome.Step.{Step}
+use Rattle.psi_log.specs.Told.{region_at}
 use Rattle.psi_log.specs.Cursor.{Cursor, next_of, begun, ended, log_of, left_of}
 use Rattle.psi_log.proofs.PassLemmas.{read_begun}
 use Rattle.psi_log.proofs.FrontLemmas.{next_front}
+use Rattle.psi_log.proofs.ToldLemmas.{same_region}
 use Rattle.psi_replay.specs.Verdict.{rejected, is_within, holds_all, judge_step, judge_steps, judge_end, judged, verdict_of}
 use Rattle.psi_replay.specs.declared.answers.Verdict.{Verdict}
 use Rattle.psi_replay.specs.declared.answers.Verdict.TheVariants.{Accepted}
 use Rattle.psi_replay.specs.declared.causes.Cause.TheVariants.{Header, OutsideBox, NotCovered}
 use Rattle.psi_replay.specs.declared.causes.Rejection.{Rejection}
-use Rattle.psi_replay.specs.Judging.{Gives}
+use Rattle.psi_log_format.specs.Listed.{shown}
+use Rattle.psi_replay.specs.Judging.{Gives, region_before}
+use Rattle.psi_replay.specs.declared.judging.StepLine.{StepLine}
 use Rattle.psi_replay.specs.Passes.{told, and_then, lines_end, judge_begin, lines_left, told_log, verdict_left, replayed}
 
 -- what is told of a judging is what it gives
 pub told_is : {X : Type 0} (result : Result X Rejection) (rules : Result (Unit {0}) Refusal) → Gives (λ (x : X). tt) result rules → rules ≡ told result
 told_is (Ok x) rules gives = gives
 told_is (Err rejection) rules gives = gives
+
+-- the line of a step is judged by what it has
+pub line_judged : (caps : List ℕ) (limit : ℕ) (events : ℕ → ℕ) (f : Functions) (s : StepLine) (n t : ℕ) (step : Step) (before after : LogRegion) (judged result : Result (Unit {0}) Rejection)
+    → s.line ≡ n → s.time ≡ t → s.step ≡ step → region_before s ≡ before → shown s.after ≡ after
+    → Gives (λ _. tt) result (and_then (told judged) (judge_step caps limit events f s.line s.time (region_before s) (record { step = s.step; region = shown s.after })))
+    → Gives (λ _. tt) result (and_then (told judged) (judge_step caps limit events f n t before (record { step = step; region = after })))
+line_judged caps limit events f s n t step before after judged result line time told_step first second gives =
+    subst (λ (rules : Result (Unit {0}) Refusal). Gives (λ _. tt) result rules)
+    (same s.line s.time (region_before s) s.step (shown s.after) line time first told_step second) gives
+  where
+    same : (m u : ℕ) (b : LogRegion) (d : Step) (a : LogRegion) → m ≡ n → u ≡ t → b ≡ before → d ≡ step → a ≡ after
+        → and_then (told judged) (judge_step caps limit events f m u b (record { step = d; region = a })) ≡ and_then (told judged) (judge_step caps limit events f n t before (record { step = step; region = after }))
+    same m u b d a one two three four five = cc
 
 -- one judging after another
 bind_bind : {A B C : Type 0} (a : Result A Refusal) (b : A → Result B Refusal) (c : B → Result C Refusal) → ((a >>= b) >>= c) ≡ (a >>= (λ (x : A). b x >>= c))
@@ -114,20 +131,6 @@ module _ (caps : List ℕ) (limit : ℕ) (events : ℕ → ℕ) (f : Functions) 
       (holds_or (rejected 6 OutsideBox) (is_within caps c.begin)) (holds_or (rejected 6 NotCovered) (holds_all caps c.begin))
       (judge_steps caps limit events f 7 c.header.horizon c.begin c.entries) (λ (last : LogRegion). judge_end (7 + c.header.horizon) last c.final)
 
-  -- and the first of them that is broken
-  pub judged_begins : (c : Certificate) (refusal : Refusal) → judge_begin caps limit c.header c.begin ≡ Err refusal → judged caps limit events f c ≡ Err refusal
-  judged_begins c refusal is =
-      judged_parts c ∙ ap (λ (b : Result (Unit {0}) Refusal). and_then b (judge_steps caps limit events f 7 c.header.horizon c.begin c.entries)
-      >>= (λ (last : LogRegion). judge_end (7 + c.header.horizon) last c.final)) is
-
-  pub judged_steps : (c : Certificate) (steps : Result LogRegion Refusal) → judge_begin caps limit c.header c.begin ≡ Ok tt
-      → judge_steps caps limit events f 7 c.header.horizon c.begin c.entries ≡ steps
-      → judged caps limit events f c ≡ (steps >>= (λ (last : LogRegion). judge_end (7 + c.header.horizon) last c.final))
-  judged_steps c steps is told =
-      judged_parts c ∙ ap (λ (b : Result (Unit {0}) Refusal). and_then b (judge_steps caps limit events f 7 c.header.horizon c.begin c.entries)
-      >>= (λ (last : LogRegion). judge_end (7 + c.header.horizon) last c.final)) is
-      ∙ ap (λ (r : Result LogRegion Refusal). r >>= (λ (last : LogRegion). judge_end (7 + c.header.horizon) last c.final)) told
-
 -- a text is replayed by what is left behind its lines up to the first step
 pub replay_left : (rules : Certificate → Result (Unit {0}) Refusal) (text : List ℕ) (c : Cursor) → begun text ≡ Ok c
     → replayed rules text ≡ (left_of c >>= (λ (k : Certificate). Ok (verdict_of k (rules k))))
@@ -153,6 +156,26 @@ verdict_same c d (Ok kept) header final = ap (λ (h : LogHeader). Accepted h.hor
 verdict_same c d (Err refusal) header final = refl
 
 module _ (caps : List ℕ) (limit : ℕ) (events : ℕ → ℕ) (f : Functions) where
+  -- the verdict on a log whose lines were judged one after another
+  pub verdict_is : (c : Certificate) (h : LogHeader) (begin last : LogRegion) (x : List ℕ) (begun steps end : Result (Unit {0}) Rejection) → h ≡ c.header → x ≡ c.final
+      → region_at c 0 ≡ Some begin → region_at c h.horizon ≡ Some last → Gives (λ _. tt) begun (judge_begin caps limit h begin)
+      → ((r : LogRegion) → region_at c c.header.horizon ≡ Some r → and_then (told begun) (judge_steps caps limit events f 7 c.header.horizon c.begin c.entries) ≡ and_then (told steps) (Ok r))
+      → Gives (λ _. tt) end (and_then (told steps) (judge_end (7 + h.horizon) last x))
+      → verdict_of (told_log h x) (told end) ≡ verdict_of c (judged caps limit events f c)
+  verdict_is c h begin last x begun steps end header final first behind begins run ends =
+      let first_is : judge_begin caps limit c.header c.begin ≡ told begun =
+      ap (λ (k : LogHeader). judge_begin caps limit k c.begin) (sym header) ∙ ap (λ (r : LogRegion). judge_begin caps limit h r) (same_region c.begin begin first) ∙ told_is begun _ begins in
+      let last_is : and_then (told steps) (judge_end (7 + c.header.horizon) last c.final) ≡ told end =
+      ap (λ (k : LogHeader). and_then (told steps) (judge_end (7 + k.horizon) last c.final)) (sym header)
+      ∙ ap (λ (y : List ℕ). and_then (told steps) (judge_end (7 + h.horizon) last y)) (sym final) ∙ told_is end _ ends in
+      let rules : judged caps limit events f c ≡ told end =
+      judged_parts caps limit events f c
+      ∙ ap (λ (b : Result (Unit {0}) Refusal). and_then b (judge_steps caps limit events f 7 c.header.horizon c.begin c.entries) >>= (λ (r : LogRegion). judge_end (7 + c.header.horizon) r c.final)) first_is
+      ∙ ap (λ (s : Result LogRegion Refusal). s >>= (λ (r : LogRegion). judge_end (7 + c.header.horizon) r c.final))
+      (run last (subst (λ (k : LogHeader). region_at c k.horizon ≡ Some last) header behind))
+      ∙ bind_bind (told steps) (λ _. Ok last) (λ (r : LogRegion). judge_end (7 + c.header.horizon) r c.final) ∙ last_is in
+      verdict_same (told_log h x) c (told end) header final ∙ ap (λ (r : Result (Unit {0}) Refusal). verdict_of c r) (sym rules)
+
   -- the verdict on lines that are read and judged
   abbrev closes : LogHeader → Result LogRegion Refusal × List ℕ → Result Verdict Refusal
   closes h lines = ended h lines.1 >>= (λ (final : List ℕ). Ok (verdict_of (told_log h final) (lines.0 >>= (λ (last : LogRegion). judge_end (7 + h.horizon) last final))))

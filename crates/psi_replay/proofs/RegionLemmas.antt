@@ -1,39 +1,18 @@
 -- Regions of a log, and the tests of their states by corners or one after another.
-use Rattle.std.specs.Prelude.{◌≡◌, ◌↔◌, ℕ, zero, suc, ◌+◌, ◌<◌, ◌≤◌, List, [], ◌∷◌, length, drop, Bool, true, false, ◌==◌, nat_le, IsTrue, Option, Some, None, is_some, MatchOption, option_map, unwrap_or, slice_get, slice_index, refl}
+use Rattle.std.specs.Prelude.{◌≡◌, ◌↔◌, ℕ, suc, ◌+◌, ◌<◌, ◌≤◌, List, [], ◌∷◌, length, drop, Bool, true, false, ◌==◌, nat_le, IsTrue, Option, Some, None, is_some, MatchOption, slice_get, slice_index, refl}
 use Rattle.std.specs.List.{list_all}
 use Rattle.std.specs.Cmp.Lexicographic.{pointwise}
-use Rattle.std.proofs.Common.{inl, inr, ap, sym, subst, arith}
+use Rattle.std.proofs.Common.{sym, subst, arith}
 use Rattle.std.proofs.lemmas.Bool.{eq-eqb, eqb-true, le-leb, lt-leb, leb-true, and_parts, and_from}
-use Rattle.std.proofs.lemmas.Option.{slice_get_cases}
 use Rattle.psi_state.specs.State.{Corners, IsBelow, box}
 use Rattle.psi_state.specs.Members.{In}
 use Rattle.psi_state.proofs.BoxesLemmas.{In-low, In-high, In-of_box, below-through}
 use Rattle.psi_region.specs.Covering.{Covers}
 use Rattle.psi_event.specs.Idle.{unchanged}
-use Rattle.psi_log_text.specs.Log.{LogRegion, in_box, in_set, Entry, Certificate, IsRegion, IsEntry, IsLog, IsSet}
+use Rattle.psi_log_format.specs.Log.{LogRegion, in_box, in_set, IsSet}
 use Rattle.psi_log_words.proofs.StateLemmas.{below_found, below_again}
 use Rattle.psi_replay.specs.Verdict.{states_of, has, covers, is_within, is_small}
-use Rattle.psi_replay.specs.Numbered.{nth_region}
-use Rattle.psi_replay.proofs.ListLemmas.{same_test, all_more, all_fails, all_each, all_from, has-In, has-from_In, In-slice_get}
-
--- the region after a step is that of the step's entry
-pub nth_entry : (c : Certificate) (i : ℕ) (e : Entry) → slice_get c.entries i ≡ Some e → nth_region c (suc i) ≡ e.region
-nth_entry c i e is = ap (λ (found : Option Entry). unwrap_or (option_map (λ (d : Entry). d.region) found) c.begin) is
-
--- each step of a log has its entry
-pub entry_there : (c : Certificate) (i : ℕ) → IsLog c → i < c.header.horizon → (e : Entry) × (slice_get c.entries i ≡ Some e)
-entry_there c i is small = elim (slice_get_cases c.entries i).1 [
-  | inl found ↦ (found.0, found.2)
-  | inr past ↦ absurd (let count = is.count in let over : length c.entries ≤ i = past.0 in omega arith)
-]
-
--- each region of a log is one of its header's queues
-pub nth_regional : (c : Certificate) (i : ℕ) → IsLog c → i ≤ c.header.horizon → IsRegion c.header.queues (nth_region c i)
-nth_regional c zero is small = is.begin
-nth_regional c (suc i) is small =
-    let found = entry_there c i is (omega arith) in
-    let entry : IsEntry c.header found.0 = is.entries found.0 (In-slice_get c.entries i found.0 found.1) in
-    subst (λ (r : LogRegion). IsRegion c.header.queues r) (sym (nth_entry c i found.0 found.1)) entry.region
+use Rattle.psi_replay.proofs.ListLemmas.{same_test, all_more, all_fails, all_each, all_from, has-In, has-from_In}
 
 -- the test of two states by code is that of the definition
 pub below_test : (x y : List ℕ) (r : Bool) → (IsTrue r ↔ IsBelow x y) → r ≡ pointwise nat_le x y

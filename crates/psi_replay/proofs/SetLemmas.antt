@@ -8,9 +8,10 @@ use Rattle.psi_state.specs.Sets.{state_cmp}
 use Rattle.psi_state.proofs.SetsLemmas.{same-from_cmp}
 use Rattle.psi_state.specs.Ascending.{IsRising}
 use Rattle.psi_state.proofs.AscendingLemmas.{cmp-itself, cmp-never, cmp-back}
-use Rattle.psi_log_text.specs.Log.{IsSet}
+use Rattle.psi_log_format.specs.Log.{IsSet}
+use Rattle.psi_log.proofs.ToldLemmas.{In-slice_get}
 use Rattle.psi_replay.specs.Verdict.{has}
-use Rattle.psi_replay.proofs.ListLemmas.{In-slice_get, has_at}
+use Rattle.psi_replay.proofs.ListLemmas.{has_at}
 
 -- an earlier state of an ascending list is below a later one
 pub rising_places : (xs : List (List ℕ)) (j k : ℕ) (x y : List ℕ) → IsRising xs → slice_get xs j ≡ Some x → slice_get xs k ≡ Some y → j < k → state_cmp x y ≡ Less

@@ -1,7 +1,7 @@
 -- Logs worked out by hand, judged by the definition as the checker computes it.
 use Rattle.std.specs.Prelude.{◌≡◌, ℕ, ◌+◌, ◌-◌, min, List, [], ◌∷◌, ◌&&◌, nat_lt, true, false, Ok, Err, slice_index, slice_index_or, if◌then◌else◌, refl}
 use Rattle.psi_rate.specs.Composition.{Functions}
-use Rattle.psi_log_text.specs.Log.{LogRegion, in_box, in_set, Entry, Certificate}
+use Rattle.psi_log_format.specs.Log.{LogRegion, in_box, in_set, Entry, Certificate}
 use Rattle.psi_replay.specs.Verdict.{is_small, judge_step, judge_steps, judge_end, judged}
 
 abbrev entry : ℕ → ℕ → LogRegion → Entry

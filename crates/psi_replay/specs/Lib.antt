@@ -1,7 +1,5 @@
 -- The definitions of this crate.
 pub mod Verdict
-pub mod Numbered
-pub mod RegionsViews
 pub mod Judging
 pub mod Passes
 pub mod Streams

@@ -2,8 +2,8 @@
 use Rattle.std.specs.Prelude.{ℕ, ◌+◌, ◌-◌, ◌^◌, List, [], length, ◌==◌, nat_le, Result, Ok, Err}
 use Rattle.psi_past.specs.SeedWord.{seed_word}
 use Rattle.psi_rate.specs.Composition.{Parts, Functions, system_functions}
-use Rattle.psi_log_text.specs.declared.header.Header.{Header as LogHeader}
-use Rattle.psi_log_text.specs.Log.{LogRegion, in_set, Certificate}
+use Rattle.psi_log_format.specs.declared.header.Header.{Header as LogHeader}
+use Rattle.psi_log_format.specs.Log.{LogRegion, in_set, Certificate}
 use Rattle.psi_log_words.specs.Refusal.{Refusal, ◌>>=◌, holds_or}
 use Rattle.psi_log_words.specs.Regions.{box_before}
 use Rattle.psi_log.specs.Reading.{read_steps, read}

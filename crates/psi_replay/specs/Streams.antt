@@ -27,12 +27,12 @@ pub record IsJudged (caps : List ℕ) (past : Seeded) (judged : Result (Unit {0}
 -- the same of a progress
 abbrev pub IsSound : List ℕ → Progress → Type 0
 IsSound caps Unread = Unit {0}
-IsSound caps (Begun reading) = IsJudged caps reading.past reading.judged reading.paused
+IsSound caps (Begun reading) = IsJudged caps reading.past reading.judged reading.cursor
 IsSound caps Lost = Unit {0}
 
 -- a text that was taken is told by a progress and what is pending of it: the verdict is the same whatever comes behind, unless the text is too long
 abbrev pub IsProgress : {E : Type 0} → (E → List ℕ → List ℕ) → Parts E → List ℕ → List ℕ → Progress → Type 0
 IsProgress function system taken pending Unread = taken ≡ pending
 IsProgress function system taken pending (Begun reading) =
-    (more : List ℕ) → length (taken ++ more) ≤ 33554432 → replayed (judged_under function system) (taken ++ more) ≡ left_under function system reading.paused (pending ++ more) reading.judged
+    (more : List ℕ) → length (taken ++ more) ≤ 33554432 → replayed (judged_under function system) (taken ++ more) ≡ left_under function system reading.cursor (pending ++ more) reading.judged
 IsProgress function system taken pending Lost = Unit {0}

@@ -7,7 +7,7 @@ use Rattle.std.specs.Cmp.Lexicographic.{pointwise}
 use Rattle.psi_state.specs.State.{IsBelow, box, all_states}
 use Rattle.psi_rate.specs.Rates.{event_of}
 use Rattle.psi_rate.specs.Composition.{Parts, Functions, IsReached}
-use Rattle.psi_log_text.specs.Log.{LogRegion, in_box, in_set, Entry, Certificate}
+use Rattle.psi_log_format.specs.Log.{LogRegion, in_box, in_set, Entry, Certificate}
 use Rattle.psi_log_words.specs.Refusal.{Refusal, ◌>>=◌, holds_or}
 use Rattle.psi_replay.specs.declared.answers.Verdict.{Verdict}
 use Rattle.psi_replay.specs.declared.answers.Verdict.TheVariants.{Accepted, Rejected}

@@ -3,13 +3,14 @@
 ghost use Rattle.std.specs.Prelude.{◌≡◌, ℕ, List, length, true, None, MatchOption};
 ghost use Rattle.psi_state.specs.State.{AreCapacities, IsBelow};
 ghost use Rattle.psi_event.specs.Idle.{unchanged};
-ghost use Rattle.psi_log_text.specs.Log.{in_box, in_set, IsRegion, IsSet};
+ghost use Rattle.psi_log_format.specs.Log.{in_box, in_set, IsRegion, IsSet};
 ghost use Rattle.psi_replay.specs.Verdict.{states_of, has, covers, is_within, holds_all};
-ghost use Rattle.psi_replay.specs.RegionsViews.{seen};
+ghost use Rattle.psi_log_format.specs.Listed.{shown};
 
-use crate::regions::ReadRegion;
-use crate::sets::Set;
+use crate::regions::holds;
+use crate::sets::set_holds;
 use psi_event::{EventLaw, Idle};
+use psi_log::{BorrowedRegion, Rows};
 use psi_region::covers_image;
 use psi_state::{Bounds, State};
 
@@ -19,42 +20,47 @@ use psi_state::{Bounds, State};
 fn holds_image<E: EventLaw>(
     event: &E,
     x: &mut State,
-    after: &ReadRegion<'_>,
+    after: &BorrowedRegion<'_>,
     next: &mut usize,
 ) -> bool
     requires state { IsBelow x.old (E.capacities event.now) }
-    requires after { IsRegion (length (E.capacities event.now)) (seen after.now) }
-    ensures { result ≡ has (states_of (seen after.now)) (E.function event.now x.old) }
+    requires after { IsRegion (length (E.capacities event.now)) (shown after.now) }
+    ensures { result ≡ has (states_of (shown after.now)) (E.function event.now x.old) }
 {
     event.apply(x);
-    after.holds(x, next)
+    holds(after, x, next)
 }
 
-// The same of a set.
+// As `holds_image`, of a set.
 #[inline]
-fn set_holds_image<E: EventLaw>(event: &E, x: &mut State, after: &Set<'_>, next: &mut usize) -> bool
+fn set_holds_image<E: EventLaw>(
+    event: &E,
+    x: &mut State,
+    after: &Rows<'_>,
+    next: &mut usize,
+) -> bool
     requires state { IsBelow x.old (E.capacities event.now) }
-    requires after { IsSet (length (E.capacities event.now)) after.now }
-    ensures { result ≡ has after.now (E.function event.now x.old) }
+    requires after { IsSet (length (E.capacities event.now)) after.now.states }
+    ensures { result ≡ has after.now.states (E.function event.now x.old) }
 {
     event.apply(x);
-    after.holds(x, next)
+    set_holds(after, x, next)
 }
 
 // Whether a region holds what the event makes of each state of a box.
-fn covers_box<E: EventLaw>(event: &E, before: &Bounds, after: &ReadRegion<'_>) -> bool
+fn covers_box<E: EventLaw>(event: &E, before: &Bounds, after: &BorrowedRegion<'_>) -> bool
     requires before { IsBelow before.now.hi (E.capacities event.now) }
-    requires after { IsRegion (length (E.capacities event.now)) (seen after.now) }
-    requires within { is_within (E.capacities event.now) (seen after.now) ≡ true }
-    ensures { result ≡ covers (E.function event.now) (in_box before.now) (seen after.now) }
+    requires after { IsRegion (length (E.capacities event.now)) (shown after.now) }
+    requires within { is_within (E.capacities event.now) (shown after.now) ≡ true }
+    ensures { result ≡ covers (E.function event.now) (in_box before.now) (shown after.now) }
 {
     match after {
-        ReadRegion::Box(to) => box_covers_box(event, before, to),
-        ReadRegion::Set(_) => box_covers_each(event, before, after),
+        BorrowedRegion::Box(to) => box_covers_box(event, before, to),
+        BorrowedRegion::Set(_) => box_covers_each(event, before, after),
     }
 }
 
-// The corners tell it where both are boxes.
+// As `covers_box`, where both are boxes: the corners tell it.
 fn box_covers_box<E: EventLaw>(event: &E, before: &Bounds, after: &Bounds) -> bool
     requires before { IsBelow before.now.hi (E.capacities event.now) }
     requires within { is_within (E.capacities event.now) (in_box after.now) ≡ true }
@@ -65,11 +71,11 @@ fn box_covers_box<E: EventLaw>(event: &E, before: &Bounds, after: &Bounds) -> bo
     covers_image(event, before, after)
 }
 
-// Else each state of the box is looked at.
-fn box_covers_each<E: EventLaw>(event: &E, before: &Bounds, after: &ReadRegion<'_>) -> bool
+// As `covers_box`, state by state.
+fn box_covers_each<E: EventLaw>(event: &E, before: &Bounds, after: &BorrowedRegion<'_>) -> bool
     requires before { IsBelow before.now.hi (E.capacities event.now) }
-    requires after { IsRegion (length (E.capacities event.now)) (seen after.now) }
-    ensures { result ≡ covers (E.function event.now) (in_box before.now) (seen after.now) }
+    requires after { IsRegion (length (E.capacities event.now)) (shown after.now) }
+    ensures { result ≡ covers (E.function event.now) (in_box before.now) (shown after.now) }
 {
     let mut next = 0;
     for mut x in before.states() {
@@ -81,22 +87,22 @@ fn box_covers_each<E: EventLaw>(event: &E, before: &Bounds, after: &ReadRegion<'
 }
 
 // Whether a region holds what the event makes of each state of a set.
-fn covers_set<E: EventLaw>(event: &E, before: &Set<'_>, after: &ReadRegion<'_>) -> bool
-    requires before { is_within (E.capacities event.now) (in_set before.now) ≡ true }
-    requires after { IsRegion (length (E.capacities event.now)) (seen after.now) }
-    ensures { result ≡ covers (E.function event.now) (in_set before.now) (seen after.now) }
+fn covers_set<E: EventLaw>(event: &E, before: &Rows<'_>, after: &BorrowedRegion<'_>) -> bool
+    requires before { is_within (E.capacities event.now) (in_set before.now.states) ≡ true }
+    requires after { IsRegion (length (E.capacities event.now)) (shown after.now) }
+    ensures { result ≡ covers (E.function event.now) (in_set before.now.states) (shown after.now) }
 {
     match after {
-        ReadRegion::Box(_) => set_covers_box(event, before, after),
-        ReadRegion::Set(to) => set_covers_set(event, before, to),
+        BorrowedRegion::Box(_) => set_covers_box(event, before, after),
+        BorrowedRegion::Set(to) => set_covers_set(event, before, to),
     }
 }
 
-// The same of a box.
-fn set_covers_box<E: EventLaw>(event: &E, before: &Set<'_>, after: &ReadRegion<'_>) -> bool
-    requires before { is_within (E.capacities event.now) (in_set before.now) ≡ true }
-    requires after { IsRegion (length (E.capacities event.now)) (seen after.now) }
-    ensures { result ≡ covers (E.function event.now) (in_set before.now) (seen after.now) }
+// As `covers_set`, where the region is a box.
+fn set_covers_box<E: EventLaw>(event: &E, before: &Rows<'_>, after: &BorrowedRegion<'_>) -> bool
+    requires before { is_within (E.capacities event.now) (in_set before.now.states) ≡ true }
+    requires after { IsRegion (length (E.capacities event.now)) (shown after.now) }
+    ensures { result ≡ covers (E.function event.now) (in_set before.now.states) (shown after.now) }
 {
     let mut next = 0;
     for place in 0..before.len() {
@@ -108,11 +114,11 @@ fn set_covers_box<E: EventLaw>(event: &E, before: &Set<'_>, after: &ReadRegion<'
     true
 }
 
-// The same of a set.
-fn set_covers_set<E: EventLaw>(event: &E, before: &Set<'_>, after: &Set<'_>) -> bool
-    requires before { is_within (E.capacities event.now) (in_set before.now) ≡ true }
-    requires after { IsSet (length (E.capacities event.now)) after.now }
-    ensures { result ≡ covers (E.function event.now) (in_set before.now) (in_set after.now) }
+// As `covers_set`, where the region is a set.
+fn set_covers_set<E: EventLaw>(event: &E, before: &Rows<'_>, after: &Rows<'_>) -> bool
+    requires before { is_within (E.capacities event.now) (in_set before.now.states) ≡ true }
+    requires after { IsSet (length (E.capacities event.now)) after.now.states }
+    ensures { result ≡ covers (E.function event.now) (in_set before.now.states) (in_set after.now.states) }
 {
     // In the loop the compiler then needn't look each time where they stand.
     let (from, to) = (before.again(), after.again());
@@ -129,32 +135,36 @@ fn set_covers_set<E: EventLaw>(event: &E, before: &Set<'_>, after: &Set<'_>) -> 
 }
 
 // Whether a region holds what the event makes of each state of another.
-fn covers<'l, E: EventLaw>(event: &E, before: &ReadRegion<'l>, after: &ReadRegion<'l>) -> bool
-    requires before { is_within (E.capacities event.now) (seen before.now) ≡ true }
-    requires after { IsRegion (length (E.capacities event.now)) (seen after.now) }
-    requires within { is_within (E.capacities event.now) (seen after.now) ≡ true }
-    ensures { result ≡ covers (E.function event.now) (seen before.now) (seen after.now) }
+fn covers<'l, E: EventLaw>(
+    event: &E,
+    before: &BorrowedRegion<'l>,
+    after: &BorrowedRegion<'l>,
+) -> bool
+    requires before { is_within (E.capacities event.now) (shown before.now) ≡ true }
+    requires after { IsRegion (length (E.capacities event.now)) (shown after.now) }
+    requires within { is_within (E.capacities event.now) (shown after.now) ≡ true }
+    ensures { result ≡ covers (E.function event.now) (shown before.now) (shown after.now) }
 {
     match before {
-        ReadRegion::Box(bounds) => {
+        BorrowedRegion::Box(bounds) => {
             // Called for its clause: the corners are in order.
             let _queues = bounds.len();
             covers_box(event, bounds, after)
         }
-        ReadRegion::Set(set) => covers_set(event, set, after),
+        BorrowedRegion::Set(rows) => covers_set(event, rows, after),
     }
 }
 
 // Whether a region holds each state of another; at once where both are the same set.
-fn idle_covers<'l>(caps: &State, before: &ReadRegion<'l>, after: &ReadRegion<'l>) -> bool
+fn idle_covers<'l>(caps: &State, before: &BorrowedRegion<'l>, after: &BorrowedRegion<'l>) -> bool
     requires valid { AreCapacities caps.now }
-    requires before { is_within caps.now (seen before.now) ≡ true }
-    requires after { IsRegion (length caps.now) (seen after.now) }
-    requires within { is_within caps.now (seen after.now) ≡ true }
-    ensures { result ≡ covers unchanged (seen before.now) (seen after.now) }
+    requires before { is_within caps.now (shown before.now) ≡ true }
+    requires after { IsRegion (length caps.now) (shown after.now) }
+    requires within { is_within caps.now (shown after.now) ≡ true }
+    ensures { result ≡ covers unchanged (shown before.now) (shown after.now) }
 {
-    if let (ReadRegion::Set(set), ReadRegion::Set(next)) = (before, after) {
-        if set.are_same(next) {
+    if let (BorrowedRegion::Set(rows), BorrowedRegion::Set(next)) = (before, after) {
+        if rows.are_same(next) {
             return true;
         }
     }
@@ -166,15 +176,15 @@ fn idle_covers<'l>(caps: &State, before: &ReadRegion<'l>, after: &ReadRegion<'l>
 pub(crate) fn step_covers<'l, E: EventLaw>(
     event: Option<&E>,
     caps: &State,
-    before: &ReadRegion<'l>,
-    after: &ReadRegion<'l>,
+    before: &BorrowedRegion<'l>,
+    after: &BorrowedRegion<'l>,
 ) -> bool
     requires valid { AreCapacities caps.now }
     requires event { MatchOption event (Unit {0}) (λ e. E.capacities e.now ≡ caps.now) }
-    requires before { is_within caps.now (seen before.now) ≡ true }
-    requires after { IsRegion (length caps.now) (seen after.now) }
-    requires within { is_within caps.now (seen after.now) ≡ true }
-    ensures { MatchOption event.entry (result ≡ covers unchanged (seen before.now) (seen after.now)) (λ e. result ≡ covers (E.function e.now) (seen before.now) (seen after.now)) }
+    requires before { is_within caps.now (shown before.now) ≡ true }
+    requires after { IsRegion (length caps.now) (shown after.now) }
+    requires within { is_within caps.now (shown after.now) ≡ true }
+    ensures { MatchOption event.entry (result ≡ covers unchanged (shown before.now) (shown after.now)) (λ e. result ≡ covers (E.function e.now) (shown before.now) (shown after.now)) }
 {
     match event {
         Some(event) => covers(event, before, after),
@@ -184,10 +194,10 @@ pub(crate) fn step_covers<'l, E: EventLaw>(
 
 /// Whether a region holds what a step makes of each of its own states: an idle step leaves them as they are.
 #[tactic(auto, using(crate::proofs::RegionLemmas::region_covers_itself))]
-pub(crate) fn covers_itself<E: EventLaw>(event: Option<&E>, region: &ReadRegion<'_>) -> bool
-    requires region { MatchOption event (Unit {0}) (λ e. IsRegion (length (E.capacities e.now)) (seen region.now)) }
-    requires within { MatchOption event (Unit {0}) (λ e. is_within (E.capacities e.now) (seen region.now) ≡ true) }
-    ensures { MatchOption event.entry (result ≡ covers unchanged (seen region.now) (seen region.now)) (λ e. result ≡ covers (E.function e.now) (seen region.now) (seen region.now)) }
+pub(crate) fn covers_itself<E: EventLaw>(event: Option<&E>, region: &BorrowedRegion<'_>) -> bool
+    requires region { MatchOption event (Unit {0}) (λ e. IsRegion (length (E.capacities e.now)) (shown region.now)) }
+    requires within { MatchOption event (Unit {0}) (λ e. is_within (E.capacities e.now) (shown region.now) ≡ true) }
+    ensures { MatchOption event.entry (result ≡ covers unchanged (shown region.now) (shown region.now)) (λ e. result ≡ covers (E.function e.now) (shown region.now) (shown region.now)) }
 {
     match event {
         Some(event) => covers(event, region, region),
@@ -196,11 +206,11 @@ pub(crate) fn covers_itself<E: EventLaw>(event: Option<&E>, region: &ReadRegion<
 }
 
 /// Whether a region has all states of the capacities.
-pub(crate) fn holds_all(caps: &State, region: &ReadRegion<'_>) -> bool
+pub(crate) fn holds_all(caps: &State, region: &BorrowedRegion<'_>) -> bool
     requires valid { AreCapacities caps.now }
-    requires region { IsRegion (length caps.now) (seen region.now) }
-    requires within { is_within caps.now (seen region.now) ≡ true }
-    ensures { result ≡ holds_all caps.now (seen region.now) }
+    requires region { IsRegion (length caps.now) (shown region.now) }
+    requires within { is_within caps.now (shown region.now) ≡ true }
+    ensures { result ≡ holds_all caps.now (shown region.now) }
 {
     covers_box(&Idle::new(*caps), &Bounds::whole(caps), region)
 }

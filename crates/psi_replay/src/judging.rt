@@ -1,22 +1,22 @@
 //! The rules of a log, line by line.
 
-ghost use Rattle.std.specs.Prelude.{◌≡◌, ◌==◌, ◌-◌, ◌≤◌, ◌<◌, length, true, option_map, slice_get, IfOk, OnOk};
+ghost use Rattle.std.specs.Prelude.{◌≡◌, ◌==◌, ◌-◌, ◌≤◌, ◌<◌, length, true, option_map, slice_get, MatchOption, Ok, OnOk};
 ghost use Rattle.psi_rate.specs.Rates.{event_of};
 ghost use Rattle.psi_rate.specs.Composition.{system_functions};
-ghost use Rattle.psi_log_text.specs.Log.{IsLog, IsRegion};
-ghost use Rattle.psi_replay.specs.Verdict.{is_within, judge_step, judge_steps, judge_end, judged, event_numbers};
-ghost use Rattle.psi_replay.specs.RegionsViews.{seen};
-ghost use Rattle.psi_replay.specs.Judging.{Gives};
+ghost use Rattle.psi_log_format.specs.Log.{IsRegion};
+ghost use Rattle.psi_log_format.specs.Listed.{shown};
+ghost use Rattle.psi_replay.specs.Verdict.{is_within, judge_step, judge_end, event_numbers};
+ghost use Rattle.psi_replay.specs.Judging.{Gives, region_before};
 ghost use Rattle.psi_log_words.specs.Refusal.{holds_or};
 ghost use Rattle.psi_replay.specs.Verdict.{rejected};
 ghost use Rattle.psi_replay.specs.declared.causes.Cause.TheVariants.{StepNumber, WrongEvent};
-ghost use Rattle.psi_replay.specs.Passes.{judge_begin, and_then};
+ghost use Rattle.psi_replay.specs.Passes.{judge_begin, and_then, told};
 
 use crate::causes::{Cause, Rejection};
 use crate::covering::{covers_itself, holds_all, step_covers};
-use crate::regions::{ReadRegion, region_of};
+use crate::regions::{holds, is_single, is_small, is_within};
 use psi_event::EventLaw;
-use psi_log::{Header, Log};
+use psi_log::{BorrowedRegion, Header};
 use psi_past::Past;
 use psi_rate::System;
 use psi_state::{State, Step};
@@ -30,17 +30,17 @@ use psi_state::{State, Step};
 pub(crate) fn judge_begin<E: EventLaw>(
     system: &System<'_, E>,
     header: &Header,
-    begin: &ReadRegion<'_>,
+    begin: &BorrowedRegion<'_>,
 ) -> Result<(), Rejection>
-    requires { IsRegion header.now.queues (seen begin.now) }
-    ensures value { Gives (λ _. tt) result (judge_begin system.now.caps system.now.limit header.now (seen begin.now)) }
+    requires { IsRegion header.now.queues (shown begin.now) }
+    ensures value { Gives (λ _. tt) result (judge_begin system.now.caps system.now.limit header.now (shown begin.now)) }
     ensures queues { OnOk result (header.now.queues ≡ length system.now.caps) }
-    ensures within { OnOk result (is_within system.now.caps (seen begin.now) ≡ true) }
+    ensures within { OnOk result (is_within system.now.caps (shown begin.now) ≡ true) }
 {
     let caps = system.caps();
     Cause::Header.unless(header.queues == caps.len(), 2)?;
     Cause::Header.unless(header.horizon <= 1 << system.limit(), 5)?;
-    Cause::OutsideBox.unless(begin.is_within(&caps), 6)?;
+    Cause::OutsideBox.unless(is_within(begin, &caps), 6)?;
     Cause::NotCovered.unless(holds_all(&caps, begin), 6)
 }
 
@@ -54,8 +54,11 @@ fn drawn_at<'n, E: EventLaw, P: Past>(
     requires { 1 ≤ time }
     ensures number { result.0 ≡ event_numbers system.now (P.words past.old) time }
     ensures event { option_map (λ e. e.now) result.1 ≡ slice_get system.now.events (event_of system.now.rates (P.words past.old (time - 1))) }
+    ensures fits { MatchOption result.1 (Unit {0}) (λ e. E.capacities e.now ≡ system.now.caps) }
     ensures words { P.words past.new ≡ P.words past.old }
 {
+    // Called for its clause: the events fit the capacities.
+    let _caps = system.caps();
     system.pick(past.word(time - 1))
 }
 
@@ -67,136 +70,120 @@ fn judge_numbers(step: Step, line: u32, time: u32, number: u16) -> Result<(), Re
     Cause::WrongEvent.unless(step.event == number, line)
 }
 
-/// Judges the line of a step, which has to be that of a time. `caps` are the network's capacities.
-///
-/// # Errors
-///
-/// The line, with the first cause for which it breaks a rule.
-#[tactic(auto, unfolding(crate::specs::Verdict::judge_step))]
-pub(crate) fn judge_step<'l, E: EventLaw, P: Past>(
-    system: &System<'_, E>,
-    caps: &State,
-    past: &mut P,
-    line: u32,
-    time: u32,
-    before: &ReadRegion<'l>,
-    step: Step,
-    after: &ReadRegion<'l>,
-) -> Result<(), Rejection>
-    requires caps { caps.now ≡ system.now.caps }
-    requires time { 1 ≤ time }
-    requires before { is_within system.now.caps (seen before.now) ≡ true }
-    requires after { IsRegion (length system.now.caps) (seen after.now) }
-    ensures value { let words = P.words past.old in
-        Gives (λ _. tt) result (judge_step system.now.caps system.now.limit (event_numbers system.now words) (system_functions E.function system.now words)
-        line time (seen before.now) (record { step = step; region = seen after.now })) }
-    ensures within { OnOk result (is_within system.now.caps (seen after.now) ≡ true) }
-    ensures words { P.words past.new ≡ P.words past.old }
-{
-    // Called for its clause: the events fit the capacities.
-    let _caps = system.caps();
-    let (number, event) = drawn_at(system, past, time);
-    judge_numbers(step, line, time, number)?;
-    Cause::OutsideBox.unless(after.is_within(caps), line)?;
-    Cause::SplitTooLarge.unless(before.is_small(after), line)?;
-    Cause::NotCovered.unless(step_covers(event, caps, before, after), line)
+/// The line of a step, and what its rules speak of.
+#[derive(Drop)]
+pub(crate) struct StepLine<'l> {
+    /// The line, counted from 1.
+    pub(crate) line: u32,
+    /// The time that its step has to have.
+    pub(crate) time: u32,
+    /// The step.
+    pub(crate) step: Step,
+    /// The region before it; `None` where the step leaves it in its place.
+    pub(crate) before: Option<BorrowedRegion<'l>>,
+    /// The region after it.
+    pub(crate) after: BorrowedRegion<'l>,
 }
 
-/// Judges the line of a step, which has to be that of a time and leaves the region as it was: less is then asked of it.
-///
-/// # Errors
-///
-/// The line, with the first cause for which it breaks a rule.
+// Judges the line of a step that has another region before it.
 #[tactic(auto, unfolding(crate::specs::Verdict::judge_step))]
-pub(crate) fn judge_stay<E: EventLaw, P: Past>(
+fn judge_change<'l, E: EventLaw, P: Past>(
     system: &System<'_, E>,
     past: &mut P,
-    line: u32,
-    time: u32,
-    region: &ReadRegion<'_>,
-    step: Step,
+    line: &StepLine<'l>,
+    before: &BorrowedRegion<'l>,
 ) -> Result<(), Rejection>
-    requires time { 1 ≤ time }
-    requires regional { IsRegion (length system.now.caps) (seen region.now) }
-    requires within { is_within system.now.caps (seen region.now) ≡ true }
+    requires time { 1 ≤ line.now.time }
+    requires before { is_within system.now.caps (shown before.now) ≡ true }
+    requires after { IsRegion (length system.now.caps) (shown line.now.after) }
     ensures value { let words = P.words past.old in
         Gives (λ _. tt) result (judge_step system.now.caps system.now.limit (event_numbers system.now words) (system_functions E.function system.now words)
-        line time (seen region.now) (record { step = step; region = seen region.now })) }
-    ensures words { P.words past.new ≡ P.words past.old }
-{
-    // Called for its clause: the events fit the capacities.
-    let _caps = system.caps();
-    let (number, event) = drawn_at(system, past, time);
-    judge_numbers(step, line, time, number)?;
-    Cause::NotCovered.unless(covers_itself(event, region), line)
-}
-
-// Judges the lines of steps, and gives the last region.
-fn judge_steps<'l, E: EventLaw, P: Past>(
-    system: &System<'_, E>,
-    past: &mut P,
-    log: &'l Log,
-) -> Result<ReadRegion<'l>, Rejection>
-    requires log { IsLog log.now }
-    requires queues { log.now.header.queues ≡ length system.now.caps }
-    requires begin { is_within system.now.caps log.now.begin ≡ true }
-    ensures value { let words = P.words past.old in
-        Gives seen result (judge_steps system.now.caps system.now.limit (event_numbers system.now words) (system_functions E.function system.now words)
-        7 log.entry.now.header.horizon log.entry.now.begin log.entry.now.entries) }
-    ensures regional { IfOk result (λ last. IsRegion (length system.now.caps) (seen last)) }
+        line.now.line line.now.time (shown before.now) (record { step = line.now.step; region = shown line.now.after })) }
+    ensures within { OnOk result (is_within system.now.caps (shown line.now.after) ≡ true) }
     ensures words { P.words past.new ≡ P.words past.old }
 {
     let caps = system.caps();
-    let horizon = log.header().horizon;
-    let mut before = region_of(log, 0);
-    for done in 0..horizon {
-        let after = region_of(log, done + 1);
-        let step = log.step(done + 1);
-        judge_step(
-            system,
-            &caps,
-            past,
-            7 + done,
-            horizon - done,
-            &before,
-            step,
-            &after,
-        )?;
-        before = after;
-    }
-    Ok(before)
+    let (number, event) = drawn_at(system, past, line.time);
+    judge_numbers(line.step, line.line, line.time, number)?;
+    Cause::OutsideBox.unless(is_within(&line.after, &caps), line.line)?;
+    Cause::SplitTooLarge.unless(is_small(before, &line.after), line.line)?;
+    Cause::NotCovered.unless(step_covers(event, &caps, before, &line.after), line.line)
 }
 
-/// Judges the last line.
-///
-/// # Errors
-///
-/// The line, with the first cause for which it breaks a rule.
-#[tactic(auto, unfolding(crate::specs::Verdict::judge_end))]
-pub(crate) fn judge_end(line: u32, last: &ReadRegion<'_>, end: &State) -> Result<(), Rejection>
-    requires { IsRegion (length end.now) (seen last.now) }
-    ensures { Gives (λ _. tt) result (judge_end line (seen last.now) end.now) }
-{
-    Cause::NotSingle.unless(last.is_single(), line)?;
-    Cause::WrongState.unless(last.holds(end, &mut 0), line)
-}
-
-/// Judges a log by all its rules.
-///
-/// # Errors
-///
-/// The first line that breaks one, with its first cause.
-pub(crate) fn judged<E: EventLaw, P: Past>(
+// Judges the line of a step that leaves the region in its place: less is then asked of it.
+#[tactic(auto, unfolding(crate::specs::Verdict::judge_step))]
+fn judge_stay<E: EventLaw, P: Past>(
     system: &System<'_, E>,
     past: &mut P,
-    log: &Log,
+    line: &StepLine<'_>,
 ) -> Result<(), Rejection>
+    requires time { 1 ≤ line.now.time }
+    requires regional { IsRegion (length system.now.caps) (shown line.now.after) }
+    requires within { is_within system.now.caps (shown line.now.after) ≡ true }
     ensures value { let words = P.words past.old in
-        Gives (λ _. tt) result (judged system.now.caps system.now.limit (event_numbers system.now words) (system_functions E.function system.now words) log.now) }
+        Gives (λ _. tt) result (judge_step system.now.caps system.now.limit (event_numbers system.now words) (system_functions E.function system.now words)
+        line.now.line line.now.time (shown line.now.after) (record { step = line.now.step; region = shown line.now.after })) }
+    ensures words { P.words past.new ≡ P.words past.old }
 {
-    let header = log.header();
-    let begin = region_of(log, 0);
-    judge_begin(system, &header, &begin)?;
-    let last = judge_steps(system, past, log)?;
-    judge_end(7 + header.horizon, &last, &log.end())
+    let (number, event) = drawn_at(system, past, line.time);
+    judge_numbers(line.step, line.line, line.time, number)?;
+    Cause::NotCovered.unless(covers_itself(event, &line.after), line.line)
+}
+
+/// Judges the line of a step, unless a rule is broken already.
+///
+/// # Errors
+///
+/// The first line that breaks a rule, with its first cause.
+pub(crate) fn judge_next<E: EventLaw, P: Past>(
+    system: &System<'_, E>,
+    past: &mut P,
+    line: &StepLine<'_>,
+    judged: Result<(), Rejection>,
+) -> Result<(), Rejection>
+    requires time { 1 ≤ line.now.time }
+    requires regional { OnOk judged (IsRegion (length system.now.caps) (shown line.now.after)) }
+    requires within { OnOk judged (is_within system.now.caps (region_before line.now) ≡ true) }
+    ensures value { let words = P.words past.old in
+        Gives (λ _. tt) result (and_then (told judged) (judge_step system.now.caps system.now.limit (event_numbers system.now words) (system_functions E.function system.now words)
+        line.now.line line.now.time (region_before line.now) (record { step = line.now.step; region = shown line.now.after }))) }
+    ensures within { OnOk result (is_within system.now.caps (shown line.now.after) ≡ true) }
+    ensures before { OnOk result (told judged ≡ Ok tt) }
+    ensures words { P.words past.new ≡ P.words past.old }
+{
+    match (judged, &line.before) {
+        (Ok(()), Some(before)) => judge_change(system, past, line, before),
+        (Ok(()), None) => judge_stay(system, past, line),
+        (Err(rejection), _) => Err(rejection),
+    }
+}
+
+// Judges the last line.
+#[tactic(auto, unfolding(crate::specs::Verdict::judge_end))]
+fn judge_end(line: u32, last: &BorrowedRegion<'_>, end: &State) -> Result<(), Rejection>
+    requires { IsRegion (length end.now) (shown last.now) }
+    ensures { Gives (λ _. tt) result (judge_end line (shown last.now) end.now) }
+{
+    Cause::NotSingle.unless(is_single(last), line)?;
+    Cause::WrongState.unless(holds(last, end, &mut 0), line)
+}
+
+/// Judges the last line, unless a rule is broken already.
+///
+/// # Errors
+///
+/// The first line that breaks a rule, with its first cause.
+pub(crate) fn judge_last(
+    judged: Result<(), Rejection>,
+    line: u32,
+    last: &BorrowedRegion<'_>,
+    end: &State,
+) -> Result<(), Rejection>
+    requires { IsRegion (length end.now) (shown last.now) }
+    ensures { Gives (λ _. tt) result (and_then (told judged) (judge_end line (shown last.now) end.now)) }
+{
+    match judged {
+        Ok(()) => judge_end(line, last, end),
+        Err(rejection) => Err(rejection),
+    }
 }

@@ -16,7 +16,6 @@ mod regions;
 mod replay;
 mod sets;
 mod stream;
-mod taken;
 
 pub use answers::Verdict;
 pub use causes::Cause;

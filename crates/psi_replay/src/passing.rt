@@ -1,59 +1,44 @@
 //! The rules of a log that is read in one pass, judged line by line as it is read.
 
-ghost use Rattle.std.specs.Prelude.{◌≡◌, ℕ, ◌≤◌, List, ◌++◌, length, true, IfErr, OnOk};
+ghost use Rattle.std.specs.Prelude.{◌≡◌, ℕ, ◌+◌, ◌-◌, ◌≤◌, List, ◌++◌, length, true, IfErr, OnOk};
 ghost use Rattle.psi_rate.specs.Composition.{system_functions};
-ghost use Rattle.psi_log_text.specs.Log.{IsRegion};
 ghost use Rattle.psi_log_words.specs.Refusal.{Gives as GivesRead, IsLogError};
-ghost use Rattle.psi_log.specs.Cursor.{IsCursor};
-ghost use Rattle.psi_replay.specs.Verdict.{is_within, judge_step, judge_end, event_numbers, verdict_of};
-ghost use Rattle.psi_replay.specs.RegionsViews.{seen};
-ghost use Rattle.psi_replay.specs.Judging.{Gives};
-ghost use Rattle.psi_replay.specs.Passes.{told, and_then, told_log, verdict_left};
+ghost use Rattle.psi_log.specs.Cursor.{IsCursor, EndsAs};
+ghost use Rattle.psi_replay.specs.Verdict.{is_within, event_numbers, verdict_of};
+ghost use Rattle.psi_log_format.specs.Listed.{shown};
+ghost use Rattle.psi_replay.specs.Judging.{region_before};
+ghost use Rattle.psi_replay.specs.Passes.{told, told_log, verdict_left};
 
 use crate::answers::Verdict;
 use crate::causes::Rejection;
-use crate::judging::{judge_end, judge_stay, judge_step};
-use crate::regions::ReadRegion;
+use crate::judging::{StepLine, judge_last, judge_next};
 use psi_event::EventLaw;
 use psi_log::{Header, LogError, LogReader};
 use psi_past::Past;
 use psi_rate::System;
 use psi_state::{State, Step};
 
-// Judges the step that was read last, whose line this is and which has to be that of a time, unless a rule is broken
-// already.
-fn judge_next<E: EventLaw, P: Past>(
-    system: &System<'_, E>,
-    caps: &State,
-    past: &mut P,
-    line: u32,
-    time: u32,
-    reader: &LogReader<'_>,
-    step: Step,
-    before: Result<(), Rejection>,
-) -> Result<(), Rejection>
-    requires caps { caps.now ≡ system.now.caps }
-    requires time { 1 ≤ time }
-    requires cursor { IsCursor reader.now }
-    requires queues { OnOk before (reader.now.header.queues ≡ length system.now.caps) }
-    requires within { OnOk before (is_within system.now.caps reader.now.before ≡ true) }
-    ensures value { let words = P.words past.old in
-        Gives (λ _. tt) result (and_then (told before) (judge_step system.now.caps system.now.limit (event_numbers system.now words) (system_functions E.function system.now words)
-        line time reader.now.before (record { step = step; region = reader.now.region }))) }
-    ensures queues { OnOk result (reader.now.header.queues ≡ length system.now.caps) }
-    ensures within { OnOk result (is_within system.now.caps reader.now.region ≡ true) }
-    ensures words { P.words past.new ≡ P.words past.old }
+// The line of the step that was read last.
+fn line_read<'r>(reader: &'r LogReader<'_>, step: Step) -> StepLine<'r>
+    requires { 1 ≤ reader.now.done }
+    ensures line { result.line ≡ 6 + reader.entry.now.done }
+    ensures time { result.time ≡ reader.entry.now.header.horizon + 1 - reader.entry.now.done }
+    ensures step { result.step ≡ step }
+    ensures before { region_before result ≡ reader.entry.now.before }
+    ensures after { shown result.after ≡ reader.entry.now.region }
 {
-    match before {
-        Ok(()) => {
-            let to = ReadRegion::of(reader.region());
-            if reader.stays() {
-                return judge_stay(system, past, line, time, &to, step);
-            }
-            let from = ReadRegion::of(reader.before());
-            judge_step(system, caps, past, line, time, &from, step, &to)
-        }
-        Err(rejection) => Err(rejection),
+    let horizon = reader.header().horizon;
+    let before = if reader.stays() {
+        None
+    } else {
+        Some(reader.before())
+    };
+    StepLine {
+        line: 6 + reader.done(),
+        time: horizon + 1 - reader.done(),
+        step,
+        before,
+        after: reader.region(),
     }
 }
 
@@ -84,6 +69,7 @@ pub(crate) fn judge_lines<E: EventLaw, P: Past>(
     ensures refused { let words = P.words past.old in
         IfErr result.read (λ error. IsLogError error (verdict_left system.now.caps system.now.limit (event_numbers system.now words) (system_functions E.function system.now words)
         reader.new.header reader.new.done reader.new.region reader.new.rest (told result.judged))) }
+    ensures ends { EndsAs reader.old.rest reader.new.rest }
     ensures done { OnOk result.read (reader.new.done ≡ reader.new.header.horizon) }
     ensures queues { OnOk result.judged (reader.new.header.queues ≡ length system.now.caps) }
     ensures within { OnOk result.judged (is_within system.now.caps reader.new.region ≡ true) }
@@ -91,7 +77,6 @@ pub(crate) fn judge_lines<E: EventLaw, P: Past>(
     ensures cursor { IsCursor reader.new }
     ensures words { P.words past.new ≡ P.words past.old }
 {
-    let caps = system.caps();
     let horizon = reader.header().horizon;
     let mut judged = before;
     for done in reader.done()..horizon {
@@ -104,16 +89,7 @@ pub(crate) fn judge_lines<E: EventLaw, P: Past>(
                 };
             }
         };
-        judged = judge_next(
-            system,
-            &caps,
-            past,
-            7 + done,
-            horizon - done,
-            reader,
-            step,
-            judged,
-        );
+        judged = judge_next(system, past, &line_read(reader, step), judged);
     }
     Passed {
         judged,
@@ -121,24 +97,8 @@ pub(crate) fn judge_lines<E: EventLaw, P: Past>(
     }
 }
 
-// Judges the last line, unless a rule is broken already.
-fn judge_last(
-    before: Result<(), Rejection>,
-    line: u32,
-    last: &ReadRegion<'_>,
-    end: &State,
-) -> Result<(), Rejection>
-    requires { IsRegion (length end.now) (seen last.now) }
-    ensures { Gives (λ _. tt) result (and_then (told before) (judge_end line (seen last.now) end.now)) }
-{
-    match before {
-        Ok(()) => judge_end(line, last, end),
-        Err(rejection) => Err(rejection),
-    }
-}
-
-// The verdict on a log of this header and of this state at time zero, whose rules were judged.
-fn verdict_from(header: &Header, end: &State, judged: Result<(), Rejection>) -> Verdict
+/// The verdict on a log of this header and of this state at time zero, whose rules were judged.
+pub(crate) fn verdict_from(header: &Header, end: &State, judged: Result<(), Rejection>) -> Verdict
     ensures { result ≡ verdict_of (told_log header.now end.now) (told judged) }
 {
     match judged {
@@ -181,7 +141,7 @@ pub(crate) fn verdict_left<E: EventLaw, P: Past>(
         Ok(end) => end,
         Err(error) => return Err(error),
     };
-    let last = ReadRegion::of(reader.region());
+    let last = reader.region();
     let judged = judge_last(passed.judged, 7 + header.horizon, &last, &end);
     Ok(verdict_from(&header, &end, judged))
 }

@@ -2,7 +2,7 @@
 
 ghost use Rattle.std.specs.Prelude.{◌≡◌, ℕ, ◌≤◌, List, ◌++◌, length, Ok, IfOk, IfErr, OnOk};
 ghost use Rattle.psi_log_words.specs.Refusal.{Gives, IsLogError};
-ghost use Rattle.psi_log.specs.Cursor.{begun};
+ghost use Rattle.psi_log.specs.Cursor.{begun, IsCursor, EndsAs};
 ghost use Rattle.psi_replay.specs.Passes.{judged_under, replayed};
 ghost use Rattle.psi_replay.specs.Streams.{left_under, IsJudged, IsSound, IsProgress};
 
@@ -10,10 +10,9 @@ use crate::answers::Verdict;
 use crate::causes::Rejection;
 use crate::judging::judge_begin;
 use crate::passing::{judge_lines, verdict_left};
-use crate::regions::ReadRegion;
 use crate::replay::replay_text;
 use psi_event::EventLaw;
-use psi_log::{LogError, LogReader, PausedReader};
+use psi_log::{LogCursor, LogError, LogReader};
 use psi_past::{SeedPast, Windowed};
 use psi_rate::System;
 use std::alloc::{AllocError, Global};
@@ -24,7 +23,7 @@ pub(crate) struct Reading {
     pub(crate) past: Windowed<SeedPast>,
     /// Whether the lines that were read break no rule, or the first that is broken.
     pub(crate) judged: Result<(), Rejection>,
-    pub(crate) paused: PausedReader,
+    pub(crate) cursor: LogCursor,
 }
 
 /// How far a text is read and judged.
@@ -59,6 +58,8 @@ pub(crate) fn begin<'t, E: EventLaw>(
     text: &'t [u8],
 ) -> Result<Judging<'t>, LogError>
     ensures judged { IfOk result (λ j. IsJudged system.now.caps j.past j.judged j.reader) }
+    ensures cursor { IfOk result (λ j. IsCursor j.reader) }
+    ensures ends { IfOk result (λ j. EndsAs text.now j.reader.rest) }
     ensures left { IfOk result (λ j. replayed (judged_under E.function system.now) text.now ≡ left_under E.function system.now j.reader j.reader.rest j.judged) }
     ensures front { IfOk result (λ j. (more : List ℕ) → length (text.now ++ more) ≤ 33554432
         → replayed (judged_under E.function system.now) (text.now ++ more) ≡ left_under E.function system.now j.reader (j.reader.rest ++ more) j.judged) }
@@ -70,7 +71,7 @@ pub(crate) fn begin<'t, E: EventLaw>(
     };
     let header = reader.header();
     let past = Windowed::new(SeedPast::new(header.seed, header.stream));
-    let judged = judge_begin(system, &header, &ReadRegion::of(reader.region()));
+    let judged = judge_begin(system, &header, &reader.region());
     Ok(Judging {
         past,
         judged,
@@ -85,30 +86,31 @@ fn pass<'t, E: EventLaw>(
     judged: Result<(), Rejection>,
     mut reader: LogReader<'t>,
 ) -> (Reading, &'t [u8])
-    requires { IsJudged system.now.caps past judged reader }
-    ensures judged { IsJudged system.now.caps result.0.past result.0.judged result.0.paused }
+    requires judged { IsJudged system.now.caps past judged reader }
+    requires cursor { IsCursor reader }
+    ensures ends { EndsAs reader.entry.rest result.1.now }
+    ensures judged { IsJudged system.now.caps result.0.past result.0.judged result.0.cursor }
     ensures left { (more : List ℕ) → left_under E.function system.now reader.entry (reader.entry.rest ++ more) judged
-        ≡ left_under E.function system.now result.0.paused (result.1.now ++ more) result.0.judged }
+        ≡ left_under E.function system.now result.0.cursor (result.1.now ++ more) result.0.judged }
 {
-    // Called for its clause: a reader is a cursor.
-    let _header = reader.header();
     let passed = judge_lines(system, &mut past, &mut reader, judged);
     let judged = passed.judged;
-    let (paused, rest) = reader.pause();
+    let (cursor, rest) = reader.into_cursor();
     let reading = Reading {
         past,
         judged,
-        paused,
+        cursor,
     };
     (reading, rest)
 }
 
-/// Goes on with the whole lines of a text. What is left of it stands beside: a line that isn't read, and what follows it.
+/// Reads and judges the whole lines of a piece of text. What is left of it stands beside: a line that isn't read, and what
+/// follows it.
 ///
 /// # Errors
 ///
 /// `AllocError` where memory is wanting, and no clause says when that is.
-pub(crate) fn go_on<'t, E: EventLaw>(
+pub(crate) fn judge_piece<'t, E: EventLaw>(
     alloc: Global,
     system: &System<'_, E>,
     progress: Progress,
@@ -116,6 +118,7 @@ pub(crate) fn go_on<'t, E: EventLaw>(
 ) -> Result<(Progress, &'t [u8]), AllocError>
     requires { IsSound system.now.caps progress }
     ensures sound { IfOk result (λ r. IsSound system.now.caps r.0) }
+    ensures ends { IfOk result (λ r. EndsAs text.now r.1.now) }
     ensures left { IfOk result (λ r. (taken tail : List ℕ) → IsProgress E.function system.now taken (text.now ++ tail) progress → IsProgress E.function system.now taken (r.1.now ++ tail) r.0) }
 {
     match progress {
@@ -127,7 +130,7 @@ pub(crate) fn go_on<'t, E: EventLaw>(
             Err(_) => Ok((Progress::Unread, text)),
         },
         Progress::Begun(reading) => {
-            let reader = match reading.paused.resume(alloc, text) {
+            let reader = match reading.cursor.resume(alloc, text) {
                 Ok(reader) => reader,
                 Err(error) => return Err(error),
             };
@@ -156,7 +159,7 @@ pub(crate) fn verdict_on<E: EventLaw>(
         Progress::Unread => replay_text(alloc, system, pending),
         Progress::Begun(reading) => {
             let mut past = reading.past;
-            let mut reader = match reading.paused.resume(alloc, pending) {
+            let mut reader = match reading.cursor.resume(alloc, pending) {
                 Ok(reader) => reader,
                 Err(_) => return Err(LogError::OutOfMemory),
             };

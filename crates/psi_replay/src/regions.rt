@@ -1,95 +1,58 @@
-//! A region of a log, and the rules that speak of its states.
+//! The rules that speak of the states of a region.
 
-ghost use Rattle.std.specs.Prelude.{◌≡◌, ◌==◌, ◌<◌, ◌≤◌, ℕ, true, length, slice_index};
-ghost use Rattle.psi_state.specs.State.{IsBelow, box};
-ghost use Rattle.psi_log_text.specs.Log.{in_box, in_set, IsLog, IsRegion};
-ghost use Rattle.psi_log.specs.Told.{shown};
+ghost use Rattle.std.specs.Prelude.{◌≡◌, ◌==◌, ◌<◌, ◌≤◌, ℕ, length, slice_index};
+ghost use Rattle.psi_state.specs.State.{box};
+ghost use Rattle.psi_log_format.specs.Log.{in_box, in_set, IsRegion};
+ghost use Rattle.psi_log_format.specs.Listed.{shown};
 ghost use Rattle.psi_replay.specs.Verdict.{states_of, has, is_within, is_small};
-ghost use Rattle.psi_replay.specs.Numbered.{nth_region};
-ghost use Rattle.psi_replay.specs.RegionsViews.{seen};
 
-use crate::sets::Set;
-use psi_log::{BorrowedRegion as Told, Log};
+use crate::sets::set_holds;
+use psi_log::{BorrowedRegion, Rows};
 use psi_state::{Bounds, MOST_SPLIT, State};
 
-/// A region of a log, borrowed from it.
-#[derive(Drop)]
-pub(crate) enum ReadRegion<'l> {
-    /// The states between two corners.
-    Box(&'l Bounds),
-    /// The states of a set.
-    Set(Set<'l>),
-}
-
-impl<'l> ReadRegion<'l> {
-    /// The region that is borrowed from a log.
-    #[inline]
-    pub(crate) fn of(told: Told<'l>) -> ReadRegion<'l>
-        ensures { seen result ≡ shown told.entry }
-    {
-        match told {
-            Told::Box(bounds) => ReadRegion::Box(bounds),
-            Told::Set(rows) => ReadRegion::Set(Set::new(rows)),
-        }
-    }
-}
-
-/// The region of a log with a number: 0 is the one at which the run begins, and `i` the one after the `i`-th
-/// step line.
-pub(crate) fn region_of(log: &Log, number: u32) -> ReadRegion<'_>
-    requires log { IsLog log.now }
-    requires number { number ≤ log.now.header.horizon }
-    ensures value { seen result ≡ nth_region log.entry.now number }
-    ensures regional { IsRegion log.entry.now.header.queues (seen result) }
+/// Whether a state is one of a region's. In a set it is looked for at the place `next` and before it first, and where it
+/// is found, `next` becomes the place behind it.
+#[inline]
+pub(crate) fn holds(region: &BorrowedRegion<'_>, x: &State, next: &mut usize) -> bool
+    requires { IsRegion (length x.now) (shown region.now) }
+    ensures { result ≡ has (states_of (shown region.now)) x.now }
 {
-    ReadRegion::of(log.look(number))
+    match region {
+        BorrowedRegion::Box(bounds) => bounds.holds(x),
+        BorrowedRegion::Set(rows) => set_holds(rows, x, next),
+    }
 }
 
-impl ReadRegion<'_> {
-    /// Whether a state is one of the region's. In a set it is looked for at the place `next` and before it first,
-    /// and where it is found, `next` becomes the place behind it.
-    #[inline]
-    pub(crate) fn holds(&self, x: &State, next: &mut usize) -> bool
-        requires { IsRegion (length x.now) (seen self.now) }
-        ensures { result ≡ has (states_of (seen self.now)) x.now }
-    {
-        match self {
-            ReadRegion::Box(bounds) => bounds.holds(x),
-            ReadRegion::Set(set) => set.holds(x, next),
-        }
+/// Whether no state of a region has more customers than a queue has room for.
+pub(crate) fn is_within(region: &BorrowedRegion<'_>, caps: &State) -> bool
+    requires { IsRegion (length caps.now) (shown region.now) }
+    ensures { result ≡ is_within caps.now (shown region.now) }
+{
+    match region {
+        BorrowedRegion::Box(bounds) => box_is_within(bounds, caps),
+        BorrowedRegion::Set(rows) => set_is_within(rows, caps),
     }
+}
 
-    /// Whether no state has more customers than a queue has room for.
-    pub(crate) fn is_within(&self, caps: &State) -> bool
-        requires { IsRegion (length caps.now) (seen self.now) }
-        ensures { result ≡ is_within caps.now (seen self.now) }
-    {
-        match self {
-            ReadRegion::Box(bounds) => box_is_within(bounds, caps),
-            ReadRegion::Set(set) => set_is_within(set, caps),
-        }
+/// Whether a region may be followed by another: a box that is followed by a set has at most 4,096 states.
+pub(crate) fn is_small(before: &BorrowedRegion<'_>, after: &BorrowedRegion<'_>) -> bool
+    ensures { result ≡ is_small (shown before.now) (shown after.now) }
+{
+    match (before, after) {
+        (BorrowedRegion::Box(bounds), BorrowedRegion::Set(_)) => bounds
+            .volume_at_most(MOST_SPLIT)
+            .is_some(),
+        _ => true,
     }
+}
 
-    /// Whether the region may be followed by another: a box that is followed by a set has at most 4,096 states.
-    pub(crate) fn is_small(&self, after: &ReadRegion<'_>) -> bool
-        ensures { result ≡ is_small (seen self.now) (seen after.now) }
-    {
-        match (self, after) {
-            (ReadRegion::Box(bounds), ReadRegion::Set(_)) => bounds
-                .volume_at_most(MOST_SPLIT)
-                .is_some(),
-            _ => true,
-        }
-    }
-
-    /// Whether the region has one state.
-    pub(crate) fn is_single(&self) -> bool
-        ensures { result ≡ (length (states_of (seen self.now)) == 1) }
-    {
-        match self {
-            ReadRegion::Box(bounds) => is_one_state(bounds),
-            ReadRegion::Set(set) => set.len() == 1,
-        }
+/// Whether a region has one state.
+pub(crate) fn is_single(region: &BorrowedRegion<'_>) -> bool
+    ensures { result ≡ (length (states_of (shown region.now)) == 1) }
+{
+    match region {
+        BorrowedRegion::Box(bounds) => is_one_state(bounds),
+        BorrowedRegion::Set(rows) => rows.len() == 1,
     }
 }
 
@@ -114,26 +77,26 @@ fn least_room(caps: &State) -> u16
 
 // Whether no state of a set has more customers than a queue has room for; at once where no number is above the least
 // capacity, which isn't looked for where there are few states.
-fn set_is_within(set: &Set<'_>, caps: &State) -> bool
-    requires { IsRegion (length caps.now) (in_set set.now) }
-    ensures { result ≡ is_within caps.now (in_set set.now) }
+fn set_is_within(rows: &Rows<'_>, caps: &State) -> bool
+    requires { IsRegion (length caps.now) (in_set rows.now.states) }
+    ensures { result ≡ is_within caps.now (in_set rows.now.states) }
 {
-    if set.len() <= 2 {
-        return each_is_within(set, caps);
+    if rows.len() <= 2 {
+        return each_is_within(rows, caps);
     }
-    if set.are_at_most(least_room(caps)) {
+    if rows.are_at_most(least_room(caps)) {
         return true;
     }
-    each_is_within(set, caps)
+    each_is_within(rows, caps)
 }
 
-// The same state by state.
-fn each_is_within(set: &Set<'_>, caps: &State) -> bool
-    requires { IsRegion (length caps.now) (in_set set.now) }
-    ensures { result ≡ is_within caps.now (in_set set.now) }
+// As `set_is_within`, state by state.
+fn each_is_within(rows: &Rows<'_>, caps: &State) -> bool
+    requires { IsRegion (length caps.now) (in_set rows.now.states) }
+    ensures { result ≡ is_within caps.now (in_set rows.now.states) }
 {
-    for place in 0..set.len() {
-        if !set.leq(place, caps) {
+    for place in 0..rows.len() {
+        if !rows.leq(place, caps) {
             return false;
         }
     }

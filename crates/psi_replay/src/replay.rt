@@ -1,21 +1,68 @@
 //! The verdict on a log, and on the log that a text is.
 
-ghost use Rattle.std.specs.Prelude.{◌≡◌};
+ghost use Rattle.std.specs.Prelude.{◌≡◌, ◌+◌, ◌-◌, ◌<◌, length, true, Some, Ok, OnOk};
 ghost use Rattle.psi_past.specs.SeedWord.{seed_word};
 ghost use Rattle.psi_rate.specs.Composition.{system_functions};
 ghost use Rattle.psi_log_words.specs.Refusal.{Gives};
-ghost use Rattle.psi_replay.specs.Verdict.{judged, verdict_of, event_numbers, ReachesAccepted, AcceptsWithin};
-ghost use Rattle.psi_replay.specs.Passes.{judged_under, replayed};
+ghost use Rattle.psi_log_format.specs.Listed.{shown};
+ghost use Rattle.psi_log.specs.Told.{region_at, step_at};
+ghost use Rattle.psi_replay.specs.Judging.{region_before};
+ghost use Rattle.psi_log_format.specs.Log.{LogRegion, IsRegion};
+ghost use Rattle.psi_replay.specs.Verdict.{is_within, judge_steps, judged, verdict_of, event_numbers, ReachesAccepted, AcceptsWithin};
+ghost use Rattle.psi_replay.specs.Passes.{told, and_then, judged_under, replayed};
 
 use crate::answers::Verdict;
-use crate::judging::judged;
-use crate::passing::verdict_left;
+use crate::causes::Rejection;
+use crate::judging::{StepLine, judge_begin, judge_last, judge_next};
+use crate::passing::{verdict_from, verdict_left};
 use crate::progress::begin;
 use psi_event::EventLaw;
 use psi_log::{Log, LogError};
-use psi_past::{SeedPast, Windowed};
+use psi_past::{Past, SeedPast, Windowed};
 use psi_rate::System;
 use std::alloc::Global;
+
+// The line of the step of a log behind so many others.
+fn line_in(log: &Log, done: u32) -> StepLine<'_>
+    requires { done < log.now.header.horizon }
+    ensures line { result.line ≡ 7 + done }
+    ensures time { result.time ≡ log.entry.now.header.horizon - done }
+    ensures step { step_at log.entry.now (done + 1) ≡ Some result.step }
+    ensures before { region_at log.entry.now done ≡ Some (region_before result) }
+    ensures after { region_at log.entry.now (done + 1) ≡ Some (shown result.after) }
+    ensures regional { IsRegion log.entry.now.header.queues (shown result.after) }
+{
+    let horizon = log.header().horizon;
+    StepLine {
+        line: 7 + done,
+        time: horizon - done,
+        step: log.step(done + 1),
+        before: Some(log.look(done)),
+        after: log.look(done + 1),
+    }
+}
+
+// Judges the lines of the steps of a log, unless a rule is broken already.
+fn judge_steps<E: EventLaw, P: Past>(
+    system: &System<'_, E>,
+    past: &mut P,
+    log: &Log,
+    before: Result<(), Rejection>,
+) -> Result<(), Rejection>
+    requires queues { OnOk before (log.now.header.queues ≡ length system.now.caps) }
+    requires within { OnOk before (is_within system.now.caps log.now.begin ≡ true) }
+    ensures value { let words = P.words past.old in
+        (last : LogRegion) → region_at log.now log.now.header.horizon ≡ Some last
+        → and_then (told before) (judge_steps system.now.caps system.now.limit (event_numbers system.now words) (system_functions E.function system.now words)
+        7 log.now.header.horizon log.now.begin log.now.entries) ≡ and_then (told result) (Ok last) }
+{
+    let horizon = log.header().horizon;
+    let mut judged = before;
+    for done in 0..horizon {
+        judged = judge_next(system, past, &line_in(log, done), judged);
+    }
+    judged
+}
 
 /// The verdict on a log of a network: accepted where it breaks no rule, whoever wrote it, and rejected else, at
 /// the first line that breaks one.
@@ -45,17 +92,12 @@ pub fn verdict<E: EventLaw>(system: &System<'_, E>, log: &Log) -> Verdict
     // Called for its clause: the events fit the capacities.
     let _caps = system.caps();
     let header = log.header();
+    let end = log.end();
     let mut past = Windowed::new(SeedPast::new(header.seed, header.stream));
-    match judged(system, &mut past, log) {
-        Ok(()) => Verdict::Accepted {
-            horizon: header.horizon,
-            state: log.end(),
-        },
-        Err(rejection) => Verdict::Rejected {
-            line: rejection.line,
-            cause: rejection.cause.code(),
-        },
-    }
+    let begun = judge_begin(system, &header, &log.look(0));
+    let judged = judge_steps(system, &mut past, log, begun);
+    let last = judge_last(judged, 7 + header.horizon, &log.look(header.horizon), &end);
+    verdict_from(&header, &end, last)
 }
 
 /// The verdict of a network on the log that a text is: what [`verdict`] gives on the log that `psi_log::read_log`

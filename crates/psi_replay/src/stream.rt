@@ -1,22 +1,22 @@
 //! A replay whose text comes piece by piece.
 
-ghost use Rattle.std.specs.Prelude.{◌≡◌, ℕ, ◌≤◌, ◌++◌, [], List, length, IfOk, OnOk};
+ghost use Rattle.std.specs.Prelude.{◌≡◌, ℕ, ◌≤◌, ◌++◌, [], List, length, drop, IfOk, OnOk};
 ghost use Rattle.psi_log_words.specs.Refusal.{Gives};
 ghost use Rattle.psi_replay.specs.Passes.{judged_under, replayed};
 ghost use Rattle.psi_replay.specs.Streams.{IsSound, IsProgress};
 
 use crate::answers::Verdict;
-use crate::progress::{Progress, go_on, verdict_on};
-use crate::taken::Taken;
+use crate::progress::{Progress, judge_piece, verdict_on};
 use psi_event::EventLaw;
-use psi_io::{Consumer, OutOfMemory};
+use psi_io::{Consumer, Noted, OutOfMemory};
 use psi_log::{Cause, LogError};
+use psi_log_format::MOST_LOG_BYTES;
 use psi_rate::System;
 use std::alloc::{AllocError, Global};
 use std::marker::Model;
 
 // The most bytes of a log.
-const MOST: usize = 33_554_432;
+const MOST: usize = MOST_LOG_BYTES as usize;
 
 // How many bytes are pending at least where lines of them are read before the end: to begin with them and to leave them
 // takes some time.
@@ -27,22 +27,21 @@ const BATCH: usize = 32_768;
 const TRIES: u8 = 64;
 
 /// The replay of a log whose text comes piece by piece: as [`replay_text`](crate::replay_text) of the pieces, one behind
-/// another, but the text is never held whole. Whole lines are read and judged as they come, and what is kept is what is
-/// left over, up to the next line feed, with two regions and the words of one line.
+/// another. Whole lines are read and judged as they come, and what is kept is what is left over, up to the next line feed,
+/// with two regions and the words of one line. From a line on that isn't read, because it is refused or memory is wanting,
+/// the text is held up to its end, once.
 ///
 /// It is seen as the network, and the text that it took.
 #[derive(Drop)]
 pub struct StreamReplay<'s, 'n, E: EventLaw> {
     alloc: Global,
     system: &'s System<'n, E>,
-    taken: Taken,
+    taken: Noted,
     // How many bytes were taken, but at most one more than a log may have.
     count: usize,
     progress: Progress,
     // The bytes that were taken and aren't read yet.
     pending: Vec<u8>,
-    // The memory of the next ones that are pending.
-    spare: Vec<u8>,
     // How many times lines are still tried.
     tries: u8,
 }
@@ -70,6 +69,19 @@ fn lines_end(piece: &[u8]) -> usize
     }
 }
 
+// Lets go of the first so many bytes, and moves the others to the front.
+fn drop_front(bytes: &mut Vec<u8>, count: usize)
+    requires { count ≤ length bytes.old.items }
+    ensures { bytes.new.items ≡ drop count bytes.old.items }
+{
+    if count == 0 {
+        return;
+    }
+    let len = bytes.len();
+    bytes.copy_within(count..len, 0);
+    bytes.truncate(len - count);
+}
+
 // Reads and judges the first so many of the bytes that are pending, which end where a line does, and keeps what is left.
 // Whether a line of them wasn't read stands beside.
 fn read_on<E: EventLaw>(
@@ -77,7 +89,6 @@ fn read_on<E: EventLaw>(
     system: &System<'_, E>,
     progress: Progress,
     pending: &mut Vec<u8>,
-    spare: &mut Vec<u8>,
     count: usize,
 ) -> Result<(Progress, bool), AllocError>
     requires sound { IsSound system.now.caps progress }
@@ -85,23 +96,15 @@ fn read_on<E: EventLaw>(
     ensures sound { IfOk result (λ r. IsSound system.now.caps r.0) }
     ensures left { IfOk result (λ r. (taken : List ℕ) → IsProgress E.function system.now taken pending.old.items progress → IsProgress E.function system.now taken pending.new.items r.0) }
 {
-    let (lines, behind) = pending.split_at(count);
-    let (progress, rest) = match go_on(alloc, system, progress, lines) {
+    let (lines, _) = pending.split_at(count);
+    let (progress, rest) = match judge_piece(alloc, system, progress, lines) {
         Ok(read) => read,
         Err(error) => return Err(error),
     };
-    let stands = !rest.is_empty();
-    if rest == lines {
-        // Nothing was read: all stays where it is.
-        return Ok((progress, stands));
-    }
-    spare.clear();
-    // As much as is there already, so that it grows by the same lengths.
-    spare.reserve(pending.capacity())?;
-    spare.extend_from_slice(rest)?;
-    spare.extend_from_slice(behind)?;
-    std::mem::swap(pending, spare);
-    Ok((progress, stands))
+    let left = rest.len();
+    let read = lines.len() - left;
+    drop_front(pending, read);
+    Ok((progress, left > 0))
 }
 
 impl<'s, 'n, E: EventLaw> StreamReplay<'s, 'n, E> {
@@ -112,11 +115,10 @@ impl<'s, 'n, E: EventLaw> StreamReplay<'s, 'n, E> {
         StreamReplay {
             alloc,
             system,
-            taken: Taken::new(),
+            taken: Noted::new(),
             count: 0,
             progress: Progress::Unread,
             pending: Vec::new(alloc),
-            spare: Vec::new(alloc),
             tries: TRIES,
         }
     }
@@ -156,14 +158,7 @@ impl<'s, 'n, E: EventLaw> StreamReplay<'s, 'n, E> {
         }
         let count = self.pending.len().saturating_sub(behind);
         let progress = std::mem::replace(&mut self.progress, Progress::Lost);
-        let read = read_on(
-            self.alloc,
-            self.system,
-            progress,
-            &mut self.pending,
-            &mut self.spare,
-            count,
-        );
+        let read = read_on(self.alloc, self.system, progress, &mut self.pending, count);
         let (progress, stands) = match read {
             Ok(read) => read,
             Err(error) => return Err(error),

@@ -12,22 +12,22 @@ use Rattle.psi_region.proofs.RegionLemmas.{start-area, step-area}
 use Rattle.psi_horizon.specs.Runs.{region_after, ending_at}
 use Rattle.psi_horizon.specs.Agreeing.{Agree}
 use Rattle.psi_horizon.proofs.AgreeingLemmas.{step-agree}
-use Rattle.psi_log_text.specs.declared.header.Header.{Header}
-use Rattle.psi_log_text.specs.Log.{Entry, Certificate, IsLog}
-use Rattle.psi_log_text.specs.Text.{IsLogOf}
+use Rattle.psi_log_format.specs.declared.header.Header.{Header}
+use Rattle.psi_log_format.specs.Log.{Entry, Certificate, IsLog}
+use Rattle.psi_log_format.specs.Text.{IsLogOf}
 use Rattle.psi_log_words.specs.Refusal.{Refusal}
 use Rattle.psi_log.proofs.ReadLemmas.{read_again}
 use Rattle.psi_log_writer.specs.Recorded.{region_of, entry_after, recorded, header_of, log_of}
 use Rattle.psi_log_writer.proofs.AcceptedLemmas.{recorded-log, recorded-judged}
 use Rattle.psi_replay.specs.Verdict.{verdict_of}
-use Rattle.psi_model.proofs.QueueLemmas.{capacities_kept}
-use Rattle.psi_model.specs.Network.{Network, caps_of, rates_of}
-use Rattle.psi_model.specs.Valid.{IsNetwork}
+use Rattle.psi_net_model.proofs.QueueLemmas.{capacities_kept}
+use Rattle.psi_net_model.specs.Network.{Network, caps_of, rates_of}
+use Rattle.psi_net_model.specs.Valid.{IsNetwork}
 use Rattle.psi_command.specs.declared.status.Status.TheVariants as status
 use Rattle.psi_reply.specs.Sample.{functions_by_time}
 use Rattle.psi_reply.specs.Networks.{IsSystemOf}
 use Rattle.psi_reply.specs.Replay.{events_by_time, judgement}
-use Rattle.psi_answers.specs.Texts.{accepted_text}
+use Rattle.psi_reply.specs.Texts.{accepted_text}
 use Rattle.psi_reply.specs.Certify.{certificate}
 use Rattle.psi_program.specs.Reply.{text_reply}
 use Rattle.psi_reply.specs.Reply.{verdict_reply, judged_log, replay_reply}

@@ -12,14 +12,14 @@ use Rattle.psi_rate.specs.Composition.{Parts}
 use Rattle.psi_rate.specs.Doubling.{IsFirst}
 use Rattle.psi_rate.proofs.PowersLemmas.{pow-order}
 use Rattle.psi_horizon.specs.Runs.{ending_at}
-use Rattle.psi_log_text.specs.Log.{Certificate}
-use Rattle.psi_log_text.specs.Text.{log_text, IsLogOf}
+use Rattle.psi_log_format.specs.Log.{Certificate}
+use Rattle.psi_log_format.specs.Text.{log_text, IsLogOf}
 use Rattle.psi_log_writer.specs.Recorded.{log_of}
-use Rattle.psi_model.specs.Network.{Network, caps_of}
-use Rattle.psi_model.specs.Valid.{IsNetwork}
-use Rattle.psi_model.specs.declared.entries.Queue.{Queue}
+use Rattle.psi_net_model.specs.Network.{Network, caps_of}
+use Rattle.psi_net_model.specs.Valid.{IsNetwork}
+use Rattle.psi_net_model.specs.declared.entries.Queue.{Queue}
 use Rattle.psi_command.specs.declared.status.Status.TheVariants as status
-use Rattle.psi_answers.specs.Lines.{too_long_line}
+use Rattle.psi_reply.specs.Lines.{too_long_line}
 use Rattle.psi_reply.specs.Sample.{functions_by_time, sampled, IsDrawn}
 use Rattle.psi_reply.specs.Networks.{IsSystemOf}
 use Rattle.psi_reply.specs.Certify.{certificate}

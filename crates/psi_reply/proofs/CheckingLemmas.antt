@@ -1,7 +1,7 @@
 -- The description of a network.
 use Rattle.std.specs.Prelude.{◌≡◌, List, ℕ, Option, refl}
 use Rattle.psi_io.specs.Sink.{appended}
-use Rattle.psi_model.specs.Network.{Network}
+use Rattle.psi_net_model.specs.Network.{Network}
 use Rattle.psi_command.specs.declared.status.Status.TheVariants.{Done}
 use Rattle.psi_reply.specs.Check.{check_text, AreMarked, IsChecked}
 

@@ -10,6 +10,7 @@ use Rattle.std.proofs.lemmas.List.Elements.{All-tail}
 use Rattle.std.proofs.lemmas.List.Sums.{prefix_len-le-length}
 use Rattle.psi_io.specs.Sink.{appended}
 use Rattle.psi_state.specs.declared.Outcome.{Outcome}
+use Rattle.psi_state.specs.declared.Outcome.TheVariants.{Met, NotMet}
 use Rattle.psi_past.specs.SeedWord.{seed_word}
 use Rattle.psi_kinds.specs.declared.Move.{Move}
 use Rattle.psi_kinds.specs.Kinds.{do_kind}
@@ -18,19 +19,21 @@ use Rattle.psi_kinds.proofs.MoveLemmas.{move-is, move-does}
 use Rattle.psi_rate.specs.Composition.{Functions, function_at, AreKeeping}
 use Rattle.psi_rate.specs.Outcomes.{IsOutcome, outcome_within}
 use Rattle.psi_rate.proofs.OutcomesLemmas.{outcome_within-is}
-use Rattle.psi_arcs.specs.Walks.{customers}
+use Rattle.psi_closed_arcs.specs.Walks.{customers}
 use Rattle.psi_closed.specs.Closed.{IsOfTotal, closed_ending}
 use Rattle.psi_closed.specs.Planned.{AreMoves, IsClosedSample, closed_functions}
 use Rattle.psi_closed.proofs.DiagramLemmas.{total-some}
 use Rattle.psi_closed.proofs.RunsLemmas.{outcome-reached, outcome-decides, outcome-of}
 use Rattle.psi_closed.proofs.PlanLemmas.{moves-keep}
 use Rattle.psi_closed.proofs.StatesLemmas.{customers-next}
-use Rattle.psi_model.specs.Network.{Network, caps_of, rates_of}
-use Rattle.psi_model.specs.Valid.{IsNetwork, IsAccepted}
-use Rattle.psi_model.specs.declared.entries.NamedEvent.{NamedEvent}
-use Rattle.psi_model.specs.declared.entries.Queue.{Queue}
+use Rattle.psi_net_model.specs.Network.{Network, caps_of, rates_of}
+use Rattle.psi_net_model.specs.Valid.{IsNetwork, IsAccepted}
+use Rattle.psi_net_model.specs.declared.entries.NamedEvent.{NamedEvent}
+use Rattle.psi_net_model.specs.declared.entries.Queue.{Queue}
 use Rattle.psi_command.specs.declared.status.Status.TheVariants.{NoSuchTotal}
-use Rattle.psi_answers.specs.Lines.{no_total_line}
+use Rattle.psi_reply.specs.Lines.{no_total_line}
+use Rattle.psi_reply.specs.Texts.{IsWithinLimit}
+use Rattle.psi_report.specs.Samples.{IsSampleOf}
 use Rattle.psi_reply.specs.Sample.{functions_by_time}
 use Rattle.psi_reply.specs.Closed.{first_other, AreMovesOf, closed_endings, closed_sampled, IsClosedSampled}
 use Rattle.psi_program.specs.Reply.{line_reply}
@@ -211,6 +214,23 @@ pub sampled_of : (net : Network) (seed stream total : ℕ) (moves : List Move) (
 unfolding closed_sampled closed_endings
 sampled_of net seed stream total moves outcome kept are is =
     is ∙ ap (λ (f : Functions). outcome_within (closed_ending (caps_of net) total f) net.limit) (functions-of_moves net seed stream moves kept are)
+
+-- a sample that is met has a state within the capacities, and its horizon is a power of two of at most 2^22
+pub closed-counts : (net : Network) (total : ℕ) (f : Functions) (outcome : Outcome) → IsNetwork net → IsClosedSample (caps_of net) total f net.limit outcome → IsSampleOf net outcome
+closed-counts net total f (Met horizon state) kept drawn =
+    let first = drawn.least in
+    let few : first.exponent ≤ net.limit = first.within in
+    let most : net.limit ≤ 22 = kept.limit in
+    (record { exponent = first.exponent; few = omega arith; power = first.power }, drawn.within.within)
+closed-counts net total f (NotMet l) kept drawn = tt
+
+-- and one that isn't met tells a limit of at most 22
+pub closed-within : (net : Network) (total : ℕ) (f : Functions) (outcome : Outcome) → IsNetwork net → IsClosedSample (caps_of net) total f net.limit outcome → IsWithinLimit outcome
+closed-within net total f (Met horizon state) kept drawn = tt
+closed-within net total f (NotMet l) kept drawn =
+    let told : l ≡ net.limit = drawn.least.0 in
+    let most : net.limit ≤ 22 = kept.limit in
+    omega arith
 
 -- ---- what is printed
 

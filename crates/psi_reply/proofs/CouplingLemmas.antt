@@ -23,14 +23,14 @@ use Rattle.psi_couple.specs.Valuing.{value_at, valued_of, valued_within, IsValue
 use Rattle.psi_couple.proofs.AgreeingLemmas.{coupled_within-agree, valued_within-agree}
 use Rattle.psi_couple.proofs.CouplingLemmas.{coupled-decides}
 use Rattle.psi_couple.proofs.ValuingLemmas.{value-reached, valued-decides}
-use Rattle.psi_model.specs.Network.{Network, NamedReward, caps_of, rates_of}
-use Rattle.psi_model.specs.Valid.{IsNetwork}
+use Rattle.psi_net_model.specs.Network.{Network, NamedReward, caps_of, rates_of}
+use Rattle.psi_net_model.specs.Valid.{IsNetwork}
 use Rattle.psi_reply.specs.Sample.{functions_by_time}
 use Rattle.psi_reply.specs.Networks.{IsSystemOf}
 use Rattle.psi_reply.specs.Couple.{endings, coupling, coupling_status, IsCouplingOf}
-use Rattle.psi_answers.specs.Couplings.{coupling_text}
+use Rattle.psi_reply.specs.Couplings.{coupling_text}
 use Rattle.psi_reply.specs.Reward.{kind_named, values, valuation, value_status, IsValueOf, IsRewardOf}
-use Rattle.psi_answers.specs.Values.{value_text}
+use Rattle.psi_reply.specs.Values.{value_text}
 use Rattle.psi_reply.specs.Reply.{value_reply}
 use Rattle.psi_reply.proofs.SamplingLemmas.{functions_by_time-closed, functions-alike, of_network}
 

@@ -7,10 +7,10 @@ use Rattle.psi_past.specs.SeedWord.{seed_word}
 use Rattle.psi_rate.specs.Rates.{event_of}
 use Rattle.psi_rate.specs.Composition.{Parts, Functions, function_at, system_functions}
 use Rattle.psi_horizon.specs.Agreeing.{Agree}
-use Rattle.psi_log_text.specs.Log.{LogRegion, Entry, Certificate, IsLog}
+use Rattle.psi_log_format.specs.Log.{LogRegion, Entry, Certificate, IsLog}
 use Rattle.psi_log_words.specs.Refusal.{Refusal, ◌>>=◌, holds_or}
-use Rattle.psi_model.specs.Network.{Network, caps_of, rates_of}
-use Rattle.psi_model.specs.Valid.{IsNetwork}
+use Rattle.psi_net_model.specs.Network.{Network, caps_of, rates_of}
+use Rattle.psi_net_model.specs.Valid.{IsNetwork}
 use Rattle.psi_replay.specs.declared.answers.Verdict.{Verdict}
 use Rattle.psi_replay.specs.declared.causes.Cause.TheVariants.{Header, StepNumber, WrongEvent, OutsideBox, NotCovered, SplitTooLarge}
 use Rattle.psi_replay.specs.Verdict.{rejected, states_of, has, covers, is_within, is_small, holds_all, judge_step, judge_steps, judge_end, judged, event_numbers, verdict_of}

@@ -1,4 +1,6 @@
 -- The lemmas of this crate.
+pub mod ListingLemmas
+pub mod ImagingLemmas
 pub mod SamplingLemmas
 pub mod CheckingLemmas
 pub mod ReportingLemmas

@@ -9,8 +9,8 @@ use Rattle.psi_rate.specs.Composition.{Parts}
 use Rattle.psi_rate.specs.System.{IsSystem}
 use Rattle.psi_kinds.specs.Kinds.{do_kind, Does}
 use Rattle.psi_kinds.specs.Forms.{upset_of}
-use Rattle.psi_model.specs.Made.{EachDoes}
-use Rattle.psi_model.specs.declared.entries.NamedEvent.{NamedEvent}
+use Rattle.psi_net_model.specs.Made.{EachDoes}
+use Rattle.psi_net_model.specs.declared.entries.NamedEvent.{NamedEvent}
 use Rattle.psi_kinds.specs.declared.Kind.{Kind}
 
 -- one after the other, each does what its kind does: so at a place

@@ -3,7 +3,7 @@ use Rattle.std.specs.Prelude.{◌≡◌, ℕ, List, [], Option, Result, Ok, Err,
 use Rattle.std.proofs.Common.{ap, inl, inr, sym, ◌∙◌, subst}
 use Rattle.psi_io.specs.Sink.{appended}
 use Rattle.psi_io.proofs.SinkLemmas.{appended-nothing}
-use Rattle.psi_log_text.specs.Log.{Certificate}
+use Rattle.psi_log_format.specs.Log.{Certificate}
 use Rattle.psi_log_words.specs.Refusal.{Refusal, ◌>>=◌, Gives}
 use Rattle.psi_log_words.specs.declared.refusals.LogError.{LogError}
 use Rattle.psi_log_words.specs.declared.refusals.LogError.TheVariants.{Refused, OutOfMemory}
@@ -12,12 +12,12 @@ use Rattle.psi_log.specs.Reading.{read}
 use Rattle.psi_log.proofs.ReadLemmas.{read_found}
 use Rattle.psi_rate.specs.Composition.{Parts}
 use Rattle.psi_program.specs.Reply.{line_reply}
-use Rattle.psi_answers.specs.Lines.{log_refused_line}
+use Rattle.psi_reply.specs.Lines.{log_refused_line}
 use Rattle.psi_replay.specs.Verdict.{verdict_of}
 use Rattle.psi_replay.specs.Passes.{judged_under, replayed}
 use Rattle.psi_replay.specs.declared.answers.Verdict.{Verdict}
-use Rattle.psi_model.specs.Network.{Network}
-use Rattle.psi_model.specs.Valid.{IsNetwork}
+use Rattle.psi_net_model.specs.Network.{Network}
+use Rattle.psi_net_model.specs.Valid.{IsNetwork}
 use Rattle.psi_command.specs.declared.status.Status.TheVariants as status
 use Rattle.psi_reply.specs.Replay.{judgement, IsReplayed}
 use Rattle.psi_reply.specs.Networks.{IsSystemOf}

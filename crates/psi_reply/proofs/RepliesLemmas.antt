@@ -1,20 +1,20 @@
 -- Each reply is one that its command can have.
 use Rattle.std.specs.Prelude.{ℕ, List, length, Option, Ok, refl, Bool, true, false, nat_le, codes, if◌then◌else◌, Some, None, Result, Err}
 use Rattle.psi_state.specs.declared.Outcome.{Outcome}
-use Rattle.psi_model.specs.Network.{Network, caps_of}
+use Rattle.psi_net_model.specs.Network.{Network, caps_of}
 use Rattle.psi_command.specs.Command.{Command, reward, exact, closed, certify, replay}
-use Rattle.psi_answers.specs.Texts.{outcome_text}
+use Rattle.psi_reply.specs.Texts.{outcome_text}
 use Rattle.psi_reply.specs.Sample.{outcome_status}
 use Rattle.psi_program.specs.Reply.{text_reply, line_reply}
 use Rattle.psi_reply.specs.Reply.{IsReply, value_reply, survey_reply, outcome_reply, closed_reply, log_reply, certify_reply, verdict_reply, judged_log, refused_reply}
-use Rattle.psi_arcs.specs.Walks.{customers}
+use Rattle.psi_closed_arcs.specs.Walks.{customers}
 use Rattle.psi_exact.specs.declared.answers.Meeting.{Meeting}
 use Rattle.psi_exact.specs.declared.answers.Meeting.TheVariants.{Constant, NotConstant}
 use Rattle.psi_net_document.specs.declared.refusals.NetRefusal.{NetRefusal}
 use Rattle.psi_command.specs.declared.status.Status.TheVariants as status
 use Rattle.psi_state.specs.declared.Outcome.TheVariants.{Met, NotMet}
-use Rattle.psi_log_text.specs.Log.{Certificate}
-use Rattle.psi_log_text.specs.Text.{log_text}
+use Rattle.psi_log_format.specs.Log.{Certificate}
+use Rattle.psi_log_format.specs.Text.{log_text}
 use Rattle.psi_log_words.specs.Refusal.{Refusal}
 use Rattle.psi_replay.specs.declared.answers.Verdict.{Verdict}
 use Rattle.psi_replay.specs.declared.answers.Verdict.TheVariants.{Accepted, Rejected}
@@ -25,9 +25,9 @@ use Rattle.psi_couple.specs.declared.answers.Valued.{Valued}
 use Rattle.psi_couple.specs.declared.answers.Coupled.TheVariants as coupled
 use Rattle.psi_couple.specs.declared.answers.Valued.TheVariants as valued
 use Rattle.psi_reply.specs.Couple.{coupling_status}
-use Rattle.psi_answers.specs.Couplings.{coupling_text}
+use Rattle.psi_reply.specs.Couplings.{coupling_text}
 use Rattle.psi_reply.specs.Reward.{valuation, value_status}
-use Rattle.psi_answers.specs.Values.{value_text}
+use Rattle.psi_reply.specs.Values.{value_text}
 use Rattle.psi_reply.specs.Exact.{state_count, meeting, meeting_status, exact_text}
 use Rattle.psi_reply.specs.Closed.{closed_sampled}
 use Rattle.psi_reply.specs.Certify.{certificate}

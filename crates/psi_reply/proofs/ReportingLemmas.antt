@@ -5,9 +5,9 @@ use Rattle.std.proofs.Common.{ap, ◌∙◌, subst, arith}
 use Rattle.psi_io.specs.Sink.{appended}
 use Rattle.psi_state.specs.declared.Outcome.{Outcome}
 use Rattle.psi_state.specs.declared.Outcome.TheVariants.{Met, NotMet}
-use Rattle.psi_model.specs.Network.{Network}
-use Rattle.psi_model.specs.Generated.{generated_network}
-use Rattle.psi_model.specs.Valid.{IsNetwork}
+use Rattle.psi_net_model.specs.Network.{Network}
+use Rattle.psi_net_model.specs.Generated.{generated_network}
+use Rattle.psi_net_model.specs.Valid.{IsNetwork}
 use Rattle.psi_report.specs.Samples.{IsSampleOf}
 use Rattle.psi_report.specs.Report.{report_text}
 use Rattle.psi_command.specs.declared.status.Status.TheVariants.{Done}

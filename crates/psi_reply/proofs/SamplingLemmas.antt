@@ -15,13 +15,13 @@ use Rattle.psi_horizon.proofs.AgreeingLemmas.{agree-back, alike-closed_at, funct
 use Rattle.psi_horizon.proofs.SampleLemmas.{sample-is}
 use Rattle.psi_kinds.specs.Kinds.{Does, do_kind}
 use Rattle.psi_kinds.proofs.ClosingLemmas.{kind-closed}
-use Rattle.psi_model.specs.Network.{Network, caps_of, rates_of, functions_of}
-use Rattle.psi_model.specs.Valid.{IsNetwork, IsAccepted}
-use Rattle.psi_model.specs.Made.{EachDoes}
-use Rattle.psi_model.specs.declared.entries.NamedEvent.{NamedEvent}
-use Rattle.psi_model.proofs.QueueLemmas.{capacities_kept}
+use Rattle.psi_net_model.specs.Network.{Network, caps_of, rates_of, functions_of}
+use Rattle.psi_net_model.specs.Valid.{IsNetwork, IsAccepted}
+use Rattle.psi_net_model.specs.Made.{EachDoes}
+use Rattle.psi_net_model.specs.declared.entries.NamedEvent.{NamedEvent}
+use Rattle.psi_net_model.proofs.QueueLemmas.{capacities_kept}
 use Rattle.psi_io.specs.Sink.{appended}
-use Rattle.psi_answers.specs.Texts.{outcome_text}
+use Rattle.psi_reply.specs.Texts.{outcome_text}
 use Rattle.psi_reply.specs.Sample.{functions_by_time, sampled, outcome_status, IsDrawn, IsSampled}
 use Rattle.psi_reply.specs.Networks.{IsSystemOf}
 

@@ -26,12 +26,12 @@ use Rattle.psi_exact.specs.Sizes.{image_sizes}
 use Rattle.psi_exact.specs.Surveys.{meeting_within, IsMeeting}
 use Rattle.psi_exact.proofs.SurveysLemmas.{meeting_of-is, meeting_within-only, meeting-reaches, meeting-below}
 use Rattle.psi_exact.proofs.RegionsLemmas.{least-meets, meeting-monotone_only}
-use Rattle.psi_model.specs.Network.{Network, caps_of, functions_of, rates_of}
-use Rattle.psi_model.specs.Valid.{IsNetwork}
+use Rattle.psi_net_model.specs.Network.{Network, caps_of, functions_of, rates_of}
+use Rattle.psi_net_model.specs.Valid.{IsNetwork}
 use Rattle.psi_command.specs.declared.status.Status.{Status}
 use Rattle.psi_command.specs.declared.status.Status.TheVariants.{TooManyStates}
-use Rattle.psi_answers.specs.Lines.{too_many_line}
-use Rattle.psi_answers.specs.Surveys.{survey_text}
+use Rattle.psi_reply.specs.Lines.{too_many_line}
+use Rattle.psi_reply.specs.Surveys.{survey_text}
 use Rattle.psi_reply.specs.Sample.{functions_by_time}
 use Rattle.psi_reply.specs.Networks.{IsSystemOf}
 use Rattle.psi_reply.specs.Couple.{endings}

@@ -3,11 +3,11 @@ use Rattle.std.specs.Prelude.{◌≡◌, ℕ, ◌<◌, List, length, Option, ◌
 use Rattle.psi_io.specs.Sink.{appended}
 use Rattle.psi_state.specs.declared.Outcome.{Outcome}
 use Rattle.psi_state.specs.declared.Outcome.TheVariants.{Met, NotMet}
-use Rattle.psi_log_text.specs.Text.{log_text, IsLogOf}
-use Rattle.psi_model.specs.Network.{Network}
+use Rattle.psi_log_format.specs.Text.{log_text, IsLogOf}
+use Rattle.psi_net_model.specs.Network.{Network}
 use Rattle.psi_command.specs.declared.status.Status.{Status}
 use Rattle.psi_command.specs.declared.status.Status.TheVariants.{Done, NotCoupled, LogTooLong}
-use Rattle.psi_answers.specs.Texts.{outcome_text, accepted_text}
+use Rattle.psi_reply.specs.Texts.{outcome_text, accepted_text}
 use Rattle.psi_reply.specs.Sample.{IsDrawn}
 use Rattle.psi_reply.specs.Certify.{certificate}
 use Rattle.psi_program.specs.Reply.{text_reply}

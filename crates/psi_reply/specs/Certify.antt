@@ -1,8 +1,8 @@
 -- The log of a sample.
 use Rattle.std.specs.Prelude.{ℕ, List}
-use Rattle.psi_log_text.specs.Log.{Certificate}
+use Rattle.psi_log_format.specs.Log.{Certificate}
 use Rattle.psi_log_writer.specs.Recorded.{recorded, header_of}
-use Rattle.psi_model.specs.Network.{Network, caps_of}
+use Rattle.psi_net_model.specs.Network.{Network, caps_of}
 use Rattle.psi_reply.specs.Sample.{functions_by_time}
 use Rattle.psi_reply.specs.Replay.{events_by_time}
 

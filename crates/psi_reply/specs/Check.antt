@@ -7,10 +7,10 @@ use Rattle.psi_event.specs.Law.{ShowsUpset}
 use Rattle.psi_rate.specs.Rates.{total, least_power}
 use Rattle.psi_kinds.specs.Kinds.{do_kind}
 use Rattle.psi_kinds.specs.Forms.{upset_of}
-use Rattle.psi_model.specs.Network.{Network, caps_of, rates_of, marks_of}
+use Rattle.psi_net_model.specs.Network.{Network, caps_of, rates_of, marks_of}
 use Rattle.psi_command.specs.declared.status.Status.{Status}
 use Rattle.psi_command.specs.declared.status.Status.TheVariants.{Done}
-use Rattle.psi_answers.specs.Texts.{number_line, state_text}
+use Rattle.psi_reply.specs.Texts.{number_line, state_text}
 
 -- a queue: its name, its capacity and the number of its servers
 unfoldable pub queue_line : (name : List ℕ) (capacity servers : ℕ) → List ℕ

@@ -7,14 +7,14 @@ use Rattle.psi_state.specs.declared.Outcome.{Outcome}
 use Rattle.psi_kinds.specs.declared.Move.{Move}
 use Rattle.psi_kinds.specs.Moves.{move_of}
 use Rattle.psi_rate.specs.Outcomes.{outcome_within}
-use Rattle.psi_arcs.specs.Walks.{customers}
+use Rattle.psi_closed_arcs.specs.Walks.{customers}
 use Rattle.psi_closed.specs.Closed.{closed_ending}
-use Rattle.psi_closed.specs.Planned.{IsClosedSample}
-use Rattle.psi_model.specs.Network.{Network, caps_of}
-use Rattle.psi_model.specs.declared.entries.NamedEvent.{NamedEvent}
+use Rattle.psi_closed.specs.Planned.{Network as ClosedNet, IsClosedSample}
+use Rattle.psi_net_model.specs.Network.{Network, caps_of, rates_of}
+use Rattle.psi_net_model.specs.declared.entries.NamedEvent.{NamedEvent}
 use Rattle.psi_command.specs.declared.status.Status.{Status}
 use Rattle.psi_command.specs.declared.status.Status.TheVariants.{NotClosed, NoSuchTotal}
-use Rattle.psi_answers.specs.Texts.{outcome_text}
+use Rattle.psi_reply.specs.Texts.{outcome_text}
 use Rattle.psi_reply.specs.Sample.{functions_by_time, outcome_status}
 
 -- the number of the first event that isn't a move of one customer, if there is one
@@ -24,6 +24,14 @@ first_other net = position (λ event. not (is_some (move_of event.kind))) net.ev
 -- these are the moves that the events are, in their order
 abbrev pub AreMovesOf : List NamedEvent → List Move → Type 0
 AreMovesOf events moves = map (λ event. move_of event.kind) events ≡ map Some moves
+
+-- a closed network is that of a network's moves, among the states of so many customers
+pub record IsClosedNet (net : Network) (number : ℕ) (closed : ClosedNet) : Type 0 where
+  pub caps : closed.caps ≡ caps_of net
+  pub total : closed.total ≡ number
+  pub moves : AreMovesOf net.events closed.moves
+  pub rates : closed.rates ≡ rates_of net
+  pub limit : closed.limit ≡ net.limit
 
 -- the state with which the closed run of each horizon ends, if it ends with one, under the words of a seed and a stream
 unfoldable pub closed_endings : Network → (seed stream total : ℕ) → ℕ → Option (List ℕ)

@@ -5,11 +5,11 @@ use Rattle.psi_horizon.specs.Runs.{ending_at}
 use Rattle.psi_couple.specs.declared.answers.Coupled.{Coupled}
 use Rattle.psi_couple.specs.declared.answers.Coupled.TheVariants.{At, NotAt}
 use Rattle.psi_couple.specs.Coupling.{coupled_within, IsCoupled, ReachesCoupled, DecidesCoupled, CouplesWithin}
-use Rattle.psi_model.specs.Network.{Network, caps_of}
+use Rattle.psi_net_model.specs.Network.{Network, caps_of}
 use Rattle.psi_command.specs.declared.status.Status.{Status}
 use Rattle.psi_command.specs.declared.status.Status.TheVariants.{Done, NotCoupled}
 use Rattle.psi_reply.specs.Sample.{functions_by_time}
-use Rattle.psi_answers.specs.Couplings.{coupling_text}
+use Rattle.psi_reply.specs.Couplings.{coupling_text}
 
 -- the state with which the region run of each horizon ends, if it ends with one, under the words of a seed and a stream
 unfoldable pub endings : Network → (seed stream : ℕ) → ℕ → Option (List ℕ)

@@ -3,7 +3,7 @@ use Rattle.psi_reply.specs.declared.ending.Ending.{Ending as Ended}
 use Rattle.psi_reply.specs.declared.ending.Ending.TheVariants.{Printed, Usage, NetRefused, LogRefused, LogRejected, LogTooLong, UnknownReward, TooManyStates, NotClosed, NoSuchTotal, NetUnread, LogUnread, OutOfMemory}
 use Rattle.psi_command.specs.declared.status.Status.TheVariants as status
 use Rattle.psi_command.specs.Command.{net_file, log_file}
-use Rattle.psi_answers.specs.Lines.{unknown_line, log_refused_line, log_rejected_line, too_long_line, too_many_line, not_closed_line, no_total_line}
+use Rattle.psi_reply.specs.Lines.{unknown_line, log_refused_line, log_rejected_line, too_long_line, too_many_line, not_closed_line, no_total_line}
 use Rattle.psi_program.specs.Reply.{text_reply, line_reply}
 use Rattle.psi_reply.specs.Reply.{usage_reply, refused_reply}
 use Rattle.psi_program.specs.Ending.{replied, unread, no_memory}

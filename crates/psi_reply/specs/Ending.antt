@@ -4,7 +4,7 @@ use Rattle.psi_program.specs.Ending.{Ending as AnyEnding, replied, unread, no_me
 use Rattle.psi_command.specs.declared.status.Status.{Status}
 use Rattle.psi_command.specs.declared.status.Status.TheVariants.{ReadFault, WriteFault, OutOfMemory}
 use Rattle.psi_command.specs.Command.{File}
-use Rattle.psi_answers.specs.Lines.{unread_line, memory_line}
+use Rattle.psi_reply.specs.Lines.{unread_line, memory_line}
 use Rattle.psi_reply.specs.Reply.{Reply}
 
 -- how the work ends

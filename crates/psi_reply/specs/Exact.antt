@@ -11,10 +11,10 @@ use Rattle.psi_exact.specs.declared.answers.Meeting.{Meeting}
 use Rattle.psi_exact.specs.declared.answers.Meeting.TheVariants.{Constant, NotConstant}
 use Rattle.psi_exact.specs.Sizes.{image_sizes}
 use Rattle.psi_exact.specs.Surveys.{meeting_within, IsMeeting, ReachesMeeting, MeetsBelow, MeetsBy}
-use Rattle.psi_model.specs.Network.{Network, caps_of, functions_of}
+use Rattle.psi_net_model.specs.Network.{Network, caps_of, functions_of}
 use Rattle.psi_command.specs.declared.status.Status.{Status}
 use Rattle.psi_command.specs.declared.status.Status.TheVariants.{Done, NotCoupled, TooManyStates}
-use Rattle.psi_answers.specs.Surveys.{survey_text}
+use Rattle.psi_reply.specs.Surveys.{survey_text}
 use Rattle.psi_reply.specs.Sample.{functions_by_time}
 use Rattle.psi_reply.specs.Couple.{endings}
 

@@ -1,4 +1,9 @@
 -- The definitions of this crate, and the laws that clauses rest on.
+pub mod Texts
+pub mod Couplings
+pub mod Values
+pub mod Surveys
+pub mod Lines
 pub mod Sample
 pub mod Check
 pub mod Report

@@ -5,16 +5,16 @@ use Rattle.psi_state.specs.State.{IsBelow}
 use Rattle.psi_past.specs.SeedWord.{seed_word}
 use Rattle.psi_rate.specs.Rates.{event_of}
 use Rattle.psi_rate.specs.Composition.{IsReached}
-use Rattle.psi_log_text.specs.Log.{Certificate}
-use Rattle.psi_log_text.specs.Text.{IsLogOf}
+use Rattle.psi_log_format.specs.Log.{Certificate}
+use Rattle.psi_log_format.specs.Text.{IsLogOf}
 use Rattle.psi_log_words.specs.Refusal.{Refusal}
 use Rattle.psi_log.specs.Reading.{read}
 use Rattle.psi_replay.specs.Verdict.{judged}
-use Rattle.psi_model.specs.Network.{Network, caps_of, rates_of}
+use Rattle.psi_net_model.specs.Network.{Network, caps_of, rates_of}
 use Rattle.psi_command.specs.declared.status.Status.{Status}
 use Rattle.psi_command.specs.declared.status.Status.TheVariants.{Done, LogRefused}
 use Rattle.psi_reply.specs.Sample.{functions_by_time}
-use Rattle.psi_answers.specs.Texts.{accepted_text}
+use Rattle.psi_reply.specs.Texts.{accepted_text}
 
 -- the numbers of a network's events by the time before zero, under the words of a seed and a stream
 unfoldable pub events_by_time : Network → (seed stream : ℕ) → ℕ → ℕ

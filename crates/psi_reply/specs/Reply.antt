@@ -5,23 +5,23 @@ use Rattle.psi_command.specs.Status.{IsPrinted, IsReported, IsOfCommand}
 use Rattle.psi_command.specs.Command.{Command}
 use Rattle.psi_state.specs.declared.Outcome.{Outcome}
 use Rattle.psi_state.specs.declared.Outcome.TheVariants.{Met, NotMet}
-use Rattle.psi_log_text.specs.Log.{Certificate}
-use Rattle.psi_log_text.specs.Text.{log_text}
+use Rattle.psi_log_format.specs.Log.{Certificate}
+use Rattle.psi_log_format.specs.Text.{log_text}
 use Rattle.psi_log_words.specs.Refusal.{Refusal}
 use Rattle.psi_log.specs.Reading.{read}
 use Rattle.psi_replay.specs.declared.answers.Verdict.{Verdict}
 use Rattle.psi_replay.specs.declared.answers.Verdict.TheVariants.{Accepted, Rejected}
 use Rattle.psi_replay.specs.Verdict.{verdict_of}
-use Rattle.psi_arcs.specs.Walks.{customers}
-use Rattle.psi_model.specs.Network.{Network, caps_of}
+use Rattle.psi_closed_arcs.specs.Walks.{customers}
+use Rattle.psi_net_model.specs.Network.{Network, caps_of}
 use Rattle.psi_net_document.specs.declared.refusals.NetRefusal.{NetRefusal}
 use Rattle.psi_command.specs.declared.status.Status.{Status}
 use Rattle.psi_command.specs.declared.status.Status.TheVariants.{Done, NotCoupled, Usage, NetRefused, LogRefused, LogTooLong, UnknownReward, TooManyStates, NotClosed, NoSuchTotal}
-use Rattle.psi_answers.specs.Texts.{outcome_text, accepted_text}
-use Rattle.psi_answers.specs.Lines.{usage_line, refused_line, unknown_line, log_refused_line, log_rejected_line, too_long_line, too_many_line, not_closed_line, no_total_line}
+use Rattle.psi_reply.specs.Texts.{outcome_text, accepted_text}
+use Rattle.psi_reply.specs.Lines.{usage_line, refused_line, unknown_line, log_refused_line, log_rejected_line, too_long_line, too_many_line, not_closed_line, no_total_line}
 use Rattle.psi_reply.specs.Sample.{outcome_status}
 use Rattle.psi_reply.specs.Reward.{valuation, value_status}
-use Rattle.psi_answers.specs.Values.{value_text}
+use Rattle.psi_reply.specs.Values.{value_text}
 use Rattle.psi_reply.specs.Replay.{judgement}
 use Rattle.psi_reply.specs.Exact.{state_count, meeting, meeting_status, exact_text}
 use Rattle.psi_reply.specs.Closed.{closed_sampled}
@@ -56,17 +56,22 @@ survey_reply net seed stream h =
 abbrev pub outcome_reply : Outcome → Reply
 outcome_reply outcome = text_reply (outcome_status outcome) (outcome_text outcome)
 
+-- the reply on a closed network whose queues can hold so many customers, and on one whose queues can't
+abbrev pub room_reply : Network → (total : ℕ) → Reply → Reply
+room_reply net total reply = if nat_le total (customers (caps_of net)) then reply else line_reply NoSuchTotal no_total_line
+
+-- the reply on a network of which each event is a move, and on one of which an event isn't
+abbrev pub moves_reply : Option ℕ → Reply → Reply
+moves_reply (Some event) reply = line_reply NotClosed (not_closed_line event)
+moves_reply None reply = reply
+
 -- the reply on a closed network: its sample, where its queues can hold so many customers
 abbrev pub total_reply : Network → (seed stream total : ℕ) → Reply
-total_reply net seed stream total =
-    if nat_le total (customers (caps_of net))
-    then outcome_reply (closed_sampled net seed stream total)
-    else line_reply NoSuchTotal no_total_line
+total_reply net seed stream total = room_reply net total (outcome_reply (closed_sampled net seed stream total))
 
 -- the reply on a network of which an event isn't a move, or each is one
 abbrev pub closed_reply : Network → (seed stream total : ℕ) → Option ℕ → Reply
-closed_reply net seed stream total (Some event) = line_reply NotClosed (not_closed_line event)
-closed_reply net seed stream total None = total_reply net seed stream total
+closed_reply net seed stream total other = moves_reply other (total_reply net seed stream total)
 
 -- the reply with a log's text, which may have at most 33,554,432 bytes
 abbrev pub log_reply : List ℕ → Reply

@@ -3,7 +3,7 @@ use Rattle.std.specs.Prelude.{◌≡◌, ℕ, suc, List, [], ◌∷◌, map, len
 use Rattle.psi_io.specs.Sink.{appended}
 use Rattle.psi_state.specs.State.{numbers_from}
 use Rattle.psi_state.specs.declared.Outcome.{Outcome}
-use Rattle.psi_model.specs.Network.{Network}
+use Rattle.psi_net_model.specs.Network.{Network}
 use Rattle.psi_report.specs.Report.{report_text}
 use Rattle.psi_command.specs.declared.status.Status.{Status}
 use Rattle.psi_command.specs.declared.status.Status.TheVariants.{Done}

@@ -7,10 +7,10 @@ use Rattle.psi_reward.specs.Worth.{worth_of}
 use Rattle.psi_couple.specs.declared.answers.Valued.{Valued}
 use Rattle.psi_couple.specs.declared.answers.Valued.TheVariants.{At, NotAt}
 use Rattle.psi_couple.specs.Valuing.{value_at, valued_within, IsValued, ReachesValued, DecidesValues}
-use Rattle.psi_model.specs.Network.{Network, NamedReward, caps_of}
+use Rattle.psi_net_model.specs.Network.{Network, NamedReward, caps_of}
 use Rattle.psi_command.specs.declared.status.Status.{Status}
 use Rattle.psi_command.specs.declared.status.Status.TheVariants.{Done, NotCoupled, UnknownReward}
-use Rattle.psi_answers.specs.Values.{value_text}
+use Rattle.psi_reply.specs.Values.{value_text}
 use Rattle.psi_reply.specs.Sample.{functions_by_time}
 
 -- the kind of the first reward of this name, if there is one

@@ -8,10 +8,10 @@ use Rattle.psi_rate.specs.Composition.{function_at}
 use Rattle.psi_rate.specs.Outcomes.{outcome_within}
 use Rattle.psi_horizon.specs.Runs.{ending_at}
 use Rattle.psi_horizon.specs.Sample.{IsSample}
-use Rattle.psi_model.specs.Network.{Network, caps_of, rates_of, functions_of}
+use Rattle.psi_net_model.specs.Network.{Network, caps_of, rates_of, functions_of}
 use Rattle.psi_command.specs.declared.status.Status.{Status}
 use Rattle.psi_command.specs.declared.status.Status.TheVariants.{Done, NotCoupled}
-use Rattle.psi_answers.specs.Texts.{outcome_text}
+use Rattle.psi_reply.specs.Texts.{outcome_text}
 
 -- the functions of a network's events by the time before zero, under the words of a seed and a stream
 unfoldable pub functions_by_time : Network → ℕ → ℕ → ℕ → List ℕ → List ℕ

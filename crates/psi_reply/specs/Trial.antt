@@ -3,12 +3,12 @@ use Rattle.std.specs.Prelude.{◌≡◌, ℕ, List, ◌++◌, length, codes, Opt
 use Rattle.psi_io.specs.Sink.{appended}
 use Rattle.psi_state.specs.declared.Outcome.{Outcome}
 use Rattle.psi_rate.specs.Rates.{total, least_power}
-use Rattle.psi_model.specs.Network.{Network, rates_of}
-use Rattle.psi_model.specs.Generated.{generated_network}
+use Rattle.psi_net_model.specs.Network.{Network, rates_of}
+use Rattle.psi_net_model.specs.Generated.{generated_network}
 use Rattle.psi_report.specs.Report.{report_text}
 use Rattle.psi_command.specs.declared.status.Status.{Status}
 use Rattle.psi_command.specs.declared.status.Status.TheVariants.{Done}
-use Rattle.psi_answers.specs.Texts.{number_line}
+use Rattle.psi_reply.specs.Texts.{number_line}
 use Rattle.psi_reply.specs.Report.{AreDrawn}
 
 -- what a trial prints: its number, the numbers of queues and of events, the modulus of the wheel, and the report of the samples

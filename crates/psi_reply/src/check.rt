@@ -2,7 +2,7 @@
 
 ghost use Rattle.std.specs.Prelude.{◌≡◌, ◌++◌, OnOk, IfOk, is_none};
 ghost use Rattle.std.specs.List.{list_all};
-ghost use Rattle.psi_model.specs.Network.{marks_of};
+ghost use Rattle.psi_net_model.specs.Network.{marks_of};
 ghost use Rattle.psi_command.specs.declared.status.Status.TheVariants.{Done};
 ghost use Rattle.psi_reply.specs.Check.{queue_line, mark_text, event_line, monotone_line, queue_lines, event_lines, check_text, AreMarked};
 ghost use Rattle.psi_program.specs.Reply.{text_reply};
@@ -10,11 +10,11 @@ ghost use Rattle.psi_reply.specs.Ending.{EndsWith, HasReplied};
 ghost use Rattle.psi_reply.specs.Ended.{ending_of};
 
 use crate::ending::Ending;
+use crate::pieces::{push_number_line, push_pieces, push_state};
 use itoa::Buffer;
-use psi_answers::{push_number_line, push_pieces, push_state};
 use psi_command::Status;
 use psi_event::EventLaw;
-use psi_model::Net;
+use psi_net_model::Net;
 use psi_state::State;
 use std::alloc::{AllocError, Global};
 
@@ -142,8 +142,8 @@ fn check_text(alloc: Global, net: &Net) -> Result<Vec<u8>, AllocError>
     Ok(text)
 }
 
-/// The work for `check`: the description of the network, with the mark of each event; status `Done`, or want of
-/// memory.
+/// The work for `check`: the description of the network, with the mark of each event; status `Done`, or
+/// `OutOfMemory`.
 pub fn check_ending<'w>(alloc: Global, net: &Net) -> Ending<'w>
     ensures reply { EndsWith (ending_of result) (text_reply Done (check_text net.now)) }
     ensures marks { HasReplied (ending_of result) → AreMarked net.now }

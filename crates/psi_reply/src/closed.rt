@@ -1,31 +1,42 @@
 //! `closed NET SEED STREAM TOTAL`: a sample of a closed network among the states of so many customers.
 
-ghost use Rattle.std.specs.Prelude.{◌≡◌, ◌≤◌, ℕ, IfOk, IfErr};
-ghost use Rattle.psi_arcs.specs.Walks.{customers};
+ghost use Rattle.std.specs.Prelude.{◌≡◌, ◌<◌, ◌≤◌, ◌↔◌, IsTrue, IfOk, IfErr};
+ghost use Rattle.psi_closed_arcs.specs.Walks.{customers};
 ghost use Rattle.psi_closed.specs.Diagram.{IsTotal};
-ghost use Rattle.psi_model.specs.Network.{caps_of};
-ghost use Rattle.psi_answers.specs.Texts.{IsWithinLimit};
-ghost use Rattle.psi_reply.specs.Closed.{first_other, AreMovesOf, closed_sampled};
-ghost use Rattle.psi_reply.specs.Reply.{total_reply, closed_reply};
+ghost use Rattle.psi_net_model.specs.Network.{caps_of};
+ghost use Rattle.psi_reply.specs.Texts.{IsWithinLimit};
+ghost use Rattle.psi_report.specs.Samples.{IsSampleOf};
+ghost use Rattle.psi_reply.specs.Closed.{first_other, AreMovesOf, IsClosedNet, closed_sampled};
+ghost use Rattle.psi_reply.specs.Reply.{Reply, moves_reply, total_reply, closed_reply};
 ghost use Rattle.psi_reply.specs.Ending.{EndsWith};
 ghost use Rattle.psi_reply.specs.Ended.{ending_of};
 
 use crate::ending::Ending;
 use crate::sample::outcome_status;
-use psi_answers::outcome_text;
+use crate::texts::outcome_text;
 use psi_closed::{ClosedPlan, OutOfMemory};
 use psi_kinds::Move;
-use psi_model::Net;
+use psi_net_model::Net;
 use psi_past::SeedPast;
 use psi_state::Outcome;
 use std::alloc::Global;
 
-// The moves that the events are, in their order. Where there are none, the work ends the same for every number of
-// customers: an event isn't a move, or there was not enough memory.
-fn moves_of<'w>(alloc: Global, net: &Net) -> Result<Vec<Move>, Ending<'w>>
+// The number of customers that the queues hold where each of them is full.
+fn room(net: &Net) -> u32
+    ensures { result ≡ customers (caps_of net.now) }
+{
+    let mut room = 0;
+    for i in 0..net.queues() {
+        room += net.capacity(i) as u32;
+    }
+    room
+}
+
+/// The moves that the events are, in their order. Where there are none, the work ends the same for every number of
+/// customers and whatever is asked: an event isn't a move, or there was not enough memory.
+pub fn moves_of<'w>(alloc: Global, net: &Net) -> Result<Vec<Move>, Ending<'w>>
     ensures moves { IfOk result (λ moves. AreMovesOf net.now.events moves.items) }
-    ensures none { IfErr result (λ ending. (seed stream total : ℕ)
-        → EndsWith (ending_of ending) (closed_reply net.now seed stream total (first_other net.now))) }
+    ensures none { IfErr result (λ ending. (reply : Reply) → EndsWith (ending_of ending) (moves_reply (first_other net.now) reply)) }
 {
     let Ok(mut moves) = Vec::with_capacity(alloc, net.events() as usize) else {
         return Err(Ending::OutOfMemory);
@@ -41,15 +52,55 @@ fn moves_of<'w>(alloc: Global, net: &Net) -> Result<Vec<Move>, Ending<'w>>
     Ok(moves)
 }
 
-// The number of customers that the queues hold where each of them is full.
-fn room(net: &Net) -> u32
-    ensures { result ≡ customers (caps_of net.now) }
+/// Whether the queues can hold so many customers.
+pub fn has_room(net: &Net, total: u16) -> bool
+    ensures { IsTrue result ↔ (total ≤ customers (caps_of net.now)) }
 {
-    let mut room = 0;
-    for i in 0..net.queues() {
-        room += net.capacity(i) as u32;
-    }
-    room
+    total as u32 <= room(net)
+}
+
+/// The plan for the closed network of these moves, those of the network's events, with `total` customers, at most 256 and no
+/// more than its queues can hold.
+pub fn closed_plan<'n>(
+    alloc: Global,
+    net: &'n Net,
+    moves: &'n [Move],
+    past: SeedPast,
+    total: u16,
+) -> Result<ClosedPlan<'n, SeedPast>, OutOfMemory>
+    requires moves { AreMovesOf net.now.events moves.now }
+    requires fits { IsTotal (caps_of net.now) total }
+    ensures network { IfOk result (λ plan. IsClosedNet net.now total plan.network) }
+{
+    let system = net.system();
+    ClosedPlan::new(
+        alloc,
+        system.caps(),
+        moves,
+        system.wheel(),
+        system.limit(),
+        total,
+        past,
+    )
+}
+
+/// The sample of a stream, by the plan for the closed network, whose words it replaces. It does not allocate.
+pub fn next_closed<'n>(
+    plan: &mut ClosedPlan<'n, SeedPast>,
+    net: &Net,
+    seed: u64,
+    stream: u64,
+) -> Outcome
+    requires { IsClosedNet net.now plan.old.network.total plan.old.network }
+    ensures value { result ≡ closed_sampled net.now seed stream plan.old.network.total }
+    ensures sample { IsSampleOf net.now result }
+    ensures limit { IsWithinLimit result }
+    ensures network { plan.new.network ≡ plan.old.network }
+{
+    // Called for its clause: the network is one that can be sampled.
+    let _queues = net.queues();
+    plan.replace(SeedPast::new(seed, stream));
+    plan.sample()
 }
 
 // The sample of the closed network of these moves under the words of a past.
@@ -57,26 +108,17 @@ fn sample_of(
     alloc: Global,
     net: &Net,
     moves: &[Move],
-    past: SeedPast,
+    seed: u64,
+    stream: u64,
     total: u16,
 ) -> Result<Outcome, OutOfMemory>
     requires moves { AreMovesOf net.now.events moves.now }
     requires fits { IsTotal (caps_of net.now) total }
-    ensures value { IfOk result (λ outcome. outcome ≡ closed_sampled net.now past.seed past.stream total) }
+    ensures value { IfOk result (λ outcome. outcome ≡ closed_sampled net.now seed stream total) }
     ensures limit { IfOk result IsWithinLimit }
 {
-    let system = net.system();
-    let limit = system.limit();
-    let mut plan = ClosedPlan::new(
-        alloc,
-        system.caps(),
-        moves,
-        system.wheel(),
-        limit,
-        total,
-        past,
-    )?;
-    let outcome = plan.sample();
+    let mut plan = closed_plan(alloc, net, moves, SeedPast::new(seed, stream), total)?;
+    let outcome = next_closed(&mut plan, net, seed, stream);
     drop(plan);
     Ok(outcome)
 }
@@ -94,10 +136,10 @@ fn work_on_moves<'w>(
     requires most { total ≤ 256 }
     ensures { EndsWith (ending_of result) (total_reply net.now seed stream total) }
 {
-    if room(net) < total as u32 {
+    if !has_room(net, total) {
         return Ending::NoSuchTotal;
     }
-    let Ok(outcome) = sample_of(alloc, net, moves, SeedPast::new(seed, stream), total) else {
+    let Ok(outcome) = sample_of(alloc, net, moves, seed, stream, total) else {
         return Ending::OutOfMemory;
     };
     Ending::printed(outcome_status(&outcome), outcome_text(alloc, &outcome))

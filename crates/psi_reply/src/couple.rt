@@ -1,6 +1,6 @@
 //! `couple NET SEED STREAM`: the least horizon of any length at which a network's runs couple.
 
-ghost use Rattle.psi_answers.specs.Couplings.{coupling_text, HasLimit};
+ghost use Rattle.psi_reply.specs.Couplings.{coupling_text, HasLimit};
 ghost use Rattle.psi_program.specs.Reply.{text_reply};
 ghost use Rattle.psi_reply.specs.Couple.{coupling, coupling_status};
 ghost use Rattle.psi_reply.specs.Ended.{ending_of};
@@ -9,11 +9,11 @@ ghost use Rattle.std.specs.Prelude.{◌≡◌, IfOk};
 
 use crate::ending::Ending;
 use crate::planning::plan_for;
-use psi_answers::coupling_text;
+use crate::texts::coupling_text;
 use psi_command::Status;
 use psi_couple::{Coupled, least_horizon};
 use psi_horizon::OutOfMemory;
-use psi_model::Net;
+use psi_net_model::Net;
 use std::alloc::Global;
 
 // The status of a coupling, once it is printed.
@@ -39,7 +39,7 @@ fn coupling_of(alloc: Global, net: &Net, seed: u64, stream: u64) -> Result<Coupl
 
 /// The work for `couple`: the least horizon in steps, a power of two or not, at which the network's region run couples
 /// under the words of a seed and a stream, with its state; status `Done`, or `NotCoupled` where none up to the limit
-/// does; or want of memory.
+/// does; or `OutOfMemory`.
 pub fn couple_ending<'w>(alloc: Global, net: &Net, seed: u64, stream: u64) -> Ending<'w>
     ensures { EndsWith (ending_of result) (text_reply (coupling_status (coupling net.now seed stream)) (coupling_text (coupling net.now seed stream))) }
 {

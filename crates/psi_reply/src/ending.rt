@@ -57,7 +57,7 @@ impl<'w> Ending<'w> {
     ghost use Rattle.psi_reply.specs.Ending.{EndsWith, ending_reply};
     ghost use Rattle.psi_reply.specs.Ended.{ending_of};
 
-    // The ending with a text for out, or for want of memory for it.
+    // The ending with a text for out, or `OutOfMemory` where there is no memory for it.
     pub(crate) fn printed(status: Status, text: Result<Vec<u8>, AllocError>) -> Ending<'w>
         ensures { (wanted : List ℕ) → IfOk text (λ text. text.items ≡ wanted) → EndsWith (ending_of result) (text_reply status wanted) }
     {

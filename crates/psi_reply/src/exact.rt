@@ -2,21 +2,21 @@
 
 ghost use Rattle.std.specs.Prelude.{◌≡◌, ◌≤◌, ◌<◌, IfOk, IfErr, OnOk};
 ghost use Rattle.psi_exact.specs.Refusal.{IsMapRefusal};
-ghost use Rattle.psi_model.specs.Network.{caps_of};
-ghost use Rattle.psi_answers.specs.Surveys.{HasExponent};
+ghost use Rattle.psi_net_model.specs.Network.{caps_of};
+ghost use Rattle.psi_reply.specs.Surveys.{HasExponent};
 ghost use Rattle.psi_reply.specs.Exact.{meeting, sizes, state_count, meeting_status, region};
 ghost use Rattle.psi_reply.specs.Reply.{survey_reply};
 ghost use Rattle.psi_reply.specs.Ending.{EndsWith};
 ghost use Rattle.psi_reply.specs.Ended.{ending_of};
 
 use crate::ending::Ending;
-use psi_answers::survey_text;
+use crate::surveys::survey_text;
 use psi_command::Status;
 use psi_couple::{Coupled, least_horizon};
 use psi_exact::{MOST_STATES, MapRefusal, MapTable, Meeting, Survey, survey};
 use psi_follow::plan_of;
 use psi_horizon::OutOfMemory;
-use psi_model::Net;
+use psi_net_model::Net;
 use psi_past::SeedPast;
 use psi_state::Bounds;
 use std::alloc::Global;

@@ -1,22 +1,22 @@
 //! The plan for a network.
 
 ghost use Rattle.std.specs.Prelude.{◌≡◌, ◌≤◌, IfOk};
-ghost use Rattle.psi_model.specs.Valid.{IsNetwork};
+ghost use Rattle.psi_net_model.specs.Valid.{IsNetwork};
 ghost use Rattle.psi_reply.specs.Networks.{IsSystemOf};
 
 use psi_event::EventLaw;
 use psi_follow::{Way, plan_of};
 use psi_horizon::{OutOfMemory, Plan};
 use psi_kinds::Event;
-use psi_model::Net;
+use psi_net_model::Net;
 use psi_past::SeedPast;
 use std::alloc::Global;
 
 /// The plan for a network, from the past of a seed and a stream.
-pub(crate) type NetPlan<'n> = Plan<'n, Event, SeedPast, Way<'n, Event>>;
+pub type NetPlan<'n> = Plan<'n, Event, SeedPast, Way<'n, Event>>;
 
 /// The plan for a network under the words of a seed and a stream. The network is one that can be sampled.
-pub(crate) fn plan_for<'n>(
+pub fn plan_for<'n>(
     alloc: Global,
     net: &'n Net,
     seed: u64,

@@ -2,7 +2,7 @@
 
 ghost use Rattle.std.specs.Prelude.{◌≡◌, ℕ, List};
 ghost use Rattle.psi_log_words.specs.Refusal.{Gives};
-ghost use Rattle.psi_model.specs.Network.{Network};
+ghost use Rattle.psi_net_model.specs.Network.{Network};
 ghost use Rattle.psi_replay.specs.Passes.{replayed};
 ghost use Rattle.psi_replay.specs.declared.answers.Verdict.TheVariants.{Accepted};
 ghost use Rattle.psi_reply.specs.Replay.{judgement};
@@ -11,10 +11,10 @@ ghost use Rattle.psi_reply.specs.Ending.{EndsWith};
 ghost use Rattle.psi_reply.specs.Ended.{ending_of};
 
 use crate::ending::Ending;
-use psi_answers::accepted_text;
+use crate::texts::accepted_text;
 use psi_command::Status;
 use psi_log::LogError;
-use psi_model::Net;
+use psi_net_model::Net;
 use psi_replay::{Verdict, replay_text};
 use psi_state::State;
 use std::alloc::Global;
@@ -45,7 +45,7 @@ fn verdict_on(alloc: Global, net: &Net, text: &[u8]) -> Result<Verdict, LogError
 }
 
 /// The work for a replay that gave this verdict: the horizon and the state of a log that is accepted, the first line that
-/// is refused or breaks a rule, with its cause, or want of memory.
+/// is refused or breaks a rule, with its cause, or `OutOfMemory`.
 #[tactic(auto, using(crate::proofs::ReplayingLemmas::verdict_replied, crate::proofs::ReplayingLemmas::refusal_replied))]
 pub fn verdict_ending<'w>(alloc: Global, verdict: Result<Verdict, LogError>) -> Ending<'w>
     ensures { (net : Network) (text : List ℕ) → Gives (λ given. given) verdict (replayed (judgement net) text) → EndsWith (ending_of result) (replay_reply net text) }

@@ -17,14 +17,14 @@ use crate::planning::{NetPlan, plan_for};
 use psi_command::Status;
 use psi_event::EventLaw;
 use psi_kinds::Event;
-use psi_model::Net;
+use psi_net_model::Net;
 use psi_past::SeedPast;
 use psi_report::Tally;
 use psi_state::Outcome;
 use std::alloc::Global;
 
-// The sample of a stream, by the plan for the network.
-fn next_sample<'n>(plan: &mut NetPlan<'n>, net: &Net, seed: u64, stream: u64) -> Outcome
+/// The sample of a stream, by the plan for the network, whose words it replaces. It does not allocate.
+pub fn next_sample<'n>(plan: &mut NetPlan<'n>, net: &Net, seed: u64, stream: u64) -> Outcome
     requires { IsSystemOf ⟦<Event as EventLaw>⟧.function net.now plan.old.system }
     ensures value { result ≡ sampled net.now seed stream }
     ensures sample { IsSampleOf net.now result }
@@ -72,7 +72,7 @@ pub(crate) fn report_of(
 }
 
 /// The work for `report`: the report of the samples that a seed and `count` streams draw of the network, 1 to 65,536 of
-/// them, from `first` on; status `Done`, or want of memory.
+/// them, from `first` on; status `Done`, or `OutOfMemory`.
 pub fn report_ending<'w>(alloc: Global, net: &Net, seed: u64, first: u64, count: u32) -> Ending<'w>
     requires few { count ≤ 65536 }
     requires streams { first + count ≤ 2 ^ 64 }

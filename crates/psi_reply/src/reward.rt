@@ -2,20 +2,20 @@
 
 ghost use Rattle.std.specs.Prelude.{◌≡◌, Some, None, IfOk, IfSome};
 ghost use Rattle.psi_reward.specs.Rewards.{reward_caps, reward_kind};
-ghost use Rattle.psi_model.specs.Network.{caps_of};
+ghost use Rattle.psi_net_model.specs.Network.{caps_of};
 ghost use Rattle.psi_reply.specs.Reward.{kind_named, valuation, value_status};
-ghost use Rattle.psi_answers.specs.Values.{HasLimit};
+ghost use Rattle.psi_reply.specs.Values.{HasLimit};
 ghost use Rattle.psi_reply.specs.Reply.{value_reply};
 ghost use Rattle.psi_reply.specs.Ending.{EndsWith};
 ghost use Rattle.psi_reply.specs.Ended.{ending_of};
 
 use crate::ending::Ending;
 use crate::planning::plan_for;
-use psi_answers::value_text;
+use crate::texts::value_text;
 use psi_command::Status;
 use psi_couple::{Valued, value_horizon};
 use psi_horizon::OutOfMemory;
-use psi_model::Net;
+use psi_net_model::Net;
 use psi_reward::Reward;
 use std::alloc::Global;
 

@@ -1,7 +1,7 @@
 //! `sample NET SEED STREAM`: a sample of a network.
 
 ghost use Rattle.std.specs.Prelude.{◌≡◌, IfOk};
-ghost use Rattle.psi_answers.specs.Texts.{outcome_text, IsWithinLimit};
+ghost use Rattle.psi_reply.specs.Texts.{outcome_text, IsWithinLimit};
 ghost use Rattle.psi_reply.specs.Sample.{sampled, outcome_status};
 ghost use Rattle.psi_program.specs.Reply.{text_reply};
 ghost use Rattle.psi_reply.specs.Ending.{EndsWith};
@@ -9,10 +9,10 @@ ghost use Rattle.psi_reply.specs.Ended.{ending_of};
 
 use crate::ending::Ending;
 use crate::planning::plan_for;
-use psi_answers::outcome_text;
+use crate::texts::outcome_text;
 use psi_command::Status;
 use psi_horizon::OutOfMemory;
-use psi_model::Net;
+use psi_net_model::Net;
 use psi_state::Outcome;
 use std::alloc::Global;
 
@@ -38,7 +38,7 @@ pub(crate) fn outcome_status(outcome: &Outcome) -> Status
 }
 
 /// The work for `sample`: the sample that a seed and a stream draw of the network; status `Done` where it is met,
-/// `NotCoupled` where it isn't met within the network's limit; or want of memory.
+/// `NotCoupled` where it isn't met within the network's limit; or `OutOfMemory`.
 pub fn sample_ending<'w>(alloc: Global, net: &Net, seed: u64, stream: u64) -> Ending<'w>
     ensures { EndsWith (ending_of result) (text_reply (outcome_status (sampled net.now seed stream)) (outcome_text (sampled net.now seed stream))) }
 {

@@ -1,8 +1,8 @@
 //! `trial NUMBER`: four samples of a network that is made from a number.
 
 ghost use Rattle.std.specs.Prelude.{◌≡◌, IfSome, IsSome};
-ghost use Rattle.psi_model.specs.Generated.{generated_network};
-ghost use Rattle.psi_model.specs.Valid.{IsNetwork};
+ghost use Rattle.psi_net_model.specs.Generated.{generated_network};
+ghost use Rattle.psi_net_model.specs.Valid.{IsNetwork};
 ghost use Rattle.psi_command.specs.declared.status.Status.TheVariants.{Done};
 ghost use Rattle.psi_reply.specs.Report.{samples_of};
 ghost use Rattle.psi_reply.specs.Trial.{trial_text};
@@ -11,10 +11,10 @@ ghost use Rattle.psi_reply.specs.Ending.{EndsWith, HasReplied};
 ghost use Rattle.psi_reply.specs.Ended.{ending_of};
 
 use crate::ending::Ending;
+use crate::pieces::push_number_line;
 use crate::report::report_of;
-use psi_answers::push_number_line;
 use psi_command::Status;
-use psi_model::{Net, generated};
+use psi_net_model::{Net, generated};
 use std::alloc::Global;
 
 // The text of the trial of a network; none where there is not enough memory.
@@ -44,7 +44,7 @@ fn text_of(alloc: Global, number: u16) -> Option<Vec<u8>>
 }
 
 /// The work for `trial`: a network is made from the number, and four samples of it are drawn and counted; status
-/// `Done`, or want of memory. No file is read.
+/// `Done`, or `OutOfMemory`. No file is read.
 pub fn trial_ending<'w>(alloc: Global, number: u16) -> Ending<'w>
     ensures reply { let net = generated_network number in EndsWith (ending_of result) (text_reply Done (trial_text number net (samples_of net number 0 4))) }
     ensures kept { HasReplied (ending_of result) → IsNetwork (generated_network number) }

@@ -7,8 +7,8 @@ use Rattle.psi_state.specs.State.{IsBelow}
 use Rattle.psi_state.specs.declared.Outcome.{Outcome}
 use Rattle.psi_state.specs.declared.Outcome.TheVariants.{Met, NotMet}
 use Rattle.psi_reward.specs.Worth.{worth_of}
-use Rattle.psi_model.specs.Network.{Network, NamedReward, caps_of}
-use Rattle.psi_model.specs.declared.entries.Queue.{Queue}
+use Rattle.psi_net_model.specs.Network.{Network, NamedReward, caps_of}
+use Rattle.psi_net_model.specs.declared.entries.Queue.{Queue}
 use Rattle.psi_report.specs.declared.summary.Summary.{Summary}
 use Rattle.psi_report.specs.Samples.{met_states, met_horizons, IsHorizon}
 use Rattle.psi_report.specs.Quantities.{Quantity, queues_from, queue_quantities, reward_quantities}

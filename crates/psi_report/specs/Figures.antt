@@ -1,6 +1,6 @@
 -- What a report tells, as running totals give it.
 use Rattle.std.specs.Prelude.{ℕ, ◌+◌, ◌^◌, List, [], ◌∷◌, ◌++◌, map, nat_lt, if◌then◌else◌}
-use Rattle.psi_model.specs.Network.{Network}
+use Rattle.psi_net_model.specs.Network.{Network}
 use Rattle.psi_report.specs.declared.figure.HorizonCount.{HorizonCount}
 use Rattle.psi_report.specs.declared.figure.Figure.{Figure}
 use Rattle.psi_report.specs.declared.summary.Summary.{Summary}

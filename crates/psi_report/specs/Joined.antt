@@ -3,7 +3,7 @@ use Rattle.std.specs.Prelude.{ℕ, ◌*◌, ◌^◌, ◌≤◌, ℤ, pos, ◌+�
 use Rattle.std.specs.Int.{int_min, int_max}
 use Rattle.std.specs.Int.RustNames.{unsigned_abs}
 use Rattle.psi_reward.specs.Worth.{worth_of}
-use Rattle.psi_model.specs.Network.{NamedReward}
+use Rattle.psi_net_model.specs.Network.{NamedReward}
 use Rattle.psi_report.specs.declared.summary.Summary.{Summary}
 use Rattle.psi_report.specs.Totals.{summary_of}
 

@@ -1,8 +1,8 @@
 -- Quantities of a network's states: the number of customers in each queue, and what each reward makes of a state.
 use Rattle.std.specs.Prelude.{ℕ, ◌+◌, ℤ, pos, ◌+ℤ◌, List, [], ◌∷◌, map, slice_index}
 use Rattle.psi_reward.specs.Worth.{worth_of}
-use Rattle.psi_model.specs.Network.{Network}
-use Rattle.psi_model.specs.declared.entries.Queue.{Queue}
+use Rattle.psi_net_model.specs.Network.{Network}
+use Rattle.psi_net_model.specs.declared.entries.Queue.{Queue}
 
 -- a number that each state has, under a name
 pub record Quantity : Type 0 where

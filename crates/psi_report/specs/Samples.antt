@@ -3,7 +3,7 @@ use Rattle.std.specs.Prelude.{◌≡◌, ℕ, ◌≤◌, ◌^◌, List, [], ◌�
 use Rattle.psi_state.specs.State.{IsBelow}
 use Rattle.psi_state.specs.declared.Outcome.{Outcome}
 use Rattle.psi_state.specs.declared.Outcome.TheVariants.{Met, NotMet}
-use Rattle.psi_model.specs.Network.{Network, caps_of}
+use Rattle.psi_net_model.specs.Network.{Network, caps_of}
 
 -- the states of the samples that are met, in their order
 unfoldable pub met_states : List Outcome → List (List ℕ)

@@ -3,7 +3,7 @@ use Rattle.std.specs.Prelude.{◌≡◌, ℕ, ◌^◌, ◌≤◌, ℤ, List, map
 use Rattle.psi_state.specs.State.{IsBelow, numbers_from}
 use Rattle.psi_state.specs.declared.Outcome.{Outcome}
 use Rattle.psi_reward.specs.Ranges.{least, greatest}
-use Rattle.psi_model.specs.Network.{Network, caps_of}
+use Rattle.psi_net_model.specs.Network.{Network, caps_of}
 use Rattle.psi_report.specs.declared.summary.Summary.{Summary}
 use Rattle.psi_report.specs.Samples.{met_states, met_horizons, IsHorizon}
 use Rattle.psi_report.specs.Quantities.{Quantity, queue_quantities, reward_quantities, sum_of}

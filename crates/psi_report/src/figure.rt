@@ -1,6 +1,6 @@
 //! What the rows of a report tell.
 
-use psi_model::Name;
+use psi_net_model::Name;
 
 /// What a figure is of.
 #[derive(Clone, Copy, PartialEq, Eq, Debug)]

@@ -15,6 +15,6 @@ mod tally;
 mod text;
 
 pub use figure::{Figure, HorizonCount, Item};
-pub use psi_model::OutOfMemory;
+pub use psi_net_model::OutOfMemory;
 pub use report::Report;
 pub use tally::Tally;

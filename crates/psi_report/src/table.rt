@@ -7,7 +7,7 @@ ghost use Rattle.psi_report.specs.Text.{row, rows_text, samples_row, number_rows
 use crate::figure::{Figure, HorizonCount, Item};
 use csv::Writer;
 use itoa::Buffer;
-use psi_model::OutOfMemory;
+use psi_net_model::OutOfMemory;
 use std::alloc::Global;
 
 /// A table of no row.

@@ -3,7 +3,7 @@
 ghost use Rattle.std.specs.Prelude.{◌≡◌, ℕ, ◌≤◌, ◌+◌, ◌^◌, List, [], ◌∷◌, ◌++◌, length, slice_index, slice_set, IfOk};
 ghost use Rattle.psi_state.specs.declared.Outcome.{Outcome};
 ghost use Rattle.psi_state.specs.State.{IsBelow};
-ghost use Rattle.psi_model.specs.Network.{Network, caps_of};
+ghost use Rattle.psi_net_model.specs.Network.{Network, caps_of};
 ghost use Rattle.psi_report.specs.Samples.{IsHorizon, IsSampleOf};
 ghost use Rattle.psi_report.specs.Totals.{StandsFor};
 ghost use Rattle.psi_report.specs.Joined.{paired, with_reward, AreSmall};
@@ -11,7 +11,7 @@ ghost use Rattle.psi_report.specs.Joined.{paired, with_reward, AreSmall};
 mod reporting;
 
 use crate::summary::{Summary, add_customers, join_all, of_none};
-use psi_model::{Net, OutOfMemory};
+use psi_net_model::{Net, OutOfMemory};
 use psi_reward::RewardLaw;
 use psi_state::{Outcome, State};
 use std::alloc::Global;

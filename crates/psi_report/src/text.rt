@@ -5,7 +5,7 @@ ghost use Rattle.psi_report.specs.Text.{text_of};
 
 use crate::report::Report;
 use crate::table::{into_text, new_table, push_figures, push_horizons, push_numbers, push_row};
-use psi_model::OutOfMemory;
+use psi_net_model::OutOfMemory;
 use std::alloc::Global;
 
 impl Report {

@@ -7,10 +7,10 @@ use Rattle.std.proofs.lemmas.List.{map_push, length-map}
 use Rattle.std.proofs.lemmas.List.Elements.{All-nil, All-push}
 use Rattle.toml.specs.Data.{Data, Members, get_member}
 use Rattle.toml.specs.Parse.{parse_document}
-use Rattle.psi_name.specs.Name.{is_name}
-use Rattle.psi_model.specs.Network.{Network, NamedReward, caps_of}
-use Rattle.psi_model.specs.Valid.{IsReward}
-use Rattle.psi_model.specs.declared.entries.Queue.{Queue}
+use Rattle.psi_net_model.specs.Name.{is_name}
+use Rattle.psi_net_model.specs.Network.{Network, NamedReward, caps_of}
+use Rattle.psi_net_model.specs.Valid.{IsReward}
+use Rattle.psi_net_model.specs.declared.entries.Queue.{Queue}
 use Rattle.psi_net_document.specs.Refusal.{holds_or, at_key, at_place, top, queue_place, reward_place}
 use Rattle.psi_net_document.specs.Values.{no_unknown, required, optional, number_in, text_in, array_in, elements_in, table_in}
 use Rattle.psi_net_document.specs.Names.{name_or, name_in, unless_taken}
@@ -26,10 +26,10 @@ use Rattle.psi_net.specs.Reading.{numbers_of, document_network, file_text, text_
 use Rattle.psi_net.proofs.NetworkLemmas.{network_kept}
 use Rattle.psi_net.proofs.KeptRewardsLemmas.{reward_kept}
 use Rattle.psi_state.specs.declared.Outcome.{Outcome}
-use Rattle.psi_reports.specs.Samples.{AreNames, IsDescribed, AreOf}
-use Rattle.psi_reports.proofs.SampleLawLemmas.{samples-read, samples-merged}
-use Rattle.psi_reports.proofs.SoundLemmas.{report-sound}
-use Rattle.psi_reports.proofs.ShortLemmas.{reports-short}
+use Rattle.psi_report_reader.specs.Samples.{AreNames, IsDescribed, AreOf}
+use Rattle.psi_report_reader.proofs.SampleLawLemmas.{samples-read, samples-merged}
+use Rattle.psi_report_reader.proofs.SoundLemmas.{report-sound}
+use Rattle.psi_report_reader.proofs.ShortLemmas.{reports-short}
 use Rattle.psi_report_laws.specs.Described.{NetworksAreDescribed, AreCounted, ReportsAreReadBack, ReportsAreMerged}
 use Rattle.psi_report_laws.proofs.NameLemmas.{names-push}
 

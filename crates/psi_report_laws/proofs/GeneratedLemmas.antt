@@ -14,14 +14,14 @@ use Rattle.psi_state.specs.Repeats.{repeats}
 use Rattle.psi_state.specs.State.{numbers_from}
 use Rattle.psi_reward.specs.Refusing.{IsSmall, is_none_listed}
 use Rattle.psi_reward.specs.declared.RewardKind.TheVariants.{Linear}
-use Rattle.psi_name.specs.Name.{is_name_byte, is_name}
-use Rattle.psi_model.specs.Network.{NamedReward}
-use Rattle.psi_model.specs.Valid.{IsQueue, AreListed, IsReward}
-use Rattle.psi_model.specs.Generated.{queue_count, nth_queue, generated_queues, total_reward, generated_network}
-use Rattle.psi_model.specs.declared.entries.Queue.{Queue}
-use Rattle.psi_model.proofs.CopyLemmas.{length_numbers}
-use Rattle.psi_model.proofs.RewardLemmas.{reward_accepted}
-use Rattle.psi_reports.specs.Samples.{AreNames}
+use Rattle.psi_net_model.specs.Name.{is_name_byte, is_name}
+use Rattle.psi_net_model.specs.Network.{NamedReward}
+use Rattle.psi_net_model.specs.Valid.{IsQueue, AreListed, IsReward}
+use Rattle.psi_net_model.specs.Generated.{queue_count, nth_queue, generated_queues, total_reward, generated_network}
+use Rattle.psi_net_model.specs.declared.entries.Queue.{Queue}
+use Rattle.psi_net_model.proofs.CopyLemmas.{length_numbers}
+use Rattle.psi_net_model.proofs.RewardLemmas.{reward_accepted}
+use Rattle.psi_report_reader.specs.Samples.{AreNames}
 use Rattle.psi_report_laws.specs.Described.{GeneratedAreDescribed}
 
 -- the numbers of each queue are in their ranges

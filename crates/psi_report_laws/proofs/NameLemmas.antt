@@ -8,8 +8,8 @@ use Rattle.std.proofs.lemmas.Slice.Eq.{bytes_eq-Decides}
 use Rattle.psi_state.specs.Ascending.{IsDistinct}
 use Rattle.psi_state.specs.Members.{In}
 use Rattle.psi_state.proofs.MembersLemmas.{In-append}
-use Rattle.psi_name.specs.Name.{is_name}
-use Rattle.psi_reports.specs.Samples.{AreNames}
+use Rattle.psi_net_model.specs.Name.{is_name}
+use Rattle.psi_report_reader.specs.Samples.{AreNames}
 
 -- a name that none of these is isn't among them
 apart : (name : List ℕ) (names : List (List ℕ)) → list_any (bytes_eq name) names ≡ false → In name names → ⊥

@@ -1,15 +1,15 @@
 -- What reports show of the networks that there are: those that files describe, and those that trials make of numbers.
 use Rattle.std.specs.Prelude.{◌≡◌, ℕ, ◌^◌, ◌<◌, ◌≤◌, List, ◌++◌, length, All, None, Ok}
 use Rattle.psi_state.specs.declared.Outcome.{Outcome}
-use Rattle.psi_model.specs.Network.{Network}
-use Rattle.psi_model.specs.Generated.{generated_network}
+use Rattle.psi_net_model.specs.Network.{Network}
+use Rattle.psi_net_model.specs.Generated.{generated_network}
 use Rattle.psi_report.specs.Samples.{IsSampleOf}
 use Rattle.psi_report.specs.Report.{report_text, contents_of}
 use Rattle.psi_net.specs.Reading.{network_of}
-use Rattle.psi_reports.specs.Reading.{read}
-use Rattle.psi_reports.specs.Samples.{IsDescribed}
-use Rattle.psi_reports.specs.Sound.{flaw_of}
-use Rattle.psi_reports.specs.Merging.{merged}
+use Rattle.psi_report_reader.specs.Reading.{read}
+use Rattle.psi_report_reader.specs.Samples.{IsDescribed}
+use Rattle.psi_report_reader.specs.Sound.{flaw_of}
+use Rattle.psi_report_reader.specs.Merging.{merged}
 
 -- each network that is read of a file is one that a file may describe
 abbrev pub NetworksAreDescribed : Type 0

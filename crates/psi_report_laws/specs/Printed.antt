@@ -1,7 +1,7 @@
 -- What the program prints of samples of a network in a file, read back, judged and merged.
 use Rattle.std.specs.Prelude.{◌≡◌, ℕ, ◌+◌, ◌^◌, ◌<◌, ◌≤◌, List, ◌++◌, length, Option, Some, None, Ok}
 use Rattle.psi_state.specs.declared.Outcome.{Outcome}
-use Rattle.psi_model.specs.Network.{Network}
+use Rattle.psi_net_model.specs.Network.{Network}
 use Rattle.psi_net.specs.Reading.{network_of}
 use Rattle.psi_command.specs.declared.status.Status.{Status}
 use Rattle.psi_command.specs.declared.status.Status.TheVariants.{Done}
@@ -11,9 +11,9 @@ use Rattle.psi_reply.specs.Report.{AreDrawn}
 use Rattle.psi_report.specs.Contents.{Contents}
 use Rattle.psi_report.specs.Text.{text_of}
 use Rattle.psi_report.specs.Report.{contents_of}
-use Rattle.psi_reports.specs.Reading.{read}
-use Rattle.psi_reports.specs.Sound.{flaw_of}
-use Rattle.psi_reports.specs.Merging.{merged}
+use Rattle.psi_report_reader.specs.Reading.{read}
+use Rattle.psi_report_reader.specs.Sound.{flaw_of}
+use Rattle.psi_report_reader.specs.Merging.{merged}
 use Rattle.psi_run.specs.Means.{Means}
 use Rattle.psi_run.specs.Reply.{reply_to}
 

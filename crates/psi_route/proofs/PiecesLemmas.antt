@@ -5,10 +5,10 @@ use Rattle.std.proofs.lemmas.Bool.{cases_lt, cases_eq, cases_Bool, lt-ltb, le-lt
 use Rattle.std.proofs.lemmas.List.{set_past, get_or-replicate, length-replicate}
 use Rattle.psi_state.specs.State.{IsBelow, zeros}
 use Rattle.psi_state.proofs.StatesLemmas.{zeros-caps}
-use Rattle.psi_piecewise.specs.declared.sides.Side.{Side}
-use Rattle.psi_piecewise.specs.declared.sides.Side.TheVariants.{Any, AtLeast, Below}
-use Rattle.psi_piecewise.specs.Piecewise.{is_on, all_on, first_on, second_on, IsSum, Does}
-use Rattle.psi_piecewise.proofs.TestingLemmas.{free-on, set-on, sum-by}
+use Rattle.psi_event.specs.declared.sides.Side.{Side}
+use Rattle.psi_event.specs.declared.sides.Side.TheVariants.{Any, AtLeast, Below}
+use Rattle.psi_event.specs.Piecewise.{is_on, all_on, first_on, second_on, IsSum, Does}
+use Rattle.psi_event.proofs.TestingLemmas.{free-on, set-on, sum-by}
 use Rattle.psi_route.specs.Routing.{Shape, routing, act, routed, taken, HasRoom, Lacks}
 use Rattle.psi_route.specs.Acting.{NoRoom}
 use Rattle.psi_route.specs.ActingLaws.{act-idle}

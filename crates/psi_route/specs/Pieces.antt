@@ -1,10 +1,10 @@
 -- The pieces of a route without tables to at most two targets.
 use Rattle.std.specs.Prelude.{◌≡◌, ◌⊎◌, ℕ, ◌-◌, ◌≤◌, List, length, replicate, slice_index, slice_set, false, if◌then◌else◌}
 use Rattle.psi_state.specs.State.{zeros}
-use Rattle.psi_piecewise.specs.declared.sides.Side.{Side}
-use Rattle.psi_piecewise.specs.declared.sides.Side.TheVariants.{Any, AtLeast, Below}
-use Rattle.psi_piecewise.specs.declared.piecewise.Piecewise.{Piecewise}
-use Rattle.psi_piecewise.specs.Piecewise.{empty_piece}
+use Rattle.psi_event.specs.declared.sides.Side.{Side}
+use Rattle.psi_event.specs.declared.sides.Side.TheVariants.{Any, AtLeast, Below}
+use Rattle.psi_event.specs.declared.piecewise.Piecewise.{Piecewise}
+use Rattle.psi_event.specs.Piecewise.{empty_piece}
 use Rattle.psi_route.specs.Routing.{Shape, routing}
 
 -- a route of this shape

@@ -1,11 +1,11 @@
 //! The pieces of a route.
 
 ghost use Rattle.std.specs.Prelude.{◌≡◌, ◌<◌, IfSome, MatchBool, length};
-ghost use Rattle.psi_piecewise.specs.Piecewise.{Does};
+ghost use Rattle.psi_event.specs.Piecewise.{Does};
 
 use crate::parts::Full;
 use crate::route::Route;
-use psi_piecewise::{Piece, Piecewise, PiecewiseLaw, Side, Sides};
+use psi_event::{Piece, Piecewise, PiecewiseLaw, Side, Sides};
 use psi_state::State;
 
 impl PiecewiseLaw for Route {

@@ -2,8 +2,8 @@
 use Rattle.psi_reply.proofs.RepliesLemmas.{outcome_replied, coupling_replied, value_replied, survey_replied, closed_replied, refused_replied, certify_replied, judged_replied}
 use Rattle.std.specs.Prelude.{◌≡◌, ℕ, zero, List, ◌∷◌, Option, Ok, refl, ◌+◌, Contains, take, Some, None, option_map, option_and_then, Result, Err, IfSome}
 use Rattle.std.proofs.Common.{ap, sym, subst, arith, ◌∙◌}
-use Rattle.psi_model.specs.Network.{Network}
-use Rattle.psi_model.specs.Valid.{IsNetwork}
+use Rattle.psi_net_model.specs.Network.{Network}
+use Rattle.psi_net_model.specs.Valid.{IsNetwork}
 use Rattle.psi_net.specs.Reading.{file_text, text_network, network_of}
 use Rattle.psi_net_document.proofs.ReadingLemmas.{bind_ok}
 use Rattle.psi_net.proofs.NetworkLemmas.{network_kept}
@@ -19,7 +19,7 @@ use Rattle.psi_command.specs.declared.status.Status.TheVariants as status
 use Rattle.psi_reply.specs.declared.ending.Ending.{Ending as Ended}
 use Rattle.psi_reply.specs.declared.ending.Ending.TheVariants.{NetRefused, NetUnread, OutOfMemory}
 use Rattle.psi_log.specs.Reading.{read}
-use Rattle.psi_model.specs.Generated.{generated_network}
+use Rattle.psi_net_model.specs.Generated.{generated_network}
 use Rattle.psi_reply.specs.Couple.{coupling}
 use Rattle.psi_reply.specs.Reward.{kind_named}
 use Rattle.psi_reply.specs.Closed.{first_other}

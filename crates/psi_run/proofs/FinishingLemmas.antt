@@ -7,7 +7,7 @@ use Rattle.psi_program.specs.Finished.{IsFinished}
 use Rattle.psi_program.specs.Call.{Call}
 use Rattle.psi_program.proofs.SparingLemmas.{spared}
 use Rattle.psi_program.proofs.FinishingLemmas.{finished_with, finished_as}
-use Rattle.psi_model.specs.Network.{Network}
+use Rattle.psi_net_model.specs.Network.{Network}
 use Rattle.psi_net.specs.Reading.{network_of}
 use Rattle.psi_command.specs.declared.status.Status.{Status}
 use Rattle.psi_command.specs.declared.status.Status.TheVariants as status

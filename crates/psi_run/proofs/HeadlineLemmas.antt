@@ -7,7 +7,7 @@ use Rattle.std.proofs.lemmas.Bool.{cases_lt}
 use Rattle.std.proofs.lemmas.List.{take_all}
 use Rattle.psi_io.specs.Shelf.{Given, IsPrefixIn}
 use Rattle.psi_program.specs.Run.{Run, Agrees}
-use Rattle.psi_model.specs.Network.{Network}
+use Rattle.psi_net_model.specs.Network.{Network}
 use Rattle.psi_net.specs.Reading.{network_of}
 use Rattle.psi_net.proofs.FrontLemmas.{network_of-long}
 use Rattle.psi_command.specs.declared.status.Status.{Status}

@@ -3,18 +3,18 @@ use Rattle.std.specs.Prelude.{◌≡◌, ℕ, ◌+◌, ◌<◌, List, [], length
 use Rattle.std.proofs.Common.{inl, inr, ap, sym, ◌∙◌, subst, arith}
 use Rattle.std.proofs.lemmas.Bool.{cases_lt, lt-leb}
 use Rattle.std.proofs.lemmas.List.{take_all, length-take-le}
-use Rattle.psi_log_text.specs.Log.{Certificate}
+use Rattle.psi_log_format.specs.Log.{Certificate}
 use Rattle.psi_log_words.specs.Refusal.{Refusal, refused}
 use Rattle.psi_log_words.specs.declared.refusals.Cause.TheVariants.{TooLong}
 use Rattle.psi_log.specs.Reading.{read}
 use Rattle.psi_replay.specs.Verdict.{verdict_of}
-use Rattle.psi_model.specs.Network.{Network}
+use Rattle.psi_net_model.specs.Network.{Network}
 use Rattle.psi_net.specs.Reading.{network_of}
 use Rattle.psi_command.specs.declared.status.Status.TheVariants as status
 use Rattle.psi_reply.specs.declared.ending.Ending.{Ending as Ended}
 use Rattle.psi_reply.specs.declared.ending.Ending.TheVariants.{LogUnread, OutOfMemory}
 use Rattle.psi_command.specs.Command.{replay, net_file, log_file}
-use Rattle.psi_answers.specs.Lines.{log_refused_line}
+use Rattle.psi_reply.specs.Lines.{log_refused_line}
 use Rattle.psi_reply.specs.Replay.{judgement}
 use Rattle.psi_program.specs.Reply.{line_reply}
 use Rattle.psi_reply.specs.Reply.{verdict_reply, judged_log, replay_reply}

@@ -6,8 +6,8 @@ use Rattle.psi_program.specs.Seen.{ShelfSeen, IsUnread}
 use Rattle.psi_program.specs.Written.{IsWrittenAs}
 use Rattle.psi_program.specs.Call.{Call}
 use Rattle.psi_program.proofs.RunningLemmas.{IsProgram, runs}
-use Rattle.psi_answers.specs.Lines.{unread_line}
-use Rattle.psi_model.specs.Network.{Network}
+use Rattle.psi_reply.specs.Lines.{unread_line}
+use Rattle.psi_net_model.specs.Network.{Network}
 use Rattle.psi_net.specs.Reading.{network_of}
 use Rattle.psi_command.specs.declared.status.Status.{Status}
 use Rattle.psi_command.specs.declared.status.Status.TheVariants as ending

@@ -7,7 +7,7 @@ use Rattle.psi_command.specs.declared.status.Status.TheVariants.{Usage, LogRefus
 use Rattle.psi_command.specs.Status.{IsReplay, IsCertify, IsReward, IsExact, IsClosed, IsPrinted, IsReported, IsReplied}
 use Rattle.psi_command.specs.Command.{Command}
 use Rattle.psi_command.specs.Words.{command_of}
-use Rattle.psi_answers.specs.Lines.{unread_line, memory_line}
+use Rattle.psi_reply.specs.Lines.{unread_line, memory_line}
 use Rattle.psi_reply.specs.Reply.{Reply}
 use Rattle.psi_run.specs.Reply.{reply_to}
 use Rattle.psi_run.specs.Reads.{HasUnread, AreAsked}
@@ -28,7 +28,7 @@ ReadFailed call = HasUnread call.shelf (command_of call.words)
 abbrev pub unread_line_of : (call : Call) → ReadFailed call → List ℕ
 unread_line_of call cause = unread_line cause.file
 
--- out and err take the reply's texts, and where the words are a command, err takes the line on want of memory
+-- out and err take the reply's texts, and where the words are a command, err takes the line on memory that ran out
 abbrev pub AreTaken : (out_takes err_takes : ℕ → Type 0) → Result Command ℕ → Reply → Type 0
 AreTaken out_takes err_takes command reply = AreTakenOf out_takes err_takes (IsOk command) memory_line reply
 

@@ -1,7 +1,7 @@
 -- What a file gives: a network or the bytes of a log, or how the work ends without them.
 use Rattle.std.specs.Prelude.{◌≡◌, ℕ, List, Option, Ok, Err, IfSome}
 use Rattle.psi_log.specs.Reading.{read}
-use Rattle.psi_model.specs.Network.{Network}
+use Rattle.psi_net_model.specs.Network.{Network}
 use Rattle.psi_net.specs.Reading.{network_of}
 use Rattle.psi_reply.specs.declared.ending.Ending.{Ending as Ended}
 use Rattle.psi_reply.specs.declared.ending.Ending.TheVariants.{NetRefused, NetUnread, LogUnread, OutOfMemory}

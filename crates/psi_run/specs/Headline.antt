@@ -2,7 +2,7 @@
 use Rattle.std.specs.Prelude.{◌≡◌, ◌≢◌, ℕ, ◌^◌, ◌<◌, List, [], ◌∷◌, Option, Some, Ok, codes}
 use Rattle.std.specs.Fmt.{decimal}
 use Rattle.psi_program.specs.Run.{Run, Agrees}
-use Rattle.psi_model.specs.Network.{Network}
+use Rattle.psi_net_model.specs.Network.{Network}
 use Rattle.psi_net.specs.Reading.{network_of}
 use Rattle.psi_command.specs.declared.status.Status.{Status}
 use Rattle.psi_command.specs.Status.{status_code}
@@ -15,7 +15,7 @@ pub record PrintsSample (run : Run) (net : Network) (seed stream : ℕ) : Type 0
   pub code : status_code status ≡ run.status
   pub sampled : IsSampled (Some []) (Some run.out) status net seed stream
 
--- a run for the words of a sample whose status tells no failed read, no failed write and no want of memory
+-- a run for the words of a sample whose status is not that of a failed read, a failed write or memory that ran out
 pub record IsSampleRun (run : Run) (name : List ℕ) (seed stream : ℕ) : Type 0 where
   pub is : IsRunOf run
   pub words : run.words ≡ codes "sample" ∷ name ∷ decimal seed ∷ decimal stream ∷ []

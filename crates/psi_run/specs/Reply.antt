@@ -1,7 +1,7 @@
 -- What the program answers to its words, over the files that the shelf tells.
 use Rattle.std.specs.Prelude.{◌≡◌, ℕ, List, [], ◌∷◌, Option, Some, None, option_map, option_and_then, Result, Ok, Err}
-use Rattle.psi_model.specs.Network.{Network}
-use Rattle.psi_model.specs.Generated.{generated_network}
+use Rattle.psi_net_model.specs.Network.{Network}
+use Rattle.psi_net_model.specs.Generated.{generated_network}
 use Rattle.psi_net.specs.Reading.{network_of}
 use Rattle.psi_net_document.specs.declared.refusals.NetRefusal.{NetRefusal}
 use Rattle.psi_command.specs.declared.status.Status.TheVariants.{Done}
@@ -12,7 +12,7 @@ use Rattle.psi_reply.specs.Check.{check_text}
 use Rattle.psi_reply.specs.Report.{samples_of}
 use Rattle.psi_reply.specs.Trial.{trial_text}
 use Rattle.psi_reply.specs.Couple.{coupling, coupling_status}
-use Rattle.psi_answers.specs.Couplings.{coupling_text}
+use Rattle.psi_reply.specs.Couplings.{coupling_text}
 use Rattle.psi_reply.specs.Reward.{kind_named}
 use Rattle.psi_reply.specs.Closed.{first_other}
 use Rattle.psi_program.specs.Reply.{text_reply}

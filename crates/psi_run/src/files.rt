@@ -10,7 +10,7 @@ ghost use Rattle.psi_reply.specs.Ended.{ending_of};
 ghost use Rattle.psi_run.specs.Files.{IsNetAt, IsNoNet, IsTextAt, IsNoText};
 
 use psi_io::{Consumer, Shelf, ShelfFault};
-use psi_log_text::MOST_LOG_BYTES;
+use psi_log_format::MOST_LOG_BYTES;
 use psi_net::{Net, NetError, net_of};
 use psi_net_document::MOST_NET_BYTES;
 use psi_reply::Ending;
@@ -18,7 +18,7 @@ use std::alloc::Global;
 
 /// The network in the file of this name. Where there is none, the work ends the same whichever command
 /// names the file: it is refused, a read of it failed in this call, or there was not enough memory.
-pub(crate) fn network_at<'w, F: Shelf>(
+pub fn network_at<'w, F: Shelf>(
     alloc: Global,
     shelf: &mut F,
     name: &'w str,

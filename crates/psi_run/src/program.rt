@@ -4,7 +4,7 @@ ghost use Rattle.std.specs.Prelude.{◌≡◌, ◌≢◌, ℕ, ◌^◌, ◌<◌,
 ghost use Rattle.std.specs.Fmt.{decimal};
 ghost use Rattle.psi_io.specs.Counts.{Rose};
 ghost use Rattle.psi_program.specs.Run.{HasRun};
-ghost use Rattle.psi_model.specs.Network.{Network};
+ghost use Rattle.psi_net_model.specs.Network.{Network};
 ghost use Rattle.psi_net.specs.Reading.{network_of};
 ghost use Rattle.psi_command.specs.Status.{status_code, IsReplied};
 ghost use Rattle.psi_command.specs.Command.{Command};
@@ -167,8 +167,8 @@ pub fn run<F: Shelf, O: Sink, E: Sink>(
     ensures means { (command : Command) → command_of (map string_bytes words.now) ≡ Ok command → IsReplied result
         → Means command (F.told shelf.old) (O.held out.old) (O.held out.new) result }
 
-    // Where the shelf gives each file that the words name, and out and err take the reply's texts and the line on want of memory,
-    // no count of faults rises in this call, and the status is the reply's or tells want of memory.
+    // Where the shelf gives each file that the words name, and out and err take the reply's texts and the line on memory that ran out,
+    // no count of faults rises in this call, and the status is the reply's or `OutOfMemory`.
     ensures spared { (reply : Reply) → reply_to (command_of (map string_bytes words.now)) (F.told shelf.old) ≡ Some reply
         → AreGiven (F.gives shelf.old) (command_of (map string_bytes words.now))
         → AreTaken (O.takes out.old) (E.takes err.old) (command_of (map string_bytes words.now)) reply

@@ -6,18 +6,17 @@ ghost use Rattle.psi_program.specs.Finished.{IsFinished};
 ghost use Rattle.psi_reply.specs.Ending.{faults, ending_reply};
 ghost use Rattle.psi_reply.specs.Ended.{ending_of};
 
-use psi_answers::{
-    Line, log_refused_line, log_rejected_line, log_unread_line, memory_line, network_unread_line,
-    no_total_line, not_closed_line, refused_line, too_long_line, too_many_line, unknown_line,
-    usage_line,
-};
 use psi_command::Status;
 use psi_io::Sink;
 use psi_program::Text;
-use psi_reply::Ending;
+use psi_reply::{
+    Ending, Line, log_refused_line, log_rejected_line, log_unread_line, memory_line,
+    network_unread_line, no_total_line, not_closed_line, refused_line, too_long_line,
+    too_many_line, unknown_line, usage_line,
+};
 
-// The line for err of an ending; none where a text is printed.
-fn line_of(ending: &Ending<'_>) -> Line
+/// The line for err of an ending; none where a text is printed.
+pub fn line_of(ending: &Ending<'_>) -> Line
     ensures { result.items ≡ (ending_reply (ending_of ending.now)).err }
 {
     match ending {

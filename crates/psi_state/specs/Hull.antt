@@ -26,7 +26,7 @@ highs (x ∷ y ∷ ys) = join_by max x (highs (y ∷ ys))
 abbrev pub corners : List (List ℕ) → Corners
 corners xs = record { lo = lows xs; hi = highs xs }
 
--- the hull of a list of states
+-- the hull of a list of states, which is never empty where a region is followed: of an empty list it would be the box of the empty state
 unfoldable pub hull : List (List ℕ) → List (List ℕ)
 hull xs = box (lows xs) (highs xs)
 

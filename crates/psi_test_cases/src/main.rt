@@ -15,15 +15,15 @@
 //! | File | Cases | What they want |
 //! |---|---|---|
 //! | `wrong.cases` | cases that are wrong in one place each, whose names must be printed | by hand |
-//! | `rows.cases`, `rows-report.cases`, `rows-couple.cases`, `rows-log.cases`, `rows-exact.cases`, `rows-closed.cases` | worked rows of each command, edges, and a report of the most samples | worked out by hand, or by programs written apart, before the program was written; edges and the report of the most by `checks/plain.py` |
+//! | `rows.cases`, `rows-report.cases`, `rows-couple.cases`, `rows-log.cases`, `rows-exact.cases`, `rows-closed.cases` | worked rows of each command, edges, and a report of the most samples | worked out by hand, or by programs written apart, before the program was written; edges and the report of the most by `oracle/plain.py` |
 //! | `usage.cases` | words that are no command | by hand |
 //! | `faults.cases` | reads and writes that fail, sinks that take few bytes | by hand |
 //! | `networks.cases` | samples and descriptions, long tandems among them | by hand, or by two programs written apart |
-//! | `refusals.cases` | files that are refused, by `check` and `sample`, and files at each limit that are read | by hand; the descriptions by `checks/plain.py` |
-//! | `kinds.cases` | the marks of every kind of event on small networks | by `checks/all_kinds.py`, over all pairs of states |
-//! | `small.cases`, `small-exact.cases`, `small-closed.cases` | samples, maps of all states and closed samples of small networks | by `checks/small_networks.py`, which lists states |
-//! | `sweeps.cases` | marks and samples that tell events from the others of a list | by `checks/sweeps.py`, which lists states |
-//! | `check.cases`, `sample.cases`, `report.cases`, `trial.cases`, `couple.cases`, `reward.cases`, `log.cases`, `replay.cases`, `exact.cases`, `closed.cases`, `refuse.cases`, `words.cases`, `read.cases` | random networks, whole and broken, logs, written, changed and broken, words, and files that aren't there | by an independent program (`checks/cases_from_json.py`) |
+//! | `refusals.cases` | files that are refused, by `check` and `sample`, and files at each limit that are read | by hand; the descriptions by `oracle/plain.py` |
+//! | `kinds.cases` | the marks of every kind of event on small networks | by `generate/all_kinds.py`, over all pairs of states |
+//! | `small.cases`, `small-exact.cases`, `small-closed.cases` | samples, maps of all states and closed samples of small networks | by `generate/small_networks.py`, which lists states |
+//! | `sweeps.cases` | marks and samples that tell events from the others of a list | by `generate/sweeps.py`, which lists states |
+//! | `check.cases`, `sample.cases`, `report.cases`, `trial.cases`, `couple.cases`, `reward.cases`, `log.cases`, `replay.cases`, `exact.cases`, `closed.cases`, `refuse.cases`, `words.cases`, `read.cases` | random networks, whole and broken, logs, written, changed and broken, words, and files that aren't there | by an independent program (`generate/cases_from_json.py`) |
 //!
 //! It ends with 0 where all agree, with 1 where a case differs, and with 2 where a case file can't
 //! be read or there isn't enough memory, which a line on standard error tells.

@@ -4,8 +4,8 @@ ghost use Rattle.std.specs.Prelude.{◌≡◌, ◌≤◌, ◌∷◌, [], length}
 ghost use Rattle.psi_state.specs.State.{AreCapacities};
 ghost use Rattle.psi_closed.specs.Closed.{IsOfTotal};
 
-use psi_arcs::{Arc, Arcs, Reach};
 use psi_closed::{ClosedPlan, Diagram};
+use psi_closed_arcs::{Arc, Arcs, Reach};
 use psi_kinds::Move;
 use psi_past::SeedPast;
 use psi_rate::Wheel;

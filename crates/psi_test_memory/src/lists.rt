@@ -9,12 +9,12 @@ use psi_command::command_of;
 use psi_index::IndexTable;
 use psi_io::MemoryShelf;
 use psi_kinds::{Kind, Tables, lower, refusal_of};
-use psi_model::{accepted_reward, index_values, source_of};
+use psi_log_format::StateList;
 use psi_net_document::find;
+use psi_net_model::{accepted_reward, index_values, source_of};
 use psi_reward::{Grid, Numbers, Reward, RewardKind};
 use psi_route::{Full, Route};
 use psi_state::{Queues, State};
-use psi_state_list::StateList;
 use std::alloc::Global;
 use toml::table_from_str;
 

@@ -7,7 +7,7 @@ use psi_follow::plan_of;
 use psi_horizon::Plan;
 use psi_io::MemorySink;
 use psi_log::{Form, Log, LogReader, read_log};
-use psi_log_text::{Header, LineBuf};
+use psi_log_format::{Header, LineBuf};
 use psi_log_writer::{Block, log_fits, write_log};
 use psi_net::Net;
 use psi_past::{Past, SeedPast};

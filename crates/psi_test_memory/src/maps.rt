@@ -1,7 +1,7 @@
 //! Maps of all states.
 
 ghost use Rattle.std.specs.Prelude.{◌≡◌};
-ghost use Rattle.psi_model.specs.Network.{caps_of};
+ghost use Rattle.psi_net_model.specs.Network.{caps_of};
 
 use psi_event::Idle;
 use psi_exact::{MapTable, survey};

@@ -1,7 +1,7 @@
 //! Plans: samples, runs step by step, and the horizons at which all states or a reward's values are one.
 
 ghost use Rattle.std.specs.Prelude.{◌≡◌};
-ghost use Rattle.psi_model.specs.Network.{caps_of};
+ghost use Rattle.psi_net_model.specs.Network.{caps_of};
 
 use psi_couple::{least_horizon, value_horizon};
 use psi_event::EventLaw;

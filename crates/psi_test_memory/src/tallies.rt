@@ -1,7 +1,7 @@
 //! Tallies of samples.
 
 ghost use Rattle.std.specs.Prelude.{◌≡◌, []};
-ghost use Rattle.psi_model.specs.Network.{caps_of};
+ghost use Rattle.psi_net_model.specs.Network.{caps_of};
 ghost use Rattle.psi_report.specs.Totals.{StandsFor};
 
 use psi_net::Net;

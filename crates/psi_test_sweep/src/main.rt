@@ -14,7 +14,7 @@
 //! can't, is told by a line too. The last line counts the tables of which nothing differs. It ends with 0 where
 //! those are all tables, and else with 1.
 //!
-//! The files lie in `data/`, where checks/images.py writes them: what the tables say comes from checks/plain.py, a plain
+//! The files lie in `data/`, where generate/images.py writes them: what the tables say comes from oracle/plain.py, a plain
 //! program that shares nothing with this one.
 //!
 //! | Table | What it has |

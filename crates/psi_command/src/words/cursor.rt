@@ -60,19 +60,19 @@ impl<'w> Cursor<'w> {
     }
 
     /// The number of streams from the first on that the first word is, which is then no longer left; or the
-    /// place where it is missing or no such number. The streams are 1 to 65,536, and the last of them is at
+    /// place where it is missing or no such number. The streams are 1 to `most`, and the last of them is at
     /// most 2 to the power 64 less 1.
-    pub(crate) fn next_count(&mut self, first: u64) -> Result<u32, u8>
+    pub(crate) fn next_count(&mut self, most: u32, first: u64) -> Result<u32, u8>
         requires { self.now.place < 255 }
-        ensures count { IfOk result (λ n. counted first (number_in 65536 (first_text (map string_bytes self.old.left.now))) ≡ Some n) }
-        ensures streams { IfOk result (λ n. (1 ≤ n) × (n ≤ 65536) × (first + n ≤ 2 ^ 64)) }
+        ensures count { IfOk result (λ n. counted first (number_in most (first_text (map string_bytes self.old.left.now))) ≡ Some n) }
+        ensures streams { IfOk result (λ n. (1 ≤ n) × (n ≤ most) × (first + n ≤ 2 ^ 64)) }
         ensures rest { OnOk result (map string_bytes self.new.left.now ≡ drop 1 (map string_bytes self.old.left.now)) }
         ensures place { OnOk result (self.new.place ≡ self.old.place + 1) }
-        ensures wrong { OnErr result (counted first (number_in 65536 (first_text (map string_bytes self.old.left.now))) ≡ None) }
+        ensures wrong { OnErr result (counted first (number_in most (first_text (map string_bytes self.old.left.now))) ≡ None) }
         ensures offends { IfErr result (λ place. place ≡ self.old.place) }
     {
         let place = self.place;
-        let count = self.next_number(65_536)?;
+        let count = self.next_number(most as u64)?;
         if count == 0 || count - 1 > u64::MAX - first {
             return Err(place);
         }

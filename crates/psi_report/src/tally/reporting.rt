@@ -10,7 +10,7 @@ use crate::figure::{Figure, HorizonCount, Item};
 use crate::report::Report;
 use crate::summary::Summary;
 use crate::tally::Tally;
-use psi_model::{Name, Net, OutOfMemory};
+use psi_net_model::{Name, Net, OutOfMemory};
 use std::alloc::Global;
 
 // What the figures of a quantity are.

@@ -3,7 +3,7 @@
 ghost use Rattle.std.specs.Prelude.{◌≡◌, ◌^◌, ◌≤◌, Ok};
 ghost use Rattle.psi_io.specs.Shelf.{AgreesSince};
 ghost use Rattle.psi_program.specs.Seen.{ShelfCall};
-ghost use Rattle.psi_log_text.specs.Text.{log_text};
+ghost use Rattle.psi_log_format.specs.Text.{log_text};
 ghost use Rattle.psi_log_writer.specs.Recorded.{log_of};
 ghost use Rattle.psi_command.specs.Command.{certify};
 ghost use Rattle.psi_reply.specs.Sample.{sampled};

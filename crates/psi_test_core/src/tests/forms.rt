@@ -4,10 +4,10 @@ ghost use Rattle.std.specs.Prelude.{◌≡◌, ◌≤◌, ◌∷◌, []};
 ghost use Rattle.psi_state.specs.State.{AreCapacities};
 ghost use Rattle.psi_kinds.specs.Kinds.{AreQueues, IsKindOf};
 
+use psi_event::PiecewiseLaw;
+use psi_follow_packed::{Layout, Program};
 use psi_guard::{Guarded, Part};
 use psi_kinds::{Kind, KindRefusal, lower};
-use psi_packed::{Layout, Program};
-use psi_piecewise::PiecewiseLaw;
 use psi_route::{Full, Source};
 use psi_state::{Queues, State};
 use std::alloc::Global;

@@ -5,8 +5,8 @@ ghost use Rattle.psi_state.specs.State.{AreCapacities};
 ghost use Rattle.psi_route.specs.Accepted.{IsSource};
 
 use psi_event::EventLaw;
+use psi_follow_keyed::Keyed;
 use psi_index::{IndexTable, OutOfMemory};
-use psi_keyed::Keyed;
 use psi_route::{Full, Route, RouteRefusal, Source};
 use psi_state::{Queues, State};
 use std::alloc::Global;

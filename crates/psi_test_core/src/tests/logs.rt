@@ -4,20 +4,11 @@
 ghost use Rattle.std.specs.Prelude.{◌≡◌, ◌∷◌, [], ◌≤◌, length};
 
 use psi_log::LogReader;
-use psi_log_lines::{read_changes, read_move_line, read_new_set, read_set_line, step_at};
-use psi_log_text::Header;
+use psi_log_format::StateList;
+use psi_log_scan::{read_changes, read_new_set, step_at};
 use psi_state::{Bounds, State, Step};
-use psi_state_list::{ListedRegion, StateList};
 use std::alloc::{AllocError, Global};
 use std::test::Fail;
-
-const HEADER: Header = Header {
-    version: 2,
-    queues: 2,
-    seed: 0,
-    stream: 0,
-    horizon: 3,
-};
 
 // A set with states one after another of which one number differs, from one digit to two and behind the number, and
 // with others; behind it as many bytes as are looked at together.
@@ -75,34 +66,6 @@ fn changed(text: &[u8]) -> Option<(State, State)> {
     Some((to.lo(), to.hi()))
 }
 
-// The same of a line that is read so.
-fn moved(text: &[u8]) -> Option<(State, State)> {
-    let read = read_move_line(&HEADER, &at_most(4, 12), text);
-    let Some((line, _)) = read else {
-        return None;
-    };
-    match &line.region {
-        ListedRegion::Box(bounds) => Some((bounds.lo(), bounds.hi())),
-        ListedRegion::Set { .. } => None,
-    }
-}
-
-// The number of the second of two steps with sets, where both are read in one pass, the place of the states of its set,
-// and how many states there are.
-fn again(alloc: Global, text: &[u8]) -> Result<Option<(u32, usize, usize)>, AllocError> {
-    let mut states = StateList::new(alloc, 2);
-    let (set, rest) = match read_set_line(&HEADER, text, None, &mut states) {
-        Ok(Some((_, set, rest))) => (set, rest),
-        Ok(None) => return Ok(None),
-        Err(error) => return Err(error),
-    };
-    match read_set_line(&HEADER, rest, Some(set), &mut states) {
-        Ok(Some((line, set, _))) => Ok(Some((line.step.number, set.first, states.len()))),
-        Ok(None) => Ok(None),
-        Err(error) => Err(error),
-    }
-}
-
 // The states of a set that is read in one pass.
 fn states_of(alloc: Global, text: &[u8]) -> Result<Option<Vec<State>>, AllocError> {
     let mut states = StateList::new(alloc, 2);
@@ -143,9 +106,7 @@ fn a_step_is_read_in_one_pass(rt: HostRuntime) {
 
 #[test]
 fn changes_are_read_in_one_pass(rt: HostRuntime) {
-    let wanted = Some((pair(0, 2), pair(4, 10)));
-    assert_eq!(rt; changed(b" 1,2,10\n"), wanted);
-    assert_eq!(rt; moved(b"step 3 1 move 1,2,10\nend"), wanted);
+    assert_eq!(rt; changed(b" 1,2,10\n"), Some((pair(0, 2), pair(4, 10))));
 }
 
 #[test]
@@ -155,13 +116,6 @@ fn a_set_is_read_in_one_pass(rt: HostRuntime) -> Result<(), Fail> {
         wanted.push(pair(first, second))?;
     }
     assert_eq!(rt; states_of(rt.alloc(), SET)?, Some(wanted));
-    Ok(())
-}
-
-#[test]
-fn a_set_that_comes_again_is_the_last_one(rt: HostRuntime) -> Result<(), Fail> {
-    let text = b"step 3 1 set 0,8 1,0\nstep 2 0 set 0,8 1,0\nend";
-    assert_eq!(rt; again(rt.alloc(), text)?, Some((2, 0, 2)));
     Ok(())
 }
 

@@ -1,7 +1,7 @@
 -- Answers in the proof of `is_walk`.
 use Rattle.std.proofs.Common.{◌≡◌, ◌≤◌, ◌<◌, ◌+◌, sym, ◌∙◌, length, arith}
 use Rattle.std.proofs.lemmas.Bool.{false≢true, eqb-true, eq-eqb}
-use Rattle.psi_arcs.specs.Held.{Listed}
+use Rattle.psi_closed_arcs.specs.Held.{Listed}
 use Rattle.psi_closed.proofs.ArcsLemmas.{arc}
 use Rattle.psi_closed.proofs.WalksLemmas.{held-total}
 use Rattle.psi_closed.proofs.StatesLemmas.{customers-next, walk-listed, each-next, each-walk, walk-sum}

@@ -1,7 +1,7 @@
 -- Invariants of the loop of `is_walk`.
 use Rattle.std.proofs.Common.{◌≡◌, ℕ, ◌<◌, ◌≤◌, take, slice_index}
-use Rattle.psi_arcs.specs.Walks.{customers}
-use Rattle.psi_arcs.specs.Held.{Listed}
+use Rattle.psi_closed_arcs.specs.Walks.{customers}
+use Rattle.psi_closed_arcs.specs.Held.{Listed}
 use Rattle.psi_closed.proofs.arcs.is_walk.Given as goal
 
 -- the arcs of the state at the queues so far are there

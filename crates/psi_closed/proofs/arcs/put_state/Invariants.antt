@@ -1,7 +1,7 @@
 -- Invariants of the loop of `put_state`.
 use Rattle.std.proofs.Common.{◌≡◌, ℕ, take, ◌↔◌, ◌⊎◌}
-use Rattle.psi_arcs.specs.Walks.{customers}
-use Rattle.psi_arcs.specs.Held.{Listed}
+use Rattle.psi_closed_arcs.specs.Walks.{customers}
+use Rattle.psi_closed_arcs.specs.Held.{Listed}
 use Rattle.psi_closed.proofs.StatesLemmas.{IsEarlier}
 use Rattle.psi_closed.proofs.arcs.put_state.Given as goal
 

@@ -1,8 +1,8 @@
 -- Answers in the proof of `put_states`.
 use Rattle.std.proofs.Common.{refl, ◌≡◌, ◌∙◌, List, ℕ, sym, subst, inl, inr, arith, take}
 use Rattle.std.proofs.lemmas.List.{take_all}
-use Rattle.psi_arcs.specs.declared.ends.Arc.{Arc}
-use Rattle.psi_arcs.specs.Held.{Listed}
+use Rattle.psi_closed_arcs.specs.declared.ends.Arc.{Arc}
+use Rattle.psi_closed_arcs.specs.Held.{Listed}
 use Rattle.psi_closed.specs.Closed.{all_arcs}
 use Rattle.psi_closed.proofs.ArcsLemmas.{arc}
 use Rattle.psi_state.specs.Members.{In}

@@ -1,6 +1,6 @@
 -- Invariants of the loop of `put_states`.
 use Rattle.std.proofs.Common.{◌≡◌, ℕ, take, ◌↔◌}
-use Rattle.psi_arcs.specs.Held.{Listed}
+use Rattle.psi_closed_arcs.specs.Held.{Listed}
 use Rattle.psi_closed.specs.Closed.{all_arcs}
 use Rattle.psi_closed.proofs.arcs.put_states.Given as goal
 

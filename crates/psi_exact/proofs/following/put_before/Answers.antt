@@ -1,45 +1,40 @@
 -- Answers in the proof of `put_before`.
-use Rattle.std.proofs.Common.{◌*◌, ◌/◌, ℕ, List, length, map, slice_index_or, Option, Some, None, refl, ap, sym, ◌∙◌, subst, arith, Bor}
+use Rattle.std.proofs.Common.{ℕ, List, map, slice_index_or, Option, Some, None, refl, ap, sym, ◌∙◌, subst, Bor}
 use Rattle.std.specs.Option.{option_map}
-use Rattle.psi_state.specs.State.{all_states}
 use Rattle.psi_event.specs.Law.{IsClosed}
 use Rattle.psi_rate.specs.Rates.{event_of}
 use Rattle.psi_rate.specs.Composition.{picked}
 use Rattle.psi_rate.proofs.FunctionsLemmas.{functions-closed}
-use Rattle.psi_exact.specs.ImagesKept.{AreImageRows, HasImages, AreImageRowsOf}
+use Rattle.psi_exact.specs.Ranks.{AreRanksOf}
+use Rattle.psi_exact.specs.TableKept.{AreRanks}
+use Rattle.psi_exact.specs.ImagesKept.{images_at}
+use Rattle.psi_exact.proofs.TablesLemmas.{ranks-images}
 use Rattle.psi_exact.proofs.SurveysLemmas.{picked-event, event-caps, before-event, before-none}
 use Rattle.psi_exact.proofs.following.put_before.Goals as goal
+
+pub of-requires-clause-valid : goal.of-requires-clause-valid
+of-requires-clause-valid g c = (let valid = c.requires.valid in record { same = refl; few = valid.few; most = valid.most; whole = valid.whole })
 
 pub follow-requires : goal.follow-requires
 follow-requires g c =
     let system = c.args.system.now in
-    let m = c.args.moves.now in
-    let cap = sym c.requires.same_caps in
-    let closed = functions-closed g.E.EventLaw.capacities g.E.EventLaw.function system (λ t. c.args.word) g.met.E.EventLaw.closed c.caps-caps.ensures.fit.same_caps in
-    let number = c.pick-number.result.0 in
-    record {
-      number = (let most = c.requires.learned.most in let test = c.if-number-moves.true in omega arith);
-      valid = subst (λ (caps : List ℕ). AreImageRows (length (all_states caps)) m) cap c.requires.valid;
-      has = subst (λ (caps : List ℕ). HasImages caps m (c.pick-number.result.0 * (m.size / m.width))) cap
-          (record {
-            function = picked (map g.E.EventLaw.function system.events) system.rates c.args.word;
-            closed = closed.each 1;
-            are = subst (λ k. AreImageRowsOf system.caps (slice_index_or (map g.E.EventLaw.function system.events) k (λ x. x)) m (c.pick-number.result.0 * (m.size / m.width)))
-                c.pick-number.ensures.number (c.requires.learned.each c.pick-number.result.0 c.if-number-moves.true);
-          });
-    }
-
-pub returns-then-number-moves : goal.returns-then-number-moves
-returns-then-number-moves g c = λ f is.
-    (let system = c.args.system.now in
-    let m = c.args.moves.now in
-    let closed = functions-closed g.E.EventLaw.capacities g.E.EventLaw.function system (λ t. c.args.word) g.met.E.EventLaw.closed c.caps-caps.ensures.fit.same_caps in
     let h = picked (map g.E.EventLaw.function system.events) system.rates c.args.word in
-    let are = subst (λ k. AreImageRowsOf system.caps (slice_index_or (map g.E.EventLaw.function system.events) k (λ x. x)) m (c.pick-number.result.0 * (m.size / m.width)))
-    c.pick-number.ensures.number (c.requires.learned.each c.pick-number.result.0 c.if-number-moves.true) in
+    let closed = functions-closed g.E.EventLaw.capacities g.E.EventLaw.function system (λ t. c.args.word) g.met.E.EventLaw.closed c.caps-caps.ensures.fit.same_caps in
+    let are = subst (λ k. AreRanksOf system.caps (slice_index_or (map g.E.EventLaw.function system.events) k (λ x. x)) (images_at c.args.images.now c.pick-number.result.0))
+    c.pick-number.ensures.number (c.requires.learned.each c.pick-number.result.0 c.if-number-images.true) in
+    subst (λ (caps : List ℕ). AreRanks caps c.of.result.now) (sym c.requires.same_caps)
+    (subst (λ (xs : List ℕ). AreRanks system.caps xs) (sym c.of.ensures) (ranks-images system.caps h (images_at c.args.images.now c.pick-number.result.0) (closed.each 1) are))
+
+pub returns-then-number-images : goal.returns-then-number-images
+returns-then-number-images g c = λ f is.
+    (let system = c.args.system.now in
+    let h = picked (map g.E.EventLaw.function system.events) system.rates c.args.word in
+    let closed = functions-closed g.E.EventLaw.capacities g.E.EventLaw.function system (λ t. c.args.word) g.met.E.EventLaw.closed c.caps-caps.ensures.fit.same_caps in
+    let are = subst (λ k. AreRanksOf system.caps (slice_index_or (map g.E.EventLaw.function system.events) k (λ x. x)) (images_at c.args.images.now c.pick-number.result.0))
+    c.pick-number.ensures.number (c.requires.learned.each c.pick-number.result.0 c.if-number-images.true) in
     before-event system.caps f h h c.args.table.now c.follow.new.self (closed.each 1) refl is
     (c.follow.ensures h (subst (λ (caps : List ℕ). IsClosed caps h) (sym c.requires.same_caps) (closed.each 1))
-    (subst (λ (caps : List ℕ). AreImageRowsOf caps h m (c.pick-number.result.0 * (m.size / m.width))) (sym c.requires.same_caps) are)))
+    (subst (λ (caps : List ℕ). AreRanksOf caps h c.of.result.now) (sym c.requires.same_caps) (subst (λ (xs : List ℕ). AreRanksOf system.caps h xs) (sym c.of.ensures) are))))
 
 pub older-requires : goal.older-requires
 older-requires g c =

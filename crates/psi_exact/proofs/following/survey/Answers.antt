@@ -1,31 +1,30 @@
 -- Answers in the proof of `survey`.
-use Rattle.std.proofs.Common.{ℕ, List, length, ap, sym, ◌∙◌, subst, arith}
+use Rattle.std.proofs.Common.{ℕ, List, length, ap, sym, ◌∙◌, subst}
 use Rattle.psi_state.specs.State.{all_states}
 use Rattle.psi_rate.specs.Composition.{system_functions}
 use Rattle.psi_rate.proofs.FunctionsLemmas.{functions-closed}
 use Rattle.psi_rate.specs.Outcomes.{meeting_at}
 use Rattle.psi_exact.specs.Mapping.{Mapped}
-use Rattle.psi_exact.specs.ImagesKept.{AreImageRows}
+use Rattle.psi_exact.specs.ImagesKept.{AreImages}
 use Rattle.psi_exact.proofs.SurveysLemmas.{meeting_within-only, meeting-reaches, meeting-below}
 use Rattle.psi_exact.proofs.following.survey.Goals as goal
 
-pub learn_each-requires : goal.learn_each-requires
-learn_each-requires g c =
+pub learn-requires : goal.learn-requires
+learn-requires g c =
     let cap = ap (λ (t : Mapped). t.caps) c.table.view_is ∙ c.requires.same_caps in
-    let valid = subst (λ (caps : List ℕ). AreImageRows (length (all_states caps)) c.table.inside.moves) cap c.table.invariant in
-    record { few = (let same = valid.same in let bound = valid.bound in omega arith); valid = valid }
+    record { same_caps = cap; valid = subst (λ (caps : List ℕ). AreImages (length (all_states caps)) c.table.inside.images) cap c.table.invariant }
 
 pub follow_all-requires : goal.follow_all-requires
 follow_all-requires g c = record {
-  same_caps = ap (λ (t : Mapped). t.caps) c.table.view_is ∙ c.requires.same_caps;
+  same_caps = ap (λ (t : Mapped). t.caps) c.learn.ensures.same ∙ (ap (λ (t : Mapped). t.caps) c.table.view_is ∙ c.requires.same_caps);
   most = c.requires.most;
-  valid = c.learn_each.ensures.valid;
-  learned = c.learn_each.ensures.learned;
+  valid = c.learn.ensures.valid;
+  learned = c.learn.ensures.learned;
 }
 
 pub invariant_of-table : goal.invariant_of-table
 invariant_of-table g c =
-    subst (λ (caps : List ℕ). AreImageRows (length (all_states caps)) c.learn_each.new.moves) (sym (ap (λ (t : Mapped). t.caps) c.follow_all.ensures.map)) c.learn_each.ensures.valid
+    subst (λ (caps : List ℕ). AreImages (length (all_states caps)) c.learn.new.images) (sym (ap (λ (t : Mapped). t.caps) c.follow_all.ensures.map)) c.learn.ensures.valid
 
 pub returns-clause-sizes : goal.returns-clause-sizes
 returns-clause-sizes g c = c.follow_all.ensures.sizes

@@ -2,10 +2,10 @@
 use Rattle.std.proofs.Common.{◌∙◌, map, sym, ap, subst, arith}
 use Rattle.std.specs.Prelude.{Result, option_copied}
 use Rattle.std.proofs.lemmas.Grind.{common_steps}
-use Rattle.psi_log_text.specs.Log.{Entry}
+use Rattle.psi_log_format.specs.Log.{Entry}
 use Rattle.psi_log_words.specs.Refusal.{Refusal, IsLogError}
-use Rattle.psi_log_lines.specs.Lines.{read_step}
-use Rattle.psi_log_lines.proofs.CutLemmas.{step_cut}
+use Rattle.psi_log_scan.specs.Lines.{read_step}
+use Rattle.psi_log_scan.proofs.CutLemmas.{step_cut}
 use Rattle.psi_log.proofs.StepLemmas.{next_ok, next_step_refused}
 use Rattle.psi_log.proofs.steps.read_by_words.Goals as goal
 

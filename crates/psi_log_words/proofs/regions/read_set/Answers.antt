@@ -1,7 +1,7 @@
 -- Answers in the proof of `regions::read_set`.
 use Rattle.std.proofs.Common.{◌≡◌, ◌∙◌, ℕ, List, true, length, take, drop, ap, sym, Ok, arith}
 use Rattle.std.proofs.lemmas.List.{length-map}
-use Rattle.psi_log_text.specs.Log.{in_set}
+use Rattle.psi_log_format.specs.Log.{in_set}
 use Rattle.psi_log_words.specs.Regions.{read_state, ascends, read_given}
 use Rattle.psi_log_words.proofs.TurnLemmas.{each_length, rest_whole, rest_there}
 use Rattle.psi_log_words.proofs.regions.read_set.Goals as goal

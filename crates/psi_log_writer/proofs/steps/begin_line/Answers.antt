@@ -1,8 +1,8 @@
 -- Answers in the proof of `begin_line`.
 use Rattle.std.proofs.Common.{Some, sym, ◌∙◌, ap, rules}
 use Rattle.psi_region.specs.Region.{start}
-use Rattle.psi_log_text.specs.Log.{LogRegion}
-use Rattle.psi_log_text.specs.Text.{begin_text}
+use Rattle.psi_log_format.specs.Log.{LogRegion}
+use Rattle.psi_log_format.specs.Text.{begin_text}
 use Rattle.psi_log_writer.specs.Walking.{IsToldAfter}
 use Rattle.psi_log_writer.proofs.WalkingLemmas.{region_of-box}
 use Rattle.psi_log_writer.proofs.steps.begin_line.Goals as goal

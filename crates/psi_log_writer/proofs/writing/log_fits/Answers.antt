@@ -1,6 +1,6 @@
 -- Answers in the proof of `log_fits`.
 use Rattle.std.proofs.Common.{◌≡◌, ℕ, suc, ◌+◌, List, length, refl, sym, ◌∙◌, ap, subst, add-one, arith}
-use Rattle.psi_log_text.specs.Text.{log_text}
+use Rattle.psi_log_format.specs.Text.{log_text}
 use Rattle.psi_log_writer.specs.Recorded.{log_of}
 use Rattle.psi_log_writer.specs.Walking.{line_in, text_in, IsWalking}
 use Rattle.psi_log_writer.proofs.TextLemmas.{text_in-none, text_in-more, text_in-whole, text_in-rest, line-only}

@@ -1,6 +1,6 @@
 -- Answers in the proof of `write_lines`.
 use Rattle.std.proofs.Common.{suc, [], ◌++◌, refl, sym, ◌∙◌, subst, add-one, arith}
-use Rattle.psi_log_text.specs.Text.{log_text}
+use Rattle.psi_log_format.specs.Text.{log_text}
 use Rattle.psi_log_writer.specs.Recorded.{log_of}
 use Rattle.psi_log_writer.specs.Walking.{line_in, text_in, IsWalking}
 use Rattle.psi_log_writer.specs.Sending.{SinkState, IsSent}

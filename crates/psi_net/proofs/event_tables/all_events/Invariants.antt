@@ -6,7 +6,7 @@ use Rattle.psi_net.specs.EventTables.{event_step}
 use Rattle.psi_net.specs.Counting.{IsCounted}
 use Rattle.psi_net.specs.Listing.{listed}
 use Rattle.std.specs.List.{flat_map}
-use Rattle.psi_model.specs.Expansion.{expanded, AreSourced}
+use Rattle.psi_net_model.specs.Expansion.{expanded, AreSourced}
 use Rattle.psi_net.proofs.event_tables.all_events.Given as goal
 
 abbrev pub invariant-loop-index : goal.invariant-loop-index

@@ -1,7 +1,7 @@
 -- Answers in the proof of `push_event`.
 use Rattle.std.proofs.Common.{List, sym, subst}
-use Rattle.psi_model.specs.Expansion.{AreSourced}
-use Rattle.psi_model.specs.declared.entries.NamedEvent.{NamedEvent}
+use Rattle.psi_net_model.specs.Expansion.{AreSourced}
+use Rattle.psi_net_model.specs.declared.entries.NamedEvent.{NamedEvent}
 use Rattle.psi_net.proofs.KeptEventsLemmas.{source_read, sourced_more}
 use Rattle.psi_net.proofs.event_tables.push_event.Goals as goal
 

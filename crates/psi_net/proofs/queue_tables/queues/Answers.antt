@@ -1,9 +1,9 @@
 -- Answers in the proof of `queues`.
 use Rattle.std.proofs.Common.{List, map, ap, sym, ◌∙◌, subst}
-use Rattle.psi_model.specs.Valid.{AreListed}
-use Rattle.psi_model.specs.declared.entries.Queue.{Queue}
+use Rattle.psi_net_model.specs.Valid.{AreListed}
+use Rattle.psi_net_model.specs.declared.entries.Queue.{Queue}
 use Rattle.psi_net.proofs.KeptQueuesLemmas.{queues_kept}
-use Rattle.psi_model.proofs.QueueLemmas.{names_few, names_same}
+use Rattle.psi_net_model.proofs.QueueLemmas.{names_few, names_same}
 use Rattle.psi_net.proofs.queue_tables.queues.Goals as goal
 
 pub capacities-caps-requires : goal.capacities-caps-requires

@@ -1,8 +1,8 @@
 -- Answers in the proof of `net_of`.
 use Rattle.std.proofs.Common.{sym, subst}
-use Rattle.psi_model.specs.Network.{Network}
-use Rattle.psi_model.specs.Valid.{IsNetwork}
-use Rattle.psi_model.specs.Draft.{unexpanded}
+use Rattle.psi_net_model.specs.Network.{Network}
+use Rattle.psi_net_model.specs.Valid.{IsNetwork}
+use Rattle.psi_net_model.specs.Draft.{unexpanded}
 use Rattle.psi_net.proofs.FrontLemmas.{network_of-take}
 use Rattle.psi_net.proofs.NetworkLemmas.{network_kept}
 use Rattle.psi_net.proofs.reading.net_of.Goals as goal

@@ -3,7 +3,7 @@ use Rattle.std.proofs.Common.{◌≡◌, ◌+◌, [], All, map, drop}
 use Rattle.psi_reward.specs.Rewards.{reward_caps}
 use Rattle.toml.specs.View.{view}
 use Rattle.psi_net_document.specs.Values.{each}
-use Rattle.psi_model.specs.Draft.{named}
+use Rattle.psi_net_model.specs.Draft.{named}
 use Rattle.psi_net.specs.RewardTables.{reward_step}
 use Rattle.psi_net.proofs.reward_tables.all_rewards.Given as goal
 

@@ -3,7 +3,7 @@ use Rattle.std.proofs.Common.{◌≡◌, ℕ, List, length, Some, sym, ◌∙◌
 use Rattle.std.specs.Prelude.{slice_get, IsTrue}
 use Rattle.std.proofs.lemmas.Option.{slice_get_read}
 use Rattle.std.proofs.lemmas.Slice.Eq.{bytes_eq-Decides}
-use Rattle.psi_name.specs.Name.{is_name}
+use Rattle.psi_net_model.specs.Name.{is_name}
 use Rattle.psi_net_document.proofs.DistinctNamesLemmas.{number-here}
 use Rattle.psi_net_document.proofs.references.is_named.Goals as goal
 

@@ -1,7 +1,7 @@
 -- Invariants of the loops of `passing::judge_lines`.
 use Rattle.std.specs.Prelude.{◌≡◌, List, ℕ, ◌++◌, length, true, OnOk}
 use Rattle.psi_rate.specs.Composition.{system_functions}
-use Rattle.psi_log.specs.Cursor.{IsCursor}
+use Rattle.psi_log.specs.Cursor.{IsCursor, EndsAs}
 use Rattle.psi_replay.specs.Verdict.{is_within, event_numbers}
 use Rattle.psi_replay.specs.Passes.{told, verdict_left}
 use Rattle.psi_replay.proofs.passing.judge_lines.Given as goal
@@ -13,6 +13,7 @@ invariant-loop-done g l = record {
   cursor : IsCursor l.reader;
   header : l.reader.header ≡ l.fn.reader.header;
   done : l.reader.done ≡ l.done;
+  ends : EndsAs l.fn.reader.rest l.reader.rest;
   queues : OnOk l.judged (l.reader.header.queues ≡ length l.system.caps);
   within : OnOk l.judged (is_within l.system.caps l.reader.region ≡ true);
   left : (more : List ℕ)

@@ -2,15 +2,15 @@
 use Rattle.std.specs.Prelude.{◌≡◌, ℕ, ◌+◌, List, Result, Ok, IfErr, OnOk}
 use Rattle.std.proofs.Common.{ap, sym, ◌∙◌, subst}
 use Rattle.psi_rate.specs.Composition.{system_functions}
-use Rattle.psi_log_text.specs.declared.header.Header.{Header}
-use Rattle.psi_log_text.specs.Log.{LogRegion}
+use Rattle.psi_log_format.specs.declared.header.Header.{Header}
+use Rattle.psi_log_format.specs.Log.{LogRegion}
 use Rattle.psi_log_words.specs.Refusal.{IsLogError}
 use Rattle.psi_log_words.specs.declared.refusals.LogError.{LogError}
 use Rattle.psi_log.specs.Cursor.{Cursor}
 use Rattle.psi_replay.specs.Verdict.{judge_end, event_numbers, verdict_of}
 use Rattle.psi_replay.specs.declared.answers.Verdict.{Verdict}
 use Rattle.psi_replay.specs.declared.causes.Rejection.{Rejection}
-use Rattle.psi_replay.specs.RegionsViews.{seen}
+use Rattle.psi_log_format.specs.Listed.{shown}
 use Rattle.psi_replay.specs.Passes.{told, and_then, told_log, verdict_left}
 use Rattle.psi_replay.proofs.PassLemmas.{told_is, left_ends, left_end_fails, with_none, refused_as}
 use Rattle.psi_replay.proofs.passing.verdict_left.Goals as goal
@@ -58,7 +58,7 @@ returns g c =
     let same = with_none (λ (t : List ℕ). left old t c.args.before) (λ (t : List ℕ). left reader t judged) old.rest reader.rest c.judge_lines-passed.ensures.left in
     let done = subst (λ (r : Result (Unit {0}) LogError). OnOk r (reader.done ≡ reader.header.horizon)) c.in-Ok.is c.judge_lines-passed.ensures.done in
     let header : reader.header ≡ c.header-header.result = c.judge_lines-passed.ensures.header ∙ sym c.header-header.ensures.value in
-    let region : seen c.of-last.result ≡ reader.region = c.of-last.ensures ∙ c.region.ensures ∙ ap (λ (k : Cursor). k.region) c.in-Ok-end.ensures.same in
+    let region : shown c.region-last.result ≡ reader.region = c.region-last.ensures.value ∙ ap (λ (k : Cursor). k.region) c.in-Ok-end.ensures.same in
     let judges : and_then (told judged) (judge_end (7 + reader.header.horizon) reader.region end) ≡ last =
     ap (λ (h : Header). and_then (told judged) (judge_end (7 + h.horizon) reader.region end)) header
     ∙ ap (λ (r : LogRegion). and_then (told judged) (judge_end (7 + c.header-header.result.horizon) r end)) (sym region)

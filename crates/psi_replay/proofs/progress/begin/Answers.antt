@@ -3,10 +3,10 @@ use Rattle.std.specs.Prelude.{◌≡◌, ℕ, ◌++◌, Result}
 use Rattle.std.proofs.Common.{ap, sym, ◌∙◌}
 use Rattle.psi_past.specs.SeedWord.{seed_word}
 use Rattle.psi_rate.specs.Composition.{system_functions}
-use Rattle.psi_log_text.specs.declared.header.Header.{Header}
-use Rattle.psi_log_text.specs.Log.{LogRegion}
+use Rattle.psi_log_format.specs.declared.header.Header.{Header}
+use Rattle.psi_log_format.specs.Log.{LogRegion}
 use Rattle.psi_log_words.specs.Refusal.{Refusal}
-use Rattle.psi_log.proofs.FrontLemmas.{begun_front}
+use Rattle.psi_log.proofs.FrontLemmas.{begun_front, begun_ends}
 use Rattle.psi_replay.specs.Verdict.{judged, event_numbers}
 use Rattle.psi_replay.specs.Passes.{told, judge_begin, verdict_left, judged_under}
 use Rattle.psi_replay.proofs.PassLemmas.{told_is, left_begun, replay_refused}
@@ -14,6 +14,9 @@ use Rattle.psi_replay.proofs.progress.begin.Goals as goal
 
 pub returns-in-Err-clause-refused : goal.returns-in-Err-clause-refused
 returns-in-Err-clause-refused g c = replay_refused (judged_under g.E.EventLaw.function c.args.system.now) c.args.text.now c.in-Err.error c.in-Err.ensures.value
+
+pub returns-clause-ends : goal.returns-clause-ends
+returns-clause-ends g c = begun_ends c.args.text.now c.in-Ok.reader c.in-Ok.ensures.value
 
 pub returns-clause-left : goal.returns-clause-left
 returns-clause-left g c =
@@ -23,7 +26,7 @@ returns-clause-left g c =
     let words = seed_word reader.header.seed reader.header.stream in
     let begun : judge_begin system.caps system.limit reader.header reader.region ≡ told c.judge_begin-judged.result =
     ap (λ (h : Header). judge_begin system.caps system.limit h reader.region) (sym c.header-header.ensures.value)
-    ∙ ap (λ (r : LogRegion). judge_begin system.caps system.limit c.header-header.result r) (sym (c.of.ensures ∙ c.region.ensures))
+    ∙ ap (λ (r : LogRegion). judge_begin system.caps system.limit c.header-header.result r) (sym c.region.ensures.value)
     ∙ told_is c.judge_begin-judged.result _ c.judge_begin-judged.ensures.value in
     left_begun system.caps system.limit (event_numbers system words) (system_functions g.E.EventLaw.function system words) (judged_under g.E.EventLaw.function system) c.args.text.now reader
     c.in-Ok.ensures.value c.in-Ok.ensures.start (λ k same. ap (λ (h : Header). own_of (seed_word h.seed h.stream) k) same)
@@ -38,7 +41,7 @@ returns-clause-front g c more few =
     let words = seed_word reader.header.seed reader.header.stream in
     let begun : judge_begin system.caps system.limit reader.header reader.region ≡ told c.judge_begin-judged.result =
     ap (λ (h : Header). judge_begin system.caps system.limit h reader.region) (sym c.header-header.ensures.value)
-    ∙ ap (λ (r : LogRegion). judge_begin system.caps system.limit c.header-header.result r) (sym (c.of.ensures ∙ c.region.ensures))
+    ∙ ap (λ (r : LogRegion). judge_begin system.caps system.limit c.header-header.result r) (sym c.region.ensures.value)
     ∙ told_is c.judge_begin-judged.result _ c.judge_begin-judged.ensures.value in
     left_begun system.caps system.limit (event_numbers system words) (system_functions g.E.EventLaw.function system words) (judged_under g.E.EventLaw.function system) (c.args.text.now ++ more) _
     (begun_front c.args.text.now more reader c.in-Ok.ensures.value few) c.in-Ok.ensures.start (λ k same. ap (λ (h : Header). own_of (seed_word h.seed h.stream) k) same)

@@ -23,7 +23,7 @@ returns-in-Ok g c taken few held =
     let sound = subst (λ (p : Progress). IsSound system.caps p) c.in-Begun.is c.requires in
     let whole = ap (λ (t : List ℕ). replayed (judged_under function system) t) (sym (append-nil taken))
     ∙ same [] (subst (λ (t : List ℕ). length t ≤ 33554432) (sym (append-nil taken)) few)
-    ∙ ap (λ (t : List ℕ). left_under function system reading.paused t reading.judged) (append-nil pending)
-    ∙ ap (λ (w : ℕ → ℕ). left w reading.paused pending) (sym sound.words)
+    ∙ ap (λ (t : List ℕ). left_under function system reading.cursor t reading.judged) (append-nil pending)
+    ∙ ap (λ (w : ℕ → ℕ). left w reading.cursor pending) (sym sound.words)
     ∙ ap (λ (k : Cursor). left (seed_word reading.past.seed reading.past.stream) k k.rest) (sym c.in-Ok.ensures.value) in
     subst (λ (r : Result Verdict Refusal). Gives (λ v. v) c.verdict_left.result r) (sym whole) c.verdict_left.ensures.value

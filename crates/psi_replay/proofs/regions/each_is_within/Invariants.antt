@@ -7,4 +7,4 @@ use Rattle.psi_replay.proofs.regions.each_is_within.Given as goal
 -- the states so far are within the capacities
 abbrev pub invariant-loop-place : goal.invariant-loop-place
 invariant-loop-place l =
-    list_all (λ (x : List ℕ). pointwise nat_le x l.caps) (drop l.place l.set) ≡ list_all (λ (x : List ℕ). pointwise nat_le x l.caps) l.set
+    list_all (λ (x : List ℕ). pointwise nat_le x l.caps) (drop l.place l.rows.states) ≡ list_all (λ (x : List ℕ). pointwise nat_le x l.caps) l.rows.states

@@ -7,8 +7,8 @@ use Rattle.std.proofs.lemmas.Option.{slice_get-map}
 use Rattle.psi_event.specs.Law.{ShowsUpset}
 use Rattle.psi_kinds.specs.Kinds.{do_kind}
 use Rattle.psi_kinds.specs.Forms.{upset_of}
-use Rattle.psi_model.specs.Network.{caps_of, marks_of}
-use Rattle.psi_model.specs.declared.entries.NamedEvent.{NamedEvent}
+use Rattle.psi_net_model.specs.Network.{caps_of, marks_of}
+use Rattle.psi_net_model.specs.declared.entries.NamedEvent.{NamedEvent}
 use Rattle.psi_reply.specs.Check.{event_line}
 use Rattle.psi_reply.proofs.MarksLemmas.{mark-right}
 use Rattle.psi_reply.proofs.EntriesLemmas.{entry_at, field_of, same_at, lines-more, all-more, and_then, and_else, is_none-from}

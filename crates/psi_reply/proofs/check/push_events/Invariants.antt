@@ -5,7 +5,7 @@ use Rattle.std.specs.List.{flat_map, list_all}
 use Rattle.psi_event.specs.Law.{ShowsUpset}
 use Rattle.psi_kinds.specs.Kinds.{do_kind}
 use Rattle.psi_kinds.specs.Forms.{upset_of}
-use Rattle.psi_model.specs.Network.{caps_of, marks_of}
+use Rattle.psi_net_model.specs.Network.{caps_of, marks_of}
 use Rattle.psi_reply.specs.Check.{event_line}
 use Rattle.psi_reply.proofs.check.push_events.Given as goal
 

@@ -1,7 +1,7 @@
 -- Answers in the proof of `check::push_queues`.
 use Rattle.std.specs.Prelude.{ℕ, List}
 use Rattle.std.proofs.Common.{ap, ◌∙◌, arith}
-use Rattle.psi_model.specs.declared.entries.Queue.{Queue}
+use Rattle.psi_net_model.specs.declared.entries.Queue.{Queue}
 use Rattle.psi_reply.specs.Check.{queue_line}
 use Rattle.psi_reply.proofs.EntriesLemmas.{entry_at, field_of, lines-more}
 use Rattle.psi_reply.proofs.check.push_queues.Goals as goal

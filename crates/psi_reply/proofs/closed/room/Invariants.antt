@@ -1,7 +1,7 @@
 -- Invariants of the loops of `closed::room`.
 use Rattle.std.proofs.Common.{◌≡◌, ◌≤◌, ◌*◌, take}
-use Rattle.psi_arcs.specs.Walks.{customers}
-use Rattle.psi_model.specs.Network.{caps_of}
+use Rattle.psi_closed_arcs.specs.Walks.{customers}
+use Rattle.psi_net_model.specs.Network.{caps_of}
 use Rattle.psi_reply.proofs.closed.room.Given as goal
 
 abbrev pub invariant-loop-i : goal.invariant-loop-i

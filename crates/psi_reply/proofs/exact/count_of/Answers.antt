@@ -1,7 +1,7 @@
 -- Answers in the proof of `exact::count_of`.
 use Rattle.std.proofs.Common.{◌<◌, ◌≤◌, length, arith}
 use Rattle.psi_state.specs.State.{all_states}
-use Rattle.psi_model.specs.Network.{caps_of}
+use Rattle.psi_net_model.specs.Network.{caps_of}
 use Rattle.psi_reply.specs.Exact.{state_count}
 use Rattle.psi_reply.proofs.exact.count_of.Goals as goal
 

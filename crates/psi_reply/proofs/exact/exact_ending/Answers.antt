@@ -1,6 +1,6 @@
 -- Answers in the proof of `exact::exact_ending`.
 use Rattle.std.proofs.Common.{subst, refl}
-use Rattle.psi_answers.specs.Surveys.{survey_text}
+use Rattle.psi_reply.specs.Surveys.{survey_text}
 use Rattle.psi_reply.specs.Ended.{ending_of}
 use Rattle.psi_reply.specs.Ending.{EndsWith}
 use Rattle.psi_reply.specs.Exact.{state_count}

@@ -6,7 +6,7 @@ use Rattle.std.proofs.lemmas.List.{get_or_default}
 use Rattle.std.proofs.lemmas.List.Elements.{All-set}
 use Rattle.psi_reward.specs.Worth.{worth_of}
 use Rattle.psi_reward.specs.Rewards.{reward_kind}
-use Rattle.psi_model.specs.Network.{NamedReward}
+use Rattle.psi_net_model.specs.Network.{NamedReward}
 use Rattle.psi_report.specs.declared.summary.Summary.{Summary}
 use Rattle.psi_report.specs.Joined.{with_value, with_reward}
 use Rattle.psi_report.proofs.PairLemmas.{paired_more}

@@ -1,8 +1,8 @@
 -- Answers in the proof of `Diagram::holds`.
 use Rattle.std.proofs.Common.{sym, subst}
 use Rattle.psi_state.specs.Members.{In}
-use Rattle.psi_arcs.specs.Walks.{Held}
-use Rattle.psi_arcs.specs.Held.{Listed}
+use Rattle.psi_closed_arcs.specs.Walks.{Held}
+use Rattle.psi_closed_arcs.specs.Held.{Listed}
 use Rattle.psi_closed.specs.Diagram.{Shown}
 use Rattle.psi_closed.proofs.DiagramLemmas.{state-walk, walk-state}
 use Rattle.psi_closed.proofs.diagram.Diagram.holds.Goals as goal

@@ -1,6 +1,6 @@
 -- Answers in the proof of `Diagram::reserve`.
 use Rattle.std.proofs.Common.{◌≡◌, ◌∙◌, ap, subst, List, ℕ}
-use Rattle.psi_arcs.specs.Held.{ArcList}
+use Rattle.psi_closed_arcs.specs.Held.{ArcList}
 use Rattle.psi_closed.specs.Closed.{total_states}
 use Rattle.psi_closed.specs.Diagram.{AreArcsOf}
 use Rattle.psi_closed.proofs.ArcsLemmas.{In-total_states}

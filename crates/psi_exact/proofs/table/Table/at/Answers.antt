@@ -1,7 +1,7 @@
 -- Answers in the proof of `Table::at`.
 use Rattle.std.proofs.Common.{ℕ, List, ap, sym, ◌∙◌, subst}
 use Rattle.psi_state.specs.State.{IsBelow}
-use Rattle.psi_ranks.proofs.WalkLemmas.{In-whole}
+use Rattle.psi_exact.proofs.WalkLemmas.{In-whole}
 use Rattle.psi_exact.specs.Mapping.{Mapped, sends}
 use Rattle.psi_exact.proofs.SentLemmas.{sent-at}
 use Rattle.psi_exact.proofs.table.Table.at.Goals as goal

@@ -2,9 +2,9 @@
 use Rattle.std.proofs.Common.{◌<◌, ℕ, List, length, Some, refl, ap, sym, ◌∙◌, subst, arith}
 use Rattle.psi_state.specs.State.{Corners, IsBelow, box, all_states}
 use Rattle.psi_state.specs.Sets.{image, single}
-use Rattle.psi_ranks.specs.Ranks.{state_at}
-use Rattle.psi_ranks.proofs.PlacesLemmas.{state_at-below}
-use Rattle.psi_ranks.proofs.WalkLemmas.{rank-whole}
+use Rattle.psi_exact.specs.Ranks.{state_at}
+use Rattle.psi_exact.proofs.PlacesLemmas.{state_at-below}
+use Rattle.psi_exact.proofs.WalkLemmas.{rank-whole}
 use Rattle.psi_exact.specs.Mapping.{Mapped, sends}
 use Rattle.psi_exact.specs.Distinct.{AreAll, AreMixed}
 use Rattle.psi_exact.proofs.TablesLemmas.{some-rank, single-all, single-mixed}

@@ -1,6 +1,6 @@
 -- Answers in the proof of `Guarded::pieces`.
 use Rattle.std.proofs.Common.{◌≡◌, ap, sym, ◌∙◌, arith}
-use Rattle.psi_piecewise.specs.Piecewise.{empty_piece}
+use Rattle.psi_event.specs.Piecewise.{empty_piece}
 use Rattle.psi_guard.proofs.TellingLemmas.{tell-start, tell-next}
 use Rattle.psi_guard.proofs.guarded.Guarded.pieces.Goals as goal
 

@@ -10,7 +10,7 @@ pub invariant_of-self-then-not-read : goal.invariant_of-self-then-not-read
 invariant_of-self-then-not-read c =
     let old = c.self.inside in
     let small = subst (λ (k : Cursor). k.done < k.header.horizon) (sym c.self.view_is) c.requires in
-    moves_kept old.header old.done old.rest.now c.in-Ok.read.rest.now old.spot.value old.spare.value old.stays c.self.invariant small c.in-Ok.read.step c.deref.result.now c.read_onto.new.to
+    moves_kept old.header old.done old.rest.now c.in-Ok.read.rest.now old.slot.value old.spare.value old.stays c.self.invariant small c.in-Ok.read.step c.deref.result.now c.read_onto.new.to
     c.swap.new.x.value c.swap.new.y.value c.in-Ok.read.stays c.deref.ensures (ap (λ b. b.value) c.swap.ensures.x_after) (ap (λ b. b.value) c.swap.ensures.y_after) c.if-not-read.true
     c.in-Ok.ensures.filled c.in-Ok.ensures.value
 
@@ -20,10 +20,10 @@ returns-clause-cursor c =
     let small = subst (λ (k : Cursor). k.done < k.header.horizon) (sym c.self.view_is) c.requires in
     elim c.if-not-read.branch [
       | then-not-read w ↦ subst (λ (k : Cursor). IsCursor k) (sym w.self-is)
-          (moves_kept old.header old.done old.rest.now c.in-Ok.read.rest.now old.spot.value old.spare.value old.stays c.self.invariant small c.in-Ok.read.step c.deref.result.now c.read_onto.new.to
+          (moves_kept old.header old.done old.rest.now c.in-Ok.read.rest.now old.slot.value old.spare.value old.stays c.self.invariant small c.in-Ok.read.step c.deref.result.now c.read_onto.new.to
           w.swap.new.x.value w.swap.new.y.value c.in-Ok.read.stays c.deref.ensures (ap (λ b. b.value) w.swap.ensures.x_after) (ap (λ b. b.value) w.swap.ensures.y_after) w.if-not-read.true
           c.in-Ok.ensures.filled c.in-Ok.ensures.value).cursor
       | else-not-read w ↦ subst (λ (k : Cursor). IsCursor k) (sym w.self-is)
-          (stays_kept old.header old.done old.rest.now c.in-Ok.read.rest.now old.spot.value old.spare.value old.stays c.self.invariant small c.read_onto.new.to c.in-Ok.read.stays
+          (stays_kept old.header old.done old.rest.now c.in-Ok.read.rest.now old.slot.value old.spare.value old.stays c.self.invariant small c.read_onto.new.to c.in-Ok.read.stays
           w.if-not-read.false c.in-Ok.ensures.queues).cursor
     ]

@@ -4,8 +4,8 @@ use Rattle.std.proofs.lemmas.List.{length-map}
 use Rattle.psi_state.specs.State.{IsBelow}
 use Rattle.psi_state.specs.declared.Outcome.{Outcome}
 use Rattle.psi_state.specs.declared.Outcome.TheVariants.{Met}
-use Rattle.psi_model.specs.Network.{caps_of}
-use Rattle.psi_model.specs.declared.entries.Queue.{Queue}
+use Rattle.psi_net_model.specs.Network.{caps_of}
+use Rattle.psi_net_model.specs.declared.entries.Queue.{Queue}
 use Rattle.psi_report.specs.Samples.{IsHorizon, IsSampleOf}
 use Rattle.psi_report.specs.Totals.{Totals}
 use Rattle.psi_report.proofs.StandsLemmas.{can_add, few_added, with_met, with_met_is, stands_met, stands_not_met}

@@ -1,7 +1,7 @@
 -- Answers in the proof of `Tally::report`.
 use Rattle.std.proofs.Common.{List, ◌++◌, length, map, ap, ◌∙◌}
-use Rattle.psi_model.specs.Network.{NamedReward}
-use Rattle.psi_model.specs.declared.entries.Queue.{Queue}
+use Rattle.psi_net_model.specs.Network.{NamedReward}
+use Rattle.psi_net_model.specs.declared.entries.Queue.{Queue}
 use Rattle.psi_report.specs.declared.figure.Figure.{Figure}
 use Rattle.psi_report.specs.Report.{queue_trio, reward_trio}
 use Rattle.psi_report.specs.Totals.{Totals}

@@ -1,6 +1,6 @@
 -- Answers in the proof of `reporting::push_queues`.
 use Rattle.std.proofs.Common.{[], List, ◌++◌, get_or, ap, ◌∙◌, arith}
-use Rattle.psi_model.specs.declared.entries.Queue.{Queue}
+use Rattle.psi_net_model.specs.declared.entries.Queue.{Queue}
 use Rattle.psi_report.specs.declared.figure.Figure.{Figure}
 use Rattle.psi_report.specs.Report.{queue_trio}
 use Rattle.psi_report.specs.Figures.{summary_figures}

@@ -1,6 +1,6 @@
 -- Answers in the proof of `reporting::push_rewards`.
 use Rattle.std.proofs.Common.{[], List, ◌++◌, get_or, ap, ◌∙◌, arith}
-use Rattle.psi_model.specs.Network.{NamedReward}
+use Rattle.psi_net_model.specs.Network.{NamedReward}
 use Rattle.psi_report.specs.declared.figure.Figure.{Figure}
 use Rattle.psi_report.specs.Report.{reward_trio}
 use Rattle.psi_report.specs.Figures.{summary_figures}

@@ -1,7 +1,7 @@
 -- Answers in the proof of `Route::piecewise`.
 use Rattle.std.proofs.Common.{◌∙◌, sym, subst}
-use Rattle.psi_piecewise.specs.declared.piecewise.Piecewise.{Piecewise}
-use Rattle.psi_piecewise.specs.Piecewise.{Does}
+use Rattle.psi_event.specs.declared.piecewise.Piecewise.{Piecewise}
+use Rattle.psi_event.specs.Piecewise.{Does}
 use Rattle.psi_route.specs.Routing.{routed}
 use Rattle.psi_route.specs.Route.{shape_of}
 use Rattle.psi_route.proofs.PiecesLemmas.{leaving-does, joining-does}

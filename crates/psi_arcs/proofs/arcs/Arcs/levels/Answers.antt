@@ -1,6 +1,0 @@
--- Answers in the proof of `Arcs::levels`.
-use Rattle.psi_arcs.proofs.RowsLemmas.{seen-ranged}
-use Rattle.psi_arcs.proofs.arcs.Arcs.levels.Goals as goal
-
-pub returns-clause-ranged : goal.returns-clause-ranged
-returns-clause-ranged c = (let i = c.self.inside in seen-ranged i.rows.items i.levels i.total c.args.self.now c.self.invariant c.self.view_is)

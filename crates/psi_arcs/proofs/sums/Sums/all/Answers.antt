@@ -1,6 +1,0 @@
--- Answers in the proof of `Sums::all`.
-use Rattle.psi_arcs.proofs.SumsLemmas.{all-has}
-use Rattle.psi_arcs.proofs.sums.Sums.all.Goals as goal
-
-pub returns : goal.returns
-returns c t small = all-has t small

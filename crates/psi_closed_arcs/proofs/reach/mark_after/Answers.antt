@@ -1,0 +1,38 @@
+-- Answers in the proof of `mark_after`.
+use Rattle.std.proofs.Common.{◌≡◌, ◌+◌, [], subst, arith}
+use Rattle.psi_closed_arcs.specs.Held.{Listed}
+use Rattle.psi_closed_arcs.specs.Joining.{Only}
+use Rattle.psi_closed_arcs.specs.Windows.{Allows, MarkAfter}
+use Rattle.psi_closed_arcs.proofs.RowsLemmas.{read-default}
+use Rattle.psi_closed_arcs.proofs.MarkedLemmas.{ahead-begun, ahead-previous}
+use Rattle.psi_closed_arcs.proofs.reach.mark_after.Goals as goal
+
+pub loop-level-init : goal.loop-level-init
+loop-level-init c =
+    let of = c.args.of.now in
+    record {
+      low = c.requires.order;
+      high = c.requires.stop;
+      marked = ahead-begun of.arcs c.args.rule.now of.levels of.total c.requires.sized.ranged c.requires.sized.small c.args.stretch.stop c.args.stretch.high c.fill.new.marks c.args.last
+          c.fill.ensures c.requires.begin;
+    }
+
+pub loop-level-preserved : goal.loop-level-preserved
+loop-level-preserved c =
+    let of = c.args.of.now in
+    let few = c.requires.sized.few in
+    record {
+      low = omega arith;
+      high = omega arith;
+      marked = ahead-previous of.arcs c.args.rule.now of.levels of.total c.requires.sized.ranged c.requires.sized.small c.args.stretch.high c.loop-level.level c.window.result c.loop-level.marks
+          _ c.marks_before-left.result (omega arith) c.loop-level.invariant.high (omega arith) (omega arith)
+          (read-default c.loop-level.marks (c.loop-level.level + 1) (record { words = [] }) (omega arith)) c.window.ensures c.marks_before-left.ensures c.loop-level.invariant.marked;
+    }
+
+pub returns : goal.returns
+returns c =
+    let of = c.args.of.now in
+    let test = c.loop-level-test.false in
+    let low = c.loop-level.invariant.low in
+    let same : c.loop-level.level ≡ c.args.stretch.low = omega arith in
+    subst (λ k. MarkAfter (Listed of.arcs) (Only (Listed of.arcs) (Allows c.args.rule.now)) of.levels of.total k c.args.stretch.high c.loop-level.marks) same c.loop-level.invariant.marked

@@ -1,0 +1,37 @@
+-- Steps that are put one behind another.
+use Rattle.std.specs.Prelude.{◌≡◌, ℕ, ◌+◌, ◌<◌, List, [], ◌∷◌, ◌++◌, length, slice_index_or, Option, Some, None, IfSome}
+use Rattle.std.proofs.Common.{sym, subst, arith, below_more}
+use Rattle.std.proofs.lemmas.List.{get_or_append_left, get_or_push}
+use Rattle.psi_state.specs.State.{IsBelow}
+use Rattle.psi_event.specs.Law.{Function, IsClosed}
+use Rattle.psi_follow_keyed.specs.Keys.{Keys}
+use Rattle.psi_follow_keyed.specs.Steps.{IsStepOn, DoesLeave, DoesStep, IsLeaving}
+use Rattle.psi_follow_keyed.specs.Keyed.{IsStepFor}
+use Rattle.psi_follow_keyed.specs.declared.step.Step.{Step}
+use Rattle.psi_follow_keyed.specs.declared.step.Step.TheVariants.{Still, Leave, Join}
+
+-- what a step that lets no customer join does, by the capacities of the keys
+does-step : (k : Keys) (caps : List ℕ) (f : Function) (step : Step) → caps ≡ k.caps → DoesLeave caps step f → DoesStep k step f
+does-step k caps f Still same does = λ x below. does x (subst (λ (cs : List ℕ). IsBelow x cs) (sym same) below)
+does-step k caps f (Leave queue least place) same does = λ x below. does x (subst (λ (cs : List ℕ). IsBelow x cs) (sym same) below)
+does-step k caps f Join same does = absurd does
+
+pub leaving-for : (k : Keys) (caps targets : List ℕ) (f : Function) (o : Option Step) → caps ≡ k.caps → targets ≡ k.targets → IsClosed caps f
+    → IfSome o (λ step. IsLeaving caps targets f step) → IfSome o (λ step. IsStepFor k f step)
+leaving-for k caps targets f None same named closed found = tt
+leaving-for k caps targets f (Some step) same named closed found = record {
+  valid = subst (λ (cs : List ℕ). IsStepOn cs k.targets step) same (subst (λ (ts : List ℕ). IsStepOn caps ts step) named found.valid);
+  closed = subst (λ (cs : List ℕ). IsClosed cs f) same closed;
+  does = does-step k caps f step same found.does;
+}
+
+-- the steps of a list with one more
+pub steps-more : (k : Keys) (functions : List Function) (steps more : List Step) (n : ℕ) (step : Step) → length steps ≡ n → more ≡ steps ++ step ∷ []
+    → ((i : ℕ) → i < n → IsStepFor k (slice_index_or functions i (λ x. x)) (slice_index_or steps i Still))
+    → IsStepFor k (slice_index_or functions n (λ x. x)) step
+    → (i : ℕ) → i < n + 1 → IsStepFor k (slice_index_or functions i (λ x. x)) (slice_index_or more i Still)
+steps-more k functions steps more n step long is each own =
+    subst (λ (ss : List Step). (i : ℕ) → i < n + 1 → IsStepFor k (slice_index_or functions i (λ x. x)) (slice_index_or ss i Still)) (sym is)
+    (below_more (λ i. IsStepFor k (slice_index_or functions i (λ x. x)) (slice_index_or (steps ++ step ∷ []) i Still)) n
+    (λ i under. subst (λ (t : Step). IsStepFor k (slice_index_or functions i (λ x. x)) t) (sym (get_or_append_left steps (step ∷ []) Still i (omega arith))) (each i under))
+    (subst (λ (t : Step). IsStepFor k (slice_index_or functions n (λ x. x)) t) (sym (get_or_push steps step Still n long)) own))

@@ -1,0 +1,91 @@
+use Rattle.std.specs.Vec.{with_items}
+use Rattle.std.proofs.Common.{◌≡◌, List, ℕ, length, map, take, ap, sym, subst, ◌∙◌, arith, rules}
+use Rattle.std.proofs.lemmas.List.{with_items_is, length-take-le}
+use Rattle.psi_state.specs.State.{box}
+use Rattle.psi_state.specs.Ascending.{HaveSame}
+use Rattle.psi_state.proofs.BoxesLemmas.{In-low, In-of_box, below-through}
+use Rattle.psi_follow_packed.specs.Packed.{packed}
+use Rattle.psi_follow_packed.specs.declared.layout.Packed.{Packed}
+use Rattle.psi_follow_packed.specs.declared.pairs.PackedPair.{PackedPair}
+use Rattle.psi_follow_sets.specs.HalvesKept.{halves, words_of_first}
+use Rattle.psi_follow_sets.proofs.HalvingLemmas.{same-again, some-members}
+use Rattle.psi_follow_sets.proofs.lists.Lists.fill.Goals as goal
+
+pub pack_box-count-requires : goal.pack_box-count-requires
+pack_box-count-requires g c =
+    let states = ap (λ (xs : List (Packed g.row.K)). length xs) c.as_mut_slice.ensures.value in
+    (omega arith, (let words = c.requires.lists.words in search rules, (omega (arith, states, c.requires.room), c.requires.within)))
+
+pub pair_up-self-requires : goal.pair_up-self-requires
+pair_up-self-requires g c =
+    let own = c.args.self.now in
+    let out = c.pack_box-count.new.out in
+    let n = c.pack_box-count.result in
+    let states = c.deref.ensures.value ∙ with_items_is own.states out (c.pack_box-count.auto.out ∙ c.as_mut_slice.ensures.len) in
+    let long = ap (λ (xs : List (Packed g.row.K)). length xs) states in
+    let outs = ap (λ (xs : List (Packed g.row.K)). length xs) c.as_mut_slice.ensures.value in
+    let pairs = ap (λ (ps : List (PackedPair g.row.K)). length ps) c.as_mut_slice-2.ensures.value in
+    let front = length-take-le n c.deref.result.now (omega (arith, long, outs, c.pack_box-count.ensures.room, c.pack_box-count.ensures.count, c.requires.room)) in (
+      let words = c.requires.lists.words in search rules,
+      (
+        let words = c.requires.lists.words in search rules,
+        omega (arith, front, pairs, c.pack_box-count.ensures.count, c.requires.room, c.requires.lists.double),
+      ),
+    )
+
+pub returns-clause-holds : goal.returns-clause-holds
+returns-clause-holds g c =
+    let own = c.args.self.now in
+    let bounds = c.args.bounds.now in
+    let list = c.pair_up-self.new.list in
+    let out = c.pack_box-count.new.out in
+    let n = c.pack_box-count.result in
+    let states = c.deref.ensures.value ∙ with_items_is own.states out (c.pack_box-count.auto.out ∙ c.as_mut_slice.ensures.len) in
+    let whole = map (packed g.row.K c.args.program.now.packing) (box bounds.lo bounds.hi) in
+    let paired : HaveSame (halves (take c.pair_up-self.result list)) (words_of_first n out) =
+    same-again out c.deref.result.now n (halves (take c.pair_up-self.result list)) states c.pair_up-self.ensures.members in
+    record {
+      same = subst (λ (ps : List (PackedPair g.row.K)). HaveSame (halves (take c.pair_up-self.result ps)) whole)
+          (sym (with_items_is own.pairs list (c.pair_up-self.auto.list ∙ c.as_mut_slice-2.ensures.len)))
+          (subst (λ (ws : List (List ℕ)). HaveSame (halves (take c.pair_up-self.result list)) ws) c.pack_box-count.ensures.words paired);
+      below = λ x member. below-through x bounds.hi c.args.program.now.packing.caps (In-of_box bounds.lo bounds.hi x member).high c.requires.within;
+    }
+
+pub returns-clause-some : goal.returns-clause-some
+returns-clause-some g c =
+    let own = c.args.self.now in
+    let bounds = c.args.bounds.now in
+    let out = c.pack_box-count.new.out in
+    let n = c.pack_box-count.result in
+    let some = some-members (box bounds.lo bounds.hi) bounds.lo (In-low bounds.lo bounds.hi c.len-queues.ensures.ordered) in
+    let states = c.deref.ensures.value ∙ with_items_is own.states out (c.pack_box-count.auto.out ∙ c.as_mut_slice.ensures.len) in
+    let long = ap (λ (xs : List (Packed g.row.K)). length xs) states in
+    let outs = ap (λ (xs : List (Packed g.row.K)). length xs) c.as_mut_slice.ensures.value in
+    let front = length-take-le n c.deref.result.now (omega (arith, long, outs, c.pack_box-count.ensures.room, c.pack_box-count.ensures.count, c.requires.room)) in
+    omega (arith, some, front, c.pack_box-count.ensures.count, c.pair_up-self.ensures.count)
+
+pub returns-clause-lists : goal.returns-clause-lists
+returns-clause-lists g c =
+    let own = c.args.self.now in
+    let before = c.requires.lists in
+    let list = c.pair_up-self.new.list in
+    let out = c.pack_box-count.new.out in
+    let pairs_of = λ (ps : List (PackedPair g.row.K)). length ps in
+    let states_of = λ (xs : List (Packed g.row.K)). length xs in
+    let pairs : length (with_items own.pairs list).items ≡ length own.pairs.items =
+    ap pairs_of (with_items_is own.pairs list (c.pair_up-self.auto.list ∙ c.as_mut_slice-2.ensures.len)) ∙ c.pair_up-self.auto.list ∙ ap pairs_of c.as_mut_slice-2.ensures.value in
+    let states : length (with_items own.states out).items ≡ length own.states.items =
+    ap states_of (with_items_is own.states out (c.pack_box-count.auto.out ∙ c.as_mut_slice.ensures.len)) ∙ c.pack_box-count.auto.out ∙ ap states_of c.as_mut_slice.ensures.value in
+    let n = c.pack_box-count.result in
+    let long = ap states_of (c.deref.ensures.value ∙ with_items_is own.states out (c.pack_box-count.auto.out ∙ c.as_mut_slice.ensures.len)) in
+    let outs = ap states_of c.as_mut_slice.ensures.value in
+    let front = length-take-le n c.deref.result.now (omega (arith, long, outs, c.pack_box-count.ensures.room, c.pack_box-count.ensures.count, c.requires.room)) in
+    record {
+      words = before.words;
+      small = omega (arith, before.small, states);
+      double = omega (arith, before.double, pairs, states);
+      slots = before.slots;
+      shift = before.shift;
+      places = λ i small. omega (arith, before.places i small, states);
+      fits = omega (arith, front, pairs, c.pair_up-self.ensures.count, c.pack_box-count.ensures.count, c.requires.room, before.double);
+    }

@@ -1,0 +1,96 @@
+-- Lists of the words of a past and of a future, and what they make of a state.
+use Rattle.std.specs.Prelude.{◌≡◌, ℕ, zero, suc, ◌+◌, ◌-◌, ◌<◌, List, refl}
+use Rattle.std.proofs.Common.{ap, sym, ◌∙◌, arith}
+use Rattle.psi_rate.specs.Rates.{event_of}
+use Rattle.psi_rate.specs.Composition.{Functions, picked, function_at}
+use Rattle.psi_path.specs.Path.{function_after, state_at}
+use Rattle.psi_law.specs.Counting.{Words, sum_below, after, sum_pasts}
+use Rattle.psi_law.specs.Chains.{Chain, IsFinite, end_of}
+use Rattle.psi_law.proofs.SumsLemmas.{sum-same, sum_below-is}
+use Rattle.psi_law.proofs.ChainLemmas.{Own, function_of-keeps, end_of-first}
+
+-- the n first words of one list, and past them those of another
+abbrev pub along : ℕ → Words → Words → Words
+along zero p q = q
+along (suc n) p q = after (p 0) (along n (λ k. p (suc k)) q)
+
+-- the lists of n + k words are those of n and of k words, one past the other
+pub sum-along : (bound n k : ℕ) (g : Words → ℕ) → sum_pasts bound (n + k) g ≡ sum_pasts bound n (λ p. sum_pasts bound k (λ q. g (along n p q)))
+sum-along bound zero k g = (let e : zero + k ≡ k = omega arith in ap (λ m. sum_pasts bound m g) e)
+sum-along bound (suc n) k g =
+    let e : suc n + k ≡ suc (n + k) = omega arith in
+    ap (λ m. sum_pasts bound m g) e
+    ∙ sum-same (sum_below bound) (sum_below-is bound) (λ word. sum_pasts bound (n + k) (λ past. g (after word past)))
+    (λ word. sum_pasts bound n (λ p. sum_pasts bound k (λ q. g (after word (along n p q)))))
+    (λ word. sum-along bound n k (λ past. g (after word past)))
+
+pub along-sooner : (n : ℕ) (p q : Words) (k : ℕ) → k < n → along n p q k ≡ p k
+along-sooner zero p q k small = absurd (omega arith)
+along-sooner (suc n) p q zero small = refl
+along-sooner (suc n) p q (suc k) small = along-sooner n (λ j. p (suc j)) q k (omega arith)
+
+along-later : (n : ℕ) (p q : Words) (k : ℕ) → along n p q (n + k) ≡ q k
+along-later zero p q k = (let e : zero + k ≡ k = omega arith in ap q e)
+along-later (suc n) p q k =
+    let e : suc n + k ≡ suc (n + k) = omega arith in
+    ap (λ i. after (p 0) (along n (λ j. p (suc j)) q) i) e ∙ along-later n (λ j. p (suc j)) q k
+
+-- the run of the past looks at the first words alone
+end-along : (chain : Chain) (n : ℕ) (p q : Words) (x : List ℕ) → end_of chain (along n p q) n x ≡ end_of chain p n x
+end-along chain zero p q x = refl
+end-along chain (suc n) p q x =
+    let rest : Words = λ j. p (suc j) in
+    end_of-first chain (after (p 0) (along n rest q)) n x
+    ∙ (ap (λ (z : List ℕ). picked chain.functions chain.rates (p 0) z) (end-along chain n rest q x)
+    ∙ sym (end_of-first chain p n x))
+
+-- a path looks at the functions of its own steps alone
+state_at-same : (f g : Functions) (k : ℕ) (x : List ℕ) → ((j : ℕ) → j < k → f (suc j) ≡ g (suc j)) → state_at f k x ≡ state_at g k x
+state_at-same f g zero x same = refl
+state_at-same f g (suc k) x same =
+    ap (λ (h : List ℕ → List ℕ). h (state_at f k x)) (same k (omega arith))
+    ∙ ap (λ (z : List ℕ). g (suc k) z) (state_at-same f g k x (λ j small. same j (omega arith)))
+
+-- its first step comes before the others
+state_at-first : (f : Functions) (k : ℕ) (x : List ℕ) → state_at f (suc k) x ≡ state_at (λ t. f (suc t)) k (f 1 x)
+state_at-first f zero x = refl
+state_at-first f (suc k) x = ap (λ (z : List ℕ). f (suc (suc k)) z) (state_at-first f k x)
+
+-- the state at time k, where the word of time 1 is the first of the future
+abbrev pub later : Chain → Words → ℕ → List ℕ → List ℕ
+later chain future k x = state_at (function_at chain.functions chain.rates future) k x
+
+pub later-first : (chain : Chain) (word : ℕ) (future : Words) (k : ℕ) (x : List ℕ)
+    → later chain (after word future) (suc k) x ≡ later chain future k (picked chain.functions chain.rates word x)
+later-first chain word future k x =
+    let f = function_at chain.functions chain.rates (after word future) in
+    let g = function_at chain.functions chain.rates future in
+    state_at-first f k x
+    ∙ state_at-same (λ t. f (suc t)) g k (picked chain.functions chain.rates word x)
+    (λ j small. (let a : suc (suc j) - 1 ≡ suc j = omega arith in
+    let b : suc j - 1 ≡ j = omega arith in
+    ap (λ i. picked chain.functions chain.rates (after word future i)) a ∙ ap (λ i. picked chain.functions chain.rates (future i)) (sym b)))
+
+-- the state at time k under the words of both
+module _ (chain : Chain) (first : ℕ) where
+  abbrev pub reached : Words → ℕ → List ℕ → List ℕ
+  reached words k x = state_at (function_after first chain.functions chain.rates words) k x
+
+  reached-along : (p q : Words) (k : ℕ) (x : List ℕ) → reached (along first p q) k x ≡ later chain q k x
+  reached-along p q k x =
+      state_at-same (function_after first chain.functions chain.rates (along first p q)) (function_at chain.functions chain.rates q) k x
+      (λ j small. (let e : suc j - 1 ≡ j = omega arith in
+      ap (λ i. picked chain.functions chain.rates (along first p q (first + i))) e
+      ∙ (ap (λ word. picked chain.functions chain.rates word) (along-later first p q j)
+      ∙ ap (λ i. picked chain.functions chain.rates (q i)) (sym e))))
+
+  pub both-along : (p q : Words) (k : ℕ) (x : List ℕ)
+      → reached (along first p q) k (end_of chain (along first p q) first x) ≡ later chain q k (end_of chain p first x)
+  both-along p q k x =
+      reached-along p q k (end_of chain (along first p q) first x) ∙ ap (λ (z : List ℕ). later chain q k z) (end-along chain first p q x)
+
+  -- it is a state of the chain
+  pub reached-keeps : (words : Words) (k : ℕ) (x : List ℕ) → IsFinite chain → Own chain x → Own chain (reached words k x)
+  reached-keeps words zero x is own = own
+  reached-keeps words (suc k) x is own =
+      (function_of-keeps chain (event_of chain.rates (words (first + (suc k - 1)))) is).each (reached words k x) (reached-keeps words k x is own)

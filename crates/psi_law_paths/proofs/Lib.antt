@@ -1,0 +1,5 @@
+-- The lemmas of this crate.
+pub mod AlongLemmas
+pub mod FutureLemmas
+pub mod PathLemmas
+mod Worked

@@ -1,0 +1,7 @@
+-- The definitions of this crate.
+pub mod Log
+pub mod Text
+pub mod Room
+pub mod TableKept
+pub mod Rows
+pub mod Listed

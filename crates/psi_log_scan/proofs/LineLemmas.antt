@@ -1,0 +1,157 @@
+-- Lines: each is told by its text, and its text is read as it.
+use Rattle.std.specs.Prelude.{◌≡◌, ℕ, ◌<◌, ◌≤◌, ◌^◌, List, [], ◌∷◌, ◌++◌, codes, true, ◌==◌, Ok, refl}
+use Rattle.std.specs.List.{join_with_byte, list_all}
+use Rattle.std.specs.Fmt.{decimal}
+use Rattle.std.specs.Str.{bytes_eq}
+use Rattle.std.proofs.Common.{ap, sym, ◌∙◌, subst, arith, inl, inr, append_assoc}
+use Rattle.std.proofs.lemmas.Bool.{and_from, cases_Bool}
+use Rattle.psi_log_format.specs.declared.header.Header.{Header}
+use Rattle.psi_log_format.specs.Log.{LogRegion, in_box, in_set, Entry, greatest_horizon, IsHeader, IsRegion, IsEntry}
+use Rattle.psi_log_format.specs.Text.{line_text, number_words, next_words}
+use Rattle.psi_log_words.specs.Refusal.{refused, ◌>>=◌, holds_or}
+use Rattle.psi_log_words.specs.Words.{line_of, words_of, number_in, read_named}
+use Rattle.psi_log_words.specs.declared.refusals.Cause.TheVariants.{Shape}
+use Rattle.psi_log_words.proofs.WordLemmas.{bind_ok, ok_same, held, same_word, own_word, lacks, split-join, join-split, lacks-join, line_found, line_again}
+use Rattle.psi_log_words.proofs.NumberLemmas.{number_found, number_again, decimal_lacks}
+use Rattle.psi_log_words.specs.Regions.{Given, form_of, read_given, box_before}
+use Rattle.psi_log_words.proofs.RegionLemmas.{words_after, IsBefore}
+use Rattle.psi_log_words.proofs.GivenLemmas.{region_found, region_again, words_lack}
+use Rattle.psi_log_scan.specs.Lines.{named_line, read_step}
+
+-- a line that was cut from a text, by its words
+pub words_found : (n : ℕ) (text : List ℕ) (line : List ℕ × List ℕ) (words : List (List ℕ)) → line_of n text ≡ Ok line → words_of line.0 ≡ words → text ≡ line_text words ++ line.1
+unfolding line_text
+words_found n text line words h is =
+    line_found n text line h
+    ∙ ap (λ (xs : List ℕ). xs ++ (10 ∷ line.1)) (sym (join-split 32 line.0) ∙ ap (join_with_byte 32) is)
+    ∙ sym (append_assoc (join_with_byte 32 words) (codes "\n") line.1)
+
+-- the line of words
+pub line_of_words : List (List ℕ) → List ℕ
+line_of_words words = join_with_byte 32 words
+
+-- it is cut from the text that it begins, and into its words
+pub words_line : (n : ℕ) (words : List (List ℕ)) (rest : List ℕ) → list_all (lacks 10) words ≡ true → line_of n (line_text words ++ rest) ≡ Ok (line_of_words words, rest)
+unfolding line_text line_of_words
+words_line n words rest feeds =
+    ap (line_of n) (append_assoc (join_with_byte 32 words) (codes "\n") rest) ∙ line_again n (join_with_byte 32 words) rest (lacks-join 10 32 words refl feeds)
+
+pub words_again : (word : List ℕ) (words : List (List ℕ)) → list_all (lacks 32) (word ∷ words) ≡ true → words_of (line_of_words (word ∷ words)) ≡ word ∷ words
+unfolding line_of_words
+words_again word words spaces = split-join 32 word words spaces
+
+-- the words of a name and a number
+pub named_found : (n : ℕ) (name : List ℕ) (least most : ℕ) (words : List (List ℕ)) (x : ℕ) → most < 2 ^ 64 → read_named n name least most words ≡ Ok x
+    → (words ≡ number_words name x) × (least ≤ x) × (x ≤ most)
+unfolding read_named
+named_found n name least most [] x small h = absurd cc
+named_found n name least most (first ∷ []) x small h = absurd cc
+named_found n name least most (first ∷ number ∷ []) x small h =
+    let rule = bind_ok (holds_or (refused n Shape) (bytes_eq first name)) (λ (u : Unit {0}). number_in n least most number) x h in
+    let is = same_word first name (held (refused n Shape) (bytes_eq first name) rule.0 rule.1) in
+    let found = number_found n least most number x small rule.2 in
+    (two is found.0, found.1, found.2)
+  where
+    two : {a b c d : List ℕ} → a ≡ c → b ≡ d → a ∷ b ∷ [] ≡ c ∷ d ∷ []
+    two p q = cc
+named_found n name least most (first ∷ number ∷ more ∷ words) x small h = absurd cc
+
+pub named_again : (n : ℕ) (name : List ℕ) (least most x : ℕ) → most < 2 ^ 64 → least ≤ x → x ≤ most → read_named n name least most (number_words name x) ≡ Ok x
+unfolding read_named
+named_again n name least most x small low high = rw (own_word name) (number_again n least most x small low high)
+
+-- the line of a name and a number
+pub named_line_found : (n : ℕ) (name : List ℕ) (least most : ℕ) (text : List ℕ) (x : ℕ × List ℕ) → most < 2 ^ 64 → named_line n name least most text ≡ Ok x
+    → (text ≡ line_text (number_words name x.0) ++ x.1) × (least ≤ x.0) × (x.0 ≤ most)
+unfolding named_line
+named_line_found n name least most text x small h =
+    let line = bind_ok (line_of n text) (λ (l : List ℕ × List ℕ). read_named n name least most (words_of l.0) >>= (λ (v : ℕ). Ok (v, l.1))) x h in
+    let number = bind_ok (read_named n name least most (words_of line.0.0)) (λ (v : ℕ). Ok (v, line.0.1)) x line.2 in
+    let found = named_found n name least most (words_of line.0.0) number.0 small number.1 in
+    subst (λ (p : ℕ × List ℕ). (text ≡ line_text (number_words name p.0) ++ p.1) × (least ≤ p.0) × (p.0 ≤ most)) (ok_same (number.0, line.0.1) x number.2)
+    (words_found n text line.0 (number_words name number.0) line.1 found.0, found.1, found.2)
+
+pub named_line_again : (n : ℕ) (name : List ℕ) (least most x : ℕ) (rest : List ℕ) → most < 2 ^ 64 → least ≤ x → x ≤ most → lacks 32 name ≡ true → lacks 10 name ≡ true
+    → named_line n name least most (line_text (number_words name x) ++ rest) ≡ Ok (x, rest)
+unfolding named_line
+named_line_again n name least most x rest small low high spaces feeds =
+    let fits : x < 2 ^ 64 = omega arith in
+    let no_feeds : list_all (lacks 10) (number_words name x) ≡ true =
+    and_from (lacks 10 name) (list_all (lacks 10) (decimal x ∷ [])) feeds (and_from (lacks 10 (decimal x)) true (decimal_lacks 10 x (omega arith) fits) refl) in
+    let no_spaces : list_all (lacks 32) (number_words name x) ≡ true =
+    and_from (lacks 32 name) (list_all (lacks 32) (decimal x ∷ [])) spaces (and_from (lacks 32 (decimal x)) true (decimal_lacks 32 x (omega arith) fits) refl) in
+    rw (words_line n (number_words name x) rest no_feeds, words_again name (decimal x ∷ []) no_spaces, named_again n name least most x small low high) refl
+
+-- the box from which a box has to be written is one of the region before
+pub before_is : (queues version : ℕ) (before : LogRegion) → IsRegion queues before → IsBefore queues (box_before version before)
+before_is queues version (in_set states) is = tt
+before_is queues version (in_box bounds) is = elim (cases_Bool (version == 2)) [
+  | inl holds ↦ rw holds is
+  | inr other ↦ rw other tt
+]
+
+pub next_after : (version : ℕ) (before region : LogRegion) → next_words version before region ≡ words_after (box_before version before) region
+next_after version (in_set before) region = refl
+next_after version (in_box from) (in_box to) = elim (cases_Bool (version == 2)) [ inl holds ↦ rw holds refl | inr other ↦ rw other refl ]
+next_after version (in_box from) (in_set states) = elim (cases_Bool (version == 2)) [ inl holds ↦ rw holds refl | inr other ↦ rw other refl ]
+
+-- the greatest horizon is small
+pub horizon_small : (version : ℕ) → greatest_horizon version ≤ 4194304
+horizon_small version = elim (cases_Bool (version == 1)) [ inl holds ↦ rw holds (omega arith) | inr other ↦ rw other (omega arith) ]
+
+pub step_found : (h : Header) (n : ℕ) (before : LogRegion) (words : List (List ℕ)) (e : Entry) → IsHeader h → IsRegion h.queues before → read_step h n (box_before h.version before) words ≡ Ok e
+    → (words ≡ codes "step" ∷ decimal e.step.number ∷ decimal e.step.event ∷ next_words h.version before e.region) × IsEntry h e
+unfolding read_step
+step_found h n before [] e is region r = absurd cc
+step_found h n before (first ∷ []) e is region r = absurd cc
+step_found h n before (first ∷ number ∷ []) e is region r = absurd cc
+step_found h n before (first ∷ number ∷ event ∷ words) e is region r =
+    let rule = bind_ok (holds_or (refused n Shape) (bytes_eq first (codes "step")))
+    (λ (u : Unit {0}). form_of n h.queues (box_before h.version before) words >>= (λ (g : Given). number_in n 1 (greatest_horizon h.version) number
+    >>= (λ (t : ℕ). number_in n 0 1024 event >>= (λ (k : ℕ). read_given n h.queues g >>= (λ (after : LogRegion). Ok (entry t k after)))))) e r in
+    let form = bind_ok (form_of n h.queues (box_before h.version before) words)
+    (λ (g : Given). number_in n 1 (greatest_horizon h.version) number
+    >>= (λ (t : ℕ). number_in n 0 1024 event >>= (λ (k : ℕ). read_given n h.queues g >>= (λ (after : LogRegion). Ok (entry t k after))))) e rule.2 in
+    let time = bind_ok (number_in n 1 (greatest_horizon h.version) number)
+    (λ (t : ℕ). number_in n 0 1024 event >>= (λ (k : ℕ). read_given n h.queues form.0 >>= (λ (after : LogRegion). Ok (entry t k after)))) e form.2 in
+    let kind = bind_ok (number_in n 0 1024 event) (λ (k : ℕ). read_given n h.queues form.0 >>= (λ (after : LogRegion). Ok (entry time.0 k after))) e time.2 in
+    let given = bind_ok (read_given n h.queues form.0) (λ (after : LogRegion). Ok (entry time.0 kind.0 after)) e kind.2 in
+    let name = same_word first (codes "step") (held (refused n Shape) (bytes_eq first (codes "step")) rule.0 rule.1) in
+    let most = horizon_small h.version in
+    let a = number_found n 1 (greatest_horizon h.version) number time.0 (omega arith) time.1 in
+    let b = number_found n 0 1024 event kind.0 (omega arith) kind.1 in
+    let found = region_found n h.queues (box_before h.version before) words form.0 given.0 is.some is.few (before_is h.queues h.version before region) form.1 given.1 in
+    subst (λ (k : Entry). (first ∷ number ∷ event ∷ words ≡ codes "step" ∷ decimal k.step.number ∷ decimal k.step.event ∷ next_words h.version before k.region) × IsEntry h k)
+    (ok_same (entry time.0 kind.0 given.0) e given.2)
+    (four name a.0 b.0 (found.0 ∙ sym (next_after h.version before given.0)), record { least = a.1; most = a.2; event = b.2; region = found.1 })
+  where
+    entry : ℕ → ℕ → LogRegion → Entry
+    entry t k after = record { step = record { number = t; event = k }; region = after }
+
+    four : {a b c x y z : List ℕ} {ws vs : List (List ℕ)} → a ≡ x → b ≡ y → c ≡ z → ws ≡ vs → a ∷ b ∷ c ∷ ws ≡ x ∷ y ∷ z ∷ vs
+    four p q r s = cc
+
+pub step_again : (h : Header) (n : ℕ) (before : LogRegion) (e : Entry) → IsHeader h → IsRegion h.queues before → IsEntry h e
+    → read_step h n (box_before h.version before) (codes "step" ∷ decimal e.step.number ∷ decimal e.step.event ∷ next_words h.version before e.region) ≡ Ok e
+unfolding read_step
+step_again h n before e is region entry =
+    let read = region_again n h.queues (box_before h.version before) e.region is.some is.few (before_is h.queues h.version before region) entry.region in
+    let most = horizon_small h.version in
+    let time : number_in n 1 (greatest_horizon h.version) (decimal e.step.number) ≡ Ok e.step.number =
+    number_again n 1 (greatest_horizon h.version) e.step.number (omega arith) entry.least entry.most in
+    let kind : number_in n 0 1024 (decimal e.step.event) ≡ Ok e.step.event = number_again n 0 1024 e.step.event (omega arith) (omega arith) entry.event in
+    rw (next_after h.version before e.region, read.form, time, kind, read.region) refl
+
+pub step_lacks : (c : ℕ) (h : Header) (before : LogRegion) (e : Entry) → c < 44 → IsHeader h → IsRegion h.queues before → IsEntry h e
+    → lacks c (codes "step") ≡ true → lacks c (codes "box") ≡ true → lacks c (codes "set") ≡ true → lacks c (codes "move") ≡ true
+    → list_all (lacks c) (codes "step" ∷ decimal e.step.number ∷ decimal e.step.event ∷ next_words h.version before e.region) ≡ true
+step_lacks c h before e small is region entry step box set move =
+    let most = horizon_small h.version in
+    let high = entry.most in
+    let kind = entry.event in
+    let words : list_all (lacks c) (next_words h.version before e.region) ≡ true =
+    ap (list_all (lacks c)) (next_after h.version before e.region)
+    ∙ words_lack c h.queues (box_before h.version before) e.region small is.few (before_is h.queues h.version before region) entry.region box set move in
+    and_from (lacks c (codes "step")) (list_all (lacks c) (decimal e.step.number ∷ decimal e.step.event ∷ next_words h.version before e.region)) step
+    (and_from (lacks c (decimal e.step.number)) (list_all (lacks c) (decimal e.step.event ∷ next_words h.version before e.region)) (decimal_lacks c e.step.number (omega arith) (omega arith))
+    (and_from (lacks c (decimal e.step.event)) (list_all (lacks c) (next_words h.version before e.region)) (decimal_lacks c e.step.event (omega arith) (omega arith)) words))

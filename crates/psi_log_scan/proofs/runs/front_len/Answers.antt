@@ -1,0 +1,19 @@
+-- Answers in the proof of `runs::front_len`.
+use Rattle.std.proofs.Common.{sym, arith}
+use Rattle.psi_log_scan.proofs.RowsLemmas.{front_short, front_longer}
+use Rattle.psi_log_scan.proofs.runs.front_len.Goals as goal
+
+pub loop-place-init : goal.loop-place-init
+loop-place-init c = record { value = sym (front_short c.args.row.now); few = omega arith }
+
+pub loop-place-preserved : goal.loop-place-preserved
+loop-place-preserved c =
+    let place = c.loop-place.place in
+    let test = c.loop-place-test.true in
+    let queue = c.requires.queue in
+    let longer = front_longer c.args.row.now place (omega arith) in
+    let digits = c.width.ensures.value in
+    let short = c.width.ensures.few in
+    let value = c.loop-place.invariant.value in
+    let few = c.loop-place.invariant.few in
+    record { value = omega arith; few = omega arith }

@@ -1,5 +1,0 @@
--- The lemmas of this crate.
-pub mod JoinedLemmas
-pub mod LinePiecesLemmas
-pub mod MoveLemmas
-mod Worked

@@ -1,5 +1,0 @@
--- The definitions of this crate.
-pub mod Log
-pub mod Text
-pub mod Room
-pub mod TableKept

@@ -1,5 +1,0 @@
-use Rattle.psi_packed.specs.BitsKept.{KnowsBits}
-use Rattle.psi_packed.proofs.bits.bits_in.Given as goal
-
-abbrev pub invariant-loop-at : goal.invariant-loop-at
-invariant-loop-at g l = KnowsBits l.at l.x.words l.found

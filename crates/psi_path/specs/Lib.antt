@@ -1,0 +1,4 @@
+-- The definitions of this crate.
+pub mod Path
+pub mod Sums
+pub mod Running

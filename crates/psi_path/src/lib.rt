@@ -1,0 +1,16 @@
+//! The path of a network from a state on: its states step by step, and sums over them.
+//!
+//! A path that begins in a sample is stationary from its first step on. Its random words stand past those that samples read, in the
+//! same stream: so the sample and the path are one run of the network.
+#![tactic(auto)]
+
+mod rewards;
+mod running;
+mod turning;
+mod walk;
+
+pub use rewards::Rewards;
+pub use walk::Walk;
+
+/// There was no memory: the only way in which a call with this error fails.
+pub use std::alloc::AllocError as OutOfMemory;

@@ -1,0 +1,125 @@
+//! The walk of a path, with its sums.
+
+ghost use Rattle.std.specs.Prelude.{◌≡◌, ℕ, ◌<◌, ◌≤◌, pos, length, slice_index, slice_index_or, IfOk};
+ghost use Rattle.psi_state.specs.State.{IsBelow};
+ghost use Rattle.psi_path.specs.Path.{path_of, state_of};
+ghost use Rattle.psi_path.specs.Sums.{HasCounts, worth_at, customers_until, worth_until, chosen_until, changed_until};
+
+use crate::OutOfMemory;
+use crate::rewards::Rewards;
+use crate::running::Running;
+use psi_event::EventLaw;
+use psi_past::Past;
+use psi_rate::System;
+use psi_state::State;
+use std::alloc::Global;
+use std::marker::Model;
+
+#[cfg(test)]
+mod tests;
+
+/// Walks paths of networks, one after another, and keeps the sums of the last one.
+///
+/// It is seen as these sums. What it takes of memory is taken when it is made.
+#[derive(Drop)]
+pub struct Walk {
+    running: Running,
+}
+
+impl Model for Walk {
+    ghost use Rattle.std.specs.Prelude.{◌≡◌, length};
+    ghost use Rattle.psi_path.specs.Sums.{Sums};
+
+    ghost Value = { Sums };
+
+    ghost view = { λ w. record { queues = w.running.queues.items; rewards = w.running.rewards.items; chosen = w.running.chosen.items; changed = w.running.changed.items } };
+
+    ghost invariant = { λ w. length w.running.values.items ≡ length w.running.rewards.items };
+}
+
+impl Walk {
+    /// A walk for networks of so many queues, 1 to 32, rewards, and events. All its sums are 0.
+    ///
+    /// # Errors
+    ///
+    /// [`OutOfMemory`] where there is no memory for the sums: 8 bytes for each queue, 24 for each reward and 16 for each event.
+    pub fn new(alloc: Global, queues: u8, rewards: usize, events: u16) -> Result<Walk, OutOfMemory>
+        requires some { 1 ≤ queues }
+        requires few { queues ≤ 32 }
+        ensures { IfOk result (λ walk. HasCounts queues rewards events walk) }
+    {
+        Ok(Walk {
+            running: Running::new(alloc, queues, rewards, events)?,
+        })
+    }
+
+    /// Walks the path of a network from a state at time zero, for so many steps, and returns the state in which it ends.
+    ///
+    /// The event of time k, from 1 on, is that of the random word at place 2^22 + k - 1. There are at most 4,290,772,992 steps,
+    /// so that all places are below 2^32. Its sums are those of the states at the times 0, 1, .., `steps`: of the customers of
+    /// each queue, and of the values of each reward. For each event it counts at how many of the times 1, 2, .., `steps` it is
+    /// chosen, and at how many of these it changes the state.
+    ///
+    /// A step that changes nothing takes the same time in each network. One that changes the state takes time for each queue and each
+    /// reward: what the change adds to their sums over all steps that are left (summation by parts, Abel 1826).
+    pub fn run<E: EventLaw, P: Past, R: Rewards>(
+        &mut self,
+        system: &System<'_, E>,
+        rewards: &R,
+        past: &mut P,
+        start: State,
+        steps: u32,
+    ) -> State
+        requires start { IsBelow start system.now.caps }
+        requires steps { steps ≤ 4290772992 }
+        requires rewards { R.capacities rewards.now ≡ system.now.caps }
+        requires counts { HasCounts (length system.now.caps) (length (R.worths rewards.now)) (length system.now.events) self.old }
+        ensures state { result ≡ state_of (path_of E.function system.now (P.words past.old) start) steps }
+        ensures within { IsBelow result system.now.caps }
+        ensures queues { (q : ℕ) → q < length system.now.caps → slice_index self.new.queues q ≡ customers_until (path_of E.function system.now (P.words past.old) start) q steps }
+        ensures rewards { (r : ℕ) → r < length (R.worths rewards.now)
+            → slice_index_or self.new.rewards r (pos 0) ≡ worth_until (path_of E.function system.now (P.words past.old) start) (worth_at (R.worths rewards.now) r) steps }
+        ensures chosen { (e : ℕ) → e < length system.now.events → slice_index self.new.chosen e ≡ chosen_until (path_of E.function system.now (P.words past.old) start) e steps }
+        ensures changed { (e : ℕ) → e < length system.now.events → slice_index self.new.changed e ≡ changed_until (path_of E.function system.now (P.words past.old) start) e steps }
+        ensures counts { HasCounts (length system.now.caps) (length (R.worths rewards.now)) (length system.now.events) self.new }
+        ensures words { P.words past.new ≡ P.words past.old }
+    {
+        // Called for its clause: the parts fit each other.
+        let _caps = system.caps();
+        self.running.begin(rewards, start, steps);
+        self.running.finish(system, rewards, past, steps);
+        self.running.state
+    }
+
+    /// The customers of queue `q`, summed over the times of the last path; queues are counted from 0.
+    pub fn customers(&self, q: u8) -> u64
+        requires { q < length self.now.queues }
+        ensures { result ≡ slice_index self.now.queues q }
+    {
+        self.running.queues[q as usize]
+    }
+
+    /// The values of reward `r`, summed over the times of the last path; rewards are counted from 0.
+    pub fn reward(&self, r: usize) -> i128
+        requires { r < length self.now.rewards }
+        ensures { result ≡ slice_index_or self.now.rewards r (pos 0) }
+    {
+        self.running.rewards[r]
+    }
+
+    /// How often event `e` was chosen on the last path; events are counted from 0.
+    pub fn chosen(&self, e: u16) -> u64
+        requires { e < length self.now.chosen }
+        ensures { result ≡ slice_index self.now.chosen e }
+    {
+        self.running.chosen[e as usize]
+    }
+
+    /// How often event `e` changed the state on the last path; events are counted from 0.
+    pub fn changed(&self, e: u16) -> u64
+        requires { e < length self.now.changed }
+        ensures { result ≡ slice_index self.now.changed e }
+    {
+        self.running.changed[e as usize]
+    }
+}

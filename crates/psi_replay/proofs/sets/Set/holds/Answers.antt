@@ -1,7 +1,0 @@
--- Answers in the proof of `Set::holds`.
-use Rattle.std.proofs.Common.{sym, refl}
-use Rattle.psi_replay.proofs.ListLemmas.{has_at}
-use Rattle.psi_replay.proofs.sets.Set.holds.Goals as goal
-
-pub returns-then-is_there : goal.returns-then-is_there
-returns-then-is_there c = sym (has_at c.args.self.now c.args.x.now _ (c.if-is_there.ensures refl))

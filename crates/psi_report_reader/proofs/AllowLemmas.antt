@@ -1,0 +1,63 @@
+-- The sum of values is such as their least and their greatest allow.
+use Rattle.std.specs.Prelude.{◌≡◌, ℕ, zero, suc, ◌-◌, ℤ, pos, ◌+ℤ◌, ◌*ℤ◌, ◌≤ℤ◌, List, [], ◌∷◌, length, int_le, true, refl}
+use Rattle.std.specs.Int.{int_min, int_max}
+use Rattle.std.proofs.Common.{arith}
+use Rattle.std.proofs.lemmas.Int.{ints, clamps, by_lt_z}
+use Rattle.std.proofs.Math.IntN.{suc_ℤ-*ℤ}
+use Rattle.psi_reward.specs.Ranges.{least, greatest}
+use Rattle.psi_report.specs.Quantities.{sum_of}
+use Rattle.psi_report_reader.specs.Sound.{allows}
+
+pub times-more : (k : ℕ) (a : ℤ) → pos (suc k) *ℤ a ≡ a +ℤ (pos k *ℤ a)
+times-more k a = (let e = suc_ℤ-*ℤ (pos k) a in omega (arith, ints))
+
+pub times-none : (a : ℤ) → pos 0 *ℤ a ≡ pos 0
+times-none a = omega (arith, ints)
+
+pub times-rises : (k : ℕ) (a b : ℤ) → a ≤ℤ b → (pos k *ℤ a) ≤ℤ (pos k *ℤ b)
+times-rises zero a b rise = rw (times-none a, times-none b) (omega (arith, ints))
+times-rises (suc k) a b rise = rw (times-more k a, times-more k b) (let rest = times-rises k a b rise in omega (arith, ints))
+
+-- the sum of n values and one more lies between those of all but one least or greatest
+pub record IsAllowed (n : ℕ) (low high sum : ℤ) : Type 0 where
+  pub order : low ≤ℤ high
+  pub least : (pos n *ℤ low +ℤ high) ≤ℤ sum
+  pub most : sum ≤ℤ (pos n *ℤ high +ℤ low)
+
+allowed-by : (k : ℕ) (low high sum : ℤ) → low ≤ℤ high → ((low +ℤ (pos k *ℤ low)) +ℤ high) ≤ℤ sum → sum ≤ℤ ((high +ℤ (pos k *ℤ high)) +ℤ low) → IsAllowed (suc k) low high sum
+allowed-by k low high sum order least most = record { order = order; least = rw (times-more k low) least; most = rw (times-more k high) most }
+
+allowed-more : (k : ℕ) (z low high sum : ℤ) → IsAllowed k low high sum → IsAllowed (suc k) (int_min z low) (int_max z high) (z +ℤ sum)
+allowed-more k z low high sum is =
+    let order = is.order in
+    let below = is.least in
+    let above = is.most in
+    by_lt_z z low
+    (λ less.
+    let first : int_min z low ≡ z = omega (arith, ints, clamps) in
+    let second : int_max z high ≡ high = omega (arith, ints, clamps) in
+    let down : (pos k *ℤ z) ≤ℤ (pos k *ℤ low) = times-rises k z low (omega (arith, ints)) in
+    rw (first, second) (allowed-by k z high (z +ℤ sum) (omega (arith, ints)) (omega (arith, ints)) (omega (arith, ints))))
+    (λ more.
+    let first : int_min z low ≡ low = omega (arith, ints, clamps) in
+    by_lt_z high z
+    (λ less.
+    let second : int_max z high ≡ z = omega (arith, ints, clamps) in
+    let up : (pos k *ℤ high) ≤ℤ (pos k *ℤ z) = times-rises k high z (omega (arith, ints)) in
+    rw (first, second) (allowed-by k low z (z +ℤ sum) (omega (arith, ints)) (omega (arith, ints)) (omega (arith, ints))))
+    (λ within.
+    let second : int_max z high ≡ high = omega (arith, ints, clamps) in
+    rw (first, second) (allowed-by k low high (z +ℤ sum) (omega (arith, ints)) (omega (arith, ints)) (omega (arith, ints)))))
+
+pub allowed : (z : ℤ) (zs : List ℤ) → IsAllowed (length zs) (least (z ∷ zs)) (greatest (z ∷ zs)) (sum_of (z ∷ zs))
+unfolding sum_of
+allowed z [] = record { order = omega (arith, ints); least = rw (times-none z) (omega (arith, ints)); most = rw (times-none z) (omega (arith, ints)) }
+allowed z (y ∷ ys) = allowed-more (length ys) z (least (y ∷ ys)) (greatest (y ∷ ys)) (sum_of (y ∷ ys)) (allowed y ys)
+
+pub ordered : (low high : ℤ) → low ≤ℤ high → int_le low high ≡ true
+ordered low high order = grind (arith, ints)
+
+pub allows-allowed : (n : ℕ) (low high sum : ℤ) → IsAllowed n low high sum → allows (suc n) low high sum ≡ true
+allows-allowed n low high sum is =
+    let count : suc n - 1 ≡ n = omega arith in
+    rw (count, ordered (pos n *ℤ low +ℤ high) sum is.least, ordered sum (pos n *ℤ high +ℤ low) is.most) refl

@@ -1,0 +1,123 @@
+-- Counts of horizons, with one more and with many.
+use Rattle.std.specs.Prelude.{◌≡◌, ℕ, zero, suc, ◌+◌, ◌-◌, ◌<◌, ◌≤◌, List, [], ◌∷◌, ◌++◌, length, take, false, refl}
+use Rattle.std.specs.List.{insert}
+use Rattle.std.proofs.Common.{get_or, set, ap, sym, ◌∙◌, inl, inr, arith}
+use Rattle.std.proofs.lemmas.Bool.{cases_order, cases_Bool, eq-eqb, ne_eqb, lt-ltb, le-ltb, le-leb, lt-leb, ltb-false}
+use Rattle.std.proofs.lemmas.List.{take_more}
+use Rattle.psi_report.specs.declared.figure.HorizonCount.{HorizonCount}
+use Rattle.psi_report_reader.specs.Counts.{with_count, place_of, joined_counts}
+use Rattle.psi_report_reader.specs.Merging.{is_count, counts_fit}
+
+-- ---- the place of a horizon
+
+place-here : (t : ℕ) (c : HorizonCount) (cs : List HorizonCount) → t ≤ c.horizon → place_of t (c ∷ cs) ≡ 0
+place-here t c cs low = rw (le-leb t c.horizon low) refl
+
+place-later : (t : ℕ) (c : HorizonCount) (cs : List HorizonCount) → c.horizon < t → place_of t (c ∷ cs) ≡ suc (place_of t cs)
+place-later t c cs high = rw (lt-leb t c.horizon high) refl
+
+-- ---- one more count
+
+pub with_count-same : (k c : HorizonCount) (cs : List HorizonCount) → k.horizon ≡ c.horizon
+    → with_count k (c ∷ cs) ≡ record { horizon = c.horizon; count = k.count + c.count } ∷ cs
+with_count-same k c cs same = rw (eq-eqb k.horizon c.horizon same) refl
+
+pub with_count-lower : (k c : HorizonCount) (cs : List HorizonCount) → k.horizon < c.horizon → with_count k (c ∷ cs) ≡ k ∷ c ∷ cs
+with_count-lower k c cs less = rw (ne_eqb k.horizon c.horizon (λ e. omega arith), lt-ltb k.horizon c.horizon less) refl
+
+pub with_count-higher : (k c : HorizonCount) (cs : List HorizonCount) → c.horizon < k.horizon → with_count k (c ∷ cs) ≡ c ∷ with_count k cs
+with_count-higher k c cs more = rw (ne_eqb k.horizon c.horizon (λ e. omega arith), le-ltb k.horizon c.horizon (omega arith)) refl
+
+-- where its horizon is there, it is added
+pub with_count-set : (k e : HorizonCount) (cs : List HorizonCount) (p : ℕ) → place_of k.horizon cs ≡ p → p < length cs → e ≡ get_or cs p e → e.horizon ≡ k.horizon
+    → with_count k cs ≡ set cs p (record { horizon = e.horizon; count = k.count + e.count })
+with_count-set k e [] p at small is same = absurd (omega arith)
+with_count-set k e (c ∷ cs) zero at small is same =
+    let here : k.horizon ≡ c.horizon = sym same ∙ ap (λ (x : HorizonCount). x.horizon) is in
+    with_count-same k c cs here ∙ ap (λ (x : HorizonCount). record { horizon = x.horizon; count = k.count + x.count } ∷ cs) (sym is)
+with_count-set k e (c ∷ cs) (suc p) at small is same = elim (cases_order k.horizon c.horizon) [
+  | inl equal ↦ absurd (let here = place-here k.horizon c cs (omega arith) in omega arith)
+  | inr apart ↦ elim apart [
+    | inl less ↦ absurd (let here = place-here k.horizon c cs (omega arith) in omega arith)
+    | inr more ↦ (let later = place-later k.horizon c cs more in
+        with_count-higher k c cs more ∙ ap (λ xs. c ∷ xs) (with_count-set k e cs p (omega arith) (omega arith) is same))
+  ]
+]
+
+-- where it isn't, it goes to its place
+pub with_count-insert : (k : HorizonCount) (cs : List HorizonCount) (p : ℕ) → place_of k.horizon cs ≡ p → ((d : HorizonCount) → p < length cs → (get_or cs p d).horizon ≡ k.horizon → ⊥)
+    → with_count k cs ≡ insert cs p k
+with_count-insert k [] p at other = (let none : p ≡ 0 = sym at in rw none refl)
+with_count-insert k (c ∷ cs) zero at other = elim (cases_order k.horizon c.horizon) [
+  | inl equal ↦ absurd (other c (omega arith) (sym equal))
+  | inr apart ↦ elim apart [
+    | inl less ↦ with_count-lower k c cs less
+    | inr more ↦ absurd (let later = place-later k.horizon c cs more in omega arith)
+  ]
+]
+with_count-insert k (c ∷ cs) (suc p) at other = elim (cases_order k.horizon c.horizon) [
+  | inl equal ↦ absurd (let here = place-here k.horizon c cs (omega arith) in omega arith)
+  | inr apart ↦ elim apart [
+    | inl less ↦ absurd (let here = place-here k.horizon c cs (omega arith) in omega arith)
+    | inr more ↦ (let later = place-later k.horizon c cs more in
+        with_count-higher k c cs more ∙ ap (λ xs. c ∷ xs) (with_count-insert k cs p (omega arith) (λ d small same. other d (omega arith) same)))
+  ]
+]
+
+-- a sum that has more than 64 bits
+pub counts_fit-not : (cs : List HorizonCount) (p : ℕ) (e : HorizonCount) → p < length cs → is_count e.count ≡ false → counts_fit (set cs p e) ≡ false
+counts_fit-not [] p e small large = absurd (omega arith)
+counts_fit-not (c ∷ cs) zero e small large = rw large refl
+counts_fit-not (c ∷ cs) (suc p) e small large = elim (cases_Bool (is_count c.count)) [
+  | inl is ↦ rw (is, counts_fit-not cs p e (omega arith) large) refl
+  | inr is ↦ rw is refl
+]
+
+-- ---- many counts
+
+-- what doesn't fit doesn't fit with one more
+counts_fit-kept : (k : HorizonCount) (cs : List HorizonCount) → counts_fit cs ≡ false → counts_fit (with_count k cs) ≡ false
+counts_fit-kept k [] large = absurd cc
+counts_fit-kept k (c ∷ cs) large = elim (cases_order k.horizon c.horizon) [
+  | inl equal ↦ rw (with_count-same k c cs equal) (elim (cases_Bool (is_count c.count)) [
+    | inl is ↦ (let rest : counts_fit cs ≡ false = rw is at large in elim (cases_Bool (is_count (k.count + c.count))) [
+      | inl both ↦ rw both rest
+      | inr both ↦ rw both refl
+    ])
+    | inr is ↦ (let least = ltb-false c.count 18446744073709551616 is in rw (le-ltb (k.count + c.count) 18446744073709551616 (omega arith)) refl)
+  ])
+  | inr apart ↦ elim apart [
+    | inl less ↦ rw (with_count-lower k c cs less) (elim (cases_Bool (is_count k.count)) [
+      | inl is ↦ rw is large
+      | inr is ↦ rw is refl
+    ])
+    | inr more ↦ rw (with_count-higher k c cs more) (elim (cases_Bool (is_count c.count)) [
+      | inl is ↦ (let rest : counts_fit cs ≡ false = rw is at large in rw (is, counts_fit-kept k cs rest) refl)
+      | inr is ↦ rw is refl
+    ])
+  ]
+]
+
+pub counts_fit-joined : (cs ks : List HorizonCount) → counts_fit ks ≡ false → counts_fit (joined_counts cs ks) ≡ false
+counts_fit-joined [] ks large = large
+counts_fit-joined (c ∷ cs) ks large = counts_fit-kept c (joined_counts cs ks) (counts_fit-joined cs ks large)
+
+-- the last of the counts comes first
+joined_counts-last : (cs : List HorizonCount) (c : HorizonCount) (ks : List HorizonCount) → joined_counts (cs ++ c ∷ []) ks ≡ joined_counts cs (with_count c ks)
+joined_counts-last [] c ks = refl
+joined_counts-last (b ∷ cs) c ks = ap (with_count b) (joined_counts-last cs c ks)
+
+-- one more of them is added, the last first
+pub joined_counts-step : (cs : List HorizonCount) (i : ℕ) (d : HorizonCount) (ks : List HorizonCount) → i < length cs
+    → joined_counts (take (length cs - i) cs) ks ≡ joined_counts (take (length cs - (i + 1)) cs) (with_count (get_or cs (length cs - 1 - i) d) ks)
+joined_counts-step cs i d ks small =
+    let p : ℕ = length cs - 1 - i in
+    let now : length cs - i ≡ p + 1 = omega arith in
+    let next : length cs - (i + 1) ≡ p = omega arith in
+    rw (now, next, take_more cs p d (omega arith)) (joined_counts-last (take p cs) (get_or cs p d) ks)
+
+-- a sum of more than 64 bits doesn't fit
+pub added-large : (k e : HorizonCount) (cs : List HorizonCount) (p : ℕ) → place_of k.horizon cs ≡ p → p < length cs → e ≡ get_or cs p e → e.horizon ≡ k.horizon
+    → 18446744073709551616 ≤ k.count + e.count → counts_fit (with_count k cs) ≡ false
+added-large k e cs p at small is same large =
+    rw (with_count-set k e cs p at small is same) (counts_fit-not cs p (record { horizon = e.horizon; count = k.count + e.count }) small (le-ltb (k.count + e.count) 18446744073709551616 large))

@@ -1,0 +1,122 @@
+-- What is merged is a report, and what can be told of two reports together is merged.
+use Rattle.std.specs.Prelude.{◌≡◌, ℕ, ◌+◌, ◌^◌, ◌<◌, List, [], ◌∷◌, All, Bool, true, false, ◌&&◌, ◌==◌, nat_lt, unsigned_abs, Option, Some, None, Ok, if◌then◌else◌, refl}
+use Rattle.std.proofs.Common.{◌∙◌, subst}
+use Rattle.std.proofs.lemmas.Bool.{and_parts, ltb-true}
+use Rattle.std.proofs.lemmas.List.Elements.{All-nil, All-cons, All-head, All-tail, All-weaker}
+use Rattle.psi_net_model.specs.Name.{is_name}
+use Rattle.psi_report.specs.Joined.{paired}
+use Rattle.psi_report.specs.declared.figure.HorizonCount.{HorizonCount}
+use Rattle.psi_report.specs.declared.figure.Figure.{Figure}
+use Rattle.psi_report.specs.Contents.{Contents}
+use Rattle.psi_report_reader.specs.Counts.{with_count, joined_counts}
+use Rattle.psi_report_reader.specs.Reading.{IsReport}
+use Rattle.psi_report_reader.specs.Sound.{figures_line}
+use Rattle.psi_report_reader.specs.Merging.{sums_of, difference, is_count, is_value, counts_fit, large_figure, too_large, joined_figure, joined_figures, joined, fitting_unless, merged_unless, merged}
+use Rattle.psi_report_reader.specs.Lines.{MergedIsReport, FittingAreMerged}
+use Rattle.psi_report_reader.proofs.FieldLemmas.{FitsCount, FitsFigure}
+use Rattle.psi_report_reader.proofs.HorizonReachLemmas.{passed}
+use Rattle.psi_report_reader.proofs.MergeLemmas.{accepted, merged-fitting, report-fits}
+use Rattle.psi_report_reader.proofs.NetworkLemmas.{sums-are, shown-none}
+
+-- ---- the horizons of both
+
+abbrev IsStep : HorizonCount → Type 0
+IsStep h = h.horizon < 2 ^ 64
+
+with-step : (k : HorizonCount) (cs : List HorizonCount) → IsStep k → All IsStep cs → All IsStep (with_count k cs)
+with-step k [] own all = All-cons IsStep k [] own all
+with-step k (c ∷ cs) own all = go (k.horizon == c.horizon) (nat_lt k.horizon c.horizon) (with-step k cs own (All-tail IsStep c cs all))
+  where
+    go : (s t : Bool) → All IsStep (with_count k cs)
+        → All IsStep (if s then record { horizon = c.horizon; count = k.count + c.count } ∷ cs else if t then k ∷ c ∷ cs else c ∷ with_count k cs)
+    go true t more = All-cons IsStep (record { horizon = c.horizon; count = k.count + c.count }) cs (All-head IsStep c cs all) (All-tail IsStep c cs all)
+    go false true more = All-cons IsStep k (c ∷ cs) own all
+    go false false more = All-cons IsStep c (with_count k cs) (All-head IsStep c cs all) more
+
+joined-steps : (cs ks : List HorizonCount) → All IsStep cs → All IsStep ks → All IsStep (joined_counts cs ks)
+joined-steps [] ks all others = others
+joined-steps (c ∷ cs) ks all others = with-step c (joined_counts cs ks) (All-head IsStep c cs all) (joined-steps cs ks (All-tail IsStep c cs all) others)
+
+counts-told : (cs : List HorizonCount) → All IsStep cs → counts_fit cs ≡ true → All FitsCount cs
+counts-told [] all fit = All-nil FitsCount
+counts-told (c ∷ cs) all fit =
+    let parts = and_parts (is_count c.count) (counts_fit cs) fit in
+    All-cons FitsCount c cs (All-head IsStep c cs all, ltb-true c.count (2 ^ 64) parts.0) (counts-told cs (All-tail IsStep c cs all) parts.1)
+
+-- ---- the figures of both
+
+abbrev IsNamed : Figure → Type 0
+IsNamed f = is_name f.name ≡ true
+
+paired-named : (fs gs : List Figure) → All IsNamed fs → All IsNamed (paired joined_figure fs gs)
+paired-named [] gs all = all
+paired-named (f ∷ fs) [] all = all
+paired-named (f ∷ fs) (g ∷ gs) all = All-cons IsNamed (joined_figure f g) (paired joined_figure fs gs) (All-head IsNamed f fs all) (paired-named fs gs (All-tail IsNamed f fs all))
+
+joined-named : (m n : ℕ) (fs gs : List Figure) → All IsNamed fs → All IsNamed gs → All IsNamed (joined_figures m n fs gs)
+joined-named m n fs gs all others = go (m == 0) (n == 0)
+  where
+    go : (s t : Bool) → All IsNamed (if s then gs else if t then fs else paired joined_figure fs gs)
+    go true t = others
+    go false true = all
+    go false false = paired-named fs gs all
+
+figures-told : (k : ℕ) (fs : List Figure) → All IsNamed fs → large_figure k fs ≡ None → All FitsFigure fs
+figures-told k [] all none = All-nil FitsFigure
+figures-told k (f ∷ fs) all none =
+    let small = passed (is_value f.value) (large_figure (k + 1) fs) k none in
+    All-cons FitsFigure f fs (All-head IsNamed f fs all, ltb-true (unsigned_abs f.value) (10 ^ 37) small.0) (figures-told (k + 1) fs (All-tail IsNamed f fs all) small.1)
+
+-- ---- both reports
+
+no-line : (c : Contents) (k : Option ℕ) → figures_line c k ≡ None → k ≡ None
+no-line c None is = refl
+no-line c (Some k) is = absurd cc
+
+-- nothing of it is too large
+record IsSmall (c : Contents) : Type 0 where
+  samples : is_count c.samples ≡ true
+  met : is_count c.met ≡ true
+  counts : counts_fit c.horizons ≡ true
+  figures : large_figure 0 c.figures ≡ None
+
+small : (b c : Contents) → too_large b c ≡ None → IsSmall c
+unfolding too_large
+small b c none =
+    let first = passed (is_count c.samples) (if is_count c.met && counts_fit c.horizons then figures_line b (large_figure 0 c.figures) else Some 3) 2 none in
+    let second = passed (is_count c.met && counts_fit c.horizons) (figures_line b (large_figure 0 c.figures)) 3 first.1 in
+    let numbers = and_parts (is_count c.met) (counts_fit c.horizons) second.0 in
+    record { samples = first.0; met = numbers.0; counts = numbers.1; figures = no-line b (large_figure 0 c.figures) second.1 }
+
+steps-of : (c : Contents) → IsReport c → All IsStep c.horizons
+steps-of c is = All-weaker FitsCount IsStep (λ h fits. fits.0) c.horizons is.horizons
+
+names-of : (c : Contents) → IsReport c → All IsNamed c.figures
+names-of c is = All-weaker FitsFigure IsNamed (λ f fits. fits.0) c.figures is.figures
+
+joined-report : (a b : Contents) → IsReport a → IsReport b → too_large b (joined a b) ≡ None → IsReport (joined a b)
+unfolding joined
+joined-report a b one other none =
+    let fits = small b (joined a b) none in
+    record {
+      samples = ltb-true (a.samples + b.samples) (2 ^ 64) fits.samples;
+      met = ltb-true (a.met + b.met) (2 ^ 64) fits.met;
+      horizons = counts-told (joined_counts a.horizons b.horizons) (joined-steps a.horizons b.horizons (steps-of a one) (steps-of b other)) fits.counts;
+      figures = figures-told 0 (joined_figures a.met b.met a.figures b.figures) (joined-named a.met b.met a.figures b.figures (names-of a one) (names-of b other)) fits.figures;
+    }
+
+pub merged-report : MergedIsReport
+unfolding merged
+merged-report a b c one other is = go (difference 0 (sums_of a.figures) (sums_of b.figures)) is
+  where
+    fit : (o : Option ℕ) → too_large b (joined a b) ≡ o → fitting_unless o (joined a b) ≡ Ok c → IsReport c
+    fit None none same = (let whole : joined a b ≡ c = cc in subst IsReport whole (joined-report a b one other none))
+    fit (Some line) none same = absurd cc
+
+    go : (o : Option ℕ) → merged_unless o a b ≡ Ok c → IsReport c
+    go None same = fit (too_large b (joined a b)) refl same
+    go (Some k) same = absurd cc
+
+pub fitting-merged : FittingAreMerged
+fitting-merged a b same is =
+    merged-fitting a b (shown-none 0 (sums_of a.figures) (sums_of b.figures) (sums-are a.figures) same) ∙ accepted b (joined a b) (report-fits b (joined a b) is)

@@ -1,0 +1,42 @@
+-- The reports of two lists of samples of one network are merged into that of both.
+use Rattle.std.specs.Prelude.{◌≡◌, ℕ, ◌+◌, List, ◌++◌, length}
+use Rattle.std.proofs.Common.{ap, sym, ◌∙◌}
+use Rattle.std.proofs.lemmas.List.{length-append}
+use Rattle.psi_state.specs.declared.Outcome.{Outcome}
+use Rattle.psi_net_model.specs.Network.{Network}
+use Rattle.psi_report.specs.Samples.{met_states, met_horizons}
+use Rattle.psi_report.proofs.TotalsLemmas.{met_states-append, met_horizons-append}
+use Rattle.psi_report.specs.Contents.{Contents}
+use Rattle.psi_report.specs.Report.{contents_of}
+use Rattle.psi_report_reader.specs.Merging.{joined, fitting, ReportsAreMerged}
+use Rattle.psi_report_reader.proofs.SmallLemmas.{contents-fit}
+use Rattle.psi_report_reader.proofs.MergeLemmas.{accepted, report-fits, merged-fitting}
+use Rattle.psi_report_reader.proofs.HorizonCountsLemmas.{horizons_of, horizons-joined}
+use Rattle.psi_report_reader.proofs.FiguresJoinedLemmas.{all_figures, figures-joined, difference-none}
+
+-- what is told of so many samples with these states and horizons
+abbrev told : Network → ℕ → List (List ℕ) → List ℕ → Contents
+told net n states hs = record { samples = n; met = length states; horizons = horizons_of hs; figures = all_figures net states }
+
+told-joined : (net : Network) (m n : ℕ) (xs ys : List (List ℕ)) (gs hs : List ℕ) → joined (told net m xs gs) (told net n ys hs) ≡ told net (m + n) (xs ++ ys) (gs ++ hs)
+unfolding joined
+told-joined net m n xs ys gs hs =
+    let count = length-append xs ys in
+    let horizons = horizons-joined gs hs in
+    let figures = figures-joined net xs ys in
+    cc
+
+pub contents-joined : (net : Network) (outcomes others : List Outcome) → joined (contents_of net outcomes) (contents_of net others) ≡ contents_of net (outcomes ++ others)
+unfolding contents_of
+contents-joined net outcomes others =
+    told-joined net (length outcomes) (length others) (met_states outcomes) (met_states others) (met_horizons outcomes) (met_horizons others)
+    ∙ ap (λ n. told net n (met_states outcomes ++ met_states others) (met_horizons outcomes ++ met_horizons others)) (sym (length-append outcomes others))
+    ∙ ap (λ xs. told net (length (outcomes ++ others)) xs (met_horizons outcomes ++ met_horizons others)) (sym (met_states-append outcomes others))
+    ∙ ap (λ hs. told net (length (outcomes ++ others)) (met_states (outcomes ++ others)) hs) (sym (met_horizons-append outcomes others))
+
+pub reports-merged : ReportsAreMerged
+unfolding contents_of
+reports-merged net outcomes others are =
+    merged-fitting (contents_of net outcomes) (contents_of net others) (difference-none net (met_states outcomes) (met_states others))
+    ∙ ap (fitting (contents_of net others)) (contents-joined net outcomes others)
+    ∙ accepted (contents_of net others) (contents_of net (outcomes ++ others)) (report-fits (contents_of net others) (contents_of net (outcomes ++ others)) (contents-fit net (outcomes ++ others) are))

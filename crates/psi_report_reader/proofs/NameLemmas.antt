@@ -1,0 +1,64 @@
+-- Names, which are UTF-8, and whether bytes are, as a test.
+use Rattle.std.specs.Prelude.{◌≡◌, ℕ, zero, suc, ◌<◌, List, [], ◌∷◌, length, slice_index, Bool, true, false, ◌&&◌, ◌||◌, ◌==◌, nat_le, Option, Some, None, refl}
+use Rattle.std.specs.Char.{is_ascii_alphanumeric}
+use Rattle.std.specs.Int.{is_in_range}
+use Rattle.std.specs.List.{list_all}
+use Rattle.std.specs.Str.{IsUtf8, is_utf8}
+use Rattle.std.proofs.Common.{inl, inr, arith}
+use Rattle.std.proofs.lemmas.Bool.{and_parts, or_cases, leb-true, eqb-true}
+use Rattle.std.proofs.lemmas.Str.{IsUtf8-from_is_utf8, is_utf8-from_IsUtf8, IsUtf8-from_ascii}
+use Rattle.psi_net_model.specs.Name.{is_name_byte, is_name, name_of}
+use Rattle.psi_report_reader.specs.Reading.{name_in}
+
+valid : (bytes : List ℕ) → IsUtf8 bytes → is_utf8 bytes ≡ true
+valid bytes is = is_utf8-from_IsUtf8 bytes is
+
+invalid : (bytes : List ℕ) → (IsUtf8 bytes → ⊥) → is_utf8 bytes ≡ false
+invalid bytes isnt = go (is_utf8 bytes) refl
+  where
+    go : (t : Bool) → is_utf8 bytes ≡ t → is_utf8 bytes ≡ false
+    go true is = absurd (isnt (IsUtf8-from_is_utf8 bytes is))
+    go false is = is
+
+-- a name is what bytes are that are UTF-8, and others are none
+pub name-valid : (bytes text : List ℕ) (name : Option (List ℕ)) → name ≡ name_of text → text ≡ bytes → IsUtf8 bytes → name ≡ name_in bytes
+unfolding name_in
+name-valid bytes text name is same utf8 = rw (valid bytes utf8, ← same) is
+
+pub name-invalid : (bytes : List ℕ) → (IsUtf8 bytes → ⊥) → ◌≡◌ {A = Option (List ℕ)} None (name_in bytes)
+unfolding name_in
+name-invalid bytes isnt = rw (invalid bytes isnt) refl
+
+range-small : (low high byte : ℕ) → high < 128 → is_in_range low high byte ≡ true → byte < 128
+range-small low high byte small is = (let most = leb-true byte high (and_parts (nat_le low byte) (nat_le byte high) is).1 in omega arith)
+
+name-byte-small : (byte : ℕ) → is_name_byte byte ≡ true → byte < 128
+name-byte-small byte is = elim (or_cases (is_ascii_alphanumeric byte) (byte == 95 || byte == 45) is) [
+  | inl letter ↦ elim (or_cases (is_in_range 48 57 byte || is_in_range 65 90 byte) (is_in_range 97 122 byte) letter) [
+    | inl upper ↦ elim (or_cases (is_in_range 48 57 byte) (is_in_range 65 90 byte) upper) [
+      | inl digit ↦ range-small 48 57 byte (omega arith) digit
+      | inr capital ↦ range-small 65 90 byte (omega arith) capital
+    ]
+    | inr lower ↦ range-small 97 122 byte (omega arith) lower
+  ]
+  | inr mark ↦ elim (or_cases (byte == 95) (byte == 45) mark) [
+    | inl line ↦ (let same = eqb-true byte 95 line in omega arith)
+    | inr hyphen ↦ (let same = eqb-true byte 45 hyphen in omega arith)
+  ]
+]
+
+name-ascii : (word : List ℕ) → list_all is_name_byte word ≡ true → (i : ℕ) → slice_index word i < 128
+name-ascii [] are i = omega arith
+name-ascii (b ∷ bs) are zero = name-byte-small b (and_parts (is_name_byte b) (list_all is_name_byte bs) are).0
+name-ascii (b ∷ bs) are (suc i) = name-ascii bs (and_parts (is_name_byte b) (list_all is_name_byte bs) are).1 i
+
+pub name-bytes : (word : List ℕ) → is_name word ≡ true → list_all is_name_byte word ≡ true
+unfolding is_name
+name-bytes word is = (and_parts (nat_le 1 (length word) && nat_le (length word) 32) (list_all is_name_byte word) is).1
+
+-- a name is read as itself
+pub name-again : (word : List ℕ) → is_name word ≡ true → name_in word ≡ Some word
+unfolding name_in
+name-again word is =
+    let text : is_utf8 word ≡ true = valid word (IsUtf8-from_ascii word (name-ascii word (name-bytes word is))) in
+    rw (text, is) refl

@@ -1,0 +1,96 @@
+-- The fields of a report need no quotes: their lines are the fields with commas between them.
+use Rattle.std.specs.Prelude.{◌≡◌, ℕ, ◌^◌, ◌<◌, ◌≤◌, ℤ, pos, negsuc, List, [], ◌∷◌, ◌++◌, All, true, false, ◌==◌, suc, refl}
+use Rattle.std.specs.Fmt.{decimal, signed_decimal}
+use Rattle.std.specs.Int.RustNames.{unsigned_abs}
+use Rattle.std.specs.List.{list_any, list_all, slice_split}
+use Rattle.std.proofs.Common.{ap, ◌∙◌, append_assoc, arith}
+use Rattle.std.proofs.lemmas.Bool.{and_parts, ne_eqb}
+use Rattle.std.proofs.lemmas.List.{append-nil}
+use Rattle.std.proofs.lemmas.List.Elements.{All-nil, All-cons, All-head, All-tail, All-append, All-weaker}
+use Rattle.std.proofs.lemmas.List.Splits.{slice_split_at, slice_split_none}
+use Rattle.csv.specs.Writing.{default_writer, needs_byte, row_text, fields_text, is_blank}
+use Rattle.psi_net_model.specs.Name.{is_name_byte}
+use Rattle.psi_report_reader.specs.Reading.{is_feed, is_comma}
+use Rattle.psi_report_reader.proofs.DigitLemmas.{IsDigit, decimal-digits}
+
+-- a byte that is no mark of the format
+pub record IsPlain (byte : ℕ) : Type 0 where
+  pub comma : (byte == 44) ≡ false
+  pub quote : (byte == 34) ≡ false
+  pub return : (byte == 13) ≡ false
+  pub feed : (byte == 10) ≡ false
+
+-- bytes of a name and digits are such
+name-byte-apart : (byte mark : ℕ) → is_name_byte byte ≡ true → is_name_byte mark ≡ false → (byte == mark) ≡ false
+name-byte-apart byte mark is isnt = ne_eqb byte mark (λ e. (let same : is_name_byte byte ≡ is_name_byte mark = ap is_name_byte e in absurd cc))
+
+name-byte-plain : (byte : ℕ) → is_name_byte byte ≡ true → IsPlain byte
+name-byte-plain byte is = record {
+  comma = name-byte-apart byte 44 is refl;
+  quote = name-byte-apart byte 34 is refl;
+  return = name-byte-apart byte 13 is refl;
+  feed = name-byte-apart byte 10 is refl;
+}
+
+-- bytes as they stand in names; literals are seen to be such by computing
+pub name-bytes-plain : (word : List ℕ) → list_all is_name_byte word ≡ true → All IsPlain word
+name-bytes-plain [] are = All-nil IsPlain
+name-bytes-plain (b ∷ bs) are =
+    let parts = and_parts (is_name_byte b) (list_all is_name_byte bs) are in
+    All-cons IsPlain b bs (name-byte-plain b parts.0) (name-bytes-plain bs parts.1)
+
+digit-plain : (byte : ℕ) → IsDigit byte → IsPlain byte
+digit-plain byte is =
+    let low : 48 ≤ byte = is.least in
+    record {
+      comma = ne_eqb byte 44 (λ e. absurd (omega arith));
+      quote = ne_eqb byte 34 (λ e. absurd (omega arith));
+      return = ne_eqb byte 13 (λ e. absurd (omega arith));
+      feed = ne_eqb byte 10 (λ e. absurd (omega arith));
+    }
+
+pub decimal-plain : (n : ℕ) → n < 10 ^ 64 → All IsPlain (decimal n)
+decimal-plain n fits = All-weaker IsDigit IsPlain digit-plain (decimal n) (decimal-digits n fits).digits
+
+pub signed-plain : (z : ℤ) → unsigned_abs z < 10 ^ 37 → All IsPlain (signed_decimal z)
+signed-plain (pos n) fits = decimal-plain n (omega arith)
+signed-plain (negsuc n) fits = All-cons IsPlain 45 (decimal (suc n)) (name-byte-plain 45 refl) (decimal-plain (suc n) (omega arith))
+
+-- no quotes are needed
+no-quotes : (word : List ℕ) → All IsPlain word → list_any (needs_byte default_writer) word ≡ false
+no-quotes [] all = refl
+no-quotes (b ∷ bs) all =
+    let here = All-head IsPlain b bs all in
+    rw (here.comma, here.quote, here.return, here.feed) (no-quotes bs (All-tail IsPlain b bs all))
+
+-- the line of three fields
+abbrev pub line : (a b c : List ℕ) → List ℕ
+line a b c = a ++ 44 ∷ (b ++ 44 ∷ c)
+
+pub row-line : (a b c rest : List ℕ) → All IsPlain a → All IsPlain b → All IsPlain c
+    → row_text default_writer (a ∷ b ∷ c ∷ []) ++ rest ≡ line a b c ++ 10 ∷ rest
+unfolding fields_text is_blank
+row-line a b c rest first second third =
+    rw (no-quotes a first, no-quotes b second, no-quotes c third, append-nil c) (append_assoc (line a b c) (10 ∷ []) rest)
+
+no-feed : (word : List ℕ) → All IsPlain word → All (λ x. is_feed x ≡ false) word
+no-feed word all = All-weaker IsPlain (λ x. is_feed x ≡ false) (λ x plain. plain.feed) word all
+
+no-comma : (word : List ℕ) → All IsPlain word → All (λ x. is_comma x ≡ false) word
+no-comma word all = All-weaker IsPlain (λ x. is_comma x ≡ false) (λ x plain. plain.comma) word all
+
+-- a line ends at its line feed
+pub line-ends : (a b c rest : List ℕ) → All IsPlain a → All IsPlain b → All IsPlain c
+    → slice_split is_feed (line a b c ++ 10 ∷ rest) ≡ line a b c ∷ slice_split is_feed rest
+line-ends a b c rest first second third =
+    let P : ℕ → Type 0 = λ x. is_feed x ≡ false in
+    slice_split_at is_feed (line a b c) 10 rest
+    (All-append P a (44 ∷ (b ++ 44 ∷ c)) (no-feed a first) (All-cons P 44 (b ++ 44 ∷ c) refl (All-append P b (44 ∷ c) (no-feed b second) (All-cons P 44 c refl (no-feed c third)))))
+    refl
+
+-- and is parted by its commas into the fields
+pub line-fields : (a b c : List ℕ) → All IsPlain a → All IsPlain b → All IsPlain c → slice_split is_comma (line a b c) ≡ a ∷ b ∷ c ∷ []
+line-fields a b c first second third =
+    slice_split_at is_comma a 44 (b ++ 44 ∷ c) (no-comma a first) refl
+    ∙ ap (λ (fields : List (List ℕ)). a ∷ fields) (slice_split_at is_comma b 44 c (no-comma b second) refl)
+    ∙ ap (λ (fields : List (List ℕ)). a ∷ b ∷ fields) (slice_split_none is_comma c (no-comma c third))

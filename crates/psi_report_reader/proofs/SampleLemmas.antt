@@ -1,0 +1,216 @@
+-- What holds of the horizons, the names and the values of samples of a network.
+use Rattle.std.specs.Prelude.{◌≡◌, ℕ, suc, ◌+◌, ◌*◌, ◌^◌, ◌<◌, ◌≤◌, ◌≤ℤ◌, ℤ, pos, List, [], ◌∷◌, ◌++◌, map, length, All, int_le, unsigned_abs, count_ones, slice_index, Bool, true, false, refl}
+use Rattle.std.specs.Int.Count.{ones}
+use Rattle.std.specs.Str.{bytes_eq}
+use Rattle.std.proofs.Common.{ap, sym, ◌∙◌, subst, inl, inr, arith}
+use Rattle.std.proofs.Math.Pow.{pow-lt, pow_pos}
+use Rattle.std.proofs.lemmas.Bool.{cases_order, eq-eqb, le-leb, leb-true, and_parts, false_from_ne_true}
+use Rattle.std.proofs.lemmas.Int.{ints}
+use Rattle.std.proofs.lemmas.Nat.{ones_cat}
+use Rattle.std.proofs.lemmas.List.Elements.{All-nil, All-cons, All-head, All-tail, All-map, All-weaker}
+use Rattle.std.proofs.lemmas.Slice.Eq.{bytes_eq-Decides}
+use Rattle.psi_state.specs.Ascending.{IsDistinct}
+use Rattle.psi_state.specs.Members.{In}
+use Rattle.psi_state.specs.State.{IsBelow, AreCapacities}
+use Rattle.psi_state.specs.declared.Outcome.{Outcome}
+use Rattle.psi_state.specs.declared.Outcome.TheVariants.{Met, NotMet}
+use Rattle.psi_net_model.specs.Name.{is_name}
+use Rattle.psi_net_model.specs.Network.{Network, NamedReward, caps_of}
+use Rattle.psi_net_model.specs.Valid.{IsReward}
+use Rattle.psi_net_model.specs.declared.entries.Queue.{Queue}
+use Rattle.psi_net_model.proofs.QueueLemmas.{capacities_kept}
+use Rattle.psi_reward.specs.Worth.{worth_of}
+use Rattle.psi_report.specs.Samples.{IsHorizon, IsSampleOf, met_states, met_horizons}
+use Rattle.psi_report.specs.Quantities.{Quantity, queues_from, queue_quantities, reward_quantities}
+use Rattle.psi_report.specs.Report.{contents_of}
+use Rattle.psi_report_reader.specs.Reading.{IsReport}
+use Rattle.psi_report_reader.specs.Samples.{AreOf}
+use Rattle.psi_report_reader.specs.Sound.{is_horizon, is_customers, is_reward_value}
+use Rattle.psi_report_reader.proofs.AllowLemmas.{ordered}
+use Rattle.psi_report_reader.proofs.PowerLemmas.{one-bit, no-bit}
+use Rattle.psi_report_reader.proofs.SmallLemmas.{IsMost, IsMostAt, told-fit}
+use Rattle.psi_report_reader.proofs.WorthLemmas.{held-few, worth-few}
+
+-- ---- horizons
+
+ones-pow : (k : ℕ) → count_ones (2 ^ k) ≡ 1
+ones-pow k =
+    let whole : 1 * 2 ^ k + 0 ≡ 2 ^ k = omega arith in
+    ap ones (sym whole) ∙ ones_cat k 1 0 (pow_pos k) ∙ (let first = one-bit in let last = no-bit in omega arith)
+
+pow-most : (k : ℕ) → k ≤ 22 → 2 ^ k ≤ 4194304
+pow-most k few = elim (cases_order k 22) [
+  | inl same ↦ rw same (omega arith)
+  | inr apart ↦ elim apart [
+    | inl less ↦ (let below : 2 ^ k < 2 ^ 22 = pow-lt less in omega arith)
+    | inr more ↦ absurd (omega arith)
+  ]
+]
+
+pub horizon-few : (t : ℕ) → IsHorizon t → t ≤ 4194304
+horizon-few t is = rw is.power (pow-most is.exponent is.few)
+
+horizon-is : (t : ℕ) → IsHorizon t → is_horizon t ≡ true
+horizon-is t is =
+    let most = horizon-few t is in
+    let once : count_ones t ≡ 1 = rw is.power (ones-pow is.exponent) in
+    rw (eq-eqb (count_ones t) 1 once, le-leb t 4194304 most) refl
+
+pub met-horizons : (net : Network) (outcomes : List Outcome) → All (IsSampleOf net) outcomes → All IsHorizon (met_horizons outcomes)
+unfolding met_horizons
+met-horizons net [] all = All-nil IsHorizon
+met-horizons net (Met horizon state ∷ outcomes) all =
+    All-cons IsHorizon horizon (met_horizons outcomes) (All-head (IsSampleOf net) (Met horizon state) outcomes all).0 (met-horizons net outcomes (All-tail (IsSampleOf net) (Met horizon state) outcomes all))
+met-horizons net (NotMet limit ∷ outcomes) all = met-horizons net outcomes (All-tail (IsSampleOf net) (NotMet limit) outcomes all)
+
+pub are-horizons : (net : Network) (outcomes : List Outcome) → All (IsSampleOf net) outcomes → All (λ t. is_horizon t ≡ true) (met_horizons outcomes)
+are-horizons net outcomes all = All-weaker IsHorizon (λ t. is_horizon t ≡ true) horizon-is (met_horizons outcomes) (met-horizons net outcomes all)
+
+-- ---- values
+
+pub met-below : (net : Network) (outcomes : List Outcome) → All (IsSampleOf net) outcomes → All (λ x. IsBelow x (caps_of net)) (met_states outcomes)
+unfolding met_states
+met-below net [] all = All-nil (λ x. IsBelow x (caps_of net))
+met-below net (Met horizon state ∷ outcomes) all =
+    All-cons (λ x. IsBelow x (caps_of net)) state (met_states outcomes) (All-head (IsSampleOf net) (Met horizon state) outcomes all).1 (met-below net outcomes (All-tail (IsSampleOf net) (Met horizon state) outcomes all))
+met-below net (NotMet limit ∷ outcomes) all = met-below net outcomes (All-tail (IsSampleOf net) (NotMet limit) outcomes all)
+
+-- each value of each quantity at these states passes a test
+abbrev pub ArePassing : (ℤ → Bool) → List (List ℕ) → List Quantity → Type 0
+ArePassing p states [] = Unit {0}
+ArePassing p states (q ∷ qs) = All (λ z. p z ≡ true) (map q.value states) × ArePassing p states qs
+
+customers-are : (n : ℕ) → n ≤ 65535 → is_customers (pos n) ≡ true
+customers-are n few = rw (ordered (pos 0) (pos n) (omega (arith, ints)), ordered (pos n) (pos 65535) (omega (arith, ints))) refl
+
+queues-pass : (caps : List ℕ) (states : List (List ℕ)) → AreCapacities caps → All (λ x. IsBelow x caps) states → (i : ℕ) (queues : List Queue) → ArePassing is_customers states (queues_from i queues)
+unfolding queues_from
+queues-pass caps states are below i [] = tt
+queues-pass caps states are below i (queue ∷ queues) = (
+  All-map (λ z. is_customers z ≡ true) (λ x. pos (slice_index x i)) states
+      (All-weaker (λ x. IsBelow x caps) (λ x. is_customers (pos (slice_index x i)) ≡ true) (λ x one. customers-are (slice_index x i) (held-few caps x i are one)) states below),
+  queues-pass caps states are below (i + 1) queues,
+)
+
+rewards-pass : (caps : List ℕ) (states : List (List ℕ)) → AreCapacities caps → All (λ x. IsBelow x caps) states → (rewards : List NamedReward) → All (λ r. IsReward caps r.kind) rewards
+    → ArePassing is_reward_value states (map (λ r. record { name = r.name; value = worth_of r.kind }) rewards)
+rewards-pass caps states are below [] all = tt
+rewards-pass caps states are below (r ∷ rewards) all =
+    let own : IsReward caps r.kind = All-head (λ (r : NamedReward). IsReward caps r.kind) r rewards all in (
+      All-map (λ z. is_reward_value z ≡ true) (worth_of r.kind) states
+          (All-weaker (λ x. IsBelow x caps) (λ x. is_reward_value (worth_of r.kind x) ≡ true) (λ x one. worth-few caps r.kind x are own one) states below),
+      rewards-pass caps states are below rewards (All-tail (λ (r : NamedReward). IsReward caps r.kind) r rewards all),
+    )
+
+-- ---- names
+
+-- names that differ from those of all quantities behind them
+abbrev pub AreApart : List Quantity → Type 0
+AreApart [] = Unit {0}
+AreApart (q ∷ qs) = All (λ (r : Quantity). bytes_eq q.name r.name ≡ false) qs × AreApart qs
+
+apart-names : (x : List ℕ) (qs : List Quantity) → (In x (map (λ q. q.name) qs) → ⊥) → All (λ (r : Quantity). bytes_eq x r.name ≡ false) qs
+apart-names x [] out = All-nil (λ (r : Quantity). bytes_eq x r.name ≡ false)
+apart-names x (q ∷ qs) out =
+    All-cons (λ (r : Quantity). bytes_eq x r.name ≡ false) q qs (false_from_ne_true (bytes_eq x q.name) (λ is. out (inl ((bytes_eq-Decides x q.name).0 is)))) (apart-names x qs (λ there. out (inr there)))
+
+apart-quantities : (qs : List Quantity) → IsDistinct (map (λ q. q.name) qs) → AreApart qs
+apart-quantities [] differ = tt
+apart-quantities (q ∷ qs) differ = (apart-names q.name qs differ.0, apart-quantities qs differ.1)
+
+queue-names : (i : ℕ) (queues : List Queue) → map (λ (q : Quantity). q.name) (queues_from i queues) ≡ map (λ (q : Queue). q.name) queues
+unfolding queues_from
+queue-names i [] = refl
+queue-names i (queue ∷ queues) = ap (λ (names : List (List ℕ)). queue.name ∷ names) (queue-names (i + 1) queues)
+
+reward-names : (rewards : List NamedReward) → map (λ (q : Quantity). q.name) (map (λ r. record { name = r.name; value = worth_of r.kind }) rewards) ≡ map (λ (r : NamedReward). r.name) rewards
+reward-names [] = refl
+reward-names (r ∷ rewards) = ap (λ (names : List (List ℕ)). r.name ∷ names) (reward-names rewards)
+
+queue-count : (i : ℕ) (queues : List Queue) → length (queues_from i queues) ≡ length queues
+unfolding queues_from
+queue-count i [] = refl
+queue-count i (queue ∷ queues) = ap suc (queue-count (i + 1) queues)
+
+reward-count : (rewards : List NamedReward) → (let qs : List Quantity = map (λ r. record { name = r.name; value = worth_of r.kind }) rewards in length qs ≡ length rewards)
+reward-count [] = refl
+reward-count (r ∷ rewards) = ap suc (reward-count rewards)
+
+-- ---- all of it
+
+-- what a report has of quantities: they are so few, their names differ and their values pass
+pub record AreShown (p : ℤ → Bool) (most : ℕ) (states : List (List ℕ)) (qs : List Quantity) : Type 0 where
+  pub few : length qs ≤ most
+  pub apart : AreApart qs
+  pub passing : ArePassing p states qs
+
+module _ (net : Network) (outcomes : List Outcome) (are : AreOf net outcomes) where
+  pub queues-shown : AreShown is_customers 32 (met_states outcomes) (queue_quantities net)
+  queues-shown =
+      let listed = are.network.queues in
+      record {
+        few = (let count = queue-count 0 net.queues in let few = listed.few in omega arith);
+        apart = apart-quantities (queue_quantities net) (subst (λ (names : List (List ℕ)). IsDistinct names) (sym (queue-names 0 net.queues)) are.network.queue_names.differ);
+        passing = queues-pass (caps_of net) (met_states outcomes) (capacities_kept net.queues listed) (met-below net outcomes are.samples) 0 net.queues;
+      }
+
+  pub queues-some : 1 ≤ length (queue_quantities net)
+  queues-some = (let count = queue-count 0 net.queues in let some = are.network.queues.some in omega arith)
+
+  pub rewards-shown : AreShown is_reward_value 64 (met_states outcomes) (reward_quantities net)
+  rewards-shown = record {
+    few = (let count = reward-count net.rewards in let few = are.network.few_rewards in omega arith);
+    apart = apart-quantities (reward_quantities net) (subst (λ (names : List (List ℕ)). IsDistinct names) (sym (reward-names net.rewards)) are.network.reward_names.differ);
+    passing = rewards-pass (caps_of net) (met_states outcomes) (capacities_kept net.queues are.network.queues) (met-below net outcomes are.samples) net.rewards are.network.rewards;
+  }
+
+-- ---- what is told of them can be read
+
+pub ordered-back : (low high : ℤ) → int_le low high ≡ true → low ≤ℤ high
+ordered-back low high is = grind (arith, ints)
+
+customers-most : (z : ℤ) → is_customers z ≡ true → IsMost 2097120000000000 z
+customers-most z is =
+    let parts = and_parts (int_le (pos 0) z) (int_le z (pos 65535)) is in
+    let low : pos 0 ≤ℤ z = ordered-back (pos 0) z parts.0 in
+    let high : z ≤ℤ pos 65535 = ordered-back z (pos 65535) parts.1 in
+    omega (arith, ints)
+
+worth-most : (z : ℤ) → is_reward_value z ≡ true → IsMost 2097120000000000 z
+worth-most z is = leb-true (unsigned_abs z) 2097120000000000 is
+
+most-at : (p : ℤ → Bool) → ((z : ℤ) → p z ≡ true → IsMost 2097120000000000 z) → (states : List (List ℕ)) (qs : List Quantity) → ArePassing p states qs
+    → All (λ name. is_name name ≡ true) (map (λ q. q.name) qs) → All (IsMostAt 2097120000000000 states) qs
+most-at p most states [] passing names = All-nil (IsMostAt 2097120000000000 states)
+most-at p most states (q ∷ qs) passing names =
+    All-cons (IsMostAt 2097120000000000 states) q qs
+    (All-head (λ name. is_name name ≡ true) q.name (map (λ q. q.name) qs) names, All-weaker (λ z. p z ≡ true) (IsMost 2097120000000000) most (map q.value states) passing.0)
+    (most-at p most states qs passing.1 (All-tail (λ name. is_name name ≡ true) q.name (map (λ q. q.name) qs) names))
+
+pub samples-fit : (net : Network) (outcomes : List Outcome) → AreOf net outcomes → length outcomes < 2 ^ 64 → IsReport (contents_of net outcomes)
+samples-fit net outcomes are few =
+    let queues = queues-shown net outcomes are in
+    let rewards = rewards-shown net outcomes are in
+    told-fit 2097120000000000 (2 ^ 64) (omega arith) (omega arith) net outcomes few (omega arith)
+    (All-weaker IsHorizon (λ t. t < 2 ^ 64) (λ t is. (let most = horizon-few t is in omega arith)) (met_horizons outcomes) (met-horizons net outcomes are.samples))
+    (most-at is_customers customers-most (met_states outcomes) (queue_quantities net) queues.passing
+    (subst (All (λ name. is_name name ≡ true)) (sym (queue-names 0 net.queues)) are.network.queue_names.each))
+    (most-at is_reward_value worth-most (met_states outcomes) (reward_quantities net) rewards.passing
+    (subst (All (λ name. is_name name ≡ true)) (sym (reward-names net.rewards)) are.network.reward_names.each))
+
+-- ---- samples in two parts
+
+all-left : {A : Type 0} (P : A → Type 0) (xs ys : List A) → All P (xs ++ ys) → All P xs
+all-left P [] ys all = All-nil P
+all-left P (x ∷ xs) ys all = All-cons P x xs (All-head P x (xs ++ ys) all) (all-left P xs ys (All-tail P x (xs ++ ys) all))
+
+all-right : {A : Type 0} (P : A → Type 0) (xs ys : List A) → All P (xs ++ ys) → All P ys
+all-right P [] ys all = all
+all-right P (x ∷ xs) ys all = all-right P xs ys (All-tail P x (xs ++ ys) all)
+
+module _ (net : Network) (outcomes others : List Outcome) (are : AreOf net (outcomes ++ others)) where
+  pub of-left : AreOf net outcomes
+  of-left = record { network = are.network; samples = all-left (IsSampleOf net) outcomes others are.samples }
+
+  pub of-right : AreOf net others
+  of-right = record { network = are.network; samples = all-right (IsSampleOf net) outcomes others are.samples }

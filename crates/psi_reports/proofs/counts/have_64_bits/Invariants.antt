@@ -1,7 +1,0 @@
--- The counts before it have 64 bits.
-use Rattle.std.proofs.Common.{◌≡◌, take, true}
-use Rattle.psi_reports.specs.Merging.{counts_fit}
-use Rattle.psi_reports.proofs.counts.have_64_bits.Given as goal
-
-abbrev pub invariant-loop-count : goal.invariant-loop-count
-invariant-loop-count l = counts_fit (take l.count-index l.counts) ≡ true

@@ -1,7 +1,0 @@
--- The counts behind the place are added.
-use Rattle.std.proofs.Common.{◌≡◌, ◌-◌, length, take}
-use Rattle.psi_reports.specs.Counts.{joined_counts}
-use Rattle.psi_reports.proofs.counts.join_counts.Given as goal
-
-abbrev pub invariant-loop-place : goal.invariant-loop-place
-invariant-loop-place l = joined_counts (take (length l.own - l.place) l.own) l.counts.items ≡ joined_counts l.own l.fn.counts.items

@@ -1,6 +1,0 @@
--- The law in the proof of `laws::wrong_lines_are_none`.
-use Rattle.psi_reports.proofs.WrongLemmas.{wrong-lines}
-use Rattle.psi_reports.proofs.laws.wrong_lines_are_none.Goals as goal
-
-pub returns : goal.returns
-returns c = wrong-lines

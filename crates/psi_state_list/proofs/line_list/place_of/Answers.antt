@@ -1,9 +1,0 @@
--- Answers in the proof of `line_list::place_of`.
-use Rattle.std.proofs.Common.{◌≡◌, ◌-◌, arith, rules}
-use Rattle.psi_state_list.proofs.PlacedLemmas.{last_place}
-use Rattle.psi_state_list.proofs.line_list.place_of.Goals as goal
-
-pub returns-then-eq-clause-there : goal.returns-then-eq-clause-there
-returns-then-eq-clause-there c =
-    let same : c.index.result.now ≡ c.args.bounds.now = search rules in
-    last_place c.args.boxes.now.items (c.len-count.result - 1) c.index.result.now c.args.bounds.now (omega arith) c.index.ensures same

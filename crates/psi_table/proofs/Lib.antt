@@ -1,0 +1,5 @@
+-- The lemmas of this crate.
+pub mod NumberLemmas
+pub mod LineLemmas
+pub mod HeaderLemmas
+pub mod TableLemmas

@@ -1,0 +1,108 @@
+//! Numbers in decimal digits, without a buffer of their own.
+
+ghost use Rattle.std.specs.Prelude.{◌≡◌, ◌+◌, ◌/◌, ◌%◌, ◌^◌, ◌<◌, ◌≤◌, [], ◌∷◌, ◌++◌, length, vec_len, vec_capacity};
+ghost use Rattle.std.specs.Fmt.{decimal, signed_decimal};
+
+use itoa::Buffer;
+
+/// Appends a piece that there is room for.
+fn put(line: &mut Vec<u8>, piece: &[u8])
+    requires { vec_len line.old + length piece.now ≤ vec_capacity line.old }
+    ensures text { line.new.items ≡ line.old.items ++ piece.now }
+    ensures count { vec_len line.new ≡ vec_len line.old + length piece.now }
+    ensures room { vec_capacity line.old ≤ vec_capacity line.new }
+{
+    line.extend_from_slice(piece).unwrap();
+}
+
+// Appends two digits.
+fn put_pair(line: &mut Vec<u8>, n: u64)
+    requires small { n < 100 }
+    requires room { vec_len line.old + 2 ≤ vec_capacity line.old }
+    ensures text { line.new.items ≡ line.old.items ++ (48 + n / 10) ∷ (48 + n % 10) ∷ [] }
+    ensures count { vec_len line.new ≡ vec_len line.old + 2 }
+    ensures room { vec_capacity line.old ≤ vec_capacity line.new }
+{
+    line.push_reserved(b'0' + (n / 10) as u8);
+    line.push_reserved(b'0' + (n % 10) as u8);
+}
+
+// Appends a number of one digit or two.
+#[tactic(auto, using(crate::proofs::NumberLemmas::decimal_one, crate::proofs::NumberLemmas::decimal_two))]
+fn put_short(line: &mut Vec<u8>, n: u64)
+    requires small { n < 100 }
+    requires room { vec_len line.old + 2 ≤ vec_capacity line.old }
+    ensures text { line.new.items ≡ line.old.items ++ decimal n }
+    ensures count { vec_len line.new ≤ vec_len line.old + 2 }
+    ensures room { vec_capacity line.old ≤ vec_capacity line.new }
+{
+    if n < 10 {
+        line.push_reserved(b'0' + n as u8);
+        return;
+    }
+    put_pair(line, n);
+}
+
+// Appends a number of at most four digits.
+fn put_four(line: &mut Vec<u8>, n: u64)
+    requires small { n < 10000 }
+    requires room { vec_len line.old + 4 ≤ vec_capacity line.old }
+    ensures text { line.new.items ≡ line.old.items ++ decimal n }
+    ensures count { vec_len line.new ≤ vec_len line.old + 4 }
+    ensures room { vec_capacity line.old ≤ vec_capacity line.new }
+{
+    if n < 100 {
+        put_short(line, n);
+        return;
+    }
+    put_short(line, n / 100);
+    put_pair(line, n % 100);
+}
+
+// Appends a number of five to eight digits.
+fn put_eight(line: &mut Vec<u8>, n: u64)
+    requires some { 10000 ≤ n }
+    requires small { n < 100000000 }
+    requires room { vec_len line.old + 8 ≤ vec_capacity line.old }
+    ensures text { line.new.items ≡ line.old.items ++ decimal n }
+    ensures count { vec_len line.new ≤ vec_len line.old + 8 }
+    ensures room { vec_capacity line.old ≤ vec_capacity line.new }
+{
+    put_four(line, n / 10_000);
+    put_pair(line, n / 100 % 100);
+    put_pair(line, n % 100);
+}
+
+/// Appends a number. Most have few digits, and then no buffer is filled.
+pub(crate) fn put_number(line: &mut Vec<u8>, n: u64)
+    requires { vec_len line.old + 20 ≤ vec_capacity line.old }
+    ensures text { line.new.items ≡ line.old.items ++ decimal n }
+    ensures count { vec_len line.new ≤ vec_len line.old + 20 }
+    ensures room { vec_capacity line.old ≤ vec_capacity line.new }
+{
+    if n < 10_000 {
+        put_four(line, n);
+        return;
+    }
+    if n < 100_000_000 {
+        put_eight(line, n);
+        return;
+    }
+    let mut digits = Buffer::new();
+    put(line, digits.format(n).as_bytes());
+}
+
+/// Appends an integer.
+pub(crate) fn put_integer(line: &mut Vec<u8>, value: i64)
+    requires { vec_len line.old + 21 ≤ vec_capacity line.old }
+    ensures text { line.new.items ≡ line.old.items ++ signed_decimal value }
+    ensures count { vec_len line.new ≤ vec_len line.old + 21 }
+    ensures room { vec_capacity line.old ≤ vec_capacity line.new }
+{
+    if value >= 0 {
+        put_number(line, value.unsigned_abs());
+        return;
+    }
+    line.push_reserved(b'-');
+    put_number(line, value.unsigned_abs());
+}

@@ -1,0 +1,116 @@
+//! The block in which the lines of a table are gathered before they are written.
+
+ghost use Rattle.std.specs.Prelude.{◌≡◌, ◌<◌, [], ◌++◌, length, IfOk, OnOk};
+ghost use Rattle.psi_log_writer.specs.Sending.{Sends};
+ghost use Rattle.psi_report.specs.Samples.{IsSampleOf};
+ghost use Rattle.psi_table.specs.Lines.{header_line, stream_line};
+
+use crate::header::header_line;
+use crate::line::{LONGEST, put_line};
+use psi_io::{Sink, SinkFault, write_all};
+use psi_net_model::{Net, OutOfMemory};
+use psi_state::Outcome;
+use std::alloc::Global;
+use std::marker::Model;
+
+// The number of bytes with which a block is full.
+const FULL: usize = 65_536;
+
+/// The lines of a table that wait to be written. They go to a sink in blocks: where 65,536 bytes or more wait, all of them
+/// do before one more line is put. It is seen as the bytes that wait.
+///
+/// Only `begin` allocates.
+#[derive(Drop)]
+pub struct Rows {
+    bytes: Vec<u8>,
+}
+
+impl Model for Rows {
+    ghost use Rattle.std.specs.Prelude.{ℕ, ◌≤◌, List, vec_capacity};
+
+    ghost Value = { List ℕ };
+
+    ghost view = { λ r. r.bytes.items };
+
+    ghost invariant = { λ r. 67736 ≤ vec_capacity r.bytes };
+}
+
+impl Rows {
+    /// The header of a network's table, which waits, with the room for a block and a line.
+    ///
+    /// # Errors
+    ///
+    /// [`OutOfMemory`] where there is no memory for it.
+    pub fn begin(alloc: Global, net: &Net) -> Result<Rows, OutOfMemory>
+        ensures { IfOk result (λ rows. rows ≡ header_line net.now) }
+    {
+        let mut bytes = header_line(alloc, net)?;
+        bytes.reserve(FULL + LONGEST)?;
+        Ok(Rows { bytes })
+    }
+
+    /// Puts the row of a stream behind what waits, which is written first where a block is full. A sample that is met has a
+    /// state within the network's capacities.
+    ///
+    /// # Errors
+    ///
+    /// [`SinkFault::Failed`] only where the sink's count rose in this call or stands at the greatest u64.
+    pub fn put<O: Sink>(
+        &mut self,
+        net: &Net,
+        stream: u64,
+        outcome: &Outcome,
+        out: &mut O,
+    ) -> Result<(), SinkFault>
+        requires { IsSampleOf net.now outcome.now }
+        ensures { Sends result
+            (record { held = O.held out.old; took = O.took out.old; faults = O.faults out.old; takes = O.takes out.old })
+            (record { held = O.held out.new; took = O.took out.new; faults = O.faults out.new; takes = O.takes out.new })
+            self.new (self.old ++ stream_line net.now stream outcome.now) }
+    {
+        self.make_room(out)?;
+        put_line(&mut self.bytes, net, stream, outcome);
+        Ok(())
+    }
+
+    // Writes what waits where a block is full.
+    fn make_room<O: Sink>(&mut self, out: &mut O) -> Result<(), SinkFault>
+        ensures sent { Sends result
+            (record { held = O.held out.old; took = O.took out.old; faults = O.faults out.old; takes = O.takes out.old })
+            (record { held = O.held out.new; took = O.took out.new; faults = O.faults out.new; takes = O.takes out.new })
+            self.new self.old }
+        ensures room { OnOk result (length self.new < 65536) }
+    {
+        if self.bytes.len() < FULL {
+            return Ok(());
+        }
+        self.flush(out)
+    }
+
+    /// Writes what waits; nothing waits then.
+    ///
+    /// # Errors
+    ///
+    /// [`SinkFault::Failed`] only where the sink's count rose in this call or stands at the greatest u64.
+    pub fn flush<O: Sink>(&mut self, out: &mut O) -> Result<(), SinkFault>
+        ensures sent { Sends result
+            (record { held = O.held out.old; took = O.took out.old; faults = O.faults out.old; takes = O.takes out.old })
+            (record { held = O.held out.new; took = O.took out.new; faults = O.faults out.new; takes = O.takes out.new })
+            self.new self.old }
+        ensures none { OnOk result (self.new ≡ []) }
+    {
+        write_piece(self.bytes.as_slice(), out)?;
+        self.bytes.clear();
+        Ok(())
+    }
+}
+
+// Writes a piece to the sink.
+fn write_piece<O: Sink>(piece: &[u8], out: &mut O) -> Result<(), SinkFault>
+    ensures { Sends result
+        (record { held = O.held out.old; took = O.took out.old; faults = O.faults out.old; takes = O.takes out.old })
+        (record { held = O.held out.new; took = O.took out.new; faults = O.faults out.new; takes = O.takes out.new })
+        [] piece.now }
+{
+    write_all(out, piece)
+}
