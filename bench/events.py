@@ -6,7 +6,7 @@ index events without a source whose rows are 0, 1, 2, .., which join the shortes
 
 import dataclasses
 
-from psi_tools.networks import Network
+from psi_tools.model.networks import Network
 
 
 @dataclasses.dataclass(frozen=True)
@@ -78,7 +78,6 @@ def text_of(net: Network, watched: str, total: int | None) -> str:
     for event in events_of(net):
         kind = "all" if not event.is_route else "shortest" if event.is_shortest else "first"
         full = "leave" if event.leaves else "stay"
-        takes, targets = (",".join(map(str, queues)) or "-" for queues in
-                          (event.takes, event.targets))
+        takes, targets = (",".join(map(str, queues)) or "-" for queues in (event.takes, event.targets))
         lines.append(f"event {kind} {event.rate} {takes} {event.least} {targets} {full}")
     return "".join(f"{line}\n" for line in lines)

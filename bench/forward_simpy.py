@@ -14,7 +14,7 @@ import sys
 import on_path  # noqa: F401
 from events import Event, events_of, first_state
 from networks import WATCHED
-from psi_tools.networks import Network
+from psi_tools.model.networks import Network
 from SimPy.Simulation import Process, Simulation, hold, passivate
 
 
@@ -123,9 +123,7 @@ def main() -> int:
     parser.add_argument("--watched")
     given = parser.parse_args()
     net = Network.read(given.file)
-    name = given.watched or next(
-        reward["queues"][0] for reward in net.table["reward"] if reward["name"] == WATCHED
-    )
+    name = given.watched or next(reward["queues"][0] for reward in net.table["reward"] if reward["name"] == WATCHED)
     model = Model(net, given.total, net.queues.index(name), given.seed)
     print(model.mean(given.warm, given.time), model.acted)
     return 0

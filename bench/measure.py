@@ -28,8 +28,7 @@ class Run:
 def run(words: list[str]) -> Run:
     """Runs a program, which has to end with 0 and to print little to standard error."""
     pipe = subprocess.PIPE
-    with subprocess.Popen(words, stdin=subprocess.DEVNULL, stdout=pipe, stderr=pipe,
-                          text=True) as one:
+    with subprocess.Popen(words, stdin=subprocess.DEVNULL, stdout=pipe, stderr=pipe, text=True) as one:
         out, line = one.stdout.read(), one.stderr.read()
         _, end, used = os.wait4(one.pid, 0)
         one.returncode = os.waitstatus_to_exitcode(end)
@@ -54,8 +53,7 @@ def instructions(words: list[str]) -> int | None:
     if not valgrind:
         return None
     call = [valgrind, "--tool=callgrind", "--callgrind-out-file=/dev/null", *words]
-    done = subprocess.run(call, env={"PATH": os.defpath}, stdin=subprocess.DEVNULL,
-                          capture_output=True, text=True)
+    done = subprocess.run(call, env={"PATH": os.defpath}, stdin=subprocess.DEVNULL, capture_output=True, text=True)
     found = COLLECTED.search(done.stderr)
     if done.returncode or not found:
         raise OSError(f"{' '.join(call)} ended with {done.returncode}: {done.stderr[-200:]}")
@@ -82,8 +80,9 @@ def peak_bytes(words: list[str]) -> int:
 
 def level(program: str) -> str:
     """The processor that a program was built for, by its instructions."""
-    code = subprocess.run(["objdump", "-d", "--no-show-raw-insn", program], check=True,
-                          capture_output=True, text=True).stdout
+    code = subprocess.run(
+        ["objdump", "-d", "--no-show-raw-insn", program], check=True, capture_output=True, text=True
+    ).stdout
     return "x86-64-v3" if THIRD_LEVEL.search(code) else "x86-64"
 
 

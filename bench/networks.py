@@ -7,7 +7,7 @@ give its length and the square of that, so a report has what a confidence interv
 import dataclasses
 
 import on_path  # noqa: F401
-from psi_tools.networks import Network
+from psi_tools.model.networks import Network
 
 WATCHED, SQUARED = "watched", "watched-squared"
 
@@ -42,8 +42,9 @@ def one_queue(capacity: int, arrival: int, service: int, limit: int | None = Non
     return net.event("serve", "service", service, source="desk")
 
 
-def line(count: int, capacity: int, servers: int, arrival: int, service: int, full: str,
-         limit: int | None = None) -> Network:
+def line(
+    count: int, capacity: int, servers: int, arrival: int, service: int, full: str, limit: int | None = None
+) -> Network:
     """Queues in a row, of equal servers; `full` is what happens where the next one is full."""
     net = Network(limit=limit)
     names = [f"q{number}" for number in range(1, count + 1)]
@@ -88,8 +89,7 @@ def assembly() -> Network:
         net.queue(f"q{number}", 40)
     net.event("come", "fork", 2, to=["q0", "q1", "q2", "q3"])
     for number in range(4):
-        net.event(f"make-{number}", "service", 8, source=f"q{number}", to=[f"q{number + 4}"],
-                  full="stay")
+        net.event(f"make-{number}", "service", 8, source=f"q{number}", to=[f"q{number + 4}"], full="stay")
     net.event("join-1", "join", 7, source=["q4", "q5"])
     net.event("join-2", "join", 7, source=["q6", "q7"])
     for number in range(4, 8):
@@ -134,35 +134,74 @@ def copied(copies: int) -> Network:
 def cases() -> list[Case]:
     """The ten networks, from one queue to 32."""
     return [
-        Case("one-queue", "M/M/1/10, load 0.8", watching(one_queue(10, 4, 5), "desk"), "desk",
-             40_000, 2_000, has_product_form=True),
-        Case("small-line", "3 queues of 12 places, customers leave where the next is full",
-             watching(line(3, 12, 1, 5, 6, "lost"), "q3"), "q3", 10_000, 500),
-        Case("line-8", "8 queues of 20 places, blocking, load 0.8",
-             watching(line(8, 20, 1, 4, 5, "stay"), "q8"), "q8", 1_000, 60),
-        Case("long-line", "5 queues of 100 places and 2 servers, blocking, load 1",
-             watching(line(5, 100, 2, 10, 5, "stay", 20), "q5"), "q5", 100, 4),
-        Case("wide-line", "32 queues of 20 places, blocking, load 0.8",
-             watching(line(32, 20, 1, 4, 5, "stay", 20), "q32"), "q32", 100, 8),
-        Case("shortest", "32 queues of 20 places, join the shortest, load 0.9",
-             watching(shortest(32, 20, 9 * 32, 10), "q1"), "q1", 100, 4),
-        Case("forks", "6 queues of 3 places, fork and join, 4,096 states followed",
-             watching(forks(), "e"), "e", 500, 20),
-        Case("assembly", "8 queues of 40 places, fork and two joins, split late",
-             watching(assembly(), "q4"), "q4", 500, 30),
-        Case("central-server", "closed, 3 queues, 6 customers",
-             central_server(6), "cpu", 100, 8, 6, True),
-        Case("ring", "closed, 20 queues of 10 places, 40 customers, blocking",
-             ring(20, 10), "q0", 4, 1, 40),
+        Case(
+            "one-queue",
+            "M/M/1/10, load 0.8",
+            watching(one_queue(10, 4, 5), "desk"),
+            "desk",
+            40_000,
+            2_000,
+            has_product_form=True,
+        ),
+        Case(
+            "small-line",
+            "3 queues of 12 places, customers leave where the next is full",
+            watching(line(3, 12, 1, 5, 6, "lost"), "q3"),
+            "q3",
+            10_000,
+            500,
+        ),
+        Case(
+            "line-8",
+            "8 queues of 20 places, blocking, load 0.8",
+            watching(line(8, 20, 1, 4, 5, "stay"), "q8"),
+            "q8",
+            1_000,
+            60,
+        ),
+        Case(
+            "long-line",
+            "5 queues of 100 places and 2 servers, blocking, load 1",
+            watching(line(5, 100, 2, 10, 5, "stay", 20), "q5"),
+            "q5",
+            100,
+            4,
+        ),
+        Case(
+            "wide-line",
+            "32 queues of 20 places, blocking, load 0.8",
+            watching(line(32, 20, 1, 4, 5, "stay", 20), "q32"),
+            "q32",
+            100,
+            8,
+        ),
+        Case(
+            "shortest",
+            "32 queues of 20 places, join the shortest, load 0.9",
+            watching(shortest(32, 20, 9 * 32, 10), "q1"),
+            "q1",
+            100,
+            4,
+        ),
+        Case(
+            "forks", "6 queues of 3 places, fork and join, 4,096 states followed", watching(forks(), "e"), "e", 500, 20
+        ),
+        Case(
+            "assembly",
+            "8 queues of 40 places, fork and two joins, split late",
+            watching(assembly(), "q4"),
+            "q4",
+            500,
+            30,
+        ),
+        Case("central-server", "closed, 3 queues, 6 customers", central_server(6), "cpu", 100, 8, 6, True),
+        Case("ring", "closed, 20 queues of 10 places, 40 customers, blocking", ring(20, 10), "q0", 4, 1, 40),
     ]
 
 
 def growing() -> dict[str, dict[str, Case]]:
     """The families: what grows, and for each value of that its network."""
-    lines = {
-        count: watching(line(count, 20, 1, 4, 5, "stay", 20), f"q{count}")
-        for count in (4, 8, 16, 32)
-    }
+    lines = {count: watching(line(count, 20, 1, 4, 5, "stay", 20), f"q{count}") for count in (4, 8, 16, 32)}
     capacities = {10: (8_000, 800), 100: (1_000, 50), 1_000: (100, 6), 10_000: (10, 1)}
     loads = {50: (2_000, 100), 90: (500, 20), 99: (200, 10)}
     return {
@@ -171,8 +210,7 @@ def growing() -> dict[str, dict[str, Case]]:
             for count, net in lines.items()
         },
         "capacity": {
-            f"{capacity:,}": Case(f"capacity-{capacity}", "", one_queue(capacity, 4, 5, 20), "desk",
-                                  *counts)
+            f"{capacity:,}": Case(f"capacity-{capacity}", "", one_queue(capacity, 4, 5, 20), "desk", *counts)
             for capacity, counts in capacities.items()
         },
         "events": {
@@ -180,8 +218,7 @@ def growing() -> dict[str, dict[str, Case]]:
             for copies in (1, 10, 100)
         },
         "load": {
-            f"{load / 100:.2f}": Case(f"load-{load}", "", line(3, 50, 1, load, 100, "stay", 20),
-                                      "q3", *counts)
+            f"{load / 100:.2f}": Case(f"load-{load}", "", line(3, 50, 1, load, 100, "stay", 20), "q3", *counts)
             for load, counts in loads.items()
         },
     }

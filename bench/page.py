@@ -9,9 +9,7 @@ from networks import Case
 from rivals import Bias, Found
 
 METHODS = "chain", "simpy", "scipy", "octave"
-CALLED = {
-    "chain": "plain chain", "simpy": "SimPy", "scipy": "scipy.sparse", "octave": "octave-queueing",
-}
+CALLED = {"chain": "plain chain", "simpy": "SimPy", "scipy": "scipy.sparse", "octave": "octave-queueing"}
 
 
 @dataclasses.dataclass
@@ -86,8 +84,15 @@ def wrapped(text: str) -> str:
         for item in ("\n" + paragraph).split("\n- ") if indent else [paragraph]:
             if item.strip():
                 item = " ".join(item.split())
-                parts.append(textwrap.fill("- " * bool(indent) + item, 100, break_on_hyphens=False,
-                                           break_long_words=False, subsequent_indent=indent))
+                parts.append(
+                    textwrap.fill(
+                        "- " * bool(indent) + item,
+                        100,
+                        break_on_hyphens=False,
+                        break_long_words=False,
+                        subsequent_indent=indent,
+                    )
+                )
         parts.append("")
     return "\n".join(parts)
 
@@ -96,8 +101,11 @@ def sampling_row(one: Sampling) -> list[str]:
     """The row of a network: how fast its samples are drawn."""
     each = one.net_seconds / one.samples
     return [
-        one.case.about or one.case.name, shown(one.steps / one.samples), shown(1 / each),
-        shown(one.net_seconds / one.steps * 1e9), shown(one.instructions),
+        one.case.about or one.case.name,
+        shown(one.steps / one.samples),
+        shown(1 / each),
+        shown(one.net_seconds / one.steps * 1e9),
+        shown(one.instructions),
         f"{one.peak / 1e6:.1f}",
     ]
 
@@ -107,8 +115,13 @@ def growth(name: str, family: dict[str, Sampling]) -> str:
     first, *_ = family.values()
     base = first.net_seconds / first.samples
     rows = [
-        [value, shown(one.net_seconds / one.samples / base), shown(one.steps / one.samples),
-         shown(one.net_seconds / one.steps * 1e9), shown(one.instructions)]
+        [
+            value,
+            shown(one.net_seconds / one.samples / base),
+            shown(one.steps / one.samples),
+            shown(one.net_seconds / one.steps * 1e9),
+            shown(one.instructions),
+        ]
         for value, one in family.items()
     ]
     head = [name, "time a sample", "steps a sample", "ns a step", "instructions a step"]
@@ -118,8 +131,7 @@ def growth(name: str, family: dict[str, Sampling]) -> str:
 def time_table(comparisons: list[Comparison]) -> str:
     """The table of times until the target, the ratios to PSI's first."""
     rows = [
-        [one.case.name, *(ratio(one.others[method], one.psi) for method in METHODS),
-         shown(one.psi.seconds)]
+        [one.case.name, *(ratio(one.others[method], one.psi) for method in METHODS), shown(one.psi.seconds)]
         for one in comparisons
     ]
     return table(["network", *(CALLED[method] for method in METHODS), "PSI, seconds"], rows)
@@ -137,8 +149,12 @@ def mean_table(comparisons: list[Comparison]) -> str:
     """The table of the means that the methods found. SimPy's runs are too short for one."""
     methods = [method for method in METHODS if method != "simpy"]
     rows = [
-        [one.case.name, shown_states(one.states), estimate(one.psi),
-         *(estimate(one.others[method]) for method in methods)]
+        [
+            one.case.name,
+            shown_states(one.states),
+            estimate(one.psi),
+            *(estimate(one.others[method]) for method in methods),
+        ]
         for one in comparisons
     ]
     return table(["network", "states", "PSI", *(CALLED[method] for method in methods)], rows)
@@ -151,10 +167,7 @@ def shown_states(count: int) -> str:
 
 def bias_table(biases: list[Bias]) -> str:
     """The table of what a wrong warm-up gives."""
-    rows = [
-        [f"{one.warm:,}", f"{one.mean:.3f} ± {one.half:.3f}", f"{100 * one.off:+.1f} %"]
-        for one in biases
-    ]
+    rows = [[f"{one.warm:,}", f"{one.mean:.3f} ± {one.half:.3f}", f"{100 * one.off:+.1f} %"] for one in biases]
     return table(["steps of warm-up", "mean of all runs", "off by"], rows)
 
 
@@ -178,21 +191,30 @@ def page(found: Measured, rounds: int, batches: int, most: int) -> str:
     """The whole page."""
     start = min(one.start for one in found.samplings) * 1_000
     rows = [sampling_row(one) for one in found.samplings]
-    head = ["network", "steps a sample", "samples a second", "ns a step", "instructions a step",
-            "MB"]
+    head = ["network", "steps a sample", "samples a second", "ns a step", "instructions a step", "MB"]
     parts = [
-        "# Performance\n", wrapped(texts.HEAD.format(rounds=rounds)),
-        "## PSI beside other methods\n", wrapped(texts.COMPARED.format(batches=batches, most=most)),
+        "# Performance\n",
+        wrapped(texts.HEAD.format(rounds=rounds)),
+        "## PSI beside other methods\n",
+        wrapped(texts.COMPARED.format(batches=batches, most=most)),
         time_table(found.comparisons),
-        "## Which method to choose\n", wrapped(where_right(found.comparisons)),
+        "## Which method to choose\n",
+        wrapped(where_right(found.comparisons)),
         wrapped(texts.PSI),
         "## Initialization bias\n",
         wrapped(texts.BIAS.format(runs=found.bias_runs, steps=found.bias_steps, exact=found.exact)),
-        bias_table(found.biases), wrapped(texts.BIAS_END),
-        "## How the time grows\n", wrapped(texts.GROWTH),
+        bias_table(found.biases),
+        wrapped(texts.BIAS_END),
+        "## How the time grows\n",
+        wrapped(texts.GROWTH),
         *(growth(name, family) for name, family in found.families.items()),
-        "## Samples a second\n", wrapped(texts.SAMPLES.format(start=start)), table(head, rows),
-        "## The means that were found\n", wrapped(texts.MEANS), mean_table(found.comparisons),
-        "## The machine\n", table(["what", "value"], [list(row) for row in found.machine]),
+        "## Samples a second\n",
+        wrapped(texts.SAMPLES.format(start=start)),
+        table(head, rows),
+        "## The means that were found\n",
+        wrapped(texts.MEANS),
+        mean_table(found.comparisons),
+        "## The machine\n",
+        table(["what", "value"], [list(row) for row in found.machine]),
     ]
     return "\n".join(part.rstrip("\n") + "\n" for part in parts)

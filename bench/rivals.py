@@ -151,8 +151,7 @@ class Bias:
     off: float
 
 
-def biases(chain: str, folder: pathlib.Path, warms: tuple[int, ...], steps: int,
-           runs: int) -> tuple[float, list[Bias]]:
+def biases(chain: str, folder: pathlib.Path, warms: tuple[int, ...], steps: int, runs: int) -> tuple[float, list[Bias]]:
     """The exact mean length of M/M/1/100 at a load of 0.95, and what replications of the plain
     chain come to that begin at an empty queue."""
     net = one_queue(100, 95, 100)

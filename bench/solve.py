@@ -16,7 +16,7 @@ import on_path  # noqa: F401
 import scipy.sparse
 import scipy.sparse.linalg
 from events import Event, events_of
-from psi_tools.networks import Network
+from psi_tools.model.networks import Network
 
 DIRECT, MOST_STATES, TOLERANCE, STRETCH = 3_000, 1_000_000, 1e-9, 50
 
@@ -28,10 +28,7 @@ def states_of(capacities: list[int], total: int | None) -> numpy.ndarray:
         return numpy.indices(sizes).reshape(len(sizes), -1).T
     rows = [((), total)]
     for capacity in capacities:
-        rows = [
-            ((*state, number), left - number)
-            for state, left in rows for number in range(min(capacity, left) + 1)
-        ]
+        rows = [((*state, number), left - number) for state, left in rows for number in range(min(capacity, left) + 1)]
     return numpy.array([state for state, left in rows if left == 0])
 
 

@@ -51,9 +51,8 @@ ADVICE = {
     "scipy": "It is the tool for small chains: its answer is exact up to rounding, and has the "
     "probability of every state. Its time includes the start of Python, which is most of it for "
     "the smallest networks. It grows with the number of states, which multiplies with each queue.",
-    "octave": "It is the tool where the network has product form: its answer is exact, and most of "
-    "its time is the start of Octave. Blocking, finite queues, forks and index routing have no "
-    "product form in general.",
+    "octave": "It is the tool where the network has product form: its answer is exact, and most of its time is the "
+    "start of Octave. Blocking, finite queues, forks and index routing have no product form in general.",
 }
 BIAS = """
 A forward simulation begins at some state, and its user guesses when that is forgotten. Here

@@ -1,10 +1,10 @@
 #!/usr/bin/python3
-"""merge_reports.py FILE..: prints the report of all; python/psi_tools/merging.py has all of it."""
+"""merge_reports.py FILE..: prints the report of all; python/psi_tools/io/reports.py has all of it."""
 
 import sys
 
 import packaged  # noqa: F401
-from psi_tools.merging import Refused, main, merged  # noqa: F401
+from psi_tools.io.reports import ReportError, main, merged  # noqa: F401
 
 if __name__ == "__main__":
     sys.exit(main(sys.argv[1:]))

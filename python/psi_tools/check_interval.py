@@ -14,11 +14,17 @@ fixed before the counted samples were seen.
 
 import json
 import sys
+from collections.abc import Sequence
+from typing import Any
 
 BITS, ANY = 256, float("-inf")
+# A number m * 2^e; values with how often they came; the two ends of an interval, in parts of the third.
+Number = tuple[int, int]
+Counts = Sequence[tuple[int, int]]
+Ends = tuple[int | None, int | None, int]
 
 
-def powers(pairs, up):
+def powers(pairs: Sequence[tuple[Number, int]], up: bool) -> Number:
     """The product of all x^n, with x and itself as m, e for m * 2^e, rounded up or down."""
     m, e = 1, 0
     for bit in reversed(range(max(n.bit_length() for _, n in pairs))):
@@ -29,7 +35,7 @@ def powers(pairs, up):
     return m, e
 
 
-def total(numbers, up):
+def total(numbers: Sequence[Number], up: bool) -> Number:
     """The sum of numbers m * 2^e, rounded up or down."""
     low = max(m.bit_length() + e for m, e in numbers) - 2 * BITS
     down = (m << e - low if e >= low else m >> low - e for m, e in numbers)
@@ -37,7 +43,7 @@ def total(numbers, up):
     return sum(down) + (len(numbers) if up else 0), low
 
 
-def is_at_most(x, y):
+def is_at_most(x: Number, y: Number) -> bool:
     """Whether a number m * 2^e is at most another."""
     (m, e), (n, f) = x, y
     more = m.bit_length() + e - n.bit_length() - f
@@ -46,7 +52,7 @@ def is_at_most(x, y):
     return m << e - min(e, f) <= n << f - min(e, f)
 
 
-def is_binomial(k, i, r, q, d):
+def is_binomial(k: int, i: int, r: int, q: int, d: int) -> bool:
     """Of k draws, each a one in r of q cases, at most 1 of d cases have i ones or more. Cases are
     counted in parts, of which those of i ones are 2^BITS; above i there are ever fewer."""
     if not 0 < i <= k or not 0 < r < q or (k - i) * r > (i + 1) * (q - r):
@@ -66,7 +72,7 @@ def is_binomial(k, i, r, q, d):
     return (d - 1) * tail <= rest
 
 
-def is_chernoff(k, z, i, r, q, d, a, b):
+def is_chernoff(k: int, z: int, i: int, r: int, q: int, d: int, a: int, b: int) -> bool:
     """At most 1 of d lists have a total score of i or more, where the mean is at most r / q."""
     if not 1 <= a or not b <= a or not r <= q * z:
         return False
@@ -75,7 +81,7 @@ def is_chernoff(k, z, i, r, q, d, a, b):
     return is_at_most(left, powers([((a, 0), i), ((b, 0), k * z - i), ((q * z, 0), k)], False))
 
 
-def is_won(scores, r, q, d, t, stakes):
+def is_won(scores: Counts, r: int, q: int, d: int, t: int, stakes: Sequence[int]) -> bool:
     """Bets of these stakes, of t, on all scores become d times what they were, and none can lose
     more than there is. A score stands with how often it came."""
     if not stakes or not t or any(s * r > t * q for s in stakes):
@@ -85,25 +91,25 @@ def is_won(scores, r, q, d, t, stakes):
     return is_at_most(powers(begun, True), total(won, False))
 
 
-def whole(values, least=0):
+def whole(values: Sequence[Any], least: float = 0) -> Sequence[int]:
     """Some whole numbers, each at least so great."""
     if any(type(value) is not int or value < least for value in values):
         raise ValueError(f"{values!r:.60} are not the numbers that are wanted")
     return values
 
 
-def is_proved(proof, k, z, i, scores, q, d):
+def is_proved(proof: dict[str, Any], k: int, z: int, i: int, scores: Counts, q: int, d: int) -> bool:
     """Whether the mean score is proved to be at least r / q, with r of the proof."""
     r, by = *whole([proof["r"]]), proof["by"]
     if by == "binomial":
         return z == 1 and is_binomial(k, i, r, q, d)
     if by == "chernoff":
         return is_chernoff(k, z, i, r, q, d, *whole([proof["a"], proof["b"]]))
-    stakes = by == "bets" and scores and whole(proof["stakes"])
-    return bool(stakes) and is_won(scores, r, q, d, *whole([proof["t"]]), stakes)
+    stakes = whole(proof["stakes"]) if by == "bets" and scores else ()
+    return bool(stakes) and is_won(scores, r, q, d, whole([proof["t"]])[0], stakes)
 
 
-def ranked(counts, rank, end):
+def ranked(counts: Counts, rank: int, end: int) -> int:
     """The value of a rank among values with their counts in order, and else the end."""
     for value, count in counts:
         rank -= count
@@ -112,7 +118,7 @@ def ranked(counts, rank, end):
     return end
 
 
-def quantile(claim, counts, k, least, greatest, d):
+def quantile(claim: dict[str, Any], counts: Counts, k: int, least: int, greatest: int, d: int) -> Ends:
     """The two values between which the quantiles of r of q are; none for one that is not proved."""
     r, q, j, i = whole([claim[key] for key in ("r", "q", "low", "high")], 1)
     low, high = ranked(counts[::-1], j, least), ranked(counts, i, greatest)
@@ -120,12 +126,12 @@ def quantile(claim, counts, k, least, greatest, d):
     return low if is_low else None, high if is_high else None, 1
 
 
-def interval(row, claim, d):
+def interval(row: dict[str, Any], claim: dict[str, Any], d: int) -> Ends:
     """The ends of a claim, as whole numbers of parts of the third; none for one not proved."""
     k, lost = whole([row["samples"], row["uncoupled"]])
     least, greatest = whole([row["least"], row["greatest"]], ANY)
     # Of a sum alone the samples that coalesced are one entry, whose value is theirs together.
-    counts = sorted((*whole([v], ANY), *whole([c])) for v, c in row.get("counts", ()))
+    counts = sorted((whole([v], ANY)[0], whole([c])[0]) for v, c in row.get("counts", ()))
     known, sums = k - lost, whole([row["sum"]], ANY) if not counts else ()
     if known != sum(c for _, c in counts) + known * len(sums) or known < 0:
         raise ValueError("the counts are not of the samples")
@@ -139,7 +145,8 @@ def interval(row, claim, d):
     if claim["of"] == "share":
         first, last = whole([claim["from"], claim["to"]], ANY)
         counts, least, greatest = [(int(first <= v <= last), c) for v, c in counts], 0, 1
-    ends, z = [], (greatest - least) // unit
+    ends: list[int | None] = []
+    z = (greatest - least) // unit
     for side, sign, base in (("low", 1, least), ("high", -1, greatest)):
         scores = [(sign * (v - base), c) for v, c in counts]
         i = sum(s * c for s, c in scores) + sum(sign * (s - base * known) for s in sums)
@@ -149,22 +156,21 @@ def interval(row, claim, d):
         proof = claim[side]
         is_right = proof is None or 0 <= i <= z * known and is_proved(proof, k, z, i, scores, q, d)
         ends.append(base * q + sign * unit * (proof or {"r": 0})["r"] if is_right else None)
-    return *ends, q
+    return ends[0], ends[1], q
 
 
-def shown(number, q, up):
+def shown(number: int, q: int, up: bool) -> str:
     """A number of parts of q as a decimal one, rounded up or down."""
     parts = -(-number * 10**6 // q) if up else number * 10**6 // q
     return f"{'-' * (parts < 0)}{abs(parts) // 10**6}.{abs(parts) % 10**6:06}"
 
 
-def main(path):
+def main(path: str) -> int:
     try:
         with open(path, encoding="utf-8") as file:
             read = json.load(file)
         [d] = whole([read["d"]], 1)
-        found = [(row["name"], claim, interval(row, claim, d))
-                 for row in read["rows"] for claim in row["claims"]]
+        found = [(row["name"], claim, interval(row, claim, d)) for row in read["rows"] for claim in row["claims"]]
     except (OSError, ValueError, KeyError, TypeError, RecursionError) as fault:
         print(f"check_interval: {path} is no file of certificates: {fault!r}", file=sys.stderr)
         return 3

@@ -19,20 +19,34 @@ import math
 import re
 import sys
 import tomllib
+from collections.abc import Iterator, Sequence
+from typing import Any
+
+State = tuple[int, ...]
+Corners = tuple[list[int], list[int]]
+# A queue with its keys; and a queue with its guard, its shift, its floor and its ceiling.
+Targets = Sequence[tuple[int, list[float]]]
+Part = tuple[int, int, int, int, int, int]
 
 MOST_CUSTOMERS, MOST_STATES, LONGEST, FULL = 65_535, 4_096, 33_554_432, math.inf
 
 # Of ChaCha20 (RFC 8439): the constants, the quarter rounds of a double round, the greatest word.
 CONSTANTS = 0x61707865, 0x3320646E, 0x79622D32, 0x6B206574
 QUARTER_ROUNDS = (
-    (0, 4, 8, 12), (1, 5, 9, 13), (2, 6, 10, 14), (3, 7, 11, 15),
-    (0, 5, 10, 15), (1, 6, 11, 12), (2, 7, 8, 13), (3, 4, 9, 14),
+    (0, 4, 8, 12),
+    (1, 5, 9, 13),
+    (2, 6, 10, 14),
+    (3, 7, 11, 15),
+    (0, 5, 10, 15),
+    (1, 6, 11, 12),
+    (2, 7, 8, 13),
+    (3, 4, 9, 14),
 )
 MASK = 0xFFFFFFFF
 
 
 @functools.lru_cache(maxsize=1)
-def block(seed, stream, counter):
+def block(seed: int, stream: int, counter: int) -> list[int]:
     """The 16 words of a block: the key is the seed, and the nonce the stream."""
     key = [seed & MASK, seed >> 32, 0, 0, 0, 0, 0, 0]
     start = [*CONSTANTS, *key, counter, 0, stream & MASK, stream >> 32]
@@ -55,13 +69,13 @@ class Route:
     only if there is a queue to go to.
     """
 
-    def __init__(self, to, size, source, k, stays):
+    def __init__(self, to: Targets, size: int, source: int | None, k: int, stays: bool) -> None:
         self.to, self.size, self.source, self.k, self.stays = to, size, source, k, stays
 
-    def after(self, state):
+    def after(self, state: State) -> State:
         if self.source is not None and state[self.source] < self.k:
             return state
-        key, queue = min(((keys[state[q]], q) for q, keys in self.to), default=(FULL, None))
+        key, queue = min(((keys[state[q]], q) for q, keys in self.to), default=(FULL, 0))
         if key == FULL and self.stays:
             return state
         changed = list(state)
@@ -71,7 +85,7 @@ class Route:
             changed[self.source] -= 1
         return tuple(changed)
 
-    def hull(self, low, high):
+    def hull(self, low: Sequence[int], high: Sequence[int]) -> Corners:
         """In a box each queue holds its number whatever the others hold. So a queue of the list can
         be chosen at a number where the source can serve and each other one can have a greater key;
         it can be passed over where the source can stand still, it has no room, or another one can
@@ -82,12 +96,13 @@ class Route:
         ends = [(min(some), max(some)) for some in keys]
         serves = self.source is None or high[self.source] >= self.k
         stands = self.source is not None and low[self.source] < self.k
-        for place, (queue, keys) in enumerate(self.to):
-            lesser, greater = map(min, zip(*ends[:place], *ends[place + 1 :], (FULL, FULL)))
+        for place, (queue, own) in enumerate(self.to):
+            others = [*ends[:place], *ends[place + 1 :], (FULL, FULL)]
+            lesser, greater = min(one for one, _ in others), min(one for _, one in others)
             front = range(low[queue], min(high[queue], low[queue] + size) + 1)
             back = range(max(low[queue], high[queue] - size), high[queue] + 1)
-            passed = {n for n in front if stands or keys[n] >= lesser}
-            chosen = {n for n in back if serves and keys[n] < greater}
+            passed = {n for n in front if stands or own[n] >= lesser}
+            chosen = {n for n in back if serves and own[n] < greater}
             least[queue] = min(n if n in passed else n + size for n in front)
             greatest[queue] = max(n + size if n in chosen else n for n in back)
         if self.source is not None:
@@ -104,10 +119,10 @@ class Guarded:
     and at most `ceiling`.
     """
 
-    def __init__(self, parts):
+    def __init__(self, parts: Sequence[Part]) -> None:
         self.parts = parts
 
-    def after(self, state):
+    def after(self, state: State) -> State:
         if not all(least <= state[queue] <= most for queue, least, most, *_ in self.parts):
             return state
         changed = list(state)
@@ -115,56 +130,66 @@ class Guarded:
             changed[queue] = min(ceiling, max(floor, state[queue] + shift))
         return tuple(changed)
 
-    def hull(self, low, high):
+    def hull(self, low: Sequence[int], high: Sequence[int]) -> Corners:
         """The states of a box where the event happens are a box, and so are those where it doesn't
         since a certain queue holds too few, or too many. In each of these boxes the event keeps the
         order of states, so what it makes of the two corners is the least and the greatest.
         """
-        happens, boxes = (low, high), []
+        boxes: list[Corners | None] = []
+        happens: Corners | None = list(low), list(high)
         for queue, least, most, *_ in self.parts:
-            happens = happens and narrowed(*happens, queue, least, most)
+            happens = narrowed(*happens, queue, least, most) if happens else None
             boxes.append(narrowed(low, high, queue, 0, least - 1))
             boxes.append(narrowed(low, high, queue, most + 1, MOST_CUSTOMERS))
-        corners = [self.after(corner) for box in (happens, *boxes) if box for corner in box]
-        return [*map(min, zip(*corners))], [*map(max, zip(*corners))]
+        corners = [self.after(tuple(corner)) for box in (happens, *boxes) if box for corner in box]
+        return [min(some) for some in zip(*corners)], [max(some) for some in zip(*corners)]
 
 
-def narrowed(low, high, queue, least, most):
+def narrowed(low: Sequence[int], high: Sequence[int], queue: int, least: int, most: int) -> Corners | None:
     """The corners of a box where a queue holds from least to most; none where it can't."""
-    low, high = list(low), list(high)
-    low[queue], high[queue] = max(least, low[queue]), min(most, high[queue])
-    return (low, high) if low[queue] <= high[queue] else None
+    first, last = list(low), list(high)
+    first[queue], last[queue] = max(least, low[queue]), min(most, high[queue])
+    return (first, last) if first[queue] <= last[queue] else None
 
+
+Event = Route | Guarded
 
 # The keys of each kind of event, beside kind, name and rate.
 KEYS = {
-    "arrival": "to", "service": "from to full", "index": "from to table full size",
-    "batch": "to size", "negative": "from on amount", "fork": "from to", "join": "from to",
+    "arrival": "to",
+    "service": "from to full",
+    "index": "from to table full size",
+    "batch": "to size",
+    "negative": "from on amount",
+    "fork": "from to",
+    "join": "from to",
     "guarded": "part",
 }
 
 
-def need(is_so, what):
+def need(is_so: object, what: str) -> None:
     if not is_so:
         raise ValueError(what)
 
 
-def number(table, key, least, most, default=None):
+def number(table: dict[str, Any], key: str, least: int, most: int, default: int | None = None) -> int:
     value = table.get(key, default)
-    need(type(value) is int and least <= value <= most, f"{key} isn't from {least} to {most}")
+    if type(value) is not int or not least <= value <= most:
+        raise ValueError(f"{key} isn't from {least} to {most}")
     return value
 
 
 class Network:
     """Capacities, events in their order with the running totals of their rates, and the limit."""
 
-    def __init__(self, table):
+    def __init__(self, table: dict[str, Any]) -> None:
         version = number(table, "version", 1, 2)
         self.limit = number(table, "limit", 0, 18 + 2 * version, 18)
         self.caps = [number(queue, "capacity", 1, MOST_CUSTOMERS) for queue in table["queue"]]
         self.servers = [number(queue, "servers", 1, 64, 1) for queue in table["queue"]]
         self.places = {queue["name"]: place for place, queue in enumerate(table["queue"])}
-        self.events, rates = [], []
+        self.events: list[Event] = []
+        rates: list[int] = []
         for entry in table["event"]:
             need(entry["kind"] != "guarded" or version == 2, "guarded events need version 2")
             unknown = {*entry} - {"kind", "name", "rate", *KEYS[entry["kind"]].split()}
@@ -175,13 +200,13 @@ class Network:
         self.modulus = 1 << (self.totals[-1] - 1).bit_length()
         self.events.append(Guarded([]))
 
-    def event_of(self, seed, stream, time):
+    def event_of(self, seed: int, stream: int, time: int) -> int:
         """The number of the event so many steps before time zero; that of idle is the greatest."""
         counter, place = divmod(time - 1, 16)
         word = block(seed, stream, counter)[place]
         return bisect.bisect_right(self.totals, word % self.modulus)
 
-    def events_of(self, entry):
+    def events_of(self, entry: dict[str, Any]) -> list[Event]:
         """The events of a table: one for each server where it has a single source."""
         is_route = entry["kind"] in ("arrival", "service", "index", "batch")
         make = self.route if is_route else self.guarded
@@ -190,7 +215,7 @@ class Network:
         source = self.places[entry["from"]]
         return [make(entry, source, k) for k in range(1, self.servers[source] + 1)]
 
-    def route(self, entry, source, k):
+    def route(self, entry: dict[str, Any], source: int | None, k: int) -> Event:
         queues = [self.places[name] for name in entry.get("to", [])]
         need(len({source, *queues}) == len(queues) + 1, "a queue is named twice")
         size = number(entry, "size", 1, MOST_CUSTOMERS, 1)
@@ -203,7 +228,7 @@ class Network:
             keys.append([index * 32 + place for index in row[:room]] + [FULL] * size)
         return Route([*zip(queues, keys)], size, source, k, stays)
 
-    def guarded(self, entry, source, k):
+    def guarded(self, entry: dict[str, Any], source: int | None, k: int) -> Event:
         caps, to = self.caps, entry.get("to", [])
         parts = [*map(self.part, entry.get("part", []))]
         losing = [(source, k, 1)] if source is not None else []
@@ -218,7 +243,7 @@ class Network:
         need(len({queue for queue, *_ in parts}) == len(parts), "a queue is named twice")
         return Guarded(parts)
 
-    def part(self, part):
+    def part(self, part: dict[str, Any]) -> Part:
         need({*part} <= {"queue", "least", "most", "shift", "floor", "ceiling"}, "a part's keys")
         queue = self.places[part["queue"]]
         cap = self.caps[queue]
@@ -232,7 +257,7 @@ class Fault(Exception):
     """The first line of a log that is refused or rejected, with its cause."""
 
 
-def hold(is_so, cause, line):
+def hold(is_so: object, cause: str, line: int) -> None:
     if not is_so:
         raise Fault(f"psi: log {cause} line {line}")
 
@@ -240,67 +265,70 @@ def hold(is_so, cause, line):
 class Box:
     """A region that is a box: the states between two corners. One that is a set is a Python set."""
 
-    def __init__(self, low, high):
+    def __init__(self, low: Sequence[int], high: Sequence[int]) -> None:
         self.low, self.high = low, high
 
-    def __contains__(self, state):
+    def __contains__(self, state: State) -> bool:
         return all(low <= held <= high for low, held, high in zip(self.low, state, self.high))
 
-    def __iter__(self):
+    def __iter__(self) -> Iterator[State]:
         return itertools.product(*(range(low, high + 1) for low, high in zip(self.low, self.high)))
+
+
+Region = Box | set[State]
 
 
 class Log:
     """Reads the text of a log line by line."""
 
-    def __init__(self, data):
+    def __init__(self, data: bytes) -> None:
         self.lines, self.line, self.queues = data.split(b"\n"), 0, 0
 
-    def hold(self, is_so, cause):
+    def hold(self, is_so: object, cause: str) -> None:
         hold(is_so, "refused " + cause, self.line)
 
-    def words(self):
+    def words(self) -> list[bytes]:
         """The words of the next line; behind the last line feed there is none."""
         self.line += 1
         self.hold(self.line < len(self.lines), "5 Truncated")
         return self.lines[self.line - 1].split(b" ")
 
-    def number(self, word, least, most):
+    def number(self, word: bytes, least: int, most: int) -> int:
         is_numeral = re.fullmatch(rb"0|[1-9][0-9]{0,19}", word)
         self.hold(is_numeral and least <= int(word) <= most, "3 Number")
         return int(word)
 
-    def named(self, name, least, most):
+    def named(self, name: bytes, least: int, most: int) -> int:
         """The number of the next line, which names it."""
         first, *rest = self.words()
         self.hold(first == name and len(rest) == 1, "4 Shape")
         return self.number(rest[0], least, most)
 
-    def state(self, pieces):
+    def state(self, pieces: Sequence[bytes]) -> State:
         return tuple(self.number(piece, 0, MOST_CUSTOMERS) for piece in pieces)
 
-    def region(self, name, ranges, before):
+    def region(self, name: bytes, ranges: Sequence[tuple[int, int]], before: Box | None) -> tuple[Any, ...]:
         """The next line: numbers in these ranges, and a region. Where a box before it is given, a
         box has to be a move."""
         words, place = self.words(), len(ranges) + 1
         (first, *numbers), form = words[:place], words[place : place + 1]
-        words = [word.split(b",") for word in words[place + 1 :]]
-        counts = [*map(len, words)]
-        fits = form == [b"set"] and 1 <= len(words) <= MOST_STATES and {*counts} == {self.queues}
+        found = [word.split(b",") for word in words[place + 1 :]]
+        counts = [*map(len, found)]
+        fits = form == [b"set"] and 1 <= len(found) <= MOST_STATES and {*counts} == {self.queues}
         fits |= form == [b"box"] and before is None and counts == [self.queues] * 2
-        fits |= form == [b"move"] and before is not None and len(words) <= 32 and {*counts} <= {3}
+        fits |= form == [b"move"] and before is not None and len(found) <= 32 and {*counts} <= {3}
         self.hold(first == name and fits, "4 Shape")
-        numbers = [self.number(word, *ends) for word, ends in zip(numbers, ranges)]
-        if form == [b"move"]:
-            return *numbers, self.moved(before, words)
-        states = [self.state(word) for word in words]
+        read = [self.number(word, *ends) for word, ends in zip(numbers, ranges)]
+        if form == [b"move"] and before is not None:
+            return *read, self.moved(before, found)
+        states = [self.state(word) for word in found]
         if form == [b"set"]:
             self.hold(all(x < y for x, y in itertools.pairwise(states)), "4 Shape")
-            return *numbers, {*states}
+            return *read, {*states}
         self.hold(all(low <= high for low, high in zip(*states)), "4 Shape")
-        return *numbers, Box(*states)
+        return *read, Box(*states)
 
-    def moved(self, before, words):
+    def moved(self, before: Box, words: list[list[bytes]]) -> Box:
         """The box that some changes make of the one before it."""
         least, most = (0, 0, 0), (self.queues - 1, MOST_CUSTOMERS, MOST_CUSTOMERS)
         changes = [[*map(self.number, word, least, most)] for word in words]
@@ -312,7 +340,7 @@ class Log:
         return Box(low, high) if changes else before
 
 
-def read(data):
+def read(data: bytes) -> Iterator[Any]:
     """Reads a log: gives queues, seed, stream, horizon and first region; then time, event and
     region of each step; then the last state."""
     hold(len(data) <= LONGEST, "refused 7 TooLong", 0)
@@ -338,30 +366,30 @@ def read(data):
     hold(log.lines[log.line :] == [b""], "refused 6 TrailingText", log.line + 1)
 
 
-def count(region):
+def count(region: Region) -> int:
     """The number of states of a region."""
-    if type(region) is Box:
+    if isinstance(region, Box):
         return math.prod(high - low + 1 for low, high in zip(region.low, region.high))
     return len(region)
 
 
-def covers(event, before, after):
+def covers(event: Event, before: Region, after: Region) -> bool:
     """Whether a region holds what an event makes of each state of another."""
-    if type(before) is type(after) is Box:
-        return all(corner in after for corner in event.hull(before.low, before.high))
+    if isinstance(before, Box) and isinstance(after, Box):
+        return all(tuple(corner) in after for corner in event.hull(before.low, before.high))
     return all(event.after(state) in after for state in before)
 
 
-def judge(network, data):
+def judge(network: Network, data: bytes) -> tuple[int, State]:
     """The horizon and the state of a log that is accepted."""
     queues, seed, stream, horizon, region, *steps, state = read(data)
     hold(queues == len(network.caps), "rejected 1 Header", 2)
     hold(horizon <= 2**network.limit, "rejected 1 Header", 5)
     everything = Box([0] * queues, network.caps)
 
-    def hold_within(region, line):
-        corners = [region.high] if type(region) is Box else region
-        hold(all(corner in everything for corner in corners), "rejected 4 OutsideBox", line)
+    def hold_within(region: Region, line: int) -> None:
+        corners = [region.high] if isinstance(region, Box) else region
+        hold(all(tuple(corner) in everything for corner in corners), "rejected 4 OutsideBox", line)
 
     hold_within(region, 6)
     hold(count(region) == count(everything), "rejected 5 NotCovered", 6)
@@ -378,7 +406,7 @@ def judge(network, data):
     return horizon, state
 
 
-def main():
+def main() -> int:
     if len(sys.argv) != 3:
         sys.exit(__doc__)
     try:

@@ -6,7 +6,7 @@ import numpy
 import scipy.sparse
 import scipy.sparse.linalg
 
-from plain_network import Network
+from oracle.plain_network import Network
 
 
 def law_of(net, total=None):

@@ -21,14 +21,13 @@ import page
 import rivals
 import solve
 import solving
-from psi_tools.networks import Network
+from psi_tools.model.networks import Network
 
-HAS_SIMPY = subprocess.run(
-    [rivals.PYTHON, "-c", "import SimPy.Simulation"], capture_output=True
-).returncode == 0
-HAS_OCTAVE = shutil.which("octave-cli") and subprocess.run(
-    ["octave-cli", "--eval", "pkg load queueing"], capture_output=True
-).returncode == 0
+HAS_SIMPY = subprocess.run([rivals.PYTHON, "-c", "import SimPy.Simulation"], capture_output=True).returncode == 0
+HAS_OCTAVE = (
+    shutil.which("octave-cli")
+    and subprocess.run(["octave-cli", "--eval", "pkg load queueing"], capture_output=True).returncode == 0
+)
 
 
 def small():
@@ -166,8 +165,10 @@ def test_the_ten_networks_are_as_they_are_said_to_be():
     assert min(sizes) == 1 and max(sizes) == 32
     for family in networks.growing().values():
         assert len({case.name for case in family.values()}) == len(family)
-    counts = [sum(net.servers_of(event) for event in net.table["event"])
-              for net in (case.net for case in networks.growing()["events"].values())]
+    counts = [
+        sum(net.servers_of(event) for event in net.table["event"])
+        for net in (case.net for case in networks.growing()["events"].values())
+    ]
     assert counts == [10, 100, 1_000]
 
 

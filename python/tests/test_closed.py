@@ -5,10 +5,12 @@ import json
 from conftest import TOP
 from solving import means_of
 
-from psi_tools.closed import samples_of
-from psi_tools.networks import Network
+from psi_tools.draw.closed import samples_of
+from psi_tools.model.networks import Network
 
-RING = (TOP / "examples/central-server.toml").read_text() + """[[reward]]
+RING = (
+    (TOP / "examples/central-server.toml").read_text()
+    + """[[reward]]
 name = "cpu-idle"
 kind = "table"
 queues = ["cpu"]
@@ -32,6 +34,7 @@ name = "shortest"
 kind = "least"
 queues = ["cpu", "disk"]
 """
+)
 
 
 def test_means_are_those_that_are_solved(tool, tmp_path):

@@ -8,7 +8,7 @@ import subprocess
 import pytest
 from conftest import SECONDS, TOP
 
-FILES = TOP / "checks/package_files"
+FILES = TOP / "release/package_files"
 # What stands before the cursor, and what is offered there.
 OFFERED = {
     "psi s": ["sample"],

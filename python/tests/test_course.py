@@ -10,7 +10,7 @@ import tomllib
 
 import pytest
 from conftest import SECONDS, TOP
-from plain_network import Network
+from oracle.plain_network import Network
 
 F = fractions.Fraction
 COURSE, GALLERY = TOP / "docs/course", TOP / "examples"
@@ -102,15 +102,20 @@ def test_links_lead_somewhere():
             file = (page.parent / path).resolve() if path else page
             assert file.exists(), target
             headings = re.findall(r"^#+ (.*)$", file.read_text(), re.M) if anchor else []
-            names = ["".join(x for x in each.lower() if x.isalnum() or x in " -_").replace(" ", "-") for each in headings]
+            names = [
+                "".join(x for x in each.lower() if x.isalnum() or x in " -_").replace(" ", "-") for each in headings
+            ]
             assert not anchor or anchor in names, target
 
 
 def test_1_where_the_runs_coalesce():
     net, words = net_of(GALLERY / "first.toml"), (2, 7, 4, 8)
     says(1, f"The modulus is {net.modulus}:", "are 2, 7, 4 and 8.", of=EXERCISES)
-    says(1, f"The remainders of 2, 7, 4 and 8 are {', '.join(str(w % net.modulus) for w in words[:3])} and "
-            f"{words[3] % net.modulus}:")
+    says(
+        1,
+        f"The remainders of 2, 7, 4 and 8 are {', '.join(str(w % net.modulus) for w in words[:3])} and "
+        f"{words[3] % net.modulus}:",
+    )
     ends = {}
     for steps in (1, 2, 4):
         states = [(number,) for number in range(3)]
@@ -121,16 +126,27 @@ def test_1_where_the_runs_coalesce():
                 assert {*states} == {(2,)}
         ends[steps] = [number for number, in states]
     assert ends[1] == ends[2] == [0, 0, 1] and {*ends[4]} == {1}
-    says(1, "the states 0, 1, 2 become 0, 0, 1,", f"do as well: {len({*ends[2]})} states are left.", "So the horizon is 4 and the sample is 1.", "The runs became one in 2, two steps early.")
+    says(
+        1,
+        "the states 0, 1, 2 become 0, 0, 1,",
+        f"do as well: {len({*ends[2]})} states are left.",
+        "So the horizon is 4 and the sample is 1.",
+        "The runs became one in 2, two steps early.",
+    )
 
 
 def test_2_forward_runs():
     arrival, p, q = F(1, 3), F(3, 7), F(1, 7)
     assert p == arrival + (1 - arrival) * q and q == arrival * p
     full = arrival * p + (1 - arrival) * q
-    says(2, "so p = 1/3 + 2/3 q.", "so q = 1/3 p.", f"Hence p = {p} and q = {q}.",
-         f"the runs end at 2 with probability {full} and at 0 with probability {1 - full}.",
-         "The stationary distribution is 4/7, 2/7 and 1/7. State 1, which has 2/7 of it,")
+    says(
+        2,
+        "so p = 1/3 + 2/3 q.",
+        "so q = 1/3 p.",
+        f"Hence p = {p} and q = {q}.",
+        f"the runs end at 2 with probability {full} and at 0 with probability {1 - full}.",
+        "The stationary distribution is 4/7, 2/7 and 1/7. State 1, which has 2/7 of it,",
+    )
     weights = [F(1, 2) ** number for number in range(3)]
     assert [weight / sum(weights) for weight in weights] == [F(4, 7), F(2, 7), F(1, 7)]
 
@@ -138,9 +154,12 @@ def test_2_forward_runs():
 def test_3_doubling(answer):
     least = number_after("coupled", answer("couple", "examples/single-server.toml", 0, 0))
     power = number_after("met", answer("sample", "examples/single-server.toml", 0, 0))
-    says(3, f"The least horizon is {least} and the first power of two is {power}.",
-         f"1 + 2 + 4 + .. + {power} = {2 * power - 1} steps together;",
-         f"tries from each horizon up to {least} would take {least * (least + 1) // 2:,}.")
+    says(
+        3,
+        f"The least horizon is {least} and the first power of two is {power}.",
+        f"1 + 2 + 4 + .. + {power} = {2 * power - 1} steps together;",
+        f"tries from each horizon up to {least} would take {least * (least + 1) // 2:,}.",
+    )
     for each in range(1, 5_000):
         last = 1 << (each - 1).bit_length()
         assert last < 2 * each and 2 * last - 1 < 4 * each
@@ -149,9 +168,12 @@ def test_3_doubling(answer):
 def test_4_kept_words():
     assert all(low < high for low, high in bands(1))
     two, left, found = bands(2), F(1), collections.Counter()
-    says(4, f"two arrivals end in 2, with probability {two[2, 2]}, and two services in 0, with probability {two[0, 0]};",
-         f"of the samples from 2 steps {float(100 * two[0, 0] / (two[0, 0] + two[2, 2])):.0f} % are empty and "
-         f"{float(100 * two[2, 2] / (two[0, 0] + two[2, 2])):.0f} % are full.")
+    says(
+        4,
+        f"two arrivals end in 2, with probability {two[2, 2]}, and two services in 0, with probability {two[0, 0]};",
+        f"of the samples from 2 steps {float(100 * two[0, 0] / (two[0, 0] + two[2, 2])):.0f} % are empty and "
+        f"{float(100 * two[2, 2] / (two[0, 0] + two[2, 2])):.0f} % are full.",
+    )
     for power in range(7):
         met = {low: share for (low, high), share in bands(1 << power).items() if low == high}
         for state, share in met.items():
@@ -159,8 +181,11 @@ def test_4_kept_words():
         left *= 1 - sum(met.values())
     assert left < 1e-9
     empty, one, full = (f"{float(100 * found[state]):.1f} %" for state in range(3))
-    says(4, f"In the limit the distribution is {empty}, {one} and {full} for 0, 1 and 2,",
-         f"has {400 / 7:.1f} %, {200 / 7:.1f} % and {100 / 7:.1f} %.")
+    says(
+        4,
+        f"In the limit the distribution is {empty}, {one} and {full} for 0, 1 and 2,",
+        f"has {400 / 7:.1f} %, {200 / 7:.1f} % and {100 / 7:.1f} %.",
+    )
 
 
 def test_5_monotone(answer):
@@ -176,19 +201,27 @@ def test_6_splitting(answer):
     text = answer("exact", "examples/longest-queue.toml", 0, 0, 11)
     states, box = number_after("constant", text), number_after("region", text)
     assert number_after("states", text) == 64
-    says(6, f"The states coalesce at {states} steps, the box at {box:,}, which is {box / states:.0f} times as far back.")
+    says(
+        6, f"The states coalesce at {states} steps, the box at {box:,}, which is {box / states:.0f} times as far back."
+    )
     one, many = (answer("sample", f"examples/longest-queue{end}.toml", 0, 0).split() for end in ("", "-split"))
     assert one[3] == many[3]
-    says(6, f"The sample has the horizon {int(one[1]):,} with the box alone and {many[1]} with `split = 64`. "
-            f"Its state is {one[3]} in both:")
+    says(
+        6,
+        f"The sample has the horizon {int(one[1]):,} with the box alone and {many[1]} with `split = 64`. "
+        f"Its state is {one[3]} in both:",
+    )
 
 
 def test_7_streams_left_out(answer):
     report = report_of(answer("report", "examples/short-past.toml", 0, 0, 1000))
     exact = sum(number * share for number, share in enumerate(desk(4, 5, 10)))
     met = report["met", "-"]
-    says(7, f"{met} of 1,000 streams coalesce. Their mean is {report['sum', 'desk'] / met:.3f}, and the exact mean is "
-            f"{exact:.3f}.")
+    says(
+        7,
+        f"{met} of 1,000 streams coalesce. Their mean is {report['sum', 'desk'] / met:.3f}, and the exact mean is "
+        f"{exact:.3f}.",
+    )
 
 
 def test_8_common_random_numbers(answer):
@@ -202,16 +235,23 @@ def test_8_common_random_numbers(answer):
 
     apart, both = variance(slow) + variance(fast), variance([one - two for one, two in zip(slow, fast)])
     equal = sum(one == two for one, two in zip(slow, fast))
-    says(8, f"The samples are equal in {equal} of 50 streams. The means are {sum(slow) / 50:.2f} and {sum(fast) / 50:.2f}, "
-            f"the variances {variance(slow):.2f} and {variance(fast):.2f}, and the difference has the variance {both:.2f}.",
-         f"the sum of the variances, {apart:.2f}, and so need {apart / both:.1f} times as many streams")
+    says(
+        8,
+        f"The samples are equal in {equal} of 50 streams. The means are {sum(slow) / 50:.2f} and {sum(fast) / 50:.2f}, "
+        f"the variances {variance(slow):.2f} and {variance(fast):.2f}, and the difference has the variance {both:.2f}.",
+        f"the sum of the variances, {apart:.2f}, and so need {apart / both:.1f} times as many streams",
+    )
 
 
 def test_9_little_and_pasta():
     shares = desk(4, 5, 10)
     mean, through = sum(number * share for number, share in enumerate(shares)), 4 * (1 - shares[-1])
-    says(9, f"The desk is full with probability {100 * shares[-1]:.3f} %.", f"4 times the rest, {through:.3f}.",
-         f"{mean:.3f} / {through:.3f} = {mean / through:.3f}.")
+    says(
+        9,
+        f"The desk is full with probability {100 * shares[-1]:.3f} %.",
+        f"4 times the rest, {through:.3f}.",
+        f"{mean:.3f} / {through:.3f} = {mean / through:.3f}.",
+    )
 
 
 def test_10_a_closed_network(answer):
@@ -222,9 +262,16 @@ def test_10_a_closed_network(answer):
     assert len(states) == 6 and sum(weights) == 1249
     sums = [sum(state[queue] * weight for state, weight in zip(states, weights)) for queue in range(3)]
     pieces = [f"{number:,}/1,249 = {number / 1249:.3f}" for number in sums]
-    says(10, "with probability 2/8 and for the drum with 6/8. Its work per cycle is 1/8 at the processor, 1/4 of 1/3 at the "
-             "disk and 3/4 of 1/5 at the drum, which are as 15 to 10 to 18.", "as weights, 1,249 in all.", f"The means are {pieces[0]}, {pieces[1]} and {pieces[2]}.")
-    rates = {event["name"]: event["rate"] for event in tomllib.loads((GALLERY / "central-server.toml").read_text())["event"]}
+    says(
+        10,
+        "with probability 2/8 and for the drum with 6/8. Its work per cycle is 1/8 at the processor, 1/4 of 1/3 at the "
+        "disk and 3/4 of 1/5 at the drum, which are as 15 to 10 to 18.",
+        "as weights, 1,249 in all.",
+        f"The means are {pieces[0]}, {pieces[1]} and {pieces[2]}.",
+    )
+    rates = {
+        event["name"]: event["rate"] for event in tomllib.loads((GALLERY / "central-server.toml").read_text())["event"]
+    }
     assert rates == {"read-disk": 2, "read-drum": 6, "disk-done": 3, "drum-done": 5}
     printed = answer("closed", "examples/central-server.toml", 0, 0, 2)
     assert tuple(map(int, printed.split()[-1].split(","))) in states
@@ -252,8 +299,11 @@ def test_12_how_many_lines(answer):
     (queue,), (ring, hang_up), (busy,) = net["queue"], net["event"], net["reward"]
     load = ring["rate"] / hang_up["rate"]
     assert (queue["servers"], queue["capacity"], load, busy["level"]) == (14, 14, 8, 13)
-    says(12, f"Erlang's formula B gives {100 * erlang_b(14, 8):.3f} % for 14 lines and {100 * erlang_b(15, 8):.3f} % for 15, "
-             "so 15 lines are needed.")
+    says(
+        12,
+        f"Erlang's formula B gives {100 * erlang_b(14, 8):.3f} % for 14 lines and {100 * erlang_b(15, 8):.3f} % for "
+        "15, so 15 lines are needed.",
+    )
     assert erlang_b(15, 8) < 0.01 < erlang_b(14, 8)
     needed = [math.ceil(1.96**2 * (1 - share) / (share * 0.01) - 1e-6) for share in (0.01, 1e-6)]
     says(12, f"It is p / 10 at n = {needed[0]:,} for 1 %, and at n = {needed[1]:,} for a millionth:")

@@ -37,14 +37,14 @@ def law():
 def means_of_law():
     """The mean of each row of the report, by the law."""
     rewards = {
-        "calls": lambda n: n, "busy": lambda n: min(n, SERVERS),
-        "waiting": lambda n: max(0, n - SERVERS), "lost": lambda n: n == PLACES,
-        "all-busy": lambda n: n >= SERVERS, "soon": lambda n: 10**6 * in_time(n),
+        "calls": lambda n: n,
+        "busy": lambda n: min(n, SERVERS),
+        "waiting": lambda n: max(0, n - SERVERS),
+        "lost": lambda n: n == PLACES,
+        "all-busy": lambda n: n >= SERVERS,
+        "soon": lambda n: 10**6 * in_time(n),
     }
-    return {
-        name: sum(share * reward(n) for n, share in enumerate(law()))
-        for name, reward in rewards.items()
-    }
+    return {name: sum(share * reward(n) for n, share in enumerate(law())) for name, reward in rewards.items()}
 
 
 def means_of_report(program):
@@ -60,15 +60,24 @@ def figures(mean):
     entering = COME * (1 - mean["lost"])
     soon = mean["soon"] / 10**6
     return [
-        mean["busy"] / SERVERS, SERVED * mean["busy"], mean["lost"],
-        (mean["all-busy"] - mean["lost"]) / (1 - mean["lost"]), mean["waiting"],
-        mean["waiting"] / entering, mean["calls"] / entering, soon, soon / (1 - mean["lost"]),
+        mean["busy"] / SERVERS,
+        SERVED * mean["busy"],
+        mean["lost"],
+        (mean["all-busy"] - mean["lost"]) / (1 - mean["lost"]),
+        mean["waiting"],
+        mean["waiting"] / entering,
+        mean["calls"] / entering,
+        soon,
+        soon / (1 - mean["lost"]),
     ]
 
 
 def test_the_table_is_that_of_the_report_and_of_the_law(program):
-    rows = [[cell.strip() for cell in line.split("|")[3:5]] for line in PART.splitlines()
-            if line.startswith("| ") and not line.startswith("| Figure")]
+    rows = [
+        [cell.strip() for cell in line.split("|")[3:5]]
+        for line in PART.splitlines()
+        if line.startswith("| ") and not line.startswith("| Figure")
+    ]
     here, wanted_figures = figures(means_of_report(program)), figures(means_of_law())
     assert len(rows) == len(here)
     for shown, value, wanted in zip(rows, here, wanted_figures):

@@ -3,11 +3,11 @@
 import numpy
 import pytest
 from conftest import TOP
-from plain_network import Network as Plain
+from oracle.plain_network import Network as Plain
 from solving import law_of
 
-from psi_tools.forward import forward_of
-from psi_tools.networks import Network
+from psi_tools.plot.forward import forward_of
+from psi_tools.model.networks import Network
 
 GUARDED = """version = 2
 [[queue]]
@@ -93,18 +93,24 @@ def test_a_distance_is_the_greatest_error_of_an_event(program):
     assert found.distance(32) == pytest.approx(worst)
 
 
-@pytest.mark.parametrize("words, said", [
-    ([TOP / "examples/tandem-blocking.toml"], "a network of one queue"),
-    ([TOP / "examples/batch-arrivals.toml"], "no event such as"),
-    ([TOP / "examples/single-server.toml", "0"], "isn't a number of steps"),
-    ([TOP / "examples/single-server.toml", "4194305"], "isn't a number of steps"),
-    ([TOP / "examples/single-server.toml", "1", "2", "3", "4"], "at most 3 numbers"),
-    (["absent"], "can't be read"), (["refused.toml"], "network refused"),
-    (["apart.toml"], "several laws"), (["swapped.toml"], "all monotone"), ([], "is told no file"),
-])
+@pytest.mark.parametrize(
+    "words, said",
+    [
+        ([TOP / "examples/tandem-blocking.toml"], "a network of one queue"),
+        ([TOP / "examples/batch-arrivals.toml"], "no event such as"),
+        ([TOP / "examples/single-server.toml", "0"], "isn't a number of steps"),
+        ([TOP / "examples/single-server.toml", "4194305"], "isn't a number of steps"),
+        ([TOP / "examples/single-server.toml", "1", "2", "3", "4"], "at most 3 numbers"),
+        (["absent"], "can't be read"),
+        (["refused.toml"], "network refused"),
+        (["apart.toml"], "several laws"),
+        (["swapped.toml"], "all monotone"),
+        ([], "is told no file"),
+    ],
+)
 def test_what_cannot_be_drawn_is_refused(tool, tmp_path, words, said):
     (tmp_path / "refused.toml").write_text("version = 1\n")
-    head, part = GUARDED.split("[[event]]\nname = \"come\"")[0], "kind = \"guarded\"\nrate = 1\n"
+    head, part = GUARDED.split('[[event]]\nname = "come"')[0], 'kind = "guarded"\nrate = 1\n'
     event = f'[[event]]\nname = "swap"\n{part}'
     apart = 'part = [{ queue = "desk", least = 3, shift = -1, floor = 3 }]\n'
     swapped = 'part = [{ queue = "desk", most = 0, shift = 6 }]\n'

@@ -12,11 +12,22 @@ import pytest
 from conftest import TOP
 
 from psi_tools import check_interval
-from psi_tools.guaranteed import (
-    Guarantee, Pilot, by_count, file_of, is_binomial, is_chernoff, is_won, one_in, parts_of,
-    pilots_of, rounded_out, stakes_of_range, written_out,
+from psi_tools.stats.guaranteed import (
+    Guarantee,
+    Pilot,
+    by_count,
+    file_of,
+    is_binomial,
+    is_chernoff,
+    is_won,
+    one_in,
+    parts_of,
+    pilots_of,
+    rounded_out,
+    stakes_of_range,
+    written_out,
 )
-from psi_tools.intervals import Span, probability
+from psi_tools.stats.intervals import Span, probability
 
 # The lengths of the trials in this test; the study has more of them.
 REPEATED, CHANGED = 10, 400
@@ -97,8 +108,7 @@ def ends_in_whole_numbers(row, claim, d):
         r, q, j, i = (claim[key] for key in ("r", "q", "low", "high"))
         low = sorted(values)[-j] if j <= len(values) else least
         high = sorted(values)[i - 1] if i <= len(values) else greatest
-        return (low if holds_binomial(k, j, q - r, q, d) else None,
-                high if holds_binomial(k, i, r, q, d) else None)
+        return (low if holds_binomial(k, j, q - r, q, d) else None, high if holds_binomial(k, i, r, q, d) else None)
     q, unit = claim["q"], claim["unit"]
     if claim["of"] == "share":
         values = [int(claim["from"] <= v <= claim["to"]) for v in values]
@@ -111,12 +121,14 @@ def ends_in_whole_numbers(row, claim, d):
         if "counts" not in row:
             total = fractions.Fraction(sign * (row["sum"] - base * (k - lost)), unit)
         proof = claim[side]
-        proves = proof is None or {
-            "binomial": lambda: z == 1 and holds_binomial(k, int(total), proof["r"], q, d),
-            "chernoff": lambda: holds_chernoff(
-                k, int(z), int(total), proof["r"], q, d, proof["a"], proof["b"]),
-            "bets": lambda: holds_bets(scores, proof["r"], q, d, proof["t"], proof["stakes"]),
-        }[proof["by"]]()
+        proves = (
+            proof is None
+            or {
+                "binomial": lambda: z == 1 and holds_binomial(k, int(total), proof["r"], q, d),
+                "chernoff": lambda: holds_chernoff(k, int(z), int(total), proof["r"], q, d, proof["a"], proof["b"]),
+                "bets": lambda: holds_bets(scores, proof["r"], q, d, proof["t"], proof["stakes"]),
+            }[proof["by"]]()
+        )
         r = 0 if proof is None else proof["r"]
         ends.append(base + sign * unit * fractions.Fraction(r, q) if proves else None)
     return tuple(ends)
@@ -151,16 +163,23 @@ def places_of(value, path=()):
 
 def proved(file):
     """The ends that the checker says of each claim."""
-    return [(row, claim, check_interval.interval(row, claim, *check_interval.whole([file["d"]], 1)))
-            for row in file["rows"] for claim in row["claims"]]
+    return [
+        (row, claim, check_interval.interval(row, claim, *check_interval.whole([file["d"]], 1)))
+        for row in file["rows"]
+        for claim in row["claims"]
+    ]
 
 
 def test_changed_certificates_do_not_prove_more():
     file = small_file()
     assert all(None not in ends for *_, ends in proved(file))
-    assert {claim[side]["by"] for row in file["rows"] for claim in row["claims"]
-            for side in ("low", "high") if isinstance(claim[side], dict)} == {
-                "bets", "binomial", "chernoff"}
+    assert {
+        claim[side]["by"]
+        for row in file["rows"]
+        for claim in row["claims"]
+        for side in ("low", "high")
+        if isinstance(claim[side], dict)
+    } == {"bets", "binomial", "chernoff"}
     draw, places, outcomes = random.Random(7), [*places_of(file)], {}
     for _ in range(CHANGED):
         changed, path = copy.deepcopy(file), draw.choice(places)
@@ -198,15 +217,22 @@ def test_a_greater_claim_is_not_proved():
             assert (low if side == "low" else high) is None
 
 
-@pytest.mark.parametrize("seen, greatest, q, proof, wrong, ends", [
-    ({"counts": [[0, 2], [1, 8]]}, 1, 100, {"by": "binomial", "r": 44}, 45, "0.440000 to 1.000000"),
-    ({"sum": 18}, 2, 10, {"by": "chernoff", "r": 9, "a": 2, "b": 1}, 19, "0.900000 to 2.000000"),
-    ({"counts": [[1, 2], [2, 8]]}, 2, 10, {"by": "bets", "r": 11, "t": 10, "stakes": [7]}, 12,
-     "1.100000 to 2.000000"),
-])
-def test_files_of_certificates_that_are_worked_by_hand(
-    tmp_path, seen, greatest, q, proof, wrong, ends
-):
+@pytest.mark.parametrize(
+    "seen, greatest, q, proof, wrong, ends",
+    [
+        ({"counts": [[0, 2], [1, 8]]}, 1, 100, {"by": "binomial", "r": 44}, 45, "0.440000 to 1.000000"),
+        ({"sum": 18}, 2, 10, {"by": "chernoff", "r": 9, "a": 2, "b": 1}, 19, "0.900000 to 2.000000"),
+        (
+            {"counts": [[1, 2], [2, 8]]},
+            2,
+            10,
+            {"by": "bets", "r": 11, "t": 10, "stakes": [7]},
+            12,
+            "1.100000 to 2.000000",
+        ),
+    ],
+)
+def test_files_of_certificates_that_are_worked_by_hand(tmp_path, seen, greatest, q, proof, wrong, ends):
     """The certificates are those that the proof computes; a greater claim is not proved."""
     claim = {"of": "mean", "q": q, "unit": 1, "low": proof, "high": None}
     row = {"name": "row", "samples": 10, "uncoupled": 0, "least": 0, "greatest": greatest, **seen}
@@ -220,9 +246,7 @@ def test_files_of_certificates_that_are_worked_by_hand(
         assert done.stdout.splitlines()[0] == f"row: mean: {shown}"
 
 
-@pytest.mark.parametrize("wrong", [
-    {"d": 0}, {"d": 40.0}, {"d": True}, {"d": "40"}, {}, {"d": 40, "rows": [{}]}, [], 7,
-])
+@pytest.mark.parametrize("wrong", [{"d": 0}, {"d": 40.0}, {"d": True}, {"d": "40"}, {}, {"d": 40, "rows": [{}]}, [], 7])
 def test_what_is_no_file_of_certificates(tmp_path, wrong):
     path = tmp_path / "file.json"
     path.write_text(json.dumps(wrong))
@@ -238,8 +262,11 @@ def test_a_share_holds_for_each_probability():
     claims = [(by_count(k, i, q, d) or {"r": 0})["r"] for i in range(k + 1)]
     for parts in range(1, 40):
         r = parts * q // 40 + parts
-        missed = sum(math.comb(k, i) * r**i * (q - r) ** (k - i) for i in range(k + 1)
-                     if claims[i] > r or q - claims[k - i] < r)
+        missed = sum(
+            math.comb(k, i) * r**i * (q - r) ** (k - i)
+            for i in range(k + 1)
+            if claims[i] > r or q - claims[k - i] < r
+        )
         assert d * missed <= 2 * q**k
     # It is that of Clopper and Pearson, but for what is rounded.
     for i in range(1, k):
@@ -265,11 +292,8 @@ def test_bets_hold_for_a_list_of_values():
 
 def test_what_is_not_coupled_widens_each_end():
     counts = [(0, 40), (1, 30), (2, 30)]
-    whole, cut = (Guarantee("row", 100 + lost, lost, Span(0, 4, 0, 4), 40, counts)
-                  for lost in (0, 25))
-    for low, high, other_low, other_high in (
-        (*whole.mean(), *cut.mean()), (*whole.share(1, 2), *cut.share(1, 2)),
-    ):
+    whole, cut = (Guarantee("row", 100 + lost, lost, Span(0, 4, 0, 4), 40, counts) for lost in (0, 25))
+    for low, high, other_low, other_high in ((*whole.mean(), *cut.mean()), (*whole.share(1, 2), *cut.share(1, 2))):
         assert other_low < low < high < other_high
     assert cut.mean()[1] > fractions.Fraction(90 + 4 * 25, 125)
     assert cut.mean()[0] < fractions.Fraction(90, 125)
@@ -332,8 +356,7 @@ def test_the_tools_write_what_the_checker_proves(files):
     checked = subprocess.run([*CHECKER, files["means.json"][0]], capture_output=True, text=True)
     for line in checked.stdout.splitlines()[:-1]:
         name, _, ends = line.partition(": mean: ")
-        _, _, mean, low, high, *_ = next(
-            line for line in means if " ".join(line.split()[:2]) == name).split()
+        _, _, mean, low, high, *_ = next(line for line in means if " ".join(line.split()[:2]) == name).split()
         exact = [float(end) for end in ends.split(" to ")]
         assert float(low) <= exact[0] <= exact[1] <= float(high)
 
@@ -410,7 +433,7 @@ def test_a_reward_of_several_queues_goes_by_states(psi, tmp_path):
 
 def test_guaranteed_intervals_hold(program):
     """A few repetitions of the study, which report a fault that is great; 400 are made by hand."""
-    call = [TOP / "checks/try_guaranteed.py", program, "--repetitions", REPEATED, "--count", 60]
-    done = subprocess.run([*map(str, call)], capture_output=True, text=True)
+    call = ["/usr/bin/python3", "-m", "tests.study_guaranteed", program, "--repetitions", REPEATED, "--count", 60]
+    done = subprocess.run([*map(str, call)], cwd=TOP, capture_output=True, text=True)
     assert done.returncode == 0, done.stdout + done.stderr
     assert done.stdout.count(" of 100  width ") == 48

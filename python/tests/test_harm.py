@@ -26,9 +26,7 @@ def call_of(words):
 def run(environment, room, words, **more):
     """A call of a tool: its status and both its texts."""
     more = {"stdout": subprocess.PIPE, "stderr": subprocess.PIPE, **more}
-    done = subprocess.run(
-        call_of(words), cwd=room, env=environment, text=True, timeout=SECONDS, **more
-    )
+    done = subprocess.run(call_of(words), cwd=room, env=environment, text=True, timeout=SECONDS, **more)
     return done.returncode, done.stdout, done.stderr
 
 
@@ -86,7 +84,7 @@ def test_a_file_keeps_its_mode(environment, tmp_path, mode):
 
 
 def test_no_temporary_file_can_be_read_by_others(tmp_path, monkeypatch):
-    from psi_tools import files
+    from psi_tools.io import files
 
     seen = []
     monkeypatch.setattr(files.os, "fsync", lambda number: seen.append(os.fstat(number).st_mode))
@@ -104,10 +102,18 @@ def kept_files(room):
     return {path: path.read_bytes() for path in room.rglob("*") if path.is_file()}
 
 
-@pytest.mark.parametrize("files", [
-    {"net.toml": "mine"}, {"net.toml": "mine", "lock": ""}, {"blocks/mine.csv": "mine"},
-    {"lock": "mine"}, {"bound": "mine"}, {"bound": "mine", "net.toml": "mine"}, {"thesis": "mine"},
-])
+@pytest.mark.parametrize(
+    "files",
+    [
+        {"net.toml": "mine"},
+        {"net.toml": "mine", "lock": ""},
+        {"blocks/mine.csv": "mine"},
+        {"lock": "mine"},
+        {"bound": "mine"},
+        {"bound": "mine", "net.toml": "mine"},
+        {"thesis": "mine"},
+    ],
+)
 def test_a_folder_of_somebody_else_is_left_as_it_is(environment, tmp_path, files):
     for name, text in files.items():
         path = tmp_path / "kept" / name
@@ -182,17 +188,18 @@ def test_a_disk_that_is_full(environment, program, tmp_path):
 
 @pytest.mark.parametrize("line", ["network", "seed", "first", "count", "block", "digest"])
 @pytest.mark.parametrize("damage", ["cut", "changed", "removed"])
-def test_a_damaged_line_of_bound_costs_no_more_than_its_own_block(
-    environment, tmp_path, line, damage
-):
+def test_a_damaged_line_of_bound_costs_no_more_than_its_own_block(environment, tmp_path, line, damage):
     wanted = run(environment, tmp_path, MANY)[1]
     blocks = {path: path.stat().st_mtime_ns for path in (tmp_path / "kept/blocks").iterdir()}
     assert len(blocks) == 40
     bound = tmp_path / "kept/bound"
     text = bound.read_text()
     own = re.search(rf"^{line} (.*)\n", text, re.M)
-    new = {"cut": text[: own.start(1) + 1], "removed": text.replace(own[0], ""),
-           "changed": text.replace(own[0], f"{line} 7\n")}[damage]
+    new = {
+        "cut": text[: own.start(1) + 1],
+        "removed": text.replace(own[0], ""),
+        "changed": text.replace(own[0], f"{line} 7\n"),
+    }[damage]
     bound.write_text(new)
     status, out, error = run(environment, tmp_path, MANY)
     assert (status, out) == (0, wanted), error
@@ -213,9 +220,14 @@ def test_a_bound_that_is_no_text(environment, tmp_path):
 def test_no_loop_of_links_is_a_fault_of_the_tool(environment, tmp_path):
     (tmp_path / "loop").symlink_to("loop")
     (tmp_path / "kept").symlink_to("loop/kept")
-    calls = [MANY, [*LAW, "-o", "loop"], [*LAW, "-o", "loop/law.txt"], ["psi-means", "loop"],
-             ["psi-sweep", NET, "desk.capacity=2,3", "--anyway", "--folder", "loop"],
-             [*MANY[:5], "--folder", "loop", "-o", "x"]]
+    calls = [
+        MANY,
+        [*LAW, "-o", "loop"],
+        [*LAW, "-o", "loop/law.txt"],
+        ["psi-means", "loop"],
+        ["psi-sweep", NET, "desk.capacity=2,3", "--anyway", "--folder", "loop"],
+        [*MANY[:5], "--folder", "loop", "-o", "x"],
+    ]
     for words in calls:
         status, out, error = run(environment, tmp_path, words)
         assert status in (2, 6, 7) and out == "", (words, error)
@@ -274,10 +286,7 @@ def test_psi_merge_is_looked_for_beside_psi_alone(environment, program, tmp_path
 def slow_psi(room, program):
     """A program in place of psi that takes a long time to report, and says which process it is."""
     path = room / "slow"
-    path.write_text(
-        f'#!/bin/sh\n[ "$1" = report ] || exec {program} "$@"\n'
-        f"echo $$ >>{room}/pids\nexec sleep 100\n"
-    )
+    path.write_text(f'#!/bin/sh\n[ "$1" = report ] || exec {program} "$@"\n' f"echo $$ >>{room}/pids\nexec sleep 100\n")
     path.chmod(0o755)
     return path
 
@@ -300,12 +309,14 @@ def wait_for(condition, seconds=30):
 @pytest.mark.parametrize("number", [signal.SIGINT, signal.SIGTERM, signal.SIGHUP, signal.SIGKILL])
 @pytest.mark.parametrize("name", ["psi-law", "psi-sweep", "psi-why"])
 def test_what_a_tool_has_started_ends_with_it(environment, program, tmp_path, number, name):
-    more = {"psi-law": [NET, "desk"], "psi-sweep": [NET, "desk.capacity=2,3", "--anyway"],
-            "psi-why": [NET, "--seconds", "90"]}[name]
+    more = {
+        "psi-law": [NET, "desk"],
+        "psi-sweep": [NET, "desk.capacity=2,3", "--anyway"],
+        "psi-why": [NET, "--seconds", "90"],
+    }[name]
     call = call_of([name, *more, "--psi", slow_psi(tmp_path, program)])
     tool = subprocess.Popen(
-        call, cwd=tmp_path, env=environment, stdout=subprocess.PIPE, stderr=subprocess.PIPE,
-        text=True,
+        call, cwd=tmp_path, env=environment, stdout=subprocess.PIPE, stderr=subprocess.PIPE, text=True
     )
     pids = tmp_path / "pids"
     assert wait_for(lambda: pids.exists() and pids.read_text().endswith("\n"))
@@ -323,17 +334,19 @@ def test_what_a_tool_has_started_ends_with_it(environment, program, tmp_path, nu
 def test_no_traceback_while_a_tool_is_read(environment, tmp_path, name):
     """The signal comes while a module of the package is read: one that waits stands for it."""
     package = tmp_path / "python"
-    shutil.copytree(TOP / "python/psi_tools", package / "psi_tools",
-                    ignore=shutil.ignore_patterns("__pycache__"))
+    shutil.copytree(TOP / "python/psi_tools", package / "psi_tools", ignore=shutil.ignore_patterns("__pycache__"))
     for file in (f"psi-{name}", "packaged.py"):
         (tmp_path / "tools").mkdir(exist_ok=True)
         shutil.copy(TOP / "tools" / file, tmp_path / "tools" / file)
-    told = package / "psi_tools/told.py"
-    told.write_text(f"open({str(tmp_path / 'begun')!r}, 'w').close()\nimport time\ntime.sleep(60)\n"
-                    + told.read_text())
+    told = package / "psi_tools/errors.py"
+    told.write_text(f"open({str(tmp_path / 'begun')!r}, 'w').close()\nimport time\ntime.sleep(60)\n" + told.read_text())
     tool = subprocess.Popen(
-        [tmp_path / f"tools/psi-{name}", "--help"], cwd=tmp_path, stdout=subprocess.PIPE,
-        stderr=subprocess.PIPE, text=True, env=environment,
+        [tmp_path / f"tools/psi-{name}", "--help"],
+        cwd=tmp_path,
+        stdout=subprocess.PIPE,
+        stderr=subprocess.PIPE,
+        text=True,
+        env=environment,
     )
     assert wait_for((tmp_path / "begun").exists)
     tool.send_signal(signal.SIGINT)
@@ -345,9 +358,11 @@ def test_few_files_may_be_open(environment, tmp_path):
     def limit():
         resource.setrlimit(resource.RLIMIT_NOFILE, (20, 20))
 
-    for words in ([*LAW, "--jobs", "16"],
-                  ["psi-sweep", NET, "desk.capacity=2,3", "--anyway", "--jobs", "16"],
-                  [*MANY, "--jobs", "16"]):
+    for words in (
+        [*LAW, "--jobs", "16"],
+        ["psi-sweep", NET, "desk.capacity=2,3", "--anyway", "--jobs", "16"],
+        [*MANY, "--jobs", "16"],
+    ):
         status, out, error = run(environment, tmp_path, words, preexec_fn=limit)
         last = error.splitlines()[-1:]
         if status:
@@ -356,9 +371,16 @@ def test_few_files_may_be_open(environment, tmp_path):
 
 
 HOSTS = {
-    "binary": b"\xff\xfe\x00\n", "words": b"this is no host\n", "option": b"-oProxyCommand=sh\n",
-    "slots": b"0/node\n", "empty": b"# nothing\n", "slash": b"4/\n", "a folder": None,
-    "url": b"http://node1/\n", "long": b"n" * 300 + b"\n", "signs": b"node;reboot\n",
+    "binary": b"\xff\xfe\x00\n",
+    "words": b"this is no host\n",
+    "option": b"-oProxyCommand=sh\n",
+    "slots": b"0/node\n",
+    "empty": b"# nothing\n",
+    "slash": b"4/\n",
+    "a folder": None,
+    "url": b"http://node1/\n",
+    "long": b"n" * 300 + b"\n",
+    "signs": b"node;reboot\n",
 }
 
 

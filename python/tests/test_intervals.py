@@ -7,15 +7,27 @@ import pytest
 from conftest import TOP
 from solving import means_of
 
-from psi_tools.batches import Batches, Row, batches_of
-from psi_tools.draws import blocks_of, reports_of
-from psi_tools.intervals import (
-    ZERO_ONE, Mean, Span, carriers, difference_of_batches, difference_of_pairs, figures,
-    mean_of_batches, mean_of_values, probability, quantile, ranks, share_of, student,
-    student_and_unseen, with_interval,
+from psi_tools.stats.batches import Batches, Row, batches_of
+from psi_tools.draw.reports import blocks_of, reports_of
+from psi_tools.stats.intervals import (
+    ZERO_ONE,
+    Mean,
+    Span,
+    carriers,
+    difference_of_batches,
+    difference_of_pairs,
+    mean_of_batches,
+    mean_of_values,
+    probability,
+    quantile,
+    ranks,
+    share_of,
+    student,
+    student_and_unseen,
 )
-from psi_tools.networks import Network
-from psi_tools.program import Psi
+from psi_tools.stats.text import figures, with_interval
+from psi_tools.model.networks import Network
+from psi_tools.draw.program import Program
 
 REPEATED, LEAST, MOST = 200, 180, 199
 
@@ -204,7 +216,7 @@ def test_intervals_hold_the_solved_mean(program):
     net.reward("rare-full", "above", ["rare"], level=3)
     queues, rewards = means_of(net)
     blocks = blocks_of(0, REPEATED * 20 * 50, 50)
-    reports = reports_of(Psi(program, 2), net.data, 7, blocks)
+    reports = reports_of(Program(program, 2), net.data, 7, blocks)
     held = {"calls": 0, "full": 0, "rare": 0, "rare-full": 0}
     wanted = {**queues, **rewards}
     for k in range(REPEATED):
@@ -218,7 +230,7 @@ def test_intervals_hold_the_solved_mean(program):
 
 def test_intervals_hold_rare_and_skewed_means():
     """A few repetitions of the study, which tell a fault that is great; 400 are made by hand."""
-    call = [TOP / "checks/try_intervals.py", "--repetitions", "40", "--count", "2000"]
-    done = subprocess.run([*call, "--least", "80"], capture_output=True, text=True)
+    call = ["/usr/bin/python3", "-m", "tests.study_intervals", "--repetitions", "40", "--count", "2000"]
+    done = subprocess.run([*call, "--least", "80"], cwd=TOP, capture_output=True, text=True)
     assert done.returncode == 0, done.stdout + done.stderr
     assert done.stdout.count(" of 100  width ") == 21

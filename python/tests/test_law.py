@@ -146,9 +146,10 @@ def test_streams_that_are_not_coupled_widen_the_mean(tool, tmp_path, net):
 
 def test_numbers_are_counted_by_tables_and_by_levels(psi, program, monkeypatch):
     """The counts of a wide queue, each way, are those of the states."""
-    import psi_tools.law
-    from psi_tools.law import Counters, counts_of_queue
-    from psi_tools.program import Psi
+    import psi_tools.draw.law
+    from psi_tools.draw.law import Counters, counts_of_queue
+    from psi_tools.io.terminal import Bar
+    from psi_tools.draw.program import Program
 
     net = psi.Network().queue("near", 3).queue("wide", 200, servers=60)
     net.event("come", "arrival", 50, to=["wide"]).event("go", "service", 1, source="wide")
@@ -157,17 +158,15 @@ def test_numbers_are_counted_by_tables_and_by_levels(psi, program, monkeypatch):
     wanted = dict(sorted(collections.Counter(states.tolist()).items()))
     assert len(wanted) > 20
     calls = []
-    for signs in (psi_tools.law.MOST_SIGNS, 0):
-        monkeypatch.setattr(psi_tools.law, "MOST_SIGNS", signs)
+    for signs in (psi_tools.draw.law.MOST_CHARACTERS, 0):
+        monkeypatch.setattr(psi_tools.draw.law, "MOST_CHARACTERS", signs)
         counters = Counters(net, "wide", 7)
         assert counters.has_tables == (signs > 0)
-        assert len(counters.near(min(wanted), max(wanted))) < 150
-        drawn = psi_tools.law.drawn
-        monkeypatch.setattr(
-            psi_tools.law, "drawn", lambda *words: calls.append(signs) or drawn(*words)
-        )
-        found, unknown = counts_of_queue(Psi(program), net, "wide", 0, 0, 300, "test")
-        monkeypatch.setattr(psi_tools.law, "drawn", drawn)
+        assert len(counters.near((min(wanted), max(wanted)))) < 150
+        drawn = psi_tools.draw.law.drawn
+        monkeypatch.setattr(psi_tools.draw.law, "drawn", lambda *words: calls.append(signs) or drawn(*words))
+        found, unknown = counts_of_queue(Program(program), net, "wide", 0, 0, 300, Bar)
+        monkeypatch.setattr(psi_tools.draw.law, "drawn", drawn)
         assert (found, unknown) == (wanted, 0)
     # A first look, and then few reports have all numbers, the fewer where tables count them.
     assert 2 <= len(calls) - calls.count(0) <= calls.count(0) <= 5
@@ -175,14 +174,15 @@ def test_numbers_are_counted_by_tables_and_by_levels(psi, program, monkeypatch):
 
 def test_numbers_beyond_those_of_the_first_look_are_counted(psi, program, monkeypatch):
     """The first look is made to see one number alone, so both sides are counted afterwards."""
-    from psi_tools.law import Counters, counts_of_queue
-    from psi_tools.program import Psi
+    from psi_tools.draw.law import Counters, counts_of_queue
+    from psi_tools.io.terminal import Bar
+    from psi_tools.draw.program import Program
 
     net = psi.Network().queue("wide", 300)
     net.event("come", "arrival", 19, to=["wide"]).event("go", "service", 20, source="wide")
     states = psi.samples(net, count=200)[:, 0]
     wanted = dict(sorted(collections.Counter(states.tolist()).items()))
-    monkeypatch.setattr(Counters, "near", lambda self, least, greatest: range(9, 12))
+    monkeypatch.setattr(Counters, "near", lambda self, ends: range(9, 12))
     for width in (256, 40, 7):
         init = Counters.__init__
 
@@ -191,14 +191,14 @@ def test_numbers_beyond_those_of_the_first_look_are_counted(psi, program, monkey
             self.width = width
 
         monkeypatch.setattr(Counters, "__init__", narrow)
-        assert counts_of_queue(Psi(program), net, "wide", 0, 0, 200, "test") == (wanted, 0)
+        assert counts_of_queue(Program(program), net, "wide", 0, 0, 200, Bar) == (wanted, 0)
         monkeypatch.setattr(Counters, "__init__", init)
 
 
 def test_the_cumulative_line_reaches_its_last_point(tool, tmp_path, net):
-    from psi_tools.intervals import Span
-    from psi_tools.law import Law
-    from psi_tools.plotting.draw_law import draw_law
+    from psi_tools.stats.intervals import Span
+    from psi_tools.stats.law import Law
+    from psi_tools.plot.draw_law import draw_law
 
     for counts in ([(2, 50), (3, 30), (7, 20)], [(4, 9)]):
         figure = draw_law(Law("near", "customers", counts, 0, Span(0, 9, 0, 9)), "")

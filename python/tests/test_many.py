@@ -9,7 +9,7 @@ import subprocess
 import pytest
 from conftest import SECONDS, TOP
 
-from psi_tools.many import MOST_COUNT
+from psi_tools.cli.many import MOST_COUNT
 
 NET, SHORT = TOP / "examples/single-server.toml", TOP / "examples/short-past.toml"
 CALL = [NET, "0", "0", "400", "--block", "50"]

@@ -76,8 +76,7 @@ def test_a_network_tells_what_is_not_coupled(tool, tmp_path):
 
 def test_a_wider_level_is_wider(tool, folder):
     rows = [
-        json.loads(tool("psi-means", folder, "--format", "json", "--level", level)[1])["rows"]
-        for level in (90, 99)
+        json.loads(tool("psi-means", folder, "--format", "json", "--level", level)[1])["rows"] for level in (90, 99)
     ]
     for narrow, wide in zip(*rows):
         assert narrow["half"] <= wide["half"]
@@ -129,9 +128,7 @@ def test_reports_that_a_spreadsheet_has_saved(tool, tmp_path, folder):
     for path, picture in zip(("0.csv", "own/0.csv"), pictures):
         assert tool("psi-plot", "report", path, "-o", picture)[0] == 0
     assert pictures[0].read_bytes() == pictures[1].read_bytes()
-    assert tool("merge_reports.py", *saved[:2]) == (
-        3, "", f"merge_reports: refused 1 Row line 2 {saved[0]}\n"
-    )
+    assert tool("merge_reports.py", *saved[:2]) == (3, "", f"merge_reports: refused 1 Row line 2 {saved[0]}\n")
     saved[0].write_bytes(blocks[0].read_bytes().replace(b"\n", b"\r\n", 3))
     status, _, error = tool("psi-means", *saved)
     assert status == 2 and error == f"psi-means: {saved[0]} is no report: refused 1 Row line 2\n"

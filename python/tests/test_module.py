@@ -98,24 +98,22 @@ def test_no_picture_changes_what_matplotlib_is_set_to():
 
     import matplotlib
 
-    from psi_tools.plotting import style
+    from psi_tools.plot import style
 
     names = ("coupling", "exact", "forward", "law", "report", "sweep")
     before = dict(matplotlib.rcParams)
     for name in names:
-        draw = getattr(importlib.import_module(f"psi_tools.plotting.draw_{name}"), f"draw_{name}")
+        draw = getattr(importlib.import_module(f"psi_tools.plot.draw_{name}"), f"draw_{name}")
         assert inspect.unwrap(draw) is not draw, name
     style.styled(lambda: style.new_figure(2, "title"))()
     assert dict(matplotlib.rcParams) == before
 
 
-def test_means_of_streams_that_are_not_coupled_are_wider(psi):
+def test_means_of_streams_that_are_not_coupled_are_wider(psi, program):
     file = EXAMPLES / "short-past.toml"
     with pytest.warns(psi.Uncoupled, match="intervals are wider"):
         found = psi.means(file, count=1_000)
-    report = subprocess.run(
-        [psi._psi().path, "report", file, "0", "0", "1000"], capture_output=True, text=True
-    ).stdout
+    report = subprocess.run([program, "report", file, "0", "0", "1000"], capture_output=True, text=True).stdout
     rows = {tuple(line.split(",")[:2]): int(line.split(",")[2]) for line in report.splitlines()[1:]}
     lost = rows["uncoupled", "-"]
     assert lost > 200
@@ -151,8 +149,6 @@ def test_what_psi_refuses_is_told_by_its_line(psi):
     net = psi.Network().queue("a", 0)
     with pytest.raises(psi.Refused) as refused:
         psi.check(net)
-    assert (refused.value.status, str(refused.value)) == (
-        3, "network refused 6 OutOfRange queue 1 capacity"
-    )
-    with pytest.raises(psi.Told):
+    assert (refused.value.status, str(refused.value)) == (3, "network refused 6 OutOfRange queue 1 capacity")
+    with pytest.raises(psi.PsiError):
         psi.check("absent.toml")

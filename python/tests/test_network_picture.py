@@ -12,12 +12,12 @@ import xml.etree.ElementTree
 import pytest
 from conftest import TOP
 
-from psi_tools.networks import Network
-from psi_tools.plotting import style
-from psi_tools.plotting.draw_network import MOST_SERVERS, draw_network
-from psi_tools.plotting.network_folding import folded
-from psi_tools.plotting.network_layout import laid_out, size_of
-from psi_tools.plotting.network_scene import NetworkPicture, Node, scene_of
+from psi_tools.model.networks import Network
+from psi_tools.plot import style
+from psi_tools.plot.draw_network import MOST_SERVERS, draw_network
+from psi_tools.plot.network_folding import folded
+from psi_tools.plot.network_layout import laid_out, size_of
+from psi_tools.plot.network_scene import NetworkPicture, Node, scene_of
 
 GALLERY = sorted((TOP / "examples").glob("*.toml"))
 SVG = "{http://www.w3.org/2000/svg}"
@@ -191,8 +191,9 @@ def test_options_of_another_picture_are_refused(tool):
 
 def test_without_graphviz_one_line_says_so(tmp_path):
     """Where `dot` is missing, one line names the package, and the status is 1."""
-    call = "from psi_tools.plotting.network_layout import laid_out; from psi_tools.plotting.network_scene import Scene\n"
-    call += "from psi_tools.told import Told\ntry:\n    laid_out(Scene([], []))\nexcept Told as told:\n    print(told.status, told)"
+    call = "from psi_tools.plot.network_layout import laid_out; from psi_tools.plot.network_scene import Scene\n"
+    call += "from psi_tools.errors import PsiError\ntry:\n    laid_out(Scene([], []))\n"
+    call += "except PsiError as error:\n    print(error.status, error)"
     place = {**os.environ, "PATH": str(tmp_path), "PYTHONPATH": str(TOP / "python")}
     done = subprocess.run([sys.executable, "-c", call], env=place, capture_output=True, text=True, check=True)
     assert done.stdout == "1 a picture of a network needs graphviz: tools/setup graphviz\n"

@@ -6,8 +6,8 @@ from fractions import Fraction
 import numpy
 import pytest
 
-from psi_tools.networks import Network, data_of
-from psi_tools.told import Told
+from psi_tools.model.networks import Network, data_of
+from psi_tools.errors import PsiError
 
 FILE = """version = 1
 # What psi refuses is refused here, too.
@@ -53,20 +53,21 @@ def test_a_file_is_handed_on_byte_by_byte(psi, tmp_path):
     assert psi.check(net) == psi.check(desk(6))
 
 
-@pytest.mark.parametrize("rate", [0.29 * 100, Fraction(1, 3), Decimal("0.5"), True, float("nan"),
-                                  float("inf"), numpy.float64(2.5), None])
+@pytest.mark.parametrize(
+    "rate", [0.29 * 100, Fraction(1, 3), Decimal("0.5"), True, float("nan"), float("inf"), numpy.float64(2.5), None]
+)
 def test_a_number_that_is_not_whole_names_its_key(rate):
-    with pytest.raises(Told, match="^rate of event 'come' is .*, which isn't a whole number"):
+    with pytest.raises(PsiError, match="^rate of event 'come' is .*, which isn't a whole number"):
         desk(rate).toml()
 
 
 def test_other_keys_are_named_as_well():
     net = desk(4).reward("cost", "linear", ["desk"], weights=[0.5])
-    with pytest.raises(Told, match="a value of weights of reward 'cost' is 0.5, which isn't"):
+    with pytest.raises(PsiError, match="a value of weights of reward 'cost' is 0.5, which isn't"):
         net.toml()
     part = [{"queue": "desk", "least": 1.5}]
     net = desk(4).event("give-up", "guarded", 1, part=part)
-    with pytest.raises(Told, match="least in a value of part of event 'give-up' is 1.5"):
+    with pytest.raises(PsiError, match="least in a value of part of event 'give-up' is 1.5"):
         net.toml()
 
 
@@ -82,35 +83,45 @@ def test_rates_are_made_whole():
         assert [event["rate"] for event in net.scaled().table["event"]] == wanted
         assert net.table["event"][0]["rate"] == rate
     for rate in (0.29 * 100, 0, -1, True, "4"):
-        with pytest.raises(Told):
+        with pytest.raises(PsiError):
             desk(rate).scaled()
 
 
-@pytest.mark.parametrize("named", [
-    {"count": 0}, {"count": 1e3}, {"count": True}, {"seed": -1}, {"seed": 2**64}, {"first": -1},
-    {"first": 2**64 - 1, "count": 2}, {"count": "10"}, {"count": None},
-])
+@pytest.mark.parametrize(
+    "named",
+    [
+        {"count": 0},
+        {"count": 1e3},
+        {"count": True},
+        {"seed": -1},
+        {"seed": 2**64},
+        {"first": -1},
+        {"first": 2**64 - 1, "count": 2},
+        {"count": "10"},
+        {"count": None},
+    ],
+)
 def test_arguments_of_streams(psi, named):
     name = next(iter(named))
     calls = psi.report, psi.means, psi.samples, lambda net, **more: psi.law(net, "desk", **more)
     for call in calls:
         with pytest.raises(ValueError, match=f"^{name} is .*; a whole number from ") as fault:
             call(desk(4), **named)
-        assert isinstance(fault.value, psi.Told)
+        assert isinstance(fault.value, psi.PsiError)
 
 
 @pytest.mark.parametrize("level", [95, 0, 1, True, "0.95", None, float("nan")])
 def test_a_level_is_a_share(psi, level):
-    with pytest.raises(psi.WrongArgument, match="^level is .*; a share from 0.5 to 0.9999"):
+    with pytest.raises(psi.ArgumentError, match="^level is .*; a share from 0.5 to 0.9999"):
         psi.means(desk(4), count=40, level=level)
 
 
 def test_other_arguments(psi):
     for call in (psi.couple, psi.log, lambda net, seed, stream: psi.exact(net, seed, stream, 4)):
-        with pytest.raises(psi.WrongArgument, match="^seed is -1; "):
+        with pytest.raises(psi.ArgumentError, match="^seed is -1; "):
             call(desk(4), -1, 0)
-    with pytest.raises(psi.WrongArgument, match="^total is 1.5; "):
+    with pytest.raises(psi.ArgumentError, match="^total is 1.5; "):
         psi.closed(desk(4), 1.5)
-    with pytest.raises(psi.WrongArgument, match="^jobs is 0; "):
-        psi.use(jobs=0)
+    with pytest.raises(psi.ArgumentError, match="^jobs is 0; "):
+        psi.Program(jobs=0)
     assert len(psi.samples(desk(4), numpy.int64(1), count=numpy.int32(3))) == 3

@@ -9,9 +9,9 @@ import pytest
 from conftest import TOP
 from solving import means_of
 
-from psi_tools.models import made_whole
-from psi_tools.networks import Network
-from psi_tools.new import KINDS
+from psi_tools.model.catalog import made_whole
+from psi_tools.model.networks import Network
+from psi_tools.cli.new import KINDS
 
 KIND_WORDS = {
     "mm1k": "--arrival 0.8 --service 1 --places 10",
@@ -97,8 +97,12 @@ def test_phases_have_the_mean_of_pollaczek_and_khinchine(tool, tmp_path):
     # With room enough the mean number is rho + rho^2 (1 + c^2) / (2 (1 - rho)).
     for kind, words, rho, scv in (
         ("erlang-service", "--arrival 0.3 --service 1 --phases 3 --places 60", 0.3, 1 / 3),
-        ("hyperexponential", "--arrival 0.3 --service 2,0.5 --quick 0.75 --places 60",
-         0.3 * (0.75 / 2 + 0.25 / 0.5), None),
+        (
+            "hyperexponential",
+            "--arrival 0.3 --service 2,0.5 --quick 0.75 --places 60",
+            0.3 * (0.75 / 2 + 0.25 / 0.5),
+            None,
+        ),
     ):
         if scv is None:
             first, second = 0.75 / 2 + 0.25 / 0.5, 2 * (0.75 / 4 + 0.25 / 0.25)
@@ -123,9 +127,17 @@ def test_rates_are_rounded_where_there_is_none(tool):
     assert error.startswith("psi-new: the rates are rounded: ")
 
 
-@pytest.mark.parametrize("words", ["", "mm1k", "mm2k", "mm1k --arrival 0 --service 1 --places 2",
-                                   "mm1k --arrival 1 --service 1 --places 65536",
-                                   "mmck --arrival 1 --service 1 --servers 5 --places 4"])
+@pytest.mark.parametrize(
+    "words",
+    [
+        "",
+        "mm1k",
+        "mm2k",
+        "mm1k --arrival 0 --service 1 --places 2",
+        "mm1k --arrival 1 --service 1 --places 65536",
+        "mmck --arrival 1 --service 1 --servers 5 --places 4",
+    ],
+)
 def test_words_that_are_not_right(tool, words):
     status, out, error = tool("psi-new", *words.split())
     assert (status, out) == (2, "")
@@ -169,11 +181,10 @@ def test_without_psi_nothing_is_shown(environment, tmp_path):
     words = "mm1k --arrival 1 --service 2 --places 3".split()
     # The package is read elsewhere, where no program is built.
     shutil.copytree(TOP / "python", tmp_path / "python")
-    code = "import sys; from psi_tools.new import main; sys.exit(main(sys.argv[1:]))"
+    code = "import sys; from psi_tools.cli.new import main; sys.exit(main(sys.argv[1:]))"
     call = ["/usr/bin/python3", "-c", code, *words]
     done = subprocess.run(
-        call, cwd=tmp_path / "python", capture_output=True, text=True,
-        env={**environment, "PATH": "/usr/bin:/bin"},
+        call, cwd=tmp_path / "python", capture_output=True, text=True, env={**environment, "PATH": "/usr/bin:/bin"}
     )
     assert done.returncode == 0 and done.stderr.startswith("psi-new: there is no psi that looks")
     assert "` prints" not in done.stdout and "version = 1\n" in done.stdout

@@ -13,20 +13,31 @@ import tomllib
 
 import pytest
 from conftest import TOP
-from plain_network import Network as Plain
-from try_plot import regions_of as regions_of_text
+from oracle.plain_network import Network as Plain
+from oracle.log_regions import regions_of as regions_of_text
 
-from psi_tools import page
+from psi_tools.cli.page import MOST_LOG
+from psi_tools.plot import page
 from psi_tools.check_log import block
-from psi_tools.networks import Network
-from psi_tools.past import past_of
+from psi_tools.model.networks import Network
+from psi_tools.plot.past import past_of
 
 NETS = (
-    "first", "tandem-blocking", "overflow", "reset", "negative-customers", "batch-arrivals", "breakdowns",
-    "longest-queue-split", "consolidation", "hyperexponential-service",
+    "first",
+    "tandem-blocking",
+    "overflow",
+    "reset",
+    "negative-customers",
+    "batch-arrivals",
+    "breakdowns",
+    "longest-queue-split",
+    "consolidation",
+    "hyperexponential-service",
 )
 HOSTILE = (
-    "</script><script>alert(1)</script>", "<img src=x onerror=alert(1)>", '"]]>--><svg onload="alert(1)">{{DATA}}',
+    "</script><script>alert(1)</script>",
+    "<img src=x onerror=alert(1)>",
+    '"]]>--><svg onload="alert(1)">{{DATA}}',
 )
 # Steps on through the chosen run by its button, and returns what the page shows at each time.
 WALK = """
@@ -100,7 +111,13 @@ def browser():
 
     options = webdriver.ChromeOptions()
     options.binary_location = shutil.which("chromium")
-    for word in ("--headless=new", "--no-sandbox", "--disable-gpu", "--disable-dev-shm-usage", "--window-size=1280,1000"):
+    for word in (
+        "--headless=new",
+        "--no-sandbox",
+        "--disable-gpu",
+        "--disable-dev-shm-usage",
+        "--window-size=1280,1000",
+    ):
         options.add_argument(word)
     options.set_capability("goog:loggingPrefs", {"browser": "ALL"})
     driver = webdriver.Chrome(service=Service(shutil.which("chromedriver")), options=options)
@@ -136,9 +153,9 @@ def test_the_page_shows_the_log(browser, pages, program, tmp_path, name):
     text, log = pages(name)
     opened(browser, tmp_path, text)
     past = past_of(program, str(path_of(name)), 0, 0)
-    regions = [
-        [*zip(run.low, run.high, run.counts)] for run in past.runs[:-1]
-    ] + [[(low, high, size) for low, high, size, _ in regions_of_text(log)]]
+    regions = [[*zip(run.low, run.high, run.counts)] for run in past.runs[:-1]] + [
+        [(low, high, size) for low, high, size, _ in regions_of_text(log)]
+    ]
     for run, wanted in enumerate(regions):
         rows = browser.execute_script(WALK, run)
         assert len(rows) == len(wanted)
@@ -159,7 +176,9 @@ def hold_events(rows, name, log):
         time = len(numbers) - place
         word = block(0, 0, (time - 1) // 16)[(time - 1) % 16]
         event = plain.events[number] if number < len(plain.events) else None
-        assert row["word"].startswith(f"Random word {word:,}; modulo {plain.modulus:,} it is {word % plain.modulus:,}, ")
+        assert row["word"].startswith(
+            f"Random word {word:,}; modulo {plain.modulus:,} it is {word % plain.modulus:,}, "
+        )
         is_idle = row["event"] == "Event: idle: nothing happens"
         assert is_idle == (event is None) == (row["fires"] == [])
         assert f"step {time:,} before time zero" in row["checks"][0]
@@ -206,9 +225,11 @@ def test_answers_are_hidden_until_a_key_is_pressed(browser, pages, tmp_path):
 def test_a_long_log_opens_soon(browser, pages, program, tmp_path):
     """A page of 4,096 steps opens within a second; on a busy machine a slower one is not held against it."""
     stream = next(
-        stream for stream in range(200)
-        if subprocess.run([program, "sample", path_of("longest-queue"), "0", str(stream)], capture_output=True,
-                          text=True).stdout.startswith("met 4096\n")
+        stream
+        for stream in range(200)
+        if subprocess.run(
+            [program, "sample", path_of("longest-queue"), "0", str(stream)], capture_output=True, text=True
+        ).stdout.startswith("met 4096\n")
     )
     text, log = pages("longest-queue", stream)
     opened(browser, tmp_path, text)
@@ -280,12 +301,15 @@ def test_what_replay_does_not_accept_is_refused(tool, tmp_path, program):
     (tmp_path / "changed.log").write_bytes(log.replace(b"seed 0", b"seed 1"))
     with open(tmp_path / "long.log", "wb") as file:
         file.write(log)
-        file.truncate(page.MOST_LOG + 1)
+        file.truncate(MOST_LOG + 1)
     net, short = path_of("overflow"), path_of("short-past")
     for words, status, said in (
-        ((net, "--log", "changed.log"), 4, "log rejected 3"), ((net, "--log", "long.log"), 2, "20,000,000 bytes"),
-        ((net, "--log", "absent.log"), 6, "can't be read"), ((short, "0", "0"), 1, "not coupled within 64"),
-        ((net, "0"), 2, "SEED and STREAM"), ((net, "0", "0", "--log", "changed.log"), 2, "--log"),
+        ((net, "--log", "changed.log"), 4, "log rejected 3"),
+        ((net, "--log", "long.log"), 2, "20,000,000 bytes"),
+        ((net, "--log", "absent.log"), 6, "can't be read"),
+        ((short, "0", "0"), 1, "not coupled within 64"),
+        ((net, "0"), 2, "SEED and STREAM"),
+        ((net, "0", "0", "--log", "changed.log"), 2, "--log"),
     ):
         found, out, err = tool("psi-page", *words, "-o", "page.html")
         assert (found, out, err.count("\n")) == (status, "", 1) and said in err

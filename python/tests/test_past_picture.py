@@ -5,13 +5,13 @@ import xml.etree.ElementTree
 
 import pytest
 from conftest import TOP
-from plain_network import Network as Plain
+from oracle.plain_network import Network as Plain
 
-from psi_tools.networks import Network
-from psi_tools.past import Follower, past_of
-from psi_tools.plotting import style
-from psi_tools.plotting.draw_past import draw_past
-from psi_tools.plotting.refused import Refused
+from psi_tools.model.networks import Network
+from psi_tools.plot.past import Follower, past_of
+from psi_tools.plot import style
+from psi_tools.plot.draw_past import draw_past
+from psi_tools.errors import InputError
 
 SVG = "{http://www.w3.org/2000/svg}"
 SMALL = "first", "single-server", "tandem-blocking", "fork-join", "longest-queue", "reset"
@@ -37,8 +37,10 @@ def test_runs_are_those_of_a_plain_walk(name):
     table = tomllib.loads((TOP / f"examples/{name}.toml").read_text())
     plain, follower = Plain(table), Follower(table)
     run = follower.run(5, 11, 8)
-    events = [plain.events[number] if number < len(plain.events) else None
-              for number in (follower.net.event_of(5, 11, time) for time in range(8, 0, -1))]
+    events = [
+        plain.events[number] if number < len(plain.events) else None
+        for number in (follower.net.event_of(5, 11, time) for time in range(8, 0, -1))
+    ]
     for path in run.paths:
         state = path[0]
         for event, after in zip(events, path[1:]):
@@ -62,8 +64,10 @@ def test_a_region_may_hold_more_than_the_paths(program):
     wide = [run for run in past.runs if len({path[-1] for path in run.paths}) == 1 < run.counts[-1]]
     assert wide and all(
         low <= number <= high
-        for run in past.runs for path in run.paths
-        for state, *ends in zip(path, run.low, run.high) for number, low, high in zip(state, *ends)
+        for run in past.runs
+        for path in run.paths
+        for state, *ends in zip(path, run.low, run.high)
+        for number, low, high in zip(state, *ends)
     )
     texts = [text.get_text() for axes in draw_past((past, None), "").figure.axes for text in axes.texts]
     assert any("1 state left,\n" in text and "in the region" in text for text in texts)
@@ -93,7 +97,11 @@ def test_the_command_draws_and_refuses(tool, tmp_path):
     words = "psi-plot", "past", path_of("tandem-blocking"), "0", "0"
     assert tool(*words, "--queue", "drill", "-o", "past.svg") == (0, "", "")
     assert (tmp_path / "past.svg").read_bytes().startswith(b"<?xml")
-    for bad in ([*words[:-1], "-o", "x.svg"], [*words, "--queue", "none", "-o", "x.svg"], [*words[:-1], "1.5", "-o", "x.svg"]):
+    for bad in (
+        [*words[:-1], "-o", "x.svg"],
+        [*words, "--queue", "none", "-o", "x.svg"],
+        [*words[:-1], "1.5", "-o", "x.svg"],
+    ):
         status, out, err = tool(*bad)
         assert (status, out, err.count("\n")) == (2, "", 1)
     assert not (tmp_path / "x.svg").exists()
@@ -105,5 +113,5 @@ def test_a_network_that_does_not_coalesce_is_refused(program, tmp_path):
     ring.event("there", "service", 1, "a", ["b"], full="stay").event("back", "service", 1, "b", ["a"], full="stay")
     text = ring.toml()
     (tmp_path / "never.toml").write_text(text)
-    with pytest.raises(Refused, match="4,096 steps"):
+    with pytest.raises(InputError, match="4,096 steps"):
         past_of(program, str(tmp_path / "never.toml"), 0, 0)

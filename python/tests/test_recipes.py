@@ -10,7 +10,7 @@ import pytest
 from conftest import TOP
 from solving import law_of
 
-from psi_tools.networks import Network
+from psi_tools.model.networks import Network
 
 PART = re.compile(r"^## ([^\n]*)$|^```toml\n(.*?)^```\n", re.M | re.S)
 SAMPLES, CLOSED, ERRORS = 4_000, 200, 4

@@ -6,11 +6,11 @@ import resource
 import signal
 import subprocess
 
-import case_files
+from generate import case_files
 import pytest
 from conftest import SECONDS, TOP
 
-from psi_tools import closed, law, many, mean_values, page, plot, sweep, where, why
+from psi_tools.cli import closed_report, law, many, mean_values, page, plot, sweep, where, why
 
 NET = TOP / "examples/single-server.toml"
 # Of each tool its work, and words that are right but for the file.
@@ -22,7 +22,7 @@ CALLS = {
     "psi-plot": (plot, ["forward", "{}", "-o", "drawn.svg"]),
     "psi-page": (page, ["{}", "0", "0", "-o", "drawn.html"]),
     "mean_values": (mean_values, ["{}", "1"]),
-    "closed_report": (closed, ["{}", "1", "1"]),
+    "closed_report": (closed_report, ["{}", "1", "1"]),
 }
 # Words that write an answer, with a place for where it goes.
 WRITES = {
@@ -30,7 +30,8 @@ WRITES = {
     "psi-law with a picture": (law, [NET, "desk", "--count", "20", "--picture", "{}.svg"]),
     "psi-sweep": (sweep, [NET, "desk.capacity=2,3", "--of", "desk", "--count", "20", "-o", "{}"]),
     "psi-sweep with a picture": (
-        sweep, [NET, "desk.capacity=2,3", "--of", "desk", "--count", "20", "--picture", "{}.svg"]
+        sweep,
+        [NET, "desk.capacity=2,3", "--of", "desk", "--count", "20", "--picture", "{}.svg"],
     ),
     "psi-why": (why, [NET, "--seconds", "1", "-o", "{}"]),
     "psi-where": (where, [NET, "-o", "{}"]),
@@ -38,7 +39,6 @@ WRITES = {
     "psi-plot": (plot, ["forward", NET, "-o", "{}.svg"]),
     "psi-page": (page, [NET, "0", "0", "-o", "{}"]),
 }
-
 
 
 @pytest.fixture
@@ -94,8 +94,12 @@ def test_an_answer_that_fits_on_no_disk(here, capsys, name):
 def test_files_that_take_no_more(tool, environment, tmp_path, name):
     words = [str(word).format("answer") for word in WRITES[name][1]]
     done = subprocess.run(
-        [TOP / "tools" / name, *words], cwd=tmp_path, capture_output=True, text=True,
-        timeout=SECONDS, env=environment,
+        [TOP / "tools" / name, *words],
+        cwd=tmp_path,
+        capture_output=True,
+        text=True,
+        timeout=SECONDS,
+        env=environment,
         preexec_fn=lambda: resource.setrlimit(resource.RLIMIT_FSIZE, (100, 100)),
     )
     assert (done.returncode, done.stdout) == (7, ""), done.stderr

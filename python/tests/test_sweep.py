@@ -5,9 +5,9 @@ import json
 import pytest
 from solving import means_of
 
-from psi_tools.designs import aligned, common_events, designs_of, look_at_bounds
-from psi_tools.networks import Network
-from psi_tools.told import Told
+from psi_tools.model.designs import aligned, common_events, designs_of, check_bounds
+from psi_tools.model.networks import Network
+from psi_tools.errors import PsiError
 
 CALLS = """version = 1
 [[queue]]
@@ -51,9 +51,7 @@ def test_events_have_the_same_numbers_in_all_designs():
     designs, why = aligned(designs)
     assert why is None
     for design in designs:
-        total = [
-            event["rate"] * design.net.servers_of(event) for event in design.net.table["event"]
-        ]
+        total = [event["rate"] * design.net.servers_of(event) for event in design.net.table["event"]]
         # Six numbers are of ring and what fills it, six of answer and what fills it.
         names = [event["name"] for event in design.net.table["event"]]
         place = names.index("answer")
@@ -99,14 +97,24 @@ def test_an_index_without_a_value_is_refused():
     net = Network().queue("a", 2).queue("b", 2)
     net.event("in", "index", 1, to=["a", "b"], table=[[0, 1], [0, 1]])
     assert designs_of(["a.capacity=1,2"], net)[1][0].net.table["event"][0]["table"] == [[0], [0, 1]]
-    with pytest.raises(Told, match="in: its table has no index for so many customers in b"):
+    with pytest.raises(PsiError, match="in: its table has no index for so many customers in b"):
         designs_of(["b.capacity=2,3"], net)
 
 
-@pytest.mark.parametrize("word", ["ring.rate", "ring.speed=1", "bell.rate=2", "calls.capacity=2.5",
-                                  "ring.rate=5..1", "ring.rate=0", "calls.servers=2,2"])
+@pytest.mark.parametrize(
+    "word",
+    [
+        "ring.rate",
+        "ring.speed=1",
+        "bell.rate=2",
+        "calls.capacity=2.5",
+        "ring.rate=5..1",
+        "ring.rate=0",
+        "calls.servers=2,2",
+    ],
+)
 def test_words_that_are_not_right(word):
-    with pytest.raises(Told):
+    with pytest.raises(PsiError):
         designs_of([word], Network.parse(CALLS))
 
 
@@ -186,15 +194,12 @@ def test_a_sweep_of_servers_is_refused_where_guards_go_by_them(tool, tmp_path):
     status, out, error = tool("psi-sweep", "3.toml", "calls.servers=3,4")
     assert (status, out) == (2, "")
     assert error.startswith(
-        "psi-sweep: least = 4 of event give-up-1 goes by calls and would stay as it is while "
-        "calls.servers differs: "
+        "psi-sweep: least = 4 of event give-up-1 goes by calls and would stay as it is while calls.servers differs: "
     ), error
     status, _, _ = tool("psi-sweep", "3.toml", "calls.servers=3,4", "--anyway", "--count", "100")
     assert status == 0
     # The files as they are have what the formula says.
-    status, out, error = tool(
-        "psi-sweep", "3.toml", "4.toml", "--count", "20000", "--format", "json"
-    )
+    status, out, error = tool("psi-sweep", "3.toml", "4.toml", "--count", "20000", "--format", "json")
     assert (status, error) == (0, "")
     rows = {(row["network"], row["name"]): row for row in json.loads(out)["rows"]}
     for servers in (3, 4):
@@ -226,17 +231,13 @@ rate = 2
 from = "a"
 """
 PARTS = {
-    "least": '[[event]]\nkind = "guarded"\nname = "g"\nrate = 1\n'
-    'part = [{ queue = "a", least = 3, shift = -1 }]\n',
-    "most": '[[event]]\nkind = "guarded"\nname = "g"\nrate = 1\n'
-    'part = [{ queue = "a", most = 3, shift = 1 }]\n',
-    "floor": '[[event]]\nkind = "guarded"\nname = "g"\nrate = 1\n'
-    'part = [{ queue = "a", floor = 1, shift = -1 }]\n',
+    "least": '[[event]]\nkind = "guarded"\nname = "g"\nrate = 1\npart = [{ queue = "a", least = 3, shift = -1 }]\n',
+    "most": '[[event]]\nkind = "guarded"\nname = "g"\nrate = 1\npart = [{ queue = "a", most = 3, shift = 1 }]\n',
+    "floor": '[[event]]\nkind = "guarded"\nname = "g"\nrate = 1\npart = [{ queue = "a", floor = 1, shift = -1 }]\n',
     "ceiling": '[[event]]\nkind = "guarded"\nname = "g"\nrate = 1\n'
     'part = [{ queue = "a", ceiling = 5, shift = 1 }]\n',
     "level": '[[reward]]\nkind = "above"\nname = "full"\nqueues = ["a"]\nlevel = 5\n',
-    "the table": '[[reward]]\nkind = "table"\nname = "w"\nqueues = ["a"]\n'
-    "table = [[0, 0, 0, 1, 2, 3, 4]]\n",
+    "the table": '[[reward]]\nkind = "table"\nname = "w"\nqueues = ["a"]\n' "table = [[0, 0, 0, 1, 2, 3, 4]]\n",
 }
 
 
@@ -257,11 +258,11 @@ def test_what_goes_by_a_queue_is_named(tool, tmp_path, part, key):
 def test_what_is_swept_together_is_not_refused():
     net = Network.parse(GUARDED + PARTS["least"] + PARTS["level"])
     words = ["a.servers=2,3", "g.a.least=3,4", "full.level=4,5"]
-    look_at_bounds(words, net, True, [])
-    look_at_bounds(words[:2], net, True, ["a"])
+    check_bounds(words, net, True, [])
+    check_bounds(words[:2], net, True, ["a"])
     for some, together in ((words[:2], True), (words, False)):
-        with pytest.raises(Told, match="--anyway"):
-            look_at_bounds(some, net, together, [])
+        with pytest.raises(PsiError, match="--anyway"):
+            check_bounds(some, net, together, [])
     _, designs, _, _ = designs_of(words, net, together=True)
     parts = [design.net.table["event"][2]["part"][0]["least"] for design in designs]
     assert parts == [3, 4]
@@ -306,8 +307,18 @@ def test_a_folder_has_one_size_of_blocks(tool, tmp_path, net):
     after = {file: file.stat().st_mtime_ns for file in (tmp_path / "kept").rglob("*.csv")}
     assert all(after.get(file) == time for file, time in before.items())
     assert len(after) == 3 * 41
-    fresh = tool("psi-sweep", net, "calls.capacity=10,12,14", "--anyway", "--format", "csv",
-                 "--count", 40_960, "--folder", "fresh")[1]
+    fresh = tool(
+        "psi-sweep",
+        net,
+        "calls.capacity=10,12,14",
+        "--anyway",
+        "--format",
+        "csv",
+        "--count",
+        40_960,
+        "--folder",
+        "fresh",
+    )[1]
     means = [[line.split(",")[3] for line in text.splitlines()] for text in (out, fresh)]
     assert means[0] == means[1]
     status, _, error = tool("psi-sweep", net, "calls.capacity=10,12", *words, 40_000, "--seed", 1)

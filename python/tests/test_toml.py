@@ -3,19 +3,30 @@
 import tomllib
 
 import pytest
-from conftest import TOP
+from conftest import ALONE, TOP
 
-from psi_tools import toml
-from psi_tools.networks import Network, plain
+from psi_tools.io import toml
+from psi_tools.model.networks import Network, plain
 
 FAULTS = {
-    "a = 1\nb = \n": 2, "a = 1\na = 2\n": 2, "[a]\n[b]\n[a]\n": 3, "x = 'abc\n": 1,
-    "a = [1, 2\nb = 3\n": 2, "a = 99999999999999999999\n": 1, "a = 1\n\n= 3\n": 3,
-    "a = { b = 1\nc = 2 }\n": 2, "a = \"\\q\"\n": 1, "a.b = 1\na.b.c = 2\n": 2, "[[a]]\n[a]\n": 2,
-    "a = 1 b = 2\n": 1, "a = 1\nb = truth\n": 2, "a = " + "[" * 81 + "]" * 81 + "\n": 1,
+    "a = 1\nb = \n": 2,
+    "a = 1\na = 2\n": 2,
+    "[a]\n[b]\n[a]\n": 3,
+    "x = 'abc\n": 1,
+    "a = [1, 2\nb = 3\n": 2,
+    "a = 99999999999999999999\n": 1,
+    "a = 1\n\n= 3\n": 3,
+    "a = { b = 1\nc = 2 }\n": 2,
+    'a = "\\q"\n': 1,
+    "a.b = 1\na.b.c = 2\n": 2,
+    "[[a]]\n[a]\n": 2,
+    "a = 1 b = 2\n": 1,
+    "a = 1\nb = truth\n": 2,
+    "a = " + "[" * 81 + "]" * 81 + "\n": 1,
 }
 
 
+@pytest.mark.skipif(ALONE, reason="the gallery stands beside this folder")
 def test_the_gallery_is_read_as_by_python():
     files = sorted((TOP / "examples").glob("*.toml"))
     assert len(files) > 20
@@ -34,13 +45,13 @@ def test_what_version_1_1_has():
 
 @pytest.mark.parametrize("text", FAULTS)
 def test_a_fault_has_its_line(text):
-    with pytest.raises(toml.Fault) as fault:
+    with pytest.raises(toml.TomlError) as fault:
         toml.read(text.encode())
     assert fault.value.line == FAULTS[text]
 
 
 def test_bytes_that_are_no_text():
-    with pytest.raises(toml.Fault) as fault:
+    with pytest.raises(toml.TomlError) as fault:
         toml.read(b"a = 1\nb = '\xff'\n")
     assert fault.value.line == 2
 

@@ -3,14 +3,14 @@
 import json
 import tomllib
 
-import plain_network
+from oracle import plain_network
 import pytest
 from conftest import TOP
 
-from psi_tools.classes import closed_classes
-from psi_tools.moves import Load, Moves, loads_of
-from psi_tools.networks import Network
-from psi_tools.why import never_met
+from psi_tools.model.classes import closed_classes
+from psi_tools.model.moves import Load, Moves, loads_of
+from psi_tools.model.networks import Network
+from psi_tools.draw.diagnosis import never_met
 
 PAIRS = """version = 2
 limit = 8
@@ -55,9 +55,7 @@ def never_of(text):
 
 
 def test_a_sum_that_is_kept():
-    assert never_of(PAIRS) == [
-        "no event changes the sum nuts - bolts: states with other sums never meet"
-    ]
+    assert never_of(PAIRS) == ["no event changes the sum nuts - bolts: states with other sums never meet"]
 
 
 def test_numbers_that_are_not_left():
@@ -91,9 +89,7 @@ def test_loads():
 
 
 @pytest.mark.parametrize("servers, places, load", [(3, 30, 5 / 6), (100, 140, 150 / 200)])
-def test_the_load_counts_each_server_once_and_abandonment_apart(
-    tool, tmp_path, servers, places, load
-):
+def test_the_load_counts_each_server_once_and_abandonment_apart(tool, tmp_path, servers, places, load):
     arrival = 5 if servers == 3 else 150
     words = f"--arrival {arrival} --service 2 --servers {servers} --places {places} --patience 0.5"
     assert tool("psi-new", "abandonment", *words.split(), "-o", "net.toml")[0] == 0

@@ -9,18 +9,22 @@ import subprocess
 import pytest
 from conftest import SECONDS, TOP
 
-from psi_tools.commands import NAMES
-from psi_tools.completion import SHELLS, completion
-from psi_tools.told import Told
-from psi_tools.words import look_at
+from psi_tools.cli.entry import NAMES
+from psi_tools.cli.completion import SHELLS, completion
+from psi_tools.errors import PsiError
+from psi_tools.io.output import check_writable
 
 NET = TOP / "examples/single-server.toml"
 # Of each command words that are right, with a place for a file.
 RIGHT = {
-    "many": ["{}", "0", "0", "20"], "plot": ["report", "{}", "-o", "p.svg"], "means": ["{}"],
+    "many": ["{}", "0", "0", "20"],
+    "plot": ["report", "{}", "-o", "p.svg"],
+    "means": ["{}"],
     "law": ["{}", "desk", "--count", "20"],
     "sweep": ["{}", "desk.capacity=2,3", "--anyway", "--count", "20"],
-    "where": ["{}"], "why": ["{}"], "page": ["{}", "0", "0", "-o", "p.html"],
+    "where": ["{}"],
+    "why": ["{}"],
+    "page": ["{}", "0", "0", "-o", "p.html"],
 }
 
 
@@ -37,10 +41,16 @@ def is_one_line(name, error):
 def files(room):
     """Files that are no network and no report, each with what it has."""
     found = {
-        "empty": b"", "binary": bytes(range(256)) * 40, "text": b"hello\n",
-        "long": b"#" * 2**20 + b"\n", "nul": b"version = 1\0", "toml": b"queue = 5\n",
-        "latin": "version = 1 # é".encode("latin-1"), "odd": b"[[queue]]\nqueue = [[[[[\n",
-        "csv": b"item,name,value\n", "deep": b"a = " + b"[" * 5_000,
+        "empty": b"",
+        "binary": bytes(range(256)) * 40,
+        "text": b"hello\n",
+        "long": b"#" * 2**20 + b"\n",
+        "nul": b"version = 1\0",
+        "toml": b"queue = 5\n",
+        "latin": "version = 1 # é".encode("latin-1"),
+        "odd": b"[[queue]]\nqueue = [[[[[\n",
+        "csv": b"item,name,value\n",
+        "deep": b"a = " + b"[" * 5_000,
     }
     for name, data in found.items():
         (room / name).write_bytes(data)
@@ -63,9 +73,7 @@ def test_files_that_are_not_what_they_should_be(tool, tmp_path, name):
 
 @pytest.mark.parametrize("name", NAMES)
 def test_words_that_are_not_right(tool, name):
-    calls = [
-        [], ["--no-such-option"], ["--seed"], ["a"] * 9, ["", ""], ["-"], ["--count", "x", "y"],
-    ]
+    calls = [[], ["--no-such-option"], ["--seed"], ["a"] * 9, ["", ""], ["-"], ["--count", "x", "y"]]
     for words, (status, out, error) in zip(calls, side_by_side(tool, f"psi-{name}", calls)):
         assert status in (2, 6), (words, status)
         assert out == "" and is_one_line(name, error), (words, error)
@@ -97,8 +105,12 @@ def test_the_other_tools_end_with_one_line(tool, environment, tmp_path, name):
         assert re.fullmatch(rf"{command}: [^\n]+\n", error), (words, error)
     with open("/dev/full", "wb") as full:
         done = subprocess.run(
-            [TOP / "tools" / name, closed, "6", "2"], stdout=full, stderr=subprocess.PIPE,
-            text=True, timeout=SECONDS, env=environment,
+            [TOP / "tools" / name, closed, "6", "2"],
+            stdout=full,
+            stderr=subprocess.PIPE,
+            text=True,
+            timeout=SECONDS,
+            env=environment,
         )
     assert done.returncode == 7 and "No space left on device" in done.stderr
 
@@ -106,10 +118,10 @@ def test_the_other_tools_end_with_one_line(tool, environment, tmp_path, name):
 def test_each_option_says_what_it_does():
     import importlib
 
-    from psi_tools.completion import kinds_of, options_of
+    from psi_tools.cli.completion import kinds_of, options_of
 
     for name in NAMES:
-        reader = importlib.import_module(f"psi_tools.{name}").reader()
+        reader = importlib.import_module(f"psi_tools.cli.{name}").parser()
         for each in (reader, *(below for below, _ in kinds_of(reader).values())):
             for options, _, _, said in options_of(each):
                 assert len(said) > 10, (name, options)
@@ -120,12 +132,19 @@ def test_a_full_disk(environment, tmp_path, name):
     words = [word.format(NET) for word in RIGHT.get(name, [])]
     words = {
         "new": ["mm1k", "--arrival", "1", "--service", "2", "--places", "3"],
-        "plot": ["--help"], "means": ["--help"], "page": [str(NET), "0", "0", "-o", "/dev/stdout"],
+        "plot": ["--help"],
+        "means": ["--help"],
+        "page": [str(NET), "0", "0", "-o", "/dev/stdout"],
     }.get(name, words)
     with open("/dev/full", "wb") as full:
         done = subprocess.run(
-            [TOP / f"tools/psi-{name}", *words], stdout=full, stderr=subprocess.PIPE, text=True,
-            cwd=tmp_path, timeout=SECONDS, env=environment,
+            [TOP / f"tools/psi-{name}", *words],
+            stdout=full,
+            stderr=subprocess.PIPE,
+            text=True,
+            cwd=tmp_path,
+            timeout=SECONDS,
+            env=environment,
         )
     lines = done.stderr.splitlines()
     assert done.returncode == 7, done.stderr
@@ -152,7 +171,7 @@ def test_where_a_picture_is_written_is_looked_at_first(tool, tmp_path):
 
 def test_many_may_look_at_one_place(tmp_path):
     def look(_):
-        look_at(str(tmp_path / "answer"))
+        check_writable(str(tmp_path / "answer"))
         assert not (tmp_path / "answer").exists()
 
     with concurrent.futures.ThreadPoolExecutor(8) as pool:
@@ -163,10 +182,15 @@ def test_many_may_look_at_one_place(tmp_path):
 @pytest.mark.parametrize(
     "name, said",
     [
-        ("", "No such file or directory"), ("new/", "Is a directory"), (".", "Is a directory"),
-        ("absent/new", "No such file or directory"), ("file/new", "Not a directory"),
-        ("round", "Too many levels of symbolic links"), ("n" * 300, "File name too long"),
-        ("far", "No such file or directory"), ("a\0b", "embedded null byte"),
+        ("", "No such file or directory"),
+        ("new/", "Is a directory"),
+        (".", "Is a directory"),
+        ("absent/new", "No such file or directory"),
+        ("file/new", "Not a directory"),
+        ("round", "Too many levels of symbolic links"),
+        ("n" * 300, "File name too long"),
+        ("far", "No such file or directory"),
+        ("a\0b", "embedded null byte"),
     ],
 )
 def test_places_that_can_not_be_written(tmp_path, monkeypatch, name, said):
@@ -174,15 +198,15 @@ def test_places_that_can_not_be_written(tmp_path, monkeypatch, name, said):
     (tmp_path / "file").write_text("kept")
     os.symlink("round", "round")
     os.symlink("absent/new", "far")
-    with pytest.raises(Told, match=said):
-        look_at(name)
+    with pytest.raises(PsiError, match=said):
+        check_writable(name)
     assert (tmp_path / "file").read_text() == "kept"
     assert {file.name for file in tmp_path.iterdir()} == {"file", "round", "far"}
 
 
 def test_a_link_to_a_new_file_may_be_written(tmp_path):
     os.symlink("new", tmp_path / "link")
-    look_at(str(tmp_path / "link"))
+    check_writable(str(tmp_path / "link"))
     assert [*tmp_path.iterdir()] == [tmp_path / "link"]
 
 
@@ -202,11 +226,9 @@ def test_completion_is_of_its_shell(tmp_path, shell, name):
 def test_completion_in_bash(tmp_path):
     (tmp_path / "completion").write_text(completion("bash", "law"))
     for words, wanted in (
-        (
-            ["psi-law", str(TOP / "examples/breakdowns.toml"), ""],
-            ["jobs", "broken", "cost", "full"],
-        ),
-        (["psi-law", "--se"], ["--seed"]), (["psi-law", "--format", "j"], ["json"]),
+        (["psi-law", str(TOP / "examples/breakdowns.toml"), ""], ["jobs", "broken", "cost", "full"]),
+        (["psi-law", "--se"], ["--seed"]),
+        (["psi-law", "--format", "j"], ["json"]),
     ):
         script = f". ./completion\nCOMP_WORDS=({' '.join(repr(word) for word in words)})\n"
         script += f'COMP_CWORD={len(words) - 1}\n_psi_law && echo "${{COMPREPLY[@]}}"'

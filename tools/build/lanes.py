@@ -9,9 +9,14 @@ import contextlib
 import fcntl
 import hashlib
 import os
+import pathlib
 import shutil
 import subprocess
 import tempfile
+from collections.abc import Iterator
+from typing import IO
+
+from tools.build.crates import Crates
 
 # What `rt` keeps for the next check of the same crate. No crate above reads it.
 KEPT = "incremental"
@@ -19,7 +24,7 @@ KEPT = "incremental"
 MARK = "psi-proved"
 
 
-def link(source, target):
+def link(source: str | os.PathLike[str], target: str | os.PathLike[str]) -> None:
     """Gives a file a second name, or copies it where that is not possible."""
     try:
         os.link(source, target)
@@ -27,7 +32,7 @@ def link(source, target):
         shutil.copy2(source, target)
 
 
-def has_links(folder):
+def has_links(folder: pathlib.Path) -> bool:
     """Returns whether a file of a folder can have a second name."""
     with tempfile.NamedTemporaryFile(dir=folder) as file:
         try:
@@ -38,14 +43,17 @@ def has_links(folder):
         return True
 
 
-def link_tree(source, target, *left_out):
+def link_tree(source: pathlib.Path, target: pathlib.Path, *left_out: str) -> None:
     """Makes a second folder with the files of a folder, but for some names right in it."""
-    ignore = lambda folder, names: left_out if folder == str(source) else ()
+
+    def ignore(folder: str, names: list[str]) -> tuple[str, ...]:
+        return left_out if folder == str(source) else ()
+
     shutil.copytree(source, target, ignore=ignore, copy_function=link)
 
 
 @contextlib.contextmanager
-def alone_in(folder):
+def alone_in(folder: pathlib.Path) -> Iterator[None]:
     """Waits until no `rt` works in a crate, and keeps others out."""
     held = os.open(folder, os.O_RDONLY)
     try:
@@ -60,10 +68,11 @@ def alone_in(folder):
 class Marks:
     """Which crates have a library of their present sources, by files beside those libraries."""
 
-    def __init__(self, crates, kit):
-        self.crates, self.kit, self.sums = crates, kit, {}
+    def __init__(self, crates: Crates, kit: str) -> None:
+        self.crates, self.kit = crates, kit
+        self.sums: dict[str, str] = {}
 
-    def sum(self, name):
+    def sum(self, name: str) -> str:
         """Returns a checksum of all that a crate's library is made of."""
         if name not in self.sums:
             found = hashlib.sha256(f"{self.kit}\n{self.crates.rows[name]}\n".encode())
@@ -75,7 +84,7 @@ class Marks:
             self.sums[name] = found.hexdigest()
         return self.sums[name]
 
-    def text(self, name):
+    def text(self, name: str) -> str:
         """Returns what the mark of a crate has to say now, which names what stands in its out/."""
         lines = [self.sum(name)]
         for it in sorted(os.scandir(self.crates.folder(name) / "out"), key=lambda it: it.name):
@@ -84,14 +93,14 @@ class Marks:
                 lines.append(f"{it.name} {found.st_ino} {found.st_mtime_ns}")
         return "\n".join(lines)
 
-    def has(self, name):
+    def has(self, name: str) -> bool:
         """Returns whether a crate's library is that of its present sources."""
         try:
             return (self.crates.folder(name) / "out" / MARK).read_text() == self.text(name)
         except OSError:
             return False
 
-    def set(self, name):
+    def set(self, name: str) -> None:
         """Notes that a crate's library is that of its present sources."""
         (self.crates.folder(name) / "out" / MARK).write_text(self.text(name))
 
@@ -99,9 +108,11 @@ class Marks:
 class Lane:
     """A folder with the crates below a program, in which one call of `rt` works at a time."""
 
-    def __init__(self, crates, room):
-        self.crates, self.room, self.linked = crates, room, set()
-        self.process, self.processor_time, self.is_stopped = None, 0, False
+    def __init__(self, crates: Crates, room: pathlib.Path) -> None:
+        self.crates, self.room = crates, room
+        self.linked: set[str] = set()
+        self.process: "subprocess.Popen[bytes] | None" = None
+        self.processor_time, self.is_stopped = 0.0, False
         self.libraries = crates.names[:-1]
         (room / "crates").mkdir(parents=True)
         rows = [crates.rows[name] for name in self.libraries]
@@ -111,10 +122,10 @@ class Lane:
         for name in self.libraries:
             link_tree(crates.folder(name), self.folder(name), "out")
 
-    def folder(self, name):
+    def folder(self, name: str) -> pathlib.Path:
         return self.room / "crates" / name
 
-    def take(self, name):
+    def take(self, name: str) -> None:
         """Brings the libraries below a crate, and what was kept of the crate itself."""
         for below in self.crates.below(name):
             if below not in self.linked:
@@ -123,12 +134,12 @@ class Lane:
         if (self.crates.folder(name) / "out").is_dir():
             self.bring(name)
 
-    def bring(self, name, *left_out):
+    def bring(self, name: str, *left_out: str) -> None:
         """Makes links of what stands in a crate's out/."""
         with alone_in(self.crates.folder(name)):
             link_tree(self.crates.folder(name) / "out", self.folder(name) / "out", *left_out)
 
-    def give(self, name):
+    def give(self, name: str) -> None:
         """Puts what `rt` left of a crate into the place of what its own folder has."""
         made, out = self.folder(name) / "out", self.crates.folder(name) / "out"
         with alone_in(self.crates.folder(name)):
@@ -136,7 +147,7 @@ class Lane:
                 shutil.rmtree(out, ignore_errors=True)
                 made.rename(out)
 
-    def prove(self, name, jobs, log):
+    def prove(self, name: str, jobs: int, log: IO[str]) -> int:
         """Has `rt` prove a crate and build its library, and returns the exit status."""
         self.take(name)
         words = ["rt", "lib", "--jobs", str(jobs)]
@@ -145,21 +156,23 @@ class Lane:
             self.give(name)
         return status
 
-    def call(self, words, folder, log):
+    def call(self, words: list[str], folder: pathlib.Path, log: IO[str]) -> int:
         """Runs a command whose texts go to a file, and returns its exit status. It notes the
         processor time that the command and what it started took, in seconds."""
-        how = {"stdin": subprocess.DEVNULL, "stdout": log, "stderr": subprocess.STDOUT}
-        self.process, self.processor_time = subprocess.Popen(words, cwd=folder, **how), 0
+        process = self.process = subprocess.Popen(
+            words, cwd=folder, stdin=subprocess.DEVNULL, stdout=log, stderr=subprocess.STDOUT
+        )
+        self.processor_time = 0
         try:
-            _, status, usage = os.wait4(self.process.pid, 0)
+            _, status, usage = os.wait4(process.pid, 0)
         except ChildProcessError:
             # Another thread has waited for it, to end it.
-            return self.process.wait()
-        self.process.returncode = os.waitstatus_to_exitcode(status)
+            return process.wait()
+        process.returncode = os.waitstatus_to_exitcode(status)
         self.processor_time = usage.ru_utime + usage.ru_stime
-        return self.process.returncode
+        return process.returncode
 
-    def stop(self):
+    def stop(self) -> None:
         """Ends the command under way; `rt` takes along what it started."""
         self.is_stopped = True
         if self.process is not None and self.process.poll() is None:

@@ -24,15 +24,18 @@ import sys
 import tempfile
 import threading
 import time
-
-sys.dont_write_bytecode = True
-
-from crates import Crates  # noqa: E402
-from lanes import Lane, Marks, has_links  # noqa: E402
-from schedule import Costs, Pace, Schedule  # noqa: E402
+from collections.abc import Callable
+from typing import IO
 
 HERE = pathlib.Path(__file__).resolve().parent
 TOP = HERE.parent.parent
+sys.dont_write_bytecode = True
+sys.path[0] = str(TOP)
+
+from tools.build.crates import Crates  # noqa: E402
+from tools.build.lanes import Lane, Marks, has_links  # noqa: E402
+from tools.build.schedule import Costs, Pace, Schedule  # noqa: E402
+
 PROGRAM = "psi"
 # What the program prints where it is run without words.
 ANSWER = "psi: usage word 1"
@@ -46,11 +49,11 @@ TICK, FIRST = 30, 60
 JUDGED = 0, 1, 2, 3
 
 
-def tell(text):
+def tell(text: str) -> None:
     print(f"psi: {text}", file=sys.stderr, flush=True)
 
 
-def number_in(file, pattern=r"(\d+)"):
+def number_in(file: str, pattern: str = r"(\d+)") -> int | None:
     """Returns the number that a pattern finds in a file of the system, or none."""
     with contextlib.suppress(OSError):
         found = re.search(pattern, pathlib.Path(file).read_text())
@@ -58,7 +61,7 @@ def number_in(file, pattern=r"(\d+)"):
     return None
 
 
-def processors():
+def processors() -> int:
     """Returns how many processors this process may use, by its affinity and its control group."""
     found = len(os.sched_getaffinity(0))
     group = "/sys/fs/cgroup/cpu.max"
@@ -66,28 +69,28 @@ def processors():
     return min(found, max(1, quota // period)) if quota and period else found
 
 
-def memory():
+def memory() -> float:
     """Returns how many MB may be taken: most of what the group and the machine have free."""
-    found = number_in("/proc/meminfo", r"MemAvailable:\s+(\d+)") // 1024
+    found: float = (number_in("/proc/meminfo", r"MemAvailable:\s+(\d+)") or 0) // 1024
     group = "/sys/fs/cgroup/memory"
     limit, held = number_in(f"{group}.max"), number_in(f"{group}.stat", r"anon (\d+)")
     found = min(found, (limit - held) >> 20) if limit and held else found
     return SHARE * found
 
 
-def duration(seconds):
+def duration(seconds: float) -> str:
     """Returns a time in words: to ten seconds, and from two minutes on to a minute."""
     tens = max(1, round(seconds / 10))
     return f"{tens * 10} s" if tens < 12 else f"{round(seconds / 60)} min"
 
 
-def crates_of(count):
+def crates_of(count: int) -> str:
     return f"{count} crate" if count == 1 else f"{count} crates"
 
 
-def lines_of(crates):
+def lines_of(crates: Crates) -> Callable[[str], int]:
     """Returns the call that counts a crate's lines of code."""
-    def count(name):
+    def count(name: str) -> int:
         sources = [file for file in crates.sources(name) if file.suffix == ".rt"]
         return sum(file.read_bytes().count(b"\n") for file in sources)
 
@@ -97,27 +100,33 @@ def lines_of(crates):
 class Build:
     """The proof of all crates of a program, under way."""
 
-    def __init__(self, crates, schedule, lanes, is_current):
+    def __init__(
+        self, crates: Crates, schedule: Schedule, lanes: Callable[[int], Lane], is_current: Callable[[str], bool]
+    ) -> None:
         """`lanes` makes a lane; `is_current` tells whether a crate needs no proof."""
         self.crates, self.schedule, self.make_lane = crates, schedule, lanes
         self.done = {name for name in crates.names[:-1] if is_current(name)}
         self.waiting = [name for name in crates.names if name not in self.done]
-        self.whole, self.running, self.failed = len(self.waiting), {}, []
-        self.idle, self.lanes, self.ended = [], [], queue.SimpleQueue()
+        self.whole = len(self.waiting)
+        self.running: dict[str, tuple[int, float]] = {}
+        self.failed: list[str] = []
+        self.idle: list[Lane] = []
+        self.lanes: list[Lane] = []
+        self.ended: queue.SimpleQueue[tuple[str, Lane, int]] = queue.SimpleQueue()
         self.pace, self.begun = Pace(schedule.costs), time.monotonic()
         self.noted = self.begun
 
-    def jobs(self):
+    def jobs(self) -> dict[str, int]:
         return {name: jobs for name, (jobs, _) in self.running.items()}
 
-    def note(self):
+    def note(self) -> None:
         """Notes what the crates under way have taken since this was noted, as they would at full
         speed."""
         now = time.monotonic()
         took, self.noted = (now - self.noted) * self.schedule.rate(self.jobs()), now
         self.running = {name: (jobs, it + took) for name, (jobs, it) in self.running.items()}
 
-    def start(self, name, jobs, work):
+    def start(self, name: str, jobs: int, work: "Work") -> None:
         """Begins the proof of a crate in a lane of its own; `work` does it."""
         if not self.idle:
             self.lanes.append(self.make_lane(len(self.lanes)))
@@ -126,7 +135,7 @@ class Build:
         self.waiting.remove(name)
         self.running[name] = jobs, 0
 
-        def run():
+        def run() -> None:
             status = 1
             try:
                 status = work(lane, name, jobs)
@@ -135,7 +144,7 @@ class Build:
 
         threading.Thread(target=run, daemon=True).start()
 
-    def end(self, name, lane, status):
+    def end(self, name: str, lane: Lane, status: int) -> None:
         """Notes that a proof is over. One that was ended from outside, most likely for want of
         memory, is tried again by itself."""
         jobs, took = self.running.pop(name)
@@ -149,7 +158,7 @@ class Build:
         else:
             self.failed.append(name)
 
-    def run(self, work):
+    def run(self, work: "Work") -> bool:
         """Proves all, and returns whether all is proved."""
         while self.waiting or self.running:
             while not self.failed and (
@@ -167,12 +176,12 @@ class Build:
                 self.end(*ended)
         return not self.waiting and not self.failed
 
-    def left(self):
+    def left(self) -> float:
         """Returns about how many seconds are left."""
         pace = self.pace.value(self.running)
         return self.schedule.left(self.waiting, self.done, self.running, pace)
 
-    def say(self):
+    def say(self) -> None:
         """Tells how far it is."""
         now = time.monotonic() - self.begun
         count = self.whole - len(self.waiting) - len(self.running) - len(self.failed)
@@ -185,11 +194,11 @@ class Build:
 class Work:
     """What is done with a crate in a lane."""
 
-    def __init__(self, crates, marks, cpu):
+    def __init__(self, crates: Crates, marks: Marks, cpu: str) -> None:
         self.crates, self.marks, self.cpu = crates, marks, cpu
-        self.printing, self.processor_time = threading.Lock(), 0
+        self.printing, self.processor_time = threading.Lock(), 0.0
 
-    def __call__(self, lane, name, jobs):
+    def __call__(self, lane: Lane, name: str, jobs: int) -> int:
         begun = time.monotonic()
         with tempfile.TemporaryFile("w+", errors="replace") as log:
             status = self.prove(lane, name, jobs, log)
@@ -205,7 +214,7 @@ class Work:
                 print(f"{head}\n{text}", end="", flush=True)
         return status
 
-    def prove(self, lane, name, jobs, log):
+    def prove(self, lane: Lane, name: str, jobs: int, log: IO[str]) -> int:
         """Has `rt` do it, and returns its exit status."""
         if name == PROGRAM:
             words = ["rt", "run", "--jobs", str(jobs), f"--cpu={self.cpu}"]
@@ -216,12 +225,12 @@ class Work:
         return status
 
 
-def kit():
+def kit() -> str:
     """Returns what the toolchain calls itself."""
     return subprocess.run(["rt", "version"], capture_output=True, text=True).stdout.strip()
 
 
-def build(cpu, room):
+def build(cpu: str, room: pathlib.Path) -> bool:
     """Builds the program with lanes in a folder, and returns whether it is built."""
     name = kit()
     if LOGIC not in name:
@@ -244,7 +253,7 @@ def build(cpu, room):
             lane.stop()
 
 
-def main():
+def main() -> int:
     for it in (signal.SIGTERM, signal.SIGHUP):
         signal.signal(it, lambda number, _: sys.exit(128 + number))
     out = TOP / "crates" / PROGRAM / "out"

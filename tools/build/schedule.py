@@ -4,6 +4,12 @@ Seconds are those of seconds.txt, for one job and for four. The clock of this ma
 with them by `Pace`.
 """
 
+from collections.abc import Callable, Collection, Iterable, Mapping
+
+from tools.build.crates import Crates
+
+# The crates under way: the jobs of each, and its seconds so far at full speed.
+UnderWay = Mapping[str, tuple[int, float]]
 MOST_JOBS = 4
 # A crate that seconds.txt does not list: seconds a line of its sources, how much faster four jobs
 # are, and MB of memory.
@@ -20,28 +26,29 @@ OVERDUE = 0.15
 class Costs:
     """What the proof of each crate takes: seconds with one job and with four, and MB of memory."""
 
-    def __init__(self, text, lines):
+    def __init__(self, text: str, lines: Callable[[str], int]) -> None:
         """`text` is that of seconds.txt, `lines` returns how many lines of code a crate has."""
-        self.listed, self.lines = {}, lines
+        self.listed: dict[str, tuple[float, ...]] = {}
+        self.lines = lines
         for line in text.splitlines():
             words = line.partition("#")[0].split()
             if words:
                 self.listed[words[0]] = tuple(map(float, words[1:]))
 
-    def of(self, name):
+    def of(self, name: str) -> tuple[float, ...]:
         """Returns seconds with one job, seconds with four, and MB."""
         if name not in self.listed:
             one = SECONDS_A_LINE * self.lines(name)
             self.listed[name] = one, one / GAIN, MEMORY
         return self.listed[name]
 
-    def seconds(self, name, jobs):
+    def seconds(self, name: str, jobs: int) -> float:
         """Returns about how many seconds a crate takes with so many jobs."""
         one, four, _ = self.of(name)
         share = (1 - 1 / min(jobs, MOST_JOBS)) / (1 - 1 / MOST_JOBS)
         return one + (four - one) * share
 
-    def memory(self, name, jobs):
+    def memory(self, name: str, jobs: int) -> float:
         """Returns about how many MB a crate takes with so many jobs."""
         return self.of(name)[2] * (1 + JOB_SHARE * (jobs - 1))
 
@@ -53,35 +60,37 @@ class Schedule:
     crates are started until all processors are in use; a crate on a chain that decides when all is
     over gets several jobs, and so does one beside which nothing else can be started."""
 
-    def __init__(self, crates, costs, processors, memory, most=None):
+    def __init__(
+        self, crates: Crates, costs: Costs, processors: int, memory: float, most: int | None = None
+    ) -> None:
         """`processors` is how many may be used, `memory` how many MB, and `most` how many crates
         may be under way at a time, if that is bounded."""
         self.crates, self.costs, self.most = crates, costs, most or len(crates.names)
         self.processors, self.memory = processors, memory
-        self.behind = dict.fromkeys(crates.names, 0)
+        self.behind = dict.fromkeys(crates.names, 0.0)
         for name in reversed(crates.names):
             self.behind[name] += costs.seconds(name, 1)
             for below in crates.uses[name]:
                 self.behind[below] = max(self.behind[below], self.behind[name])
 
-    def speed(self, name, jobs):
+    def speed(self, name: str, jobs: int) -> float:
         """Returns how much faster a crate is with so many jobs."""
         return self.costs.seconds(name, 1) / self.costs.seconds(name, jobs)
 
-    def used(self, running):
+    def used(self, running: Mapping[str, int]) -> float:
         """Returns how many processors some crates use on average; `running` has their jobs."""
         return sum(self.speed(name, jobs) for name, jobs in running.items())
 
-    def rate(self, running):
+    def rate(self, running: Mapping[str, int]) -> float:
         """Returns the part of their speed that crates have which share the processors."""
         return min(1, self.processors / max(1, self.used(running)))
 
-    def ready(self, waiting, done):
+    def ready(self, waiting: Iterable[str], done: Collection[str]) -> list[str]:
         """Returns the crates that can be started, the longest chain first."""
-        found = [name for name in waiting if done.issuperset(self.crates.uses[name])]
+        found = [name for name in waiting if {*done}.issuperset(self.crates.uses[name])]
         return sorted(found, key=lambda name: -self.behind[name])
 
-    def jobs_of(self, name, share, waiting):
+    def jobs_of(self, name: str, share: float, waiting: Iterable[str]) -> int:
         """Returns how many jobs a crate gets that may use a share of the processors."""
         most = min(MOST_JOBS, self.processors)
         rest = sum(self.costs.seconds(it, 1) for it in waiting) / self.processors
@@ -91,7 +100,9 @@ class Schedule:
             most -= 1
         return most
 
-    def next(self, waiting, done, running):
+    def next(
+        self, waiting: Collection[str], done: Collection[str], running: Mapping[str, int]
+    ) -> tuple[str, int] | None:
         """Returns the crate to start now and its jobs, or none. `running` has the jobs of those
         under way."""
         ready = self.ready(waiting, done)
@@ -105,10 +116,12 @@ class Schedule:
                 return name, jobs
         return None if running else (ready[0], 1)
 
-    def left(self, waiting, done, running, pace):
+    def left(
+        self, waiting: Collection[str], done: Collection[str], running: UnderWay, pace: float
+    ) -> float:
         """Returns about how many seconds the rest takes, by playing it through. `running` has jobs
         and the seconds so far at full speed."""
-        clock, waiting, done = 0, set(waiting), set(done)
+        clock, waiting, done = 0.0, set(waiting), set(done)
         jobs = {name: it for name, (it, _) in running.items()}
         rest = {
             name: max(pace * self.costs.seconds(name, it) - so_far, OVERDUE * so_far)
@@ -119,7 +132,7 @@ class Schedule:
                 name, jobs[found[0]] = found
                 waiting.discard(name)
                 rest[name] = pace * self.costs.seconds(*found)
-            name, rate = min(rest, key=rest.get), self.rate(jobs)
+            name, rate = min(rest, key=rest.__getitem__), self.rate(jobs)
             took = rest.pop(name)
             clock += took / rate
             rest = {other: it - took for other, it in rest.items()}
@@ -136,16 +149,16 @@ class Pace:
     # The part of its listed seconds below which a crate was proved earlier, and says nothing.
     LEAST = 0.1
 
-    def __init__(self, costs):
-        self.costs, self.took, self.listed = costs, self.PRIOR, self.PRIOR
+    def __init__(self, costs: Costs) -> None:
+        self.costs, self.took, self.listed = costs, float(self.PRIOR), float(self.PRIOR)
 
-    def add(self, name, jobs, seconds):
+    def add(self, name: str, jobs: int, seconds: float) -> None:
         """Notes what a crate took at full speed."""
         listed = self.costs.seconds(name, jobs)
         if seconds >= self.LEAST * listed:
             self.took, self.listed = self.took + seconds, self.listed + listed
 
-    def value(self, running):
+    def value(self, running: UnderWay) -> float:
         """Returns the pace; of the crates under way those count that are slower than it."""
         took, listed = self.took, self.listed
         for name, (jobs, so_far) in running.items():

@@ -14,9 +14,9 @@ sys.dont_write_bytecode = True
 sys.path.insert(0, str(pathlib.Path(__file__).resolve().parent.parent))
 
 import packaged  # noqa: F401, E402
-from psi_tools.program import read_file  # noqa: E402
-from psi_tools.told import Told, printable  # noqa: E402
-from psi_tools.where import found_in, text_of, text_of_line  # noqa: E402
+from psi_tools.io.files import read_file  # noqa: E402
+from psi_tools.errors import PsiError, printable  # noqa: E402
+from psi_tools.model.where import found_in, text_of, text_of_line  # noqa: E402
 
 LOG = re.compile(r"psi: log (refused|rejected) \d+ (\w+) line (\d+)")
 # The most bytes of a log that are read.
@@ -78,5 +78,5 @@ def main(line, *words):
 if __name__ == "__main__":
     try:
         main(*sys.argv[1:])
-    except (Told, OSError, LookupError, TypeError):
+    except (PsiError, OSError, LookupError, TypeError):
         sys.exit(1)

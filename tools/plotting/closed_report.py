@@ -10,7 +10,7 @@ import sys
 
 sys.path.insert(0, str(pathlib.Path(__file__).resolve().parent.parent))
 import packaged  # noqa: E402, F401
-from psi_tools.commands import start  # noqa: E402
+from psi_tools.cli.entry import start  # noqa: E402
 
 if __name__ == "__main__":
-    sys.exit(start("closed", "closed_report"))
+    sys.exit(start("closed_report", "closed_report"))

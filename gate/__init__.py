@@ -1,0 +1,1 @@
+"""What is compared before a change lands: crates, edges, lemmas, definitions, the statement."""

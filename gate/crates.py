@@ -1,0 +1,83 @@
+"""python3 -m gate.crates [--check]
+
+Writes into each crate's folder a README.md of one line, which says what the crate is for: its row in
+docs/ARCHITECTURE.md. With --check it writes nothing, and tells what isn't so:
+
+- each crate of crates.txt has one row there, and each row is one of a crate;
+- a crate's row stands behind those of all crates that it stands on;
+- its README.md has its row, and its root file begins with a comment on what it holds.
+
+The exit status is 1 where something is told, and 2 where the words aren't right.
+"""
+
+import pathlib
+import re
+import sys
+from collections.abc import Iterator
+
+from tools.build.crates import crates_below
+
+TOP = pathlib.Path(__file__).resolve().parent.parent
+ROW = re.compile(r"^\| `(\w+)` \| (.*) \|$", re.M)
+
+
+def rows() -> list[tuple[str, str]]:
+    """The rows of crates in docs/ARCHITECTURE.md, in their order."""
+    text = (TOP / "docs/ARCHITECTURE.md").read_text()
+    begin = text.index("\n## The crates\n")
+    return ROW.findall(text, begin, text.index("\n## ", begin + 1))
+
+
+def readme(name: str) -> pathlib.Path:
+    """Where a crate says what it is for."""
+    return TOP / "crates" / name / "README.md"
+
+
+def line_of(name: str, what: str) -> str:
+    """What a crate's README.md says."""
+    return f"`{name}`: {what}.\n"
+
+
+def root(name: str) -> pathlib.Path:
+    """The root file of a crate."""
+    source = TOP / "crates" / name / "src"
+    return next(file for file in (source / "lib.rt", source / "main.rt") if file.exists())
+
+
+def faults() -> Iterator[str]:
+    """What isn't so."""
+    known, listed = crates_below(TOP), rows()
+    names = [name for name, _ in listed]
+    for name in sorted({*known, *names}):
+        count = names.count(name)
+        if name not in known:
+            yield f"{name} has a row in ARCHITECTURE, and isn't in crates.txt"
+        elif count != 1:
+            yield f"{name} has {count} rows in ARCHITECTURE"
+    for place, (name, what) in enumerate(listed):
+        if name not in known:
+            continue
+        late = [below for below in known[name] if below in names[place:]]
+        if late:
+            yield f"the row of {name} stands before those of {', '.join(late)}"
+        if not readme(name).exists() or readme(name).read_text() != line_of(name, what):
+            yield f"the README.md of {name} isn't its row: run `python3 -m gate.crates`"
+        if not root(name).read_text().startswith("//! "):
+            yield f"the root file of {name} doesn't begin with a comment on what it holds"
+
+
+def main(words: list[str]) -> int:
+    if words not in ([], ["--check"]):
+        print("gate.crates: [--check]", file=sys.stderr)
+        return 2
+    if not words:
+        for name, what in rows():
+            readme(name).write_text(line_of(name, what))
+        return 0
+    told = [*faults()]
+    print("".join(f"{fault}\n" for fault in told), end="")
+    return 1 if told else 0
+
+
+if __name__ == "__main__":
+    sys.exit(main(sys.argv[1:]))

@@ -1,0 +1,1 @@
+"""Makes files of this repository again: cases, tables of events, pictures."""

@@ -1,0 +1,143 @@
+"""python3 -m generate.all_kinds > FILE.cases
+
+Writes cases of `check` that show the mark of every kind of event on networks of one to three small
+queues: each list of targets, each source, each rule of tables, several sizes, amounts and parts.
+What is wanted is what the plain program answers (plain.py); here each of its marks is compared with
+all pairs of states.
+"""
+
+import itertools
+import tomllib
+from collections.abc import Iterator, Sequence
+
+from generate.case_text import Output, case
+from generate.small_networks import Entry
+from generate.toml_text import table
+from oracle import plain
+from oracle.plain_network import Network, box, is_below
+
+CAPACITIES = [(1,), (3,), (4,), (1, 2), (2, 2), (4, 2), (1, 2, 1)]
+NAMES = "abc"
+FULLS = ("lost", "stay")
+TOGETHER = 128
+
+
+def lists(queues: Sequence[str]) -> Iterator[list[str]]:
+    """The lists of up to two queues, and two of three."""
+    for count in (1, 2):
+        yield from ([*some] for some in itertools.permutations(queues, count))
+    if len(queues) == 3:
+        yield from ([queues[0], queues[1], queues[2]], [queues[2], queues[0], queues[1]])
+
+
+def value(pattern: int, place: int, number: int) -> int:
+    """The value of a target's table: rising, falling, up and down."""
+    rules = (number, 9 - number, (7 * number + 3 * place) % 5, (5 * number + 2 * place + 1) % 4)
+    return rules[pattern]
+
+
+def indexes(caps: dict[str, int], origin: str | None, to: list[str]) -> Iterator[Entry]:
+    keys = {"from": origin} if origin else {}
+    for full, pattern in itertools.product(FULLS, range(4)):
+        rows = [[value(pattern, i, n) for n in range(caps[queue])] for i, queue in enumerate(to)]
+        for size in (1, 2):
+            if size == 1 or not origin and size <= min(caps[queue] for queue in to):
+                yield {"kind": "index", **keys, "to": to, "table": rows, "full": full, "size": size}
+
+
+def part(queue: str, cap: int, pattern: int) -> Entry:
+    """A part of a guarded event, by a pattern."""
+    numbers = (
+        (0, cap, 1, 0, cap),
+        (1, cap, -1, 0, cap),
+        (0, cap // 2, 2, 0, cap),
+        (cap, cap, -2, 0, cap),
+        (0, cap, 0, 0, 0),
+        (0, cap // 2, 0, cap, cap),
+        (cap // 2, cap, -65535, cap // 2, cap),
+        (0, cap - 1, 1, 1, cap),
+    )[pattern]
+    return {"queue": queue, **dict(zip(("least", "most", "shift", "floor", "ceiling"), numbers))}
+
+
+def guarded(caps: dict[str, int]) -> Iterator[Entry]:
+    first, last = list(caps)[0], list(caps)[-1]
+    for pattern in range(8):
+        own = part(first, caps[first], pattern)
+        yield {"kind": "guarded", "part": [own]}
+        if first != last:
+            for other in range(8):
+                yield {"kind": "guarded", "part": [part(last, caps[last], other), own]}
+
+
+def without_source(caps: dict[str, int], to: list[str]) -> Iterator[Entry]:
+    yield {"kind": "arrival", "to": to}
+    for size in range(1, min(3, *(caps[queue] for queue in to)) + 1):
+        yield {"kind": "batch", "to": to, "size": size}
+    yield {"kind": "join", "from": to}
+    for queue in caps:
+        if queue not in to:
+            yield {"kind": "join", "from": to, "to": queue}
+
+
+def kinds(caps: dict[str, int]) -> Iterator[Entry]:
+    """The keys of all events, one after another."""
+    yield from guarded(caps)
+    for to in lists(list(caps)):
+        yield from without_source(caps, to)
+        for origin in (None, *caps):
+            if origin in to:
+                continue
+            yield {"kind": "fork", **({"from": origin} if origin else {}), "to": to}
+            yield from indexes(caps, origin, to)
+            if origin:
+                for full in FULLS:
+                    yield {"kind": "service", "from": origin, "to": to, "full": full}
+    for origin in caps:
+        yield from ({"kind": "service", "from": origin, "full": full} for full in FULLS)
+    for origin, on, amount in itertools.product((None, *caps), caps, (1, 2, 65535)):
+        if origin != on:
+            keys = {"from": origin} if origin else {}
+            yield {"kind": "negative", **keys, "on": on, "amount": amount}
+
+
+def prove_marks(net: Network) -> None:
+    """Each event's mark is right: its pair breaks the order; without one all states keep it."""
+    states = box((0,) * len(net.caps), net.caps)
+    for event in net.events:
+        pair = event.upset()
+        pairs = [pair] if pair else itertools.product(states, repeat=2)
+        for x, y in pairs:
+            keeps = not is_below(x, y) or is_below(event.after(x), event.after(y))
+            assert keeps == (pair is None), (event.name, x, y)
+
+
+def cases() -> Iterator[bytes]:
+    """The cases of `check`, so many events in each."""
+    for sizes in CAPACITIES:
+        caps = dict(zip(NAMES, sizes))
+        head = "version = 2\n" + "".join(
+            table("queue", {"name": name, "capacity": cap, "servers": cap}) for name, cap in caps.items()
+        )
+        entries = list(kinds(caps))
+        for front in range(0, len(entries), TOGETHER):
+            text = head + "".join(
+                table("event", {"name": f"e{front + i}", "rate": 1, **keys})
+                for i, keys in enumerate(entries[front : front + TOGETHER])
+            )
+            net = Network(tomllib.loads(text))
+            prove_marks(net)
+            name = f"kinds-{'-'.join(map(str, sizes))}-from-{front}"
+            files = {"net.toml": text.encode()}
+            out = plain.description(net).encode()
+            yield case(name, ["check", "net.toml"], files, 0, out)
+
+
+def main() -> None:
+    with Output() as output:
+        for data in cases():
+            output.put(data)
+
+
+if __name__ == "__main__":
+    main()

@@ -1,0 +1,229 @@
+"""Writes cases; crates/psi_test_cases/src/reader.rt describes their form.
+
+A text that comes more than once in a file of cases stands there once, under a name, and so does a
+table of a network: `shared` writes so what `case` has written.
+"""
+
+import collections
+import re
+import sys
+import types
+from collections.abc import Callable, Iterable, Iterator, Mapping, Sequence
+
+# The lines of a text.
+Lines = tuple[bytes, ...]
+# One or two bytes that stand at least 256 times in a row.
+REPEATED = re.compile(rb"([^\n]{1,2}?)\1{255,}")
+# A line of a text in a case.
+TEXT = re.compile(rb"[|\\]|repeat ")
+# The first line of a part of a network: a table, the list of events, or one entry of a list.
+PART = re.compile(rb"\|(?:\[\[|event = \[|    \{)")
+# The letter with which the name of a text begins, by its first line.
+LETTERS = (
+    (re.compile(rb"\|\[\[queue|\|    \{name = \"\w\","), "q"),
+    (re.compile(rb"\|\[\[event\]|\|    \{|\|event = "), "e"),
+    (re.compile(rb"\|\[\[reward"), "r"),
+    (re.compile(rb"\|version = "), "n"),
+    (re.compile(rb"\|psi-log "), "l"),
+)
+# A text that is no network and has fewer bytes stands where it is read; a line with names has at
+# most so many.
+SHORT, WIDTH = 64, 100
+
+
+def _plain(data: bytes) -> list[bytes]:
+    """The lines that stand for some bytes, one by one."""
+    *whole, last = data.split(b"\n")
+    lines = [b"|" + line for line in whole]
+    return lines + [b"\\" + last] if last else lines
+
+
+def _text(data: bytes) -> list[bytes]:
+    """The lines that stand for some bytes; what stands many times in a row is counted."""
+    lines: list[bytes] = []
+    at = 0
+    for run in REPEATED.finditer(data):
+        count = len(run[0]) // len(run[1])
+        lines += [*_plain(data[at : run.start()]), b"repeat %d %s" % (count, run[1])]
+        at = run.end()
+    return lines + _plain(data[at:])
+
+
+def bytes_of(lines: Iterable[bytes]) -> bytes:
+    """The bytes that the lines of a text stand for."""
+    data = b""
+    for line in lines:
+        if line[:1] == b"|":
+            data += line[1:] + b"\n"
+        elif line[:1] == b"\\":
+            data += line[1:]
+        else:
+            count, text = line.split(b" ", 2)[1:]
+            data += int(count) * text
+    return data
+
+
+def _word(word: str) -> list[bytes]:
+    data = word.encode()
+    if b"\n" in data:
+        return [b"word", *_text(data)]
+    return [b"word " + data] if data else [b"word"]
+
+
+def case(
+    name: str,
+    words: Iterable[str],
+    files: Mapping[str, bytes],
+    status: int,
+    out: bytes = b"",
+    err: bytes = b"",
+    **limits: int,
+) -> bytes:
+    """The bytes of a case. `files` are bytes by name; `limits` are those of the form, as `room`."""
+    lines = [b"case " + name.encode()]
+    for word in words:
+        lines += _word(word)
+    for file, data in files.items():
+        lines += [b"file " + file.encode(), *_text(data)]
+    lines += [b"%s %d" % (key.encode(), number) for key, number in limits.items()]
+    lines.append(b"status %d" % status)
+    for key, data in ((b"out", out), (b"err", err)):
+        if data:
+            lines += [key, *_text(data)]
+    return b"\n".join([*lines, b"end", b"", b""])
+
+
+def _size(lines: Iterable[bytes]) -> int:
+    return sum(len(line) + 1 for line in lines)
+
+
+def _is_worth(lines: Lines, count: int) -> bool:
+    """Whether lines that come so often are shorter under a name, of five bytes."""
+    is_long = _size(lines) >= SHORT or any(form.match(lines[0]) for form, _ in LETTERS)
+    return is_long and (count - 1) * _size(lines) > 10 + 6 * count
+
+
+def _parts(lines: Lines) -> list[Lines]:
+    """The parts of a text, each its lines: those of a network, or the whole."""
+    begins = [place for place, line in enumerate(lines) if PART.match(line)]
+    ends = [0, *begins, len(lines)]
+    return [tuple(lines[at:to]) for at, to in zip(ends, ends[1:]) if at < to]
+
+
+def _longer(texts: Mapping[Lines, bytes]) -> dict[Lines, Lines]:
+    """For each text that begins another one, the longest that it begins."""
+    found: dict[Lines, Lines] = {}
+    inner = sorted(texts, key=lambda lines: texts[lines])
+    for lines, other in zip(reversed(inner[:-1]), reversed(inner[1:])):
+        longest = found.get(other, other)
+        if texts[longest].startswith(texts[lines]):
+            found[lines] = longest
+        elif texts[other].startswith(texts[lines]):
+            found[lines] = other
+    return found
+
+
+class _Shared:
+    """The names of the texts of a file of cases, and the file so far."""
+
+    def __init__(self, blocks: Sequence[Lines]) -> None:
+        self.written: list[bytes] = []
+        self.names: dict[Lines, bytes] = {}
+        self.numbers: collections.Counter[str] = collections.Counter()
+        wholes = collections.Counter(block for block in blocks if TEXT.match(block[0]))
+        self.bytes = {lines: bytes_of(lines) for lines in wholes}
+        again = {lines for lines, count in wholes.items() if _is_worth(lines, count)}
+        self.longer = {
+            lines: other for lines, other in _longer(self.bytes).items() if lines not in again and _size(lines) >= SHORT
+        }
+        self.again = again.union(self.longer.values())
+        kept = (lines for lines in wholes if lines not in self.longer)
+        self.parts = collections.Counter(part for lines in kept for part in _parts(lines))
+
+    def name(self, lines: Lines, body: Callable[[Lines], list[bytes]]) -> bytes:
+        """The name of a text, which is written now where it has none yet."""
+        if lines not in self.names:
+            letter = next((one for form, one in LETTERS if form.match(lines[0])), "t")
+            written = body(lines)
+            self.numbers[letter] += 1
+            self.names[lines] = b"%s%d" % (letter.encode(), self.numbers[letter])
+            self.written += [b"let " + self.names[lines], *written]
+        return self.names[lines]
+
+    def of_parts(self, lines: Lines) -> list[bytes]:
+        """A text by its parts: the names of those that come again, and the lines of the others."""
+        result: list[bytes] = []
+        names: list[bytes] = []
+        for part in _parts(lines):
+            if part != lines and _is_worth(part, self.parts[part]):
+                names.append(self.name(part, list))
+                continue
+            result += [*_used(names), *part]
+            names = []
+        return result + _used(names)
+
+    def text(self, lines: Lines) -> list[bytes]:
+        """The lines that stand for a text in a case."""
+        if lines in self.longer:
+            longer = self.name(self.longer[lines], self.of_parts)
+            return [b"front %d %s" % (len(self.bytes[lines]), longer)]
+        if lines in self.again:
+            return [b"use " + self.name(lines, self.of_parts)]
+        return self.of_parts(lines)
+
+
+def _used(names: Iterable[bytes]) -> list[bytes]:
+    """The lines that put these names."""
+    lines: list[bytes] = []
+    for name in names:
+        if lines and len(lines[-1]) + len(name) < WIDTH:
+            lines[-1] += b" " + name
+        else:
+            lines.append(b"use " + name)
+    return lines
+
+
+def _blocks(lines: Iterable[bytes]) -> Iterator[Lines]:
+    """Lines, those of one text together."""
+    block: list[bytes] = []
+    for line in lines:
+        if not TEXT.match(line) or block and not TEXT.match(block[0]):
+            if block:
+                yield tuple(block)
+            block = []
+        block.append(line)
+    yield tuple(block)
+
+
+def shared(data: bytes) -> bytes:
+    """The same cases, in which what comes again stands once, before the first case that has it."""
+    blocks = [*_blocks(data.removesuffix(b"\n").split(b"\n"))]
+    file = _Shared(blocks)
+    lines: list[bytes] = []
+    for block in blocks:
+        if block[0]:
+            lines += file.text(block) if TEXT.match(block[0]) else block
+        if lines[-1:] == [b"end"]:
+            file.written += [*lines, b""]
+            lines = []
+    return b"\n".join([*file.written, b""])
+
+
+class Output:
+    """The file of cases that a program writes to its standard output: its end writes it."""
+
+    def __init__(self) -> None:
+        self.cases: list[bytes] = []
+
+    def __enter__(self) -> "Output":
+        return self
+
+    def put(self, data: bytes) -> None:
+        """Adds the bytes of a case."""
+        self.cases.append(data)
+
+    def __exit__(
+        self, kind: type[BaseException] | None, fault: BaseException | None, trace: types.TracebackType | None
+    ) -> None:
+        if kind is None:
+            sys.stdout.buffer.write(shared(b"".join(self.cases)))

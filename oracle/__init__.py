@@ -1,0 +1,1 @@
+"""What shares nothing with PSI: plain programs that say what it has to answer."""

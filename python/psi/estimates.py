@@ -1,0 +1,300 @@
+"""Reports, means and distributions over many samples, as DataFrames."""
+
+import warnings
+from collections.abc import Sequence
+from typing import Any
+
+import pandas
+
+from psi.calls import ProgressBar, drawn, resolved, streams_of, warn_uncoupled
+from psi.results import FewSamples
+from psi_tools.arguments import level_argument
+from psi_tools.draw.blocks import digest_of
+from psi_tools.draw.law import guaranteed_law_of, law_of
+from psi_tools.draw.program import Program
+from psi_tools.io.reports import together
+from psi_tools.model.networks import Source, data_of, network_of
+from psi_tools.stats.batches import REWARD, Batches, batches_of
+from psi_tools.stats.guaranteed import ASSUMED, Guarantee, Pilot, file_of
+from psi_tools.stats.guaranteed_rows import GuaranteedLaw, guaranteed_means
+from psi_tools.stats.law import RECORD
+
+
+def check(net: Source, *, program: Program | None = None) -> str:
+    """Check a network, and describe its queues and events.
+
+    Parameters
+    ----------
+    net : Network or path
+        A network, or the path of its file.
+    program : Program, optional
+        The program that is run; the one that is built, or on the PATH, by default.
+
+    Returns
+    -------
+    str
+        What `psi check` prints: a line for each queue and each event, with the monotonicity check.
+
+    Raises
+    ------
+    Refused
+        The network is refused; `line` is psi's own line.
+
+    Examples
+    --------
+    >>> import psi
+    >>> net = psi.Network().queue("desk", capacity=10)
+    >>> net = net.event("come", "arrival", rate=4, to=["desk"])
+    >>> net = net.event("serve", "service", rate=5, source="desk")
+    >>> psi.check(net).splitlines()[1]
+    'queue desk 10 1'
+    """
+    return resolved(program).ask("check", data_of(net)).out
+
+
+def report(
+    net: Source, seed: int = 0, first: int = 0, count: int = 1_000, *, program: Program | None = None
+) -> pandas.DataFrame:
+    """Draw a report of samples, as `psi report` prints it.
+
+    Parameters
+    ----------
+    net : Network or path
+        A network, or the path of its file.
+    seed : int
+        The seed, 0 to 2^64 - 1. The sample of a network, a seed and a stream is always the same.
+    first : int
+        The first stream, 0 to 2^64 - 1.
+    count : int
+        The number of streams, at least 1; there may be more than 65,536.
+    program : Program, optional
+        The program that is run; the one that is built, or on the PATH, by default.
+
+    Returns
+    -------
+    pandas.DataFrame
+        A row for each record, with the columns item, name and value. Sums are in customers, or in
+        the reward's unit; horizons are in steps. Values are whole, and Python's own integers where
+        they have more than 64 bits.
+
+    Raises
+    ------
+    ArgumentError
+        An argument is out of its range.
+    Refused
+        The network is refused.
+
+    Warns
+    -----
+    Uncoupled
+        Streams that aren't coupled are left out, so the others are biased.
+
+    Examples
+    --------
+    >>> import psi
+    >>> net = psi.Network().queue("desk", capacity=10)
+    >>> net = net.event("come", "arrival", rate=4, to=["desk"])
+    >>> net = net.event("serve", "service", rate=5, source="desk")
+    >>> table = psi.report(net, seed=0, first=0, count=200)
+    >>> int(table.set_index("item").loc["samples", "value"])
+    200
+    """
+    seed, first, count = streams_of(seed, first, count)
+    reports = drawn(resolved(program), data_of(net), seed, first, count)
+    whole = reports[0]
+    for other in reports[1:]:
+        whole = together(whole, other)
+    warn_uncoupled(whole.samples - whole.met, whole.samples)
+    rows = [line.split(",") for line in whole.text().decode().splitlines()[1:]]
+    table = pandas.DataFrame(rows, columns=["item", "name", "value"])
+    values = [int(value) for value in table["value"]]
+    is_small = all(-(2**63) <= value < 2**63 for value in values)
+    table["value"] = pandas.Series(values, dtype="int64" if is_small else object)
+    return table
+
+
+def means(
+    net: Source,
+    seed: int = 0,
+    first: int = 0,
+    count: int = 10_000,
+    level: float = 0.95,
+    guaranteed: bool = False,
+    *,
+    program: Program | None = None,
+) -> pandas.DataFrame:
+    """Estimate the stationary means of all queues and rewards, with confidence intervals.
+
+    Parameters
+    ----------
+    net : Network or path
+        A network, or the path of its file.
+    seed : int
+        The seed, 0 to 2^64 - 1.
+    first : int
+        The first stream, 0 to 2^64 - 1.
+    count : int
+        The number of streams, at least 1. For intervals there are 20 or more.
+    level : float
+        The confidence level, 0.5 to 0.9999.
+    guaranteed : bool
+        Whether the coverage of each interval is a theorem, by the sums alone. `attrs` of the
+        DataFrame then has the certificates, and what is assumed.
+    program : Program, optional
+        The program that is run; the one that is built, or on the PATH, by default.
+
+    Returns
+    -------
+    pandas.DataFrame
+        A row for each queue, in customers, and each reward, in its unit. The index has two levels,
+        sort, which is 'queue' or 'reward', and name. The columns are mean; half, low and high of
+        the interval; least and greatest of the samples. Where low and high are not symmetric they
+        say more than half.
+
+    Raises
+    ------
+    ArgumentError
+        An argument is out of its range.
+    Refused
+        The network is refused.
+
+    Warns
+    -----
+    Uncoupled
+        Streams aren't coupled: the means are of the others, and the intervals are wider.
+    FewSamples
+        A few samples carry a mean.
+
+    Notes
+    -----
+    The values of 20 batches or more have Student's t, and an end also allows for a large value that
+    did not come. A row of two values has the interval of Clopper and Pearson.
+
+    Examples
+    --------
+    >>> import psi
+    >>> net = psi.Network().queue("desk", capacity=10)
+    >>> net = net.event("come", "arrival", rate=4, to=["desk"])
+    >>> net = net.event("serve", "service", rate=5, source="desk")
+    >>> found = psi.means(net, seed=0, first=0, count=2_000)
+    >>> list(found.columns)
+    ['mean', 'half', 'low', 'high', 'least', 'greatest']
+    >>> exact = sum(n * 0.8**n for n in range(11)) / sum(0.8**n for n in range(11))
+    >>> bool(abs(found.loc[("queue", "desk"), "mean"] - exact) < 0.3)
+    True
+    """
+    seed, first, count = streams_of(seed, first, count)
+    level, data = level_argument(level), data_of(net)
+    batches = batches_of(drawn(resolved(program), data, seed, first, count)).of_network(network_of(net))
+    warn_uncoupled(batches.uncoupled, count, "the means are of the others, and biased; intervals are wider")
+    columns = ["mean", "half", "low", "high", "least", "greatest"]
+    names = [("reward" if row.kind == REWARD else "queue", row.name) for row in batches.rows]
+    index = pandas.MultiIndex.from_tuples(names, names=["sort", "name"])
+    if guaranteed:
+        claims, records = guaranteed_means(batches, level)
+        table = pandas.DataFrame(records, index=index, columns=columns)
+        return _certified(table, claims, data, seed, first, count)
+    for line in batches.carried():
+        warnings.warn(line, FewSamples, stacklevel=2)
+    return pandas.DataFrame(_rows(batches, level), index=index, columns=columns)
+
+
+def _rows(batches: Batches, level: float) -> list[tuple[Any, ...]]:
+    """The rows of the table of means."""
+    means = [(batches.mean(row, level), row) for row in batches.rows]
+    return [(mean.mean, mean.half, mean.low, mean.high, row.least, row.greatest) for mean, row in means]
+
+
+def _certified(
+    table: pandas.DataFrame,
+    rows: Sequence[Guarantee],
+    data: bytes,
+    seed: int,
+    first: int,
+    count: int,
+    pilot: Pilot | None = None,
+) -> pandas.DataFrame:
+    """A DataFrame with the certificates of its intervals, as tools/check_interval.py reads them."""
+    drawn: dict[str, Any] = {"network": digest_of(data), "seed": seed, "first": first, "count": count}
+    if pilot:
+        drawn["pilot"] = {"first": pilot.first, "count": pilot.count}
+    table.attrs.update(certificates=file_of(rows, drawn), assumed=ASSUMED)
+    return table
+
+
+def law(
+    net: Source,
+    name: str,
+    seed: int = 0,
+    first: int = 0,
+    count: int = 10_000,
+    reward: bool = False,
+    guaranteed: bool = False,
+    *,
+    program: Program | None = None,
+) -> pandas.DataFrame:
+    """Estimate the stationary distribution of a queue's customers, or of a reward.
+
+    Parameters
+    ----------
+    net : Network or path
+        A network, or the path of its file.
+    name : str
+        The name of a queue or of a reward.
+    seed : int
+        The seed, 0 to 2^64 - 1.
+    first : int
+        The first stream, 0 to 2^64 - 1.
+    count : int
+        The number of streams, at least 1.
+    reward : bool
+        Whether the name is that of a reward; without it a queue is meant where both have it.
+    guaranteed : bool
+        Whether the coverage of each interval is a theorem. `attrs` of the DataFrame then has the
+        certificates, those of the mean and of quantiles too, and what is assumed.
+    program : Program, optional
+        The program that is run; the one that is built, or on the PATH, by default.
+
+    Returns
+    -------
+    pandas.DataFrame
+        A row for each value that came, by the value. The columns are count, in samples;
+        probability, low and high; at_most, the probability of no greater value, at_most_low and
+        at_most_high. Each interval holds its probability in 95 % of all repetitions, or more often.
+
+    Raises
+    ------
+    PsiError
+        The network has no such queue or reward.
+    ArgumentError
+        An argument is out of its range.
+    Refused
+        The network is refused.
+
+    Warns
+    -----
+    Uncoupled
+        Streams aren't coupled, so the others are biased.
+
+    Examples
+    --------
+    >>> import psi
+    >>> net = psi.Network().queue("desk", capacity=10)
+    >>> net = net.event("come", "arrival", rate=4, to=["desk"])
+    >>> net = net.event("serve", "service", rate=5, source="desk")
+    >>> found = psi.law(net, "desk", count=1_000)
+    >>> int(found["count"].sum())
+    1000
+    >>> float(found["at_most"].iloc[-1])
+    1.0
+    """
+    seed, first, count = streams_of(seed, first, count)
+    program, net = resolved(program), network_of(net)
+    program.ask("check", net.data)
+    make = guaranteed_law_of if guaranteed else law_of
+    found = make(program, net, name, seed, first, count, reward, ProgressBar)
+    warn_uncoupled(found.unknown, found.many)
+    table = pandas.DataFrame(found.records(), columns=RECORD).set_index("value")
+    if not isinstance(found, GuaranteedLaw):
+        return table
+    return _certified(table, [found.row], net.data, seed, first, count, found.pilot)

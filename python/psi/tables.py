@@ -1,0 +1,254 @@
+"""Samples of many streams, as arrays and as tables."""
+
+from collections.abc import Callable
+from typing import Any
+
+import numpy
+import pandas
+
+from psi.calls import ProgressBar, resolved, streams_of, warn_uncoupled
+from psi.results import NotCoupled
+from psi_tools.arguments import whole_argument
+from psi_tools.draw.closed import MOST_TOTAL
+from psi_tools.draw.program import Program
+from psi_tools.draw.reports import blocks_of, size_of
+from psi_tools.draw.states import header_of, printed_states, states_of
+from psi_tools.model.networks import Network, Source, network_of
+
+
+def samples(
+    net: Source,
+    seed: int = 0,
+    first: int = 0,
+    count: int = 1_000,
+    keep: bool = False,
+    *,
+    program: Program | None = None,
+) -> numpy.ndarray[Any, Any]:
+    """Draw independent samples from the stationary distribution of a network.
+
+    Parameters
+    ----------
+    net : Network or path
+        A network, or the path of its file.
+    seed : int
+        The seed, 0 to 2^64 - 1. The sample of a network, a seed and a stream is always the same.
+    first : int
+        The first stream, 0 to 2^64 - 1.
+    count : int
+        The number of streams, at least 1.
+    keep : bool
+        Whether a stream that isn't coupled becomes a row of -1 instead of an exception. It may not
+        be left out, since the others are biased.
+    program : Program, optional
+        The program that is run; the one that is built, or on the PATH, by default.
+
+    Returns
+    -------
+    numpy.ndarray of int, shape (count, queues)
+        A row for each stream, and a column for each queue in the order of the file: its number of
+        customers, those in service included.
+
+    Raises
+    ------
+    NotCoupled
+        A stream isn't coupled within the network's limit, and `keep` is false.
+    ArgumentError
+        An argument is out of its range.
+    Refused
+        The network is refused; `line` is psi's own line.
+
+    Examples
+    --------
+    >>> import psi
+    >>> net = psi.Network().queue("desk", capacity=10)
+    >>> net = net.event("come", "arrival", rate=4, to=["desk"])
+    >>> net = net.event("serve", "service", rate=5, source="desk")
+    >>> states = psi.samples(net, seed=0, first=0, count=100)
+    >>> states.shape
+    (100, 1)
+    >>> bool((states >= 0).all() and (states <= 10).all())
+    True
+    """
+    return _array(net, seed, first, count, keep, None, resolved(program))
+
+
+def closed(
+    net: Source,
+    total: int,
+    seed: int = 0,
+    first: int = 0,
+    count: int = 1_000,
+    keep: bool = False,
+    *,
+    program: Program | None = None,
+) -> numpy.ndarray[Any, Any]:
+    """Draw independent samples of a closed network.
+
+    Parameters
+    ----------
+    net : Network or path
+        A network whose customers neither come nor leave, or the path of its file.
+    total : int
+        The number of customers in all, 0 to 256.
+    seed : int
+        The seed, 0 to 2^64 - 1.
+    first : int
+        The first stream, 0 to 2^64 - 1.
+    count : int
+        The number of streams, at least 1.
+    keep : bool
+        Whether a stream that isn't coupled becomes a row of -1 instead of an exception.
+    program : Program, optional
+        The program that is run; the one that is built, or on the PATH, by default.
+
+    Returns
+    -------
+    numpy.ndarray of int, shape (count, queues)
+        A row for each stream, and a column for each queue in the order of the file, in customers.
+        Each row adds up to `total`.
+
+    Raises
+    ------
+    NotCoupled
+        A stream isn't coupled within the network's limit, and `keep` is false.
+    ArgumentError
+        An argument is out of its range.
+    Refused
+        The network is refused, or isn't closed.
+
+    Examples
+    --------
+    >>> import psi
+    >>> ring = psi.Network().queue("a", capacity=3).queue("b", capacity=3)
+    >>> ring = ring.event("go", "service", rate=1, source="a", to=["b"], full="stay")
+    >>> ring = ring.event("back", "service", rate=2, source="b", to=["a"], full="stay")
+    >>> psi.closed(ring, total=3, count=50).sum(axis=1).tolist() == [3] * 50
+    True
+    """
+    total = whole_argument("total", total, 0, MOST_TOTAL)
+    return _array(net, seed, first, count, keep, total, resolved(program))
+
+
+def states(
+    net: Source,
+    seed: int = 0,
+    first: int = 0,
+    count: int = 1_000,
+    total: int | None = None,
+    *,
+    program: Program | None = None,
+) -> pandas.DataFrame:
+    """Draw independent samples with their horizons and rewards, as `psi_states` prints them.
+
+    Parameters
+    ----------
+    net : Network or path
+        A network, or the path of its file.
+    seed : int
+        The seed, 0 to 2^64 - 1. The sample of a network, a seed and a stream is always the same.
+    first : int
+        The first stream, 0 to 2^64 - 1.
+    count : int
+        The number of streams, at least 1.
+    total : int, optional
+        The number of customers in a closed network, 0 to 256; without it the network is an open one.
+    program : Program, optional
+        The program beside which psi_states is run; the one that is built, or on the PATH, by
+        default.
+
+    Returns
+    -------
+    pandas.DataFrame
+        A row for each stream, in their order. The columns are stream; horizon, in steps; queue.NAME
+        for each queue, in customers; and reward.NAME for each reward, in its unit. A stream that
+        isn't coupled has its row, whose other columns are missing. All columns but the first have
+        pandas' nullable integers: those of a queue are the narrowest signed ones that hold its
+        capacity, as Int8, so use `astype` before you multiply or add columns.
+
+    Raises
+    ------
+    ArgumentError
+        An argument is out of its range.
+    Refused
+        The network is refused, or isn't closed; `line` is the one that psi has for it.
+
+    Warns
+    -----
+    Uncoupled
+        Streams aren't coupled. Means and counts pass over missing values, so they are biased.
+
+    Examples
+    --------
+    >>> import psi
+    >>> net = psi.Network().queue("desk", capacity=10).queue("till", capacity=5)
+    >>> net = net.event("come", "arrival", rate=4, to=["desk"])
+    >>> net = net.event("serve", "service", rate=5, source="desk", to=["till"], full="stay")
+    >>> net = net.event("pay", "service", rate=6, source="till")
+    >>> table = psi.states(net, seed=0, first=0, count=500)
+    >>> list(table.columns)
+    ['stream', 'horizon', 'queue.desk', 'queue.till']
+    >>> bool((table["queue.desk"] <= 10).all())
+    True
+    >>> both = ((table["queue.desk"] > 5) & (table["queue.till"] > 2)).mean()
+    >>> bool(0 < both < 1)
+    True
+    """
+    if total is not None:
+        total = whole_argument("total", total, 0, MOST_TOTAL)
+    net, program = network_of(net), resolved(program)
+    is_met, numbers = _drawn(states_of, program, net, seed, first, count, total)
+    warn_uncoupled(len(is_met) - len(numbers), len(is_met), "means of the others are biased")
+    whole = numpy.dtype(numpy.int64)
+    queues = [numpy.min_scalar_type(-capacity - 1) for capacity in net.capacities]
+    types = [whole, *queues, *(whole for _ in net.rewards)]
+    names = header_of(net)
+    columns: dict[str, Any] = {names[0]: numpy.arange(len(is_met), dtype=numpy.uint64) + numpy.uint64(first)}
+    for name, kind, column in zip(names[1:], types, numbers.T):
+        values = numpy.zeros(len(is_met), kind)
+        values[is_met] = column
+        columns[name] = pandas.arrays.IntegerArray(values, ~is_met)
+    return pandas.DataFrame(columns)
+
+
+def _array(
+    net: Source, seed: int, first: int, count: int, keep: bool, total: int | None, program: Program
+) -> numpy.ndarray[Any, Any]:
+    """The states of some streams, as rows."""
+    net = network_of(net)
+    # Without psi_states a process of psi draws each state, which takes longer.
+    draw = states_of if program.has_states() else printed_states
+    is_met, numbers = _drawn(draw, program, net, seed, first, count, total)
+    lost = numpy.flatnonzero(~is_met)
+    if len(lost) and not keep:
+        which = f"{len(lost):,} of {count:,} streams, first {first + int(lost[0])}"
+        raise NotCoupled(f"not coupled: {which}; the others alone are biased", 1)
+    rows = numpy.full((len(is_met), len(net.queues)), -1)
+    rows[is_met] = numbers[:, 1 : 1 + len(net.queues)]
+    return rows
+
+
+def _drawn(
+    draw: Callable[..., list[str | None]],
+    program: Program,
+    net: Network,
+    seed: int,
+    first: int,
+    count: int,
+    total: int | None,
+) -> tuple[numpy.ndarray[Any, Any], numpy.ndarray[Any, Any]]:
+    """Which of some streams are coupled; and of these the horizons, queues and, where they are drawn,
+    rewards, as rows."""
+    seed, first, count = streams_of(seed, first, count)
+    size = size_of(count)
+    bar = ProgressBar(count)
+    try:
+        blocks = blocks_of(first, count, size)
+        found = draw(program, net, seed, blocks, total, lambda done: bar.show(min(done * size, count)))
+    finally:
+        bar.end()
+    met = [row for row in found if row is not None]
+    numbers = numpy.fromstring(",".join(met), numpy.int64, sep=",") if met else numpy.zeros(0, numpy.int64)
+    return numpy.array([row is not None for row in found]), numbers.reshape(
+        len(met), -1 if met else len(header_of(net)) - 1
+    )

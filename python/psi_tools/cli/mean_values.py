@@ -1,0 +1,72 @@
+"""mean_values.py NET TOTAL [COUNT [PSI]]: the means of a closed network by mean value analysis.
+
+Prints a line `NAME MEAN` for each queue. With COUNT the mean over that many samples stands after it,
+with half its interval of some 95 %: those of the streams from 0 on and the seed 0.
+"""
+
+import math
+from collections.abc import Sequence
+
+from psi_tools.cli.command import run
+from psi_tools.cli.options import Parser, number
+from psi_tools.draw.closed import samples_of, texts_of
+from psi_tools.draw.program import Program
+from psi_tools.errors import PsiError
+from psi_tools.io.output import write_answer
+from psi_tools.model.networks import checked
+from psi_tools.stats.mean_values import MOST_TOTAL, means_of, rates_of
+
+COMMAND = "mean_values"
+ABOUT = """Prints how many customers each queue of a closed network holds on average, by mean value
+analysis, and beside that the mean over samples with half its interval of some 95 %."""
+
+
+def states_of(psi: Program, net: bytes, total: int, count: int) -> list[list[int]]:
+    """The states of samples of seed 0, as rows; all of them have to be coupled."""
+    found = samples_of(texts_of(psi, net, total, count)) or []
+    if None in found:
+        raise PsiError("psi closed ended with 1", 1)
+    return [sample[1] for sample in found if sample]
+
+
+def estimate(values: Sequence[int]) -> tuple[float, float]:
+    """The mean of some values, and half of its interval of some 95 %."""
+    mean = sum(values) / len(values)
+    variance = sum((value - mean) ** 2 for value in values) / max(1, len(values) - 1)
+    return mean, 1.96 * math.sqrt(variance / len(values))
+
+
+def parser() -> Parser:
+    """The parser of the arguments."""
+    parser = Parser(COMMAND, ABOUT)
+    parser.add_argument("net", metavar="NET", help="the file of a closed network")
+    total = number(0, MOST_TOTAL)
+    parser.add_argument("total", metavar="TOTAL", type=total, help="how many customers there are")
+    parser.add_argument(
+        "count",
+        metavar="COUNT",
+        type=number(0, 2**24),
+        nargs="?",
+        default=0,
+        help="how many samples are drawn; none where it isn't given",
+    )
+    parser.add_argument("psi", metavar="PSI", nargs="?", help="the built program")
+    return parser
+
+
+def work(arguments: list[str]) -> int:
+    args = parser().parse_args(arguments)
+    psi = Program(args.psi)
+    net = checked(psi, args.net)
+    means = means_of(rates_of(net.table, args.total), args.total)
+    lines = [f"{name} {mean:.3f}" for name, mean in zip(net.queues, means)]
+    if args.count:
+        states = states_of(psi, net.data, args.total, args.count)
+        for place, values in enumerate(zip(*states)):
+            lines[place] += " {:.3f} ± {:.3f}".format(*estimate(values))
+    write_answer("".join(f"{line}\n" for line in lines))
+    return 0
+
+
+def main(arguments: list[str]) -> int:
+    return run(COMMAND, work, arguments)

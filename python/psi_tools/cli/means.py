@@ -1,0 +1,183 @@
+"""psi-means: the means of reports with their intervals, by reports as batches."""
+
+import argparse
+
+from psi_tools.arguments import LEAST_LEVEL, MOST_LEVEL
+from psi_tools.cli.command import run
+from psi_tools.cli.options import Parser, add_form, add_guaranteed
+from psi_tools.draw.reports import read_any
+from psi_tools.errors import PsiError
+from psi_tools.io import tables
+from psi_tools.io.output import check_writable, write, write_answer
+from psi_tools.io.tables import Record
+from psi_tools.io.terminal import print_note
+from psi_tools.model.networks import Network
+from psi_tools.stats.batches import REWARD, Batches
+from psi_tools.stats.intervals import LEAST_BATCHES
+from psi_tools.stats.means import is_horizon, mean_of, notes_of, records_of, remarks, share_of
+from psi_tools.stats.text import ends_shown, figures, half_shown
+
+COMMAND = "psi-means"
+ABOUT = """Prints the mean of every row of a report with its interval. Each report is a batch: their
+means are the values to which Student's t applies, so there are at least 20. Give 20 reports or more
+of one network over different streams, or the folder of one call of psi-many. An end of an interval
+also reckons with a large value that did not come. A row of two values is a share, with the interval
+of Clopper and Pearson. With --guaranteed the coverage of each interval is a theorem, by the sum of
+all reports, so one is enough.
+
+    psi-many desk.toml 0 0 100000 --out desk.csv
+    psi-means desk.toml.0.0.100000.many
+
+Where streams weren't coupled this is said first: the means are of the others, and biased. The
+intervals are as wide as the least and the greatest values make them that these streams may have; a
+folder knows them, and of reports --net tells them."""
+
+
+def parse(arguments: list[str]) -> argparse.Namespace:
+    """The words by their meaning."""
+    args = parser().parse_args(arguments)
+    if not LEAST_LEVEL <= args.level / 100 <= MOST_LEVEL:
+        raise PsiError(f"--level is from {100 * LEAST_LEVEL:g} to {100 * MOST_LEVEL:g}")
+    if args.certificate is not None and not args.guaranteed:
+        raise PsiError("--certificate goes with --guaranteed")
+    return args
+
+
+def parser() -> Parser:
+    """The parser of the arguments."""
+    parser = Parser(COMMAND, ABOUT)
+    parser.add_argument(
+        "reports", metavar="REPORT", nargs="+", help="reports of psi report, at least 20, or one folder of psi-many"
+    )
+    parser.add_argument(
+        "--level",
+        metavar="PERCENT",
+        type=float,
+        default=95.0,
+        help="how often an interval holds its mean, in per cent; 95 where it isn't given",
+    )
+    parser.add_argument(
+        "--net",
+        metavar="NET",
+        help="the network file of the reports, which tells what each row may be; a folder of psi-many has it",
+    )
+    add_form(parser)
+    add_guaranteed(parser)
+    return parser
+
+
+def head_of(batches: Batches, level: float, kind: str = "intervals") -> str:
+    """The line of how many samples there are, and of what sort and level the intervals are."""
+    samples, count = sum(batches.samples), len(batches.samples)
+    state = "all coupled" if not batches.uncoupled else f"{sum(batches.met):,} of them coupled"
+    many = "1 batch" if count == 1 else f"{count} batches"
+    return f"{samples:,} samples in {many}, {state}; {kind} of {level:g} %"
+
+
+def text_of(batches: Batches, records: list[Record], notes: list[str], level: float) -> str:
+    """The answer for people."""
+    lines = [*notes, head_of(batches, level)]
+    kinds = {"mean": "queue", f"{REWARD}mean": "reward"}
+    rows: list[tuple[object, ...]] = [("", "", "mean", "", "from", "to", "least", "greatest")]
+    for each in records:
+        if each["item"] not in kinds:
+            continue
+        mean = mean_of(each)
+        extremes = ["-" if each[end] is None else each[end] for end in ("least", "greatest")]
+        shown = figures(mean.mean, mean.half), half_shown(mean), *ends_shown(mean)
+        rows.append((kinds[each["item"]], each["name"], *shown, *extremes))
+    lines.append(tables.aligned(rows, right=(2, 4, 5, 6, 7)).rstrip("\n"))
+    lines.append("share of the samples that are met at a horizon, or not coupled")
+    shares = [("met at", each["name"], share_of(each)) for each in records if is_horizon(each)]
+    if batches.uncoupled:
+        shares.append(("not coupled", "", share_of(records[0])))
+    lines.append(tables.aligned(shares, right=(1,)).rstrip("\n"))
+    lines += remarks(batches)
+    return "".join(f"{line}\n" for line in lines)
+
+
+def guaranteed_text_of(records: list[Record], notes: list[str], head: str, d: int) -> str:
+    """The answer for people where the intervals carry a theorem; ends are rounded outwards."""
+    from psi_tools.stats.guaranteed import ASSUMED, misses, shown_out
+
+    rows: list[tuple[object, ...]] = [("", "", "mean", "from", "to", "least", "greatest")]
+    for each in records:
+        kind = "queue" if each["item"] == "mean" else "reward"
+        mean = mean_of(each)
+        extremes = ["-" if each[end] is None else each[end] for end in ("least", "greatest")]
+        shown = figures(mean.mean, mean.half), *shown_out(mean)
+        rows.append((kind, each["name"], *shown, *extremes))
+    table = tables.aligned(rows, right=(2, 3, 4, 5, 6)).rstrip("\n")
+    return "".join(f"{line}\n" for line in [*notes, head, table, misses(d), ASSUMED])
+
+
+def check_guarantee(batches: Batches, wanted: int) -> None:
+    """Refuses reports of which nothing is guaranteed."""
+    if not batches.spans:
+        raise PsiError("--guaranteed goes by what a row may be in any state, which --net NET tells")
+    if len(batches.samples) < wanted:
+        raise PsiError(
+            f"{len(batches.samples)} of {wanted} blocks are finished, and --guaranteed wants a "
+            "number of streams that was fixed beforehand; the same call of psi-many goes on"
+        )
+
+
+def guaranteed_answer(args: argparse.Namespace, batches: Batches, wanted: int) -> tuple[str, list[str]]:
+    """The text of the answer whose intervals carry a theorem, by the sums of all reports."""
+    from psi_tools.stats.guaranteed import ASSUMED, file_of, misses
+    from psi_tools.stats.guaranteed_rows import guaranteed_means
+
+    check_guarantee(batches, wanted)
+    notes = notes_of(batches, wanted)
+    rows, records = guaranteed_means(batches, args.level / 100)
+    if args.certificate:
+        drawn = {"reports": args.reports}
+        write(args.certificate, tables.as_json(file_of(rows, drawn)).encode())
+    if args.format == "csv":
+        return tables.as_csv(records), [*notes, ASSUMED]
+    if args.format == "json":
+        heads = {"samples": sum(batches.samples), "met": sum(batches.met)}
+        notes += [misses(rows[0].d), ASSUMED]
+        more = {"level": args.level / 100, "notes": notes, "rows": records}
+        return tables.as_json({**heads, "batches": len(batches.samples), **more}), []
+    head = head_of(batches, args.level, "guaranteed intervals")
+    return guaranteed_text_of(records, notes, head, rows[0].d), []
+
+
+def answer(args: argparse.Namespace) -> tuple[str, list[str]]:
+    """The text of the answer."""
+    net = Network.read(args.net) if args.net else None
+    batches, wanted = read_any(args.reports, net)
+    if args.guaranteed:
+        return guaranteed_answer(args, batches, wanted)
+    count = len(batches.samples)
+    if count < LEAST_BATCHES:
+        raise PsiError(
+            f"there are {count} batches, and {LEAST_BATCHES} are wanted: draw smaller ones, as by "
+            f"psi-many .. --block N"
+        )
+    level = args.level / 100
+    notes, records = notes_of(batches, wanted), [*records_of(batches, level)]
+    if args.format != "text":
+        notes += batches.carried()
+    if args.format == "csv":
+        return tables.as_csv(records), notes
+    if args.format == "json":
+        heads = {"samples": sum(batches.samples), "met": sum(batches.met), "batches": count}
+        return tables.as_json({**heads, "level": level, "notes": notes, "rows": records}), notes
+    return text_of(batches, records, notes, args.level), []
+
+
+def work(arguments: list[str]) -> int:
+    args = parse(arguments)
+    check_writable(args.out)
+    check_writable(args.certificate, "--certificate")
+    text, notes = answer(args)
+    write_answer(text, args.out)
+    if notes:
+        print_note(COMMAND, "; ".join(notes))
+    return 0
+
+
+def main(arguments: list[str]) -> int:
+    return run(COMMAND, work, arguments)

@@ -1,0 +1,213 @@
+"""psi-plot: draws what psi prints, and forward runs, as pictures for a lecture or a page."""
+
+import argparse
+import importlib
+import os
+import pathlib
+from collections.abc import Callable
+from typing import Any, TypeVar
+
+from psi_tools.arguments import GREATEST, NUMBER
+from psi_tools.cli.command import run
+from psi_tools.cli.options import Parser
+from psi_tools.draw.program import Program
+from psi_tools.draw.reports import as_printed, read_folder
+from psi_tools.errors import InputError, PsiError, reason, require
+from psi_tools.io.exact import Shrinking, read_exact
+from psi_tools.io.output import check_writable, write
+from psi_tools.model.networks import checked
+from psi_tools.plot.forward import Forward
+from psi_tools.plot.network_scene import NetworkPicture
+from psi_tools.plot.past import Past
+from psi_tools.plot.read_log import Coupling, names_of, read_log
+from psi_tools.plot.read_report import Report, Spread, read_report
+from psi_tools.stats.batches import interval_or_none
+from psi_tools.stats.intervals import LEAST_BATCHES
+
+Value = TypeVar("Value")
+
+COMMAND = "psi-plot"
+# The most bytes that are read of a file: one more than a log may have.
+LONGEST, MOST_REPORTS, FORMATS = 33_554_433, 8, ("svg", "png", "pdf")
+ABOUT = """Draws what psi prints, and forward runs, as pictures for a lecture or a page.
+
+psi-plot coupling LOG [NET] -o FILE    a log of `psi sample NET SEED STREAM log`: where all states
+                                       may be, until one is left; NET is a network file, whose names
+                                       the queues get
+psi-plot report CSV.. -o FILE          reports of `psi report`, at most eight, side by side; of a
+                                       folder of psi-many the 95 % intervals of the means, too
+psi-plot exact TEXT -o FILE            what `psi exact` prints: how the image of all states shrinks
+psi-plot forward NET [STEPS..] -o FILE a network of one queue: where forward runs of so many steps
+                                       end, from each state, and where all of them meet, computed
+                                       and beside the law of a sample; 8, 32 and 128 steps where
+                                       they aren't given
+psi-plot past NET SEED STREAM -o FILE  the runs of a sample from 1, 2, 4, .. steps before time zero
+                                       until all states have coalesced, those that fail included
+psi-plot network NET -o FILE           the network: queues, servers, and events as arrows
+
+The exit status is 0 where the picture is drawn; 2 where a word or an input isn't what it should be,
+as one line on standard error tells; 7 where the picture can't be written; 1 where it can't be
+drawn."""
+
+
+def parser() -> Parser:
+    """The parser of the arguments."""
+    parser = Parser(COMMAND, ABOUT)
+    parser.add_argument(
+        "-o", "--out", metavar="FILE", default="", help="the picture: SVG, PNG or PDF, by the ending of its name"
+    )
+    parser.add_argument("-t", "--title", metavar="TITLE", default="", help="a title in place of the picture's own")
+    parser.add_argument(
+        "--psi",
+        metavar="PSI",
+        help="the built program; crates/psi/out/psi, or psi on the PATH, where it isn't given, of "
+        "which forward, past and network ask",
+    )
+    parser.add_argument("--legend", action="store_true", help="of network: explain the arrows below the picture")
+    parser.add_argument("--tables", action="store_true", help="of network: print the tables of choices by an index")
+    parser.add_argument("--queue", metavar="QUEUE", help="of past: the queue that is drawn; all customers if not given")
+    parser.add_argument(
+        "--new-words", action="store_true", help="of past: new random words for each run, the wrong way"
+    )
+    parser.add_argument("what", nargs="?", metavar="WHAT", help="coupling, report, exact, forward, past or network")
+    parser.add_argument(
+        "files",
+        nargs="*",
+        metavar="FILE",
+        help="what psi has printed; of forward NET and STEPS, of past NET SEED STREAM",
+    )
+    return parser
+
+
+def parse(arguments: list[str]) -> argparse.Namespace:
+    """The words by their meaning."""
+    args = parser().parse_intermixed_args(arguments)
+    require(args.what in DRAWN, f"the first word is one of {', '.join(DRAWN)}")
+    require(args.files, f"{args.what} is told no file")
+    require(args.out.rpartition(".")[2].lower() in FORMATS, "-o names no .svg, .png or .pdf")
+    require(args.what == "network" or not (args.legend or args.tables), "--legend and --tables are network's")
+    require(args.what == "past" or not (args.queue or args.new_words), "--queue and --new-words are past's")
+    check_writable(args.out)
+    return args
+
+
+def read(reader_of: Callable[[bytes], Value], path: str) -> Value:
+    """What is read of a file; a refusal names it."""
+    try:
+        with open(path, "rb") as file:
+            return reader_of(file.read(LONGEST))
+    except (OSError, ValueError) as fault:
+        raise InputError(f"{path}: can't be read: {reason(fault)}") from None
+    except InputError as why:
+        raise InputError(f"{path}: {why}") from None
+
+
+def coupling(args: argparse.Namespace, path: str, *net: str) -> Coupling:
+    """The log, named by the network file if there is one."""
+    require(len(net) <= 1, "coupling is told one LOG, and one NET at most")
+    log = read(read_log, path)
+    for file in net:
+        log.names = read(lambda data: names_of(data, log), file)
+    return log
+
+
+def reports(args: argparse.Namespace, *paths: str) -> list[tuple[str, Report]]:
+    """The reports, each with the name of its file."""
+    require(len(paths) <= MOST_REPORTS, f"report is told more than {MOST_REPORTS} files")
+    return [(path, report_of(path)) for path in paths]
+
+
+def report_of(path: str) -> Report:
+    """The report of a file, or of all blocks of a folder of psi-many, with intervals where there
+    are enough of them."""
+    if not os.path.isdir(path):
+        return read(lambda data: read_report(as_printed(data)), path)
+    batches, wanted = read_folder(path)
+    require(len(batches.samples) == wanted, f"{path}: not all of its blocks are finished")
+    horizons: dict[int, int] = {}
+    for some in batches.horizons:
+        for horizon, count in some.items():
+            horizons[horizon] = horizons.get(horizon, 0) + count
+    has_intervals = wanted >= LEAST_BATCHES
+    spreads: dict[str, list[Spread]] = {"": [], "reward-": []}
+    for row in batches.rows:
+        interval = interval_or_none(batches, row) if has_intervals else None
+        mean = batches.mean(row).mean
+        spreads[row.kind].append(Spread(row.name, mean, row.least, row.greatest, interval))
+    horizons = dict(sorted(horizons.items()))
+    return Report(sum(batches.samples), batches.uncoupled, horizons, *spreads.values())
+
+
+def exact(args: argparse.Namespace, path: str, *others: str) -> Shrinking:
+    """The text of exact."""
+    require(not others, "exact is told more than one file")
+    return read(read_exact, path)
+
+
+def forward(args: argparse.Namespace, path: str, *steps: str) -> Forward:
+    """The forward runs of a network."""
+    from psi_tools.plot.forward import forward_of
+
+    try:
+        return forward_of(args.psi, path, steps)
+    except InputError:
+        raise
+    except PsiError as error:
+        raise InputError(f"{path}: {error}") from None
+
+
+def network(args: argparse.Namespace, path: str, *others: str) -> NetworkPicture:
+    """The network of a file that psi accepts, and what is to stand below its picture."""
+    require(not others, "network is given more than one file")
+    try:
+        net = checked(Program(args.psi), path)
+    except PsiError as error:
+        raise InputError(f"{path}: {error}") from None
+    return NetworkPicture(net, pathlib.Path(path).stem, args.legend, args.tables)
+
+
+def past(args: argparse.Namespace, path: str, *streams: str) -> tuple[Past, int | None]:
+    """The runs of a sample, and the queue that is drawn: none for all customers of several."""
+    from psi_tools.plot.past import past_of
+
+    require(len(streams) == 2, "past is given NET SEED STREAM")
+    require(
+        all(NUMBER.fullmatch(word) and int(word) <= GREATEST for word in streams),
+        "SEED and STREAM are numbers up to 2^64 - 1",
+    )
+    seed, stream = map(int, streams)
+    found = past_of(args.psi, path, seed, stream, args.new_words)
+    require(args.queue is None or args.queue in found.queues, f"{path}: there is no queue {args.queue}")
+    if args.queue is not None:
+        return found, found.queues.index(args.queue)
+    return found, 0 if len(found.queues) == 1 else None
+
+
+# What reads the files of a command, and what draws it: matplotlib is wanted only for that.
+DRAWN: dict[str, Callable[..., Any]] = {
+    "coupling": coupling,
+    "report": reports,
+    "exact": exact,
+    "forward": forward,
+    "past": past,
+    "network": network,
+}
+
+
+def draw(args: argparse.Namespace) -> bytes:
+    """Draws the picture."""
+    found = DRAWN[args.what](args, *args.files)
+    from psi_tools.plot import style
+
+    drawing = importlib.import_module(f"psi_tools.plot.draw_{args.what}")
+    figure = getattr(drawing, f"draw_{args.what}")(found, args.title)
+    return style.saved(figure, args.out.rpartition(".")[2].lower())
+
+
+def work(arguments: list[str]) -> None:
+    args = parse(arguments)
+    write(args.out, draw(args))
+
+
+def main(arguments: list[str]) -> int:
+    return run(COMMAND, work, arguments)

@@ -1,0 +1,58 @@
+"""psi-where: the line of a network file that psi refuses, with the guide's sentence on it."""
+
+from psi_tools.cli.command import run
+from psi_tools.cli.options import Parser, add_form
+from psi_tools.draw.program import Program
+from psi_tools.errors import PsiError, printable
+from psi_tools.io import tables
+from psi_tools.io.files import read_file
+from psi_tools.io.output import check_writable, write_answer
+from psi_tools.model.refusals import SENTENCES
+from psi_tools.model.where import found_in, text_of, text_of_line
+
+COMMAND = "psi-where"
+ABOUT = """Tells what psi check refuses of a network file: the file, the line, the line's text, the
+value at fault with the bound that it passes or the name that was meant, and the guide's sentence on
+what is wrong and what helps. Where the file is no TOML it tells what is wrong with it as such.
+
+    psi-where desk.toml
+
+The status is 0 where psi takes the file, and 3, as that of psi check, where it refuses it."""
+
+
+def parser() -> Parser:
+    """The parser of the arguments."""
+    parser = Parser(COMMAND, ABOUT)
+    parser.add_argument("net", metavar="NET", help="a network file")
+    parser.add_argument(
+        "--psi", metavar="PSI", help="the built program; crates/psi/out/psi, or psi on the PATH, where it isn't given"
+    )
+    add_form(parser, ("text", "json"))
+    return parser
+
+
+def work(arguments: list[str]) -> int:
+    args = parser().parse_args(arguments)
+    check_writable(args.out)
+    psi = Program(args.psi)
+    data = read_file(args.net)
+    answer = psi.call("check", data)
+    if answer.status == 0:
+        message = "null" if args.format == "json" else f"{printable(args.net)}: psi takes it"
+        write_answer(f"{message}\n", args.out)
+        return 0
+    if answer.status != 3:
+        message = answer.line.removeprefix("psi: ")
+        raise PsiError(message or f"psi ended with {answer.status}", answer.status)
+    found = found_in(data, answer.line)
+    if args.format == "json":
+        text = None if found["line"] is None else text_of_line(data, found["line"])
+        sentence = SENTENCES[found["name"]]
+        write_answer(tables.as_json({**found, "text": text, "sentence": sentence}), args.out)
+    else:
+        write_answer(text_of(args.net, data, found), args.out)
+    return 3
+
+
+def main(arguments: list[str]) -> int:
+    return run(COMMAND, work, arguments)

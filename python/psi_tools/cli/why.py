@@ -1,0 +1,103 @@
+"""psi-why: why samples of a network may not couple, or only far back."""
+
+import argparse
+
+from psi_tools.arguments import GREATEST
+from psi_tools.cli.command import run
+from psi_tools.cli.options import Parser, add_form, number
+from psi_tools.draw.diagnosis import Findings, findings_of
+from psi_tools.draw.program import Program
+from psi_tools.io import tables
+from psi_tools.io.output import check_writable, write_answer
+
+COMMAND, STREAMS, SECONDS = "psi-why", 20, 10
+ABOUT = """Tells what may keep samples of a network from coupling, and how far back they have to
+begin:
+
+- sums of customers that no event changes, so states with other sums never meet;
+- numbers of a queue that can't be left, and queues that only fill or only empty;
+- of small networks all classes of states that no event leaves;
+- events that aren't monotone, where boxes may stay wide;
+- the load of each queue: in balance the past has to be long;
+- at which horizons some streams are met, from a short limit on to longer ones, as long as it takes;
+- and where some aren't, what the single states of a small network become.
+
+    psi-why desk.toml
+
+What it says of sums, numbers and states that can't be left holds for certain, and the status is 1
+then: no stream couples. All else is what helps to see why."""
+BALANCE = 0.9, 1.1
+
+
+def parser() -> Parser:
+    """The parser of the arguments."""
+    parser = Parser(COMMAND, ABOUT)
+    parser.add_argument("net", metavar="NET", help="a network file")
+    parser.add_argument(
+        "--seed",
+        metavar="SEED",
+        type=number(0, GREATEST),
+        default=0,
+        help="the seed of the streams that are tried; 0 where it isn't given",
+    )
+    parser.add_argument(
+        "--count",
+        metavar="N",
+        type=number(1, 65_536),
+        default=STREAMS,
+        help=f"how many streams are tried, from 0 on; {STREAMS} where it isn't given",
+    )
+    parser.add_argument(
+        "--seconds",
+        metavar="N",
+        type=number(1, 86_400),
+        default=SECONDS,
+        help=f"after how many seconds no longer limit is tried; {SECONDS} where it isn't given",
+    )
+    parser.add_argument(
+        "--psi", metavar="PSI", help="the built program; crates/psi/out/psi, or psi on the PATH, where it isn't given"
+    )
+    add_form(parser, ("text", "json"))
+    return parser
+
+
+def text_of(args: argparse.Namespace, found: Findings) -> str:
+    """The answer for people."""
+    lines = [f"NEVER COUPLES: {line}" for line in found["never"]]
+    lines += found["one_sided"]
+    for name, (low, high) in found["upset"].items():
+        lines.append(f"{name} isn't monotone: see what it makes of {low} and of {high}")
+    lines += [] if found["upset"] else ["all events are monotone"]
+    rows = [("queue", "rate in", "rate out", "load", "")] if found["loads"] else []
+    for row in found["loads"]:
+        load = row["load"]
+        remark = "nobody is served" if load is None else ""
+        if row["giving_up"]:
+            remark = f"and customers who wait give up, at rate {row['giving_up']:g} at most"
+        elif load is not None and BALANCE[0] <= load <= BALANCE[1]:
+            remark = "in balance: twice the places, four times the past"
+        shown = "-" if load is None else f"{load:.3f}"
+        rows.append((row["queue"], f"{row['in']:g}", f"{row['out']:g}", shown, remark))
+    lines += tables.aligned(rows, right=(1, 2, 3)).splitlines()
+    for power, met, shares in found["horizons"]:
+        of = ", ".join(f"{count} at {horizon}" for horizon, count in shares)
+        line = f"limit {power}: {met} of {args.count} streams are met"
+        lines.append(line + (f" ({of})" if of else ""))
+    lines += found["states"]
+    if found["stopped"]:
+        limit = found["limit"]
+        lines.append(f"longer limits, up to the file's {limit}, take more time than was given")
+    lines += [f"what may help: {line}" for line in found["advice"]]
+    return "".join(f"{line}\n" for line in lines)
+
+
+def work(arguments: list[str]) -> int:
+    args = parser().parse_args(arguments)
+    check_writable(args.out)
+    found = findings_of(Program(args.psi), args)
+    write_answer(tables.as_json(found) if args.format == "json" else text_of(args, found), args.out)
+    return 1 if found["never"] else 0
+
+
+def main(arguments: list[str]) -> int:
+    return run(COMMAND, work, arguments)

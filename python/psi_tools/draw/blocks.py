@@ -1,0 +1,322 @@
+"""The blocks of streams that are drawn, and the folder in which finished ones are kept."""
+
+import fcntl
+import hashlib
+import os
+import pathlib
+import re
+import stat
+from typing import Any, NamedTuple
+
+from psi_tools.errors import PsiError, reason
+from psi_tools.io import files
+from psi_tools.model.networks import Network
+
+UNWRITTEN = 7
+# What stands in the file `lock` of a folder that is psi-many's own, and what is a number of those
+# lines that a folder is bound to.
+MARK, NUMBERS = b"a folder of psi-many\n", ("seed", "first", "count", "block", "closed")
+# What a folder may have at its top where a call was stopped before it was bound.
+BEGUN = {"lock", "blocks", "net.toml"}
+MOST_BLOCKS = 1_048_576
+FILE = re.compile(r"([0-9]{7,})\.([0-9a-f]{16})\.csv")
+REPORT = re.compile(
+    rb"item,name,value\nsamples,-,(\d+)\nmet,-,(\d+)\nuncoupled,-,(\d+)\n((?:horizon,\d+,\d+\n)*)"
+    rb"((?:sum,[\w-]+,-?\d+\n(?:least,[\w-]+,-?\d+\ngreatest,[\w-]+,-?\d+\n)?)+"
+    rb"(?:reward-sum,[\w-]+,-?\d+\n(?:reward-(?:least|greatest),[\w-]+,-?\d+\n){0,2})*)"
+)
+
+
+class Block(NamedTuple):
+    """A block: its number, its first stream, and how many streams it has."""
+
+    number: int
+    first: int
+    count: int  # type: ignore[assignment]
+
+
+def digest_of(text: bytes) -> str:
+    return hashlib.sha256(text).hexdigest()
+
+
+def names_of(text: bytes, count: int) -> tuple[bytes, ...] | None:
+    """The queues and rewards of a whole report of so many samples, in which the counts add up, as
+    the fronts of the records of their sums; none where a text is anything else.
+    """
+    found = REPORT.fullmatch(text)
+    if not found:
+        return None
+    samples, met, uncoupled = (int(found[place]) for place in (1, 2, 3))
+    horizons = sum(int(row.split(b",")[2]) for row in found[4].splitlines())
+    if samples != count or samples != met + uncoupled or met != horizons:
+        return None
+    rows = [row.rpartition(b",")[0] for row in found[5].splitlines()]
+    names = tuple(row for row in rows if row.startswith((b"sum,", b"reward-sum,")))
+    return names if len(rows) == len(names) * (3 if met else 1) else None
+
+
+def digest_in(file: pathlib.Path) -> str | None:
+    """The digest in the name of a block's file."""
+    found = FILE.fullmatch(file.name)
+    return found[2] if found else None
+
+
+def write_whole(path: pathlib.Path, text: bytes) -> None:
+    """Writes a file under another name first, so that under its own it is never cut short."""
+    front = f"part.{os.uname().nodename}.{os.getpid()}."
+    try:
+        files.replace(str(path), text, front, f".{path.name}")
+    except OSError as fault:
+        # Folder.tidy removes what a kill leaves of it.
+        raise PsiError(f"{path} can't be written: {reason(fault)}", UNWRITTEN) from None
+
+
+def is_left(name: str) -> bool:
+    """Whether a file's name is that of what a call has begun to write, and will not end: one of
+    this machine whose process is gone."""
+    front = f"part.{os.uname().nodename}."
+    number = name.removeprefix(front).partition(".")[0]
+    if not name.startswith(front) or not number.isdigit():
+        return False
+    return int(number) == os.getpid() or not os.path.exists(f"/proc/{number}")
+
+
+def sealed(lines: str) -> str:
+    """What a folder is bound to, with a last line that tells whether it is as it was written."""
+    return f"{lines}digest {digest_of(lines.encode())[:16]}\n"
+
+
+def read_sealed(path: pathlib.Path) -> dict[str, str] | None:
+    """What a file says that a folder is bound to; none where it isn't as it was written. A file of
+    an earlier version has no line `digest`."""
+    try:
+        text = path.read_bytes().decode()
+    except (OSError, UnicodeDecodeError):
+        return None
+    lines, mark, _ = text.rpartition("digest ")
+    pairs = [line.partition(" ")[::2] for line in text.splitlines()]
+    bound = dict(pairs)
+    if mark and sealed(lines) != text or not text.endswith("\n") or len(bound) < len(pairs):
+        return None
+    return bound if all(bound[key].isdigit() for key in NUMBERS if key in bound) else None
+
+
+def bound_in(folder: pathlib.Path) -> tuple[dict[str, str] | None, bool]:
+    """What a folder is bound to, none where that can't be read, and whether its file is damaged, so
+    that it is the copy that has it."""
+    own, copy = (read_sealed(folder / name) for name in ("bound", "bound.copy"))
+    is_damaged = copy is not None and (own is None or "digest" not in own)
+    found = copy if is_damaged else own
+    wanted = {"network", "seed", "first", "count", "block"}
+    if found is None or not wanted <= {*found} or not int(found["block"]):
+        return None, is_damaged
+    return {key: value for key, value in found.items() if key != "digest"}, is_damaged
+
+
+class Folder:
+    """The folder of a call: what it is bound to, a copy of the network, and the finished blocks.
+
+    The name of a block's file has its number and the digest of its text, which tells whether the
+    text is as it was written.
+    """
+
+    def __init__(self, path: str | os.PathLike[str]) -> None:
+        self.is_damaged = self.is_restored = False
+        try:
+            self.path = pathlib.Path(path).resolve()
+        except (OSError, RuntimeError, ValueError) as fault:
+            raise PsiError(f"{path} is no folder: {reason(fault)}") from None
+        self.net, self.blocks = self.path / "net.toml", self.path / "blocks"
+
+    def lock(self) -> None:
+        """Makes the folder, and keeps other calls from it as long as this one runs. It refuses a
+        folder that is neither empty nor psi-many's own, and one with a link in it."""
+        self.look()
+        path = self.path / "lock"
+        try:
+            self.path.mkdir(parents=True, exist_ok=True)
+            flags = os.O_RDWR | os.O_CREAT | os.O_NOFOLLOW | os.O_CLOEXEC
+            self.locked = open(os.open(path, flags, 0o666), "r+b", buffering=0)
+        except OSError as fault:
+            raise PsiError(f"{fault.filename or path} can't be written: {reason(fault)}", UNWRITTEN) from None
+        try:
+            fcntl.flock(self.locked, fcntl.LOCK_EX | fcntl.LOCK_NB)
+        except BlockingIOError:
+            raise PsiError(f"another psi-many is at work in {self.path}") from None
+        except OSError as fault:
+            raise PsiError(f"{path} can't be locked: {reason(fault)}", UNWRITTEN) from None
+        self.begin(path)
+        self.tidy_left()
+
+    def begin(self, path: pathlib.Path) -> None:
+        """Marks the folder as psi-many's own, before anything else is made in it."""
+        try:
+            # An empty file is one that a full disk or a kill has left, or of an earlier version.
+            if os.fstat(self.locked.fileno()).st_size < len(MARK):
+                rest = MARK
+                while rest:
+                    number = os.pwrite(self.locked.fileno(), rest, len(MARK) - len(rest))
+                    rest = rest[number:]
+            self.blocks.mkdir(exist_ok=True)
+        except OSError as fault:
+            raise PsiError(f"{fault.filename or path} can't be written: {reason(fault)}", UNWRITTEN) from None
+
+    def look(self) -> None:
+        """Refuses a folder that isn't psi-many's to write in."""
+        try:
+            entries = [*os.scandir(self.path)]
+            if self.blocks.is_dir() and not self.blocks.is_symlink():
+                entries += os.scandir(self.blocks)
+        except FileNotFoundError:
+            return
+        except OSError as fault:
+            raise PsiError(f"{self.path} is no folder: {reason(fault)}") from None
+        links = [entry.path for entry in entries if entry.is_symlink()]
+        if links:
+            raise PsiError(f"{links[0]} is a link, which a folder of psi-many has none of")
+        names = {entry.name for entry in entries if os.path.dirname(entry.path) == str(self.path)}
+        if names and not self.is_own(names):
+            raise PsiError(f"{self.path} isn't a folder of psi-many, and isn't empty")
+
+    def is_own(self, names: set[str]) -> bool:
+        """Whether a folder with some files is psi-many's: it is bound, or begins to be."""
+        if bound_in(self.path)[0]:
+            return True
+        try:
+            is_plain = stat.S_ISREG(os.lstat(self.path / "lock").st_mode)
+            mark = (self.path / "lock").read_bytes() if is_plain else None
+        except OSError:
+            return False
+        if mark == MARK:
+            return all(name in BEGUN or name.startswith("part.") for name in names)
+        return mark is not None and MARK.startswith(mark) and names == {"lock"}
+
+    def is_bound(self) -> bool:
+        """Whether a file says what the folder is bound to."""
+        return any((self.path / name).exists() for name in ("bound", "bound.copy"))
+
+    def bind(self, net: bytes, wanted: dict[str, int], size: int | None, fitting: int) -> int:
+        """Binds a new folder to a call, whose blocks have `size` streams, or as many as are fitting
+        where that isn't given; refuses a folder that is bound to another call, but for one of fewer
+        streams, to which the others are added. Gives how many it was bound to before.
+        """
+        asked: dict[str, object] = {"network": digest_of(net), **wanted}
+        if not self.is_bound():
+            write_whole(self.net, net)
+            self.write_bound({**asked, "block": size or fitting})
+        self.read_bound()
+        if self.is_damaged:
+            self.write_bound(self.bound)
+            self.is_restored = True
+        before, count = self.count, wanted["count"]
+        if size:
+            asked["block"] = size
+        for key in dict.fromkeys([*asked, "closed"]):
+            value = asked.get(key)
+            if value is None and self.bound.get(key) is None or key == "count" and before < count:
+                continue
+            if str(value) != self.bound.get(key):
+                other = f"{key} {self.bound.get(key)}, not {value}"
+                raise PsiError(f"the blocks in {self.path} are of another call: {other}")
+        if count > MOST_BLOCKS * self.size:
+            raise PsiError(f"there would be more than {MOST_BLOCKS} blocks of {self.size} streams")
+        if self.net.read_bytes() != net:
+            write_whole(self.net, net)
+        if before < count:
+            self.write_bound({**self.bound, "count": count})
+            self.read_bound()
+        return before
+
+    def write_bound(self, bound: dict[str, Any]) -> None:
+        """Writes what the folder is bound to, and a copy for the case that the file is damaged."""
+        lines = sealed("".join(f"{key} {value}\n" for key, value in bound.items()))
+        for name in ("bound", "bound.copy"):
+            write_whole(self.path / name, lines.encode())
+
+    def read_bound(self) -> None:
+        """Reads what the folder is bound to; where the file is damaged, the copy has it."""
+        bound, self.is_damaged = bound_in(self.path)
+        if bound is None:
+            raise PsiError(f"{self.path / 'bound'} isn't as psi-many wrote it")
+        self.bound = bound
+        keys = ("seed", "first", "count", "block")
+        self.seed, self.first, self.count, self.size = (int(bound[key]) for key in keys)
+        self.total = int(bound["closed"]) if "closed" in bound else None
+
+    def network(self) -> Network:
+        """The network, as its copy says it."""
+        if not hasattr(self, "read"):
+            self.read = Network.read(self.net)
+        return self.read
+
+    def bound_network(self) -> Network | None:
+        """The network, where its copy is the one that the folder is bound to."""
+        try:
+            data = self.net.read_bytes()
+        except OSError:
+            return None
+        is_own = digest_of(data) == self.bound.get("network")
+        return Network.parse(data, self.net) if is_own else None
+
+    def all_blocks(self) -> list[Block]:
+        return [self.block(number) for number in range(-(-self.count // self.size))]
+
+    def block(self, number: int) -> Block:
+        begin = number * self.size
+        return Block(number, self.first + begin, min(self.size, self.count - begin))
+
+    def accept(self, number: int, text: bytes) -> bool:
+        """Keeps the text of a block where it is a whole report."""
+        whole = names_of(text, self.block(number).count) is not None
+        if whole:
+            write_whole(self.blocks / f"{number:07}.{digest_of(text)[:16]}.csv", text)
+        return whole
+
+    def listed(self) -> dict[int, list[pathlib.Path]]:
+        """The files that have the name of a block, by their numbers."""
+        found: dict[int, list[pathlib.Path]] = {}
+        for file in self.blocks.iterdir():
+            if named := FILE.fullmatch(file.name):
+                found.setdefault(int(named[1]), []).append(file)
+        return found
+
+    def tidy(self) -> None:
+        """Removes what calls that were killed have begun to write."""
+        for file in (*self.blocks.glob("part.*"), *self.path.glob("part.*")):
+            file.unlink(missing_ok=True)
+        for file in self.path.glob("merged.*"):
+            file.unlink(missing_ok=True)
+
+    def tidy_left(self) -> None:
+        """Removes what a full disk or a kill has left, but for what tasks elsewhere may write."""
+        for file in self.path.glob("part.*"):
+            file.unlink(missing_ok=True)
+        for file in self.blocks.glob("part.*"):
+            if is_left(file.name):
+                file.unlink(missing_ok=True)
+
+    def finished(self) -> dict[int, pathlib.Path]:
+        """The files of the blocks that are whole and of one network, by number. Others are removed:
+        those cut short or changed, and all of a block that has several. What was wrong with them is
+        kept in `removed`, by number.
+        """
+        whole: dict[int, list[pathlib.Path]] = {}
+        names: dict[int, tuple[bytes, ...]] = {}
+        self.removed: dict[int, str] = {}
+        for number, same in sorted(self.listed().items()):
+            text = same[0].read_bytes()
+            names[number] = names_of(text, self.block(number).count) or ()
+            if len(same) > 1:
+                self.removed[number] = "has several files"
+            elif digest_in(same[0]) != digest_of(text)[:16]:
+                self.removed[number] = "isn't as it was written"
+            elif not names[number]:
+                self.removed[number] = f"isn't of {max(0, self.block(number).count)} samples"
+            whole[number] = same
+        most = max((names[n] for n in names if n not in self.removed), key=len, default=())
+        for number, those in names.items():
+            if number not in self.removed and those != most:
+                self.removed[number] = "has fewer queues and rewards than others"
+        for file in (file for number in self.removed for file in whole[number]):
+            file.unlink()
+        return {number: same[0] for number, same in whole.items() if number not in self.removed}

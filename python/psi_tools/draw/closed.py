@@ -1,0 +1,79 @@
+"""Samples of closed networks, as psi closed prints them, and their report.
+
+psi report has none of closed networks: here the counts, horizons, sums and extremes of the printed
+states are taken in its form, and the values of rewards by the guide's rules.
+"""
+
+import collections
+import functools
+import re
+from collections.abc import Iterator, Sequence
+
+from psi_tools.draw.program import Program
+from psi_tools.model.networks import Network, values_of
+
+# The horizon and the state of a sample; none where it is not coupled.
+Sample = tuple[int, list[int]] | None
+
+MOST_TOTAL, MOST_COUNT = 256, 2**20
+SAMPLE = re.compile(rb"met (\d+)\nstate (\d+(?:,\d+)*)\n|not coupled within \d+\n")
+
+
+def samples_of(text: bytes) -> list[Sample] | None:
+    """The samples in what psi closed printed of some streams: for each its horizon and its state,
+    or none where it isn't coupled; none at all where the text is anything else."""
+    found, end = [], 0
+    for sample in SAMPLE.finditer(text):
+        if sample.start() != end:
+            return None
+        end = sample.end()
+        met = sample[1] is not None
+        found.append((int(sample[1]), [*map(int, sample[2].split(b","))]) if met else None)
+    return found if end == len(text) else None
+
+
+def texts_of(psi: Program, data: bytes, total: int, count: int) -> bytes:
+    """What psi closed prints of the streams from 0 on of seed 0, one after the other."""
+
+    def drawn(stream: int) -> bytes:
+        return psi.ask("closed", data, 0, stream, total, statuses=(0, 1)).out.encode()
+
+    return b"".join(psi.all(functools.partial(drawn, stream) for stream in range(count)))
+
+
+def report_of_text(net: Network, text: bytes, count: int) -> bytes | None:
+    """The report of what psi closed printed of so many streams; none where it isn't whole."""
+    found = samples_of(text)
+    if found is None or len(found) != count:
+        return None
+    if any(sample and len(sample[1]) != len(net.queues) for sample in found):
+        return None
+    return report_of(net, found)
+
+
+def report_of(net: Network, found: list[Sample]) -> bytes:
+    """The report of some samples, each a horizon and a state or none, in psi report's form."""
+    lines = [",".join(map(str, record)) + "\n" for record in records(net, found)]
+    return "".join(["item,name,value\n", *lines]).encode()
+
+
+def records(net: Network, found: list[Sample]) -> Iterator[tuple[str, str | int, int]]:
+    """The records of a report."""
+    met = [sample for sample in found if sample]
+    yield "samples", "-", len(found)
+    yield "met", "-", len(met)
+    yield "uncoupled", "-", len(found) - len(met)
+    for horizon, count in sorted(collections.Counter(horizon for horizon, _ in met).items()):
+        yield "horizon", horizon, count
+    yield from figures("", net.queues, [state for _, state in met])
+    yield from figures("reward-", net.rewards, [values_of(net, state) for _, state in met])
+
+
+def figures(kind: str, names: list[str], rows: Sequence[Sequence[int]]) -> Iterator[tuple[str, str, int]]:
+    """The sums and extremes of the columns of some rows."""
+    for place, name in enumerate(names):
+        numbers = [row[place] for row in rows]
+        yield f"{kind}sum", name, sum(numbers)
+        if numbers:
+            yield f"{kind}least", name, min(numbers)
+            yield f"{kind}greatest", name, max(numbers)

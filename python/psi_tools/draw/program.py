@@ -1,0 +1,228 @@
+"""Running psi: where it is, what it answers, and many answers side by side."""
+
+import atexit
+import dataclasses
+import os
+import pathlib
+import re
+import subprocess
+import threading
+from collections.abc import Callable, Container, Iterable
+from typing import Any, TypeVar
+
+from psi_tools.arguments import whole_argument
+from psi_tools.errors import PsiError, Refused, printable
+
+Value = TypeVar("Value")
+
+TOP = pathlib.Path(__file__).resolve().parents[3]
+
+
+@dataclasses.dataclass
+class Answer:
+    """What a call of psi ends with: the exit status, and both its texts."""
+
+    status: int
+    out: str
+    line: str
+
+
+def built_program() -> str:
+    """psi where nobody says which: the one that `./psi` builds, else the one on the PATH."""
+    built = TOP / "crates/psi/out/psi"
+    return str(built) if built.exists() else "psi"
+
+
+def found_on_path(name: str) -> str | None:
+    """The path of a program, by its name or its path; none where there is none."""
+    folders = [""] if "/" in name else os.environ.get("PATH", os.defpath).split(":")
+    for path in (os.path.join(folder, name) for folder in folders):
+        if os.path.isfile(path) and os.access(path, os.X_OK):
+            return path
+    return None
+
+
+def program_of(path: str | os.PathLike[str] | None = None) -> str:
+    """The path of psi, which is there."""
+    found = found_on_path(os.fspath(path or built_program()))
+    if not found and path is None:
+        raise PsiError("psi isn't built, and isn't on the PATH; --psi says where it is")
+    if not found:
+        raise PsiError(f"there is no program {path}")
+    return os.path.abspath(found)
+
+
+def companion_of(path: str, name: str) -> str | None:
+    """The path of another proved program: the one beside psi, or beside what a link named psi leads
+    to, with _ or - in its name; else the one that is built where these tools stand; else none."""
+    places = [pathlib.Path(path).parent, pathlib.Path(path).resolve().parent]
+    files = [place / each for place in places for each in (name, name.replace("_", "-"))]
+    files.append(TOP / "crates" / name / "out" / name)
+    return next((os.path.abspath(file) for file in files if os.access(file, os.X_OK)), None)
+
+
+class Guard:
+    """A shell that ends what this process has started once this process is gone, even by SIGKILL.
+
+    What is started joins the shell's group of processes. The shell reads a pipe whose other end is
+    open in this process alone, so it comes to the end of it when this process ends, however that
+    is, and ends the group. To start a process in a group costs nothing; to have it set
+    PR_SET_PDEATHSIG itself makes Python copy its own memory map for each."""
+
+    SCRIPT = "trap '' TERM; read -r line; kill -TERM 0"
+
+    def __init__(self) -> None:
+        self.shell: subprocess.Popen[bytes] | None = None
+        self.owner: int | None = None
+        self.lock = threading.Lock()
+
+    def group(self) -> int | None:
+        """The number of the group; none where there is no shell."""
+        with self.lock:
+            if self.owner != os.getpid() or self.shell is None or self.shell.poll() is not None:
+                self.start()
+            return None if self.shell is None else self.shell.pid
+
+    def start(self) -> None:
+        """Starts the shell, of which a process that was forked needs one of its own."""
+        nowhere, self.owner = subprocess.DEVNULL, os.getpid()
+        call = ["/bin/sh", "-c", self.SCRIPT]
+        try:
+            self.shell = subprocess.Popen(call, stdin=subprocess.PIPE, stdout=nowhere, stderr=nowhere, process_group=0)
+        except FileNotFoundError:
+            self.shell = None
+            return
+        atexit.register(self.end)
+
+    def end(self) -> None:
+        """Ends the shell, and what is left of the group."""
+        if self.shell is not None and self.owner == os.getpid():
+            assert self.shell.stdin is not None
+            self.shell.stdin.close()
+            self.shell.wait()
+
+
+GUARD = Guard()
+
+
+def started(args: list[str], **streams: Any) -> subprocess.Popen[bytes]:
+    """Starts a process that ends when this one does."""
+    return subprocess.Popen(args, **streams, process_group=GUARD.group())
+
+
+class Program:
+    """The built program, which draws all samples. A network is handed to it as the text of its file.
+
+    Parameters
+    ----------
+    path : path, optional
+        The program: by default crates/psi/out/psi of this repository where it is built, else psi on
+        the PATH.
+    jobs : int, optional
+        The number of processes that draw at once, 1 to 1,024; that of the processors by default.
+
+    Raises
+    ------
+    PsiError
+        There is no such program.
+
+    Examples
+    --------
+    >>> import psi
+    >>> psi.Program(jobs=2).jobs
+    2
+    """
+
+    def __init__(self, path: str | os.PathLike[str] | None = None, jobs: int | None = None) -> None:
+        self.jobs = len(os.sched_getaffinity(0)) if jobs is None else whole_argument("jobs", jobs, 1, 1_024)
+        self.path = program_of(path)
+        self.running: set[subprocess.Popen[bytes]] = set()
+        self.guard, self.is_stopped = threading.Lock(), False
+
+    def __repr__(self) -> str:
+        return f"<Program {self.path}, {self.jobs} jobs>"
+
+    def call(self, command: str, net: bytes, *args: object, seconds: float | None = None) -> Answer:
+        """The answer of a command of a network, whatever its status is. Where it takes more than so
+        many seconds it is ended, and subprocess.TimeoutExpired is raised."""
+        return self.run([self.path, command, "/dev/stdin", *map(str, args)], net, seconds)
+
+    def run(self, words: list[str], net: bytes, seconds: float | None = None) -> Answer:
+        """What a program answers to some words, as call does, with a network as its input."""
+        pipe = subprocess.PIPE
+        with self.guard:
+            if self.is_stopped:
+                raise KeyboardInterrupt
+            run = started(words, stdin=pipe, stdout=pipe, stderr=pipe)
+            self.running.add(run)
+        try:
+            out, line = run.communicate(net, timeout=seconds)
+        except BaseException:
+            run.kill()
+            run.communicate()
+            raise
+        finally:
+            with self.guard:
+                self.running.discard(run)
+        texts = out.decode("utf-8", "replace"), line.decode("utf-8", "replace").strip()
+        return Answer(run.returncode, *texts)
+
+    def ask(self, command: str, net: bytes, *args: object, statuses: Container[int] = (0,)) -> Answer:
+        """The answer of a command, which ends with one of these statuses."""
+        return accepted(self.call(command, net, *args), f"psi {command}", statuses)
+
+    def has_states(self) -> bool:
+        """Whether psi_states is there, too."""
+        return companion_of(self.path, "psi_states") is not None
+
+    def states(self, net: bytes, seed: int, first: int, count: int, total: int | None = None) -> str:
+        """The table that psi_states prints of some streams, whether they are coupled or not; with a
+        total, of a closed network. A refusal has the line that psi itself has for it."""
+        path = companion_of(self.path, "psi_states")
+        if path is None:
+            raise PsiError("psi_states isn't built, and isn't beside psi; `rt run` in crates/psi_states builds it")
+        closed = [] if total is None else ["closed", str(total)]
+        answer = self.run([path, "/dev/stdin", str(seed), str(first), str(count), *closed], net)
+        answer.line = re.sub("^psi_states: ", "psi: ", answer.line)
+        return accepted(answer, "psi_states", (0, 1)).out
+
+    def all(self, calls: Iterable[Callable[[], Value]], done: Callable[[int], None] | None = None) -> list[Value]:
+        """The answers of some calls, in their order, drawn side by side; `done` is called with how
+        many are there."""
+        # A single call does without this module, which takes a while to be read.
+        import concurrent.futures
+
+        pool, waiting = concurrent.futures.ThreadPoolExecutor(self.jobs), []
+        try:
+            waiting += [pool.submit(call) for call in calls]
+            for count, one in enumerate(concurrent.futures.as_completed(waiting), 1):
+                one.result()
+                if done:
+                    done(count)
+        except BaseException:
+            self.stop()
+            pool.shutdown(wait=True, cancel_futures=True)
+            self.is_stopped = False
+            raise
+        pool.shutdown()
+        return [one.result() for one in waiting]
+
+    def stop(self) -> None:
+        """Ends what is under way; nothing is begun until all of it has ended."""
+        with self.guard:
+            self.is_stopped = True
+            for run in self.running:
+                run.terminate()
+
+
+def accepted(answer: Answer, name: str, statuses: Container[int]) -> Answer:
+    """The answer of a command of this name, which ends with one of these statuses."""
+    if answer.status not in statuses:
+        message = printable(answer.line).removeprefix("psi: ")
+        raise Refused(message or f"{name} ended with {answer.status}", end_of(answer), answer.line)
+    return answer
+
+
+def end_of(answer: Answer) -> int:
+    """The status with which a tool ends where psi ended so: a signal as a shell has it."""
+    return answer.status if answer.status >= 0 else 128 - answer.status

@@ -1,0 +1,51 @@
+"""What can go wrong: the exceptions of the module psi, each of which a command ends with."""
+
+
+class PsiError(Exception):
+    """Something that psi, a tool or an argument is refused for.
+
+    Attributes
+    ----------
+    message : str
+        What is wrong, in one line.
+    status : int
+        The exit status of the command line: that of psi where psi refuses, and 2 where arguments
+        are wrong.
+    line : str or None
+        The line that psi itself printed on standard error; none where the fault isn't psi's.
+    """
+
+    def __init__(self, message: str, status: int = 2, line: str | None = None) -> None:
+        super().__init__(message)
+        self.message, self.status, self.line = message, status, line
+
+    def __reduce__(self) -> tuple[type, tuple[str, int, str | None]]:
+        return type(self), (self.message, self.status, self.line)
+
+
+class ArgumentError(PsiError, ValueError):
+    """An argument of the module isn't what it should be."""
+
+
+class InputError(PsiError):
+    """An input isn't what it should be, so that it can't be drawn."""
+
+
+class Refused(PsiError):
+    """psi refuses its arguments or its files; `line` is psi's own line."""
+
+
+def require(condition: object, message: str) -> None:
+    """Raises InputError unless a condition holds."""
+    if not condition:
+        raise InputError(message)
+
+
+def reason(fault: Exception) -> str:
+    """Why the system refuses a file, in words."""
+    return getattr(fault, "strerror", None) or str(fault)
+
+
+def printable(text: object) -> str:
+    """A text as one line of characters that can be printed."""
+    return "".join(char if char.isprintable() else "?" for char in str(text))

@@ -1,0 +1,148 @@
+"""Files that are written whole or not at all, and files that are streams.
+
+A plain file is written under a temporary name beside it and renamed. The temporary file is made by
+`O_EXCL` and `O_NOFOLLOW`, so a link that somebody has planted is never written through, and it has
+the mode of the file that it takes the place of. What is no plain file, as a pipe, a device, or
+`/dev/stdout`, is written as the stream that it is.
+"""
+
+import contextlib
+import errno
+import os
+import re
+import stat
+
+from psi_tools.errors import PsiError, reason
+
+Path = str | os.PathLike[str]
+
+# A chain of links is followed so far, as the kernel does it.
+MOST_LINKS = 40
+# A descriptor of a process, as the proc file system names it.
+DESCRIPTOR = re.compile(r"/proc/(\d+)(?:/task/\d+)?/fd")
+# Names of temporary files that are tried.
+TRIES = 100
+
+
+def descriptor_of(path: str) -> tuple[int, int] | None:
+    """The process and the number of the descriptor that a path stands for, as /dev/stdout and
+    /dev/fd/3 do; none where it is a file of its own."""
+    for _ in range(MOST_LINKS):
+        folder, name = os.path.split(os.path.abspath(path))
+        found = DESCRIPTOR.fullmatch(os.path.realpath(folder))
+        if found and name.isdigit():
+            return int(found[1]), int(name)
+        try:
+            path = os.path.join(folder, os.readlink(os.path.join(folder, name)))
+        except OSError:
+            return None
+    return None
+
+
+def is_stream(path: str) -> bool:
+    """Whether a path is written as a stream: it is there, and no plain file; a folder is none."""
+    if descriptor_of(path):
+        return True
+    try:
+        mode = os.stat(path).st_mode
+    except OSError:
+        return False
+    return not stat.S_ISREG(mode) and not stat.S_ISDIR(mode)
+
+
+def write_stream(path: str, data: bytes) -> None:
+    """Writes to a stream, behind what was written there; nothing is cut off."""
+    own = descriptor_of(path)
+    if own and own[0] == os.getpid():
+        file = os.fdopen(os.dup(own[1]), "wb")
+    else:
+        file = open(os.open(path, os.O_WRONLY | os.O_APPEND), "wb")
+    with file:
+        file.write(data)
+
+
+def mode_of(target: str) -> int:
+    """The mode of a file that is written: its own, or that of a new one."""
+    try:
+        return stat.S_IMODE(os.stat(target).st_mode) & 0o777
+    except FileNotFoundError:
+        mask = os.umask(0o077)
+        os.umask(mask)
+        return 0o666 & ~mask
+
+
+def open_new(folder: str, front: str, ending: str = "") -> tuple[int, str]:
+    """A new temporary file in a folder, which no link leads elsewhere, and its path."""
+    flags = os.O_WRONLY | os.O_CREAT | os.O_EXCL | os.O_NOFOLLOW | os.O_CLOEXEC
+    for _ in range(TRIES):
+        path = os.path.join(folder, f"{front}{os.urandom(6).hex()}{ending}")
+        with contextlib.suppress(FileExistsError):
+            return os.open(path, flags, 0o600), path
+    raise FileExistsError(errno.EEXIST, os.strerror(errno.EEXIST), path)
+
+
+def replace(target: str, data: bytes, front: str, ending: str = "") -> None:
+    """Writes a plain file under a temporary name, flushes it, and gives it its own name. Where that
+    fails the temporary file is removed, and the old one is as it was."""
+    mode = mode_of(target)
+    number, part = open_new(os.path.dirname(target) or ".", front, ending)
+    try:
+        with open(number, "wb") as file:
+            os.fchmod(file.fileno(), mode)
+            file.write(data)
+            file.flush()
+            os.fsync(file.fileno())
+        os.replace(part, target)
+    except BaseException:
+        with contextlib.suppress(OSError):
+            os.remove(part)
+        raise
+
+
+def write_file(path: str, data: bytes) -> None:
+    """Writes a file whole or not at all under its name, or a stream."""
+    if is_stream(path):
+        write_stream(path, data)
+        return
+    target = os.path.realpath(path)
+    if os.path.islink(target):
+        raise OSError(errno.ELOOP, os.strerror(errno.ELOOP))
+    # A long name is cut, so that the temporary one isn't too long.
+    replace(target, data, f".{os.path.basename(target)[:200]}.")
+
+
+def try_to_write(path: str) -> None:
+    """Fails as a write to the file would: opens it, or makes one without a name in its folder. It
+    is left as it is, and where there is none none is made: another call may write it meanwhile."""
+    if not path or path.endswith("/"):
+        raise OSError(0, os.strerror(errno.EISDIR if path else errno.ENOENT))
+    if descriptor_of(path) is None:
+        with contextlib.suppress(FileNotFoundError):
+            os.stat(path)
+    if is_stream(path):
+        if not os.access(path, os.W_OK):
+            # To open a pipe and to close it again would tell its reader that all is over.
+            raise OSError(0, os.strerror(errno.EACCES))
+        return
+    target = os.path.realpath(path)
+    if os.path.isfile(target) or os.path.isdir(target):
+        open(target, "ab").close()
+    else:
+        # Only a new file wants this module, which takes a while to be read.
+        import tempfile
+
+        tempfile.TemporaryFile(dir=os.path.dirname(target)).close()
+
+
+# One more byte than a network file may have is read of it.
+MOST_BYTES = 2**20
+UNREAD = 6
+
+
+def read_file(path: Path) -> bytes:
+    """The bytes of a network file, one more at most than it may have."""
+    try:
+        with open(path, "rb") as file:
+            return file.read(MOST_BYTES + 1)
+    except (OSError, ValueError) as fault:
+        raise PsiError(f"{path} can't be read: {reason(fault)}", UNREAD) from None

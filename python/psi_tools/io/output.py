@@ -1,0 +1,44 @@
+"""Answers, written to standard output or to a file, whole or not at all."""
+
+import sys
+
+from psi_tools.errors import PsiError, reason
+from psi_tools.io.files import try_to_write, write_file
+
+UNWRITTEN = 7
+
+
+def check_writable(path: str | None, option: str = "-o") -> None:
+    """Refuses a file that can't be written, before any work.
+
+    It is left as it is, and where there is none none is made: another call may write it meanwhile.
+    """
+    if path is None:
+        return
+    try:
+        try_to_write(path)
+    except (OSError, ValueError) as fault:
+        raise PsiError(f"{option} {path} can't be written: {reason(fault)}", UNWRITTEN) from None
+
+
+def write(path: str, data: bytes) -> None:
+    """Writes the bytes of an answer to a file, whole or not at all under its name, or to a stream
+    such as /dev/stdout."""
+    try:
+        write_file(path, data)
+    except (OSError, ValueError) as fault:
+        raise PsiError(f"{path} can't be written: {reason(fault)}", UNWRITTEN) from None
+
+
+def write_answer(text: str, path: str | None = None) -> None:
+    """Writes an answer to standard output, or to a file."""
+    if path is not None:
+        write(path, text.encode())
+        return
+    try:
+        if sys.stdout is None:
+            raise OSError(0, "it is closed")
+        sys.stdout.buffer.write(text.encode())
+        sys.stdout.buffer.flush()
+    except (OSError, ValueError) as fault:
+        raise PsiError(f"standard output can't be written: {reason(fault)}", UNWRITTEN) from None

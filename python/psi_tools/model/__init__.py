@@ -1,0 +1,1 @@
+"""Networks, and what follows from their files alone: moves, classes, designs, models, refusals."""

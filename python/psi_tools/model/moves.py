@@ -1,0 +1,283 @@
+"""What events may do to the numbers of customers: the changes that are possible, and their bounds.
+
+The rules of the guide's kinds, as far as they tell what may happen to a queue at some number of
+customers whatever the other queues hold. Nothing is sampled here.
+"""
+
+import collections
+import dataclasses
+import fractions
+import math
+from collections.abc import Callable
+from typing import Any
+
+import numpy
+
+from psi_tools.model.networks import Network, Table
+
+# By how much an event changes each queue, by its place; numbers before and after; rates from queue to queue.
+Change = dict[int, int]
+Steps = tuple[Any, Any]
+Routes = dict[tuple[int, int], float]
+
+
+class Moves:
+    """The possible changes of a network's events, counted without their servers."""
+
+    def __init__(self, net: Network) -> None:
+        self.net = net
+        self.place = {name: place for place, name in enumerate(net.queues)}
+        self.capacities = net.capacities
+
+    def targets(self, event: Table) -> list[int]:
+        """The places of the queues of `to`."""
+        to = event.get("to", [])
+        return [self.place[name] for name in ([to] if isinstance(to, str) else to)]
+
+    def sources(self, event: Table) -> list[int]:
+        """The places of the queues of `from`."""
+        names = event.get("from", [])
+        return [self.place[name] for name in ([names] if isinstance(names, str) else names)]
+
+    def changes(self, event: Table) -> list[Change]:
+        """Changes of states by an event, each a dict of a queue's place and by how much its number
+        changes, whose differences and sums span all that it may do."""
+        kind, sources = event["kind"], self.sources(event)
+        if kind == "guarded":
+            return self.changes_of_parts(event["part"])
+        targets = self.targets(event)
+        taken = {place: -1 for place in sources}
+        if kind == "fork":
+            return [{**taken, **{place: 1 for place in targets}}]
+        if kind == "join":
+            return [{**taken, **{place: 1 for place in targets}}]
+        if kind == "negative":
+            on = self.place[event["on"]]
+            most = min(event.get("amount", 1), self.capacities[on])
+            return [*([taken] if taken else []), {**taken, on: -1}, {**taken, on: -most}]
+        size = event.get("size", 1)
+        found = [{**taken, place: size} for place in targets]
+        if sources and (event.get("full", "lost") == "lost" or not targets):
+            found.append(taken)
+        return found
+
+    def changes_of_parts(self, parts: list[Table]) -> list[Change]:
+        """The changes of a guarded event: its first one, and this with another of each part."""
+        options = []
+        for part in parts:
+            place = self.place[part["queue"]]
+            least, most, after = rule_of(part, self.capacities[place])
+            ends = {after(number) - number for number in bends(part, least, most)}
+            options.append((place, sorted(ends)))
+        first = {place: ends[0] for place, ends in options}
+        others = [{**first, place: end} for place, ends in options for end in ends[1:]]
+        return [first, *others]
+
+    def kept_sums(self) -> list[list[int]]:
+        """Weights of the queues whose sums no event changes: a basis, of whole numbers. States with
+        another such sum never meet."""
+        rows = Rows(len(self.capacities))
+        for event in self.net.table["event"]:
+            for change in self.changes(event):
+                rows.add(change)
+        return rows.kept()
+
+    def steps(self, place: int) -> list[Steps]:
+        """Where a queue may go from each of its numbers: pairs of arrays, the numbers before and
+        after, as if all other queues held what lets it."""
+        pairs = []
+        for event in self.net.table["event"]:
+            pairs += self.steps_of(event, place)
+        return pairs
+
+    def steps_of(self, event: Table, place: int) -> list[Steps]:
+        """The steps that one event may make a queue take."""
+        capacity, kind = self.capacities[place], event["kind"]
+        numbers = numpy.arange(capacity + 1)
+        if kind == "guarded":
+            name = self.net.queues[place]
+            part = next((part for part in event["part"] if part["queue"] == name), None)
+            if part is None:
+                return []
+            least, most, after = rule_of(part, capacity)
+            numbers = numbers[least : most + 1]
+            return [(numbers, numpy.clip(numbers + part.get("shift", 0), *ends_of(part, capacity)))]
+        found = []
+        if place in self.sources(event):
+            found.append((numbers[1:], numbers[1:] - 1))
+        if kind == "negative" and self.place[event["on"]] == place:
+            found.append((numbers, numpy.maximum(numbers - event.get("amount", 1), 0)))
+        if place in self.targets(event):
+            size = event.get("size", 1)
+            found.append((numbers[: capacity + 1 - size], numbers[size:]))
+        return found
+
+    def traps(self, place: int) -> list[tuple[int, int, int]]:
+        """The sets of numbers of a queue that can't be left, each as its least, its greatest and
+        how many numbers it has: where there are two, states that never meet."""
+        # Both take a while to be read.
+        import scipy.sparse
+        import scipy.sparse.csgraph
+
+        count = self.capacities[place] + 1
+        pairs = self.steps(place)
+        begins = numpy.concatenate([[0], *(begin for begin, _ in pairs)]).astype(int)
+        ends = numpy.concatenate([[0], *(end for _, end in pairs)]).astype(int)
+        graph = scipy.sparse.coo_matrix((numpy.ones(len(begins)), (begins, ends)), (count, count))
+        many, labels = scipy.sparse.csgraph.connected_components(graph, connection="strong")
+        left = numpy.zeros(many, bool)
+        left[labels[begins[labels[begins] != labels[ends]]]] = True
+        found = []
+        for label in numpy.flatnonzero(~left):
+            numbers = numpy.flatnonzero(labels == label)
+            found.append((int(numbers[0]), int(numbers[-1]), len(numbers)))
+        return sorted(found)
+
+
+def ends_of(part: Table, capacity: int) -> tuple[int, int]:
+    """Where a part cuts the number."""
+    return part.get("floor", 0), part.get("ceiling", capacity)
+
+
+def rule_of(part: Table, capacity: int) -> tuple[int, int, Callable[[int], int]]:
+    """From which number to which a part asks, and what it makes of one."""
+    floor, ceiling = ends_of(part, capacity)
+
+    def after(number: int) -> int:
+        return min(ceiling, max(floor, number + int(part.get("shift", 0))))
+
+    return part.get("least", 0), part.get("most", capacity), after
+
+
+def bends(part: Table, least: int, most: int) -> list[int]:
+    """Numbers at which a part's change takes all values that span it: the ends of the guard, and
+    those where the cut begins or ends."""
+    shift = part.get("shift", 0)
+    found = {least, most}
+    for end in ("floor", "ceiling"):
+        if end in part:
+            found |= {part[end] - shift + by for by in (-1, 0, 1)}
+    found |= {-shift + by for by in (-1, 0, 1)} | {least + 1, most - 1}
+    return [number for number in found if least <= number <= most]
+
+
+class Rows:
+    """The span of some vectors, row by row in echelon form."""
+
+    def __init__(self, width: int) -> None:
+        self.width = width
+        self.rows: dict[int, list[fractions.Fraction]] = {}
+
+    def add(self, change: Change) -> None:
+        """Takes a vector in, given by its places."""
+        vector = [fractions.Fraction(change.get(place, 0)) for place in range(self.width)]
+        for place in range(self.width):
+            if not vector[place]:
+                continue
+            if place not in self.rows:
+                pivot = vector[place]
+                self.rows[place] = [value / pivot for value in vector]
+                return
+            factor, row = vector[place], self.rows[place]
+            vector = [value - factor * other for value, other in zip(vector, row)]
+
+    def kept(self) -> list[list[int]]:
+        """A basis of the weights under which all the vectors sum to zero, as whole numbers."""
+        found = []
+        for free in range(self.width):
+            if free in self.rows:
+                continue
+            weights = [fractions.Fraction(0)] * self.width
+            weights[free] = fractions.Fraction(1)
+            for place in sorted(self.rows, reverse=True):
+                row = self.rows[place]
+                weights[place] -= sum(row[k] * weights[k] for k in range(place + 1, self.width))
+            whole = math.lcm(*(weight.denominator for weight in weights))
+            numbers = [int(weight * whole) for weight in weights]
+            common = math.gcd(*numbers)
+            sign = 1 if next(number for number in numbers if number) > 0 else -1
+            found.append([sign * number // common for number in numbers])
+        return found
+
+
+@dataclasses.dataclass
+class Load:
+    """The flow of a queue, as rates: of customers that come, of the service of all its servers, and
+    at which customers who wait give up at most, where so many wait as there can."""
+
+    arrivals: float
+    service: float
+    giving_up: float
+
+    @property
+    def load(self) -> float | None:
+        """The rate at which customers come beside that of the service; none without a service."""
+        return self.arrivals / self.service if self.service else None
+
+
+def loads_of(net: Network) -> list[Load]:
+    """The load of each queue: customers come as if nobody was lost, stayed or gave up, and go to
+    the first queue of a list, and by an index to each as often. A service event counts once a
+    server; abandonment is counted apart."""
+    moves = Moves(net)
+    count = len(net.queues)
+    outer, served, leaving = [0.0] * count, [0.0] * count, [0.0] * count
+    routes: Routes = collections.defaultdict(float)
+    waiting = abandonments(net)
+    for event in net.table["event"]:
+        taken = leaving if event["name"] in waiting else served
+        flows_of(moves, event, outer, taken, routes if taken is served else {})
+    rates = outer[:]
+    for _ in range(200):
+        after = outer[:]
+        for (source, target), rate in routes.items():
+            if served[source]:
+                after[target] += min(rates[source], served[source]) * rate / served[source]
+        rates = after
+    return [Load(*each) for each in zip(rates, served, leaving)]
+
+
+def abandonments(net: Network) -> set[str]:
+    """The names of the events by which customers who wait give up: guarded ones that take one from
+    a queue of two or more, and have another rate than any service of the queue. Of the same rate it
+    is one more server."""
+    base, late = collections.defaultdict(set), []
+    for event in net.table["event"]:
+        if event["kind"] == "service":
+            base[event["from"]].add(event["rate"])
+        parts = event.get("part", [])
+        takes = [part for part in parts if part.get("shift", 0) < 0]
+        if len(takes) == 1 and len(parts) == 1 and takes[0].get("least", 0) > 1:
+            late.append((event, takes[0]["queue"]))
+        else:
+            for part in takes:
+                base[part["queue"]].add(event["rate"])
+    return {event["name"] for event, queue in late if base[queue] and event["rate"] not in base[queue]}
+
+
+def flows_of(moves: Moves, event: Table, outer: list[float], served: list[float], routes: Routes) -> None:
+    """Adds what an event brings to a queue, takes from one, or moves between two, as rates."""
+    rate = event["rate"] * moves.net.servers_of(event)
+    if event["kind"] == "guarded":
+        shifts = [(moves.place[part["queue"]], part.get("shift", 0)) for part in event["part"]]
+        sources = [place for place, shift in shifts if shift < 0]
+        targets = [(place, shift) for place, shift in shifts if shift > 0]
+        taken = {place: -shift for place, shift in shifts if shift < 0}
+    else:
+        sources = moves.sources(event)
+        size = event.get("size", 1) if event["kind"] in ("batch", "index") else 1
+        found = moves.targets(event)
+        if event["kind"] == "index":
+            size /= len(found)
+        every = event["kind"] in ("fork", "join", "index")
+        targets = [(place, size) for place in (found if every else found[:1])]
+        taken = dict.fromkeys(sources, 1)
+        if event["kind"] == "negative":
+            taken[moves.place[event["on"]]] = event.get("amount", 1)
+    for place, many in taken.items():
+        served[place] += rate * many
+    for place, many in targets:
+        if sources:
+            routes[sources[0], place] = routes.get((sources[0], place), 0.0) + rate * many
+        else:
+            outer[place] += rate * many

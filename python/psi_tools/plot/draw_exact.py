@@ -1,0 +1,105 @@
+"""Draws a text of exact: how the image of all states shrinks, and the two horizons."""
+
+import textwrap
+from typing import Any
+
+import matplotlib.ticker
+
+from psi_tools.io.exact import Shrinking
+from psi_tools.plot import style
+
+LABEL_WIDTH = 48
+
+
+@style.styled
+def draw_exact(found: Shrinking, title: str) -> style.Figure:
+    """The figure of a text."""
+    figure = style.new_figure(3.6, title or "How the image of all states shrinks")
+    axes = figure.add_subplot()
+    axes.set_title(caption(found), pad=6)
+    draw_images(axes, found)
+    mark_horizons(axes, found)
+    axes.set_xscale("log", base=2)
+    axes.set_xlim(0.85, found.longest() * 1.18)
+    axes.set_xticks([*found.images], [style.whole(time) for time in found.images])
+    axes.xaxis.set_minor_locator(matplotlib.ticker.NullLocator())
+    axes.set_xlabel("steps before time 0 at which all states start")
+    axes.set_yscale("log")
+    axes.set_ylim(0.8, top(found))
+    style.label_counts(axes, found.states)
+    axes.set_ylabel("different states that are left at time 0")
+    axes.grid(axis="y", lw=0.3, color="#CCCCCC")
+    return figure
+
+
+def top(found: Shrinking) -> float:
+    """Where the axis of states ends: above all of them there is room for what is marked."""
+    is_marked = found.constant is not None or found.region is not None
+    end: float = 1.6 * found.states ** (1.25 if is_marked else 1.03)
+    return end
+
+
+def caption(found: Shrinking) -> str:
+    """What the title says of a text."""
+    states, longest = style.whole(found.states), style.whole(found.longest())
+    if found.constant is None:
+        left = style.whole(found.images[found.longest()])
+        text = f"of {states} states {left} are left when they start {longest} steps before time 0"
+    else:
+        text = f"all {states} states that start {style.whole(found.constant)} steps before time 0,"
+        text += " or earlier, are one" + f": {found.state}" * (len(found.state or "") <= 40)
+    if found.region is None and found.constant is not None:
+        text += f"; no region run of up to {longest} steps ends in one"
+    return "\n".join(textwrap.wrap(text, 100))
+
+
+def draw_images(axes: Any, found: Shrinking) -> None:
+    """The sizes of the image, and how many states there are."""
+    points = dict(found.images)
+    if found.constant is not None:
+        points[found.constant] = 1
+    times = sorted(points)
+    (line,) = axes.plot(times, [points[time] for time in times], color=style.BLUE, lw=1.2, zorder=2)
+    line.set_gid("line")
+    times, sizes = [*found.images], [*found.images.values()]
+    (marks,) = axes.plot(times, sizes, "o", color=style.BLUE, ms=5, zorder=3)
+    marks.set_gid("images")
+    axes.axhline(found.states, color=style.GREY, lw=0.9, ls=(0, (1, 2)))
+    axes.annotate(
+        f"all {style.whole(found.states)} states",
+        (0.85, found.states),
+        xytext=(3, 6),
+        textcoords="offset points",
+        color=style.GREY,
+        fontsize=7.5,
+    )
+
+
+def mark_horizons(axes: Any, found: Shrinking) -> None:
+    """The horizons at which the map is constant, and at which the region run has one state."""
+    if found.constant is not None and found.constant == found.region:
+        what = "all states have met, and the region is one state"
+        mark(axes, found, found.constant, what, "both", 0)
+        return
+    if found.constant is not None:
+        mark(axes, found, found.constant, "all states have met", "constant", 0)
+    if found.region is not None:
+        mark(axes, found, found.region, "the region is one state", "region", 1)
+
+
+def mark(axes: Any, found: Shrinking, time: int, what: str, name: str, place: int) -> None:
+    """A line at a horizon, and what it is beside it."""
+    colour, dashes = ((style.VERMILION, (0, (4, 2))), (style.BLACK, (0, (1, 1))))[place]
+    line = axes.axvline(time, color=colour, lw=1.3, ls=dashes, zorder=1.5)
+    line.set_gid(name)
+    is_late = time**2 > found.longest()
+    text = "\n".join(textwrap.wrap(f"{what}: {style.whole(time)} steps", LABEL_WIDTH))
+    axes.annotate(
+        text,
+        (time, top(found)),
+        xytext=(-4 if is_late else 4, -2 - 12 * place),
+        textcoords="offset points",
+        ha="right" if is_late else "left",
+        va="top",
+        color=colour,
+    )

@@ -1,0 +1,304 @@
+"""Draws a network as the field draws one: waiting lines, servers, routes, losses and blocking."""
+
+from __future__ import annotations
+
+import math
+from typing import Any
+
+import matplotlib.lines
+import matplotlib.patches
+import matplotlib.path
+
+from psi_tools.plot import style
+from psi_tools.plot.network_folding import folded
+from psi_tools.plot.network_layout import Curve, Layout, Point, laid_out, size_of
+from psi_tools.plot.network_scene import Arrow, NetworkPicture, Node, QueueBox, Scene, SceneArrow, SceneNode, scene_of
+
+# The most places of a waiting line, and the most servers, that are drawn one by one.
+MOST_PLACES, MOST_SERVERS = 6, 3
+INK, LIGHT, PAPER = "#222222", "#888888", "#FFFFFF"
+COLOURS = {
+    Arrow.MOVE: INK,
+    Arrow.OVERFLOW: style.BLUE,
+    Arrow.LOSS: style.VERMILION,
+    Arrow.NEGATIVE: style.PURPLE,
+    Arrow.GUARDED: style.GREEN,
+    Arrow.READ: LIGHT,
+}
+DASHES = {
+    Arrow.MOVE: "-",
+    Arrow.OVERFLOW: (0, (4, 2)),
+    Arrow.LOSS: "-",
+    Arrow.NEGATIVE: (0, (2, 1.5)),
+    Arrow.GUARDED: (0, (1, 1)),
+    Arrow.READ: (0, (1, 2)),
+}
+MEANINGS = {
+    Arrow.MOVE: "customers move; first choice",
+    Arrow.OVERFLOW: "overflow: where all before are full, by number",
+    Arrow.LOSS: "lost where there is no room",
+    Arrow.NEGATIVE: "a signal removes customers",
+    Arrow.GUARDED: "a guarded event changes the number",
+    Arrow.READ: "a guarded event looks at the number",
+}
+EDGE, TITLE_HEIGHT, LEGEND_LINE = 0.18, 0.42, 0.17
+
+
+class Canvas:
+    """The axes of a picture, in inches, and the pens that draw on them."""
+
+    def __init__(self, axes: Any) -> None:
+        self.axes = axes
+
+    def line(self, points: list[Point], gid: str, colour: str = INK, width: float = 0.9) -> None:
+        """A line through points."""
+        across, up = zip(*points)
+        drawn = matplotlib.lines.Line2D(across, up, color=colour, lw=width, solid_capstyle="butt")
+        drawn.set_gid(gid)
+        self.axes.add_line(drawn)
+
+    def patch(self, patch: Any, gid: str) -> None:
+        """A shape."""
+        patch.set_gid(gid)
+        self.axes.add_patch(patch)
+
+    def text(self, place: Point, text: str, size: float, colour: str = INK, **more: Any) -> None:
+        """A text, never read as a formula; it covers what is below it."""
+        self.axes.text(
+            *place,
+            style.printable(text),
+            fontsize=size,
+            color=colour,
+            parse_math=False,
+            ha=more.pop("ha", "center"),
+            va=more.pop("va", "center"),
+            zorder=6,
+            **more,
+        )
+
+
+@style.styled
+def draw_network(picture: NetworkPicture, title: str = "") -> Any:
+    """The figure of a network, as large as what is drawn; a title of its own may replace the picture's."""
+    net, title = picture.net, style.printable(title or picture.title)
+    scene = scene_of(net)
+    layout = folded(laid_out(scene), scene)
+    notes = notes_of(picture, scene)
+    width = max(layout.size[0] + 2 * EDGE, 3.2)
+    low = -EDGE - LEGEND_LINE * len(notes)
+    top = layout.size[1] + EDGE + TITLE_HEIGHT * bool(title)
+    figure = style.new_figure(top - low, "")
+    figure.set_layout_engine("none")
+    figure.set_size_inches(width, top - low)
+    axes = figure.add_axes((0, 0, 1, 1))
+    axes.axis("off")
+    left = (layout.size[0] - width) / 2
+    axes.set_xlim(left, left + width)
+    axes.set_ylim(low, top)
+    canvas = Canvas(axes)
+    if title:
+        canvas.text((left + width / 2, top - TITLE_HEIGHT / 2), title, 10, weight="bold")
+    draw_scene(canvas, scene, layout)
+    for row, (kind, text) in enumerate(notes):
+        draw_note(canvas, (left + EDGE, -EDGE - LEGEND_LINE * (row + 0.2)), kind, text)
+    return figure
+
+
+def draw_scene(canvas: Canvas, scene: Scene, layout: Layout) -> None:
+    """Draws the arrows, then the nodes above them."""
+    for number, (arrow, curve) in enumerate(zip(scene.arrows, layout.curves)):
+        draw_arrow(canvas, arrow, curve, f"arrow-{number}-{arrow.kind.value}")
+    for node in scene.nodes:
+        DRAW[node.kind](canvas, node, layout.centres[node.key])
+
+
+def draw_arrow(canvas: Canvas, arrow: SceneArrow, curve: Curve, gid: str) -> None:
+    """An arrow along its spline, with its label, and with a bar at its source where it blocks."""
+    colour, points = COLOURS[arrow.kind], [*curve.points]
+    codes = [matplotlib.path.Path.MOVETO] + [matplotlib.path.Path.CURVE4] * (len(points) - 1)
+    width = 1.5 if arrow.kind is Arrow.MOVE else 0.9
+    shaft = matplotlib.path.Path(points, codes)
+    canvas.patch(
+        matplotlib.patches.PathPatch(shaft, fill=False, ec=colour, lw=width, ls=DASHES[arrow.kind], zorder=1), gid
+    )
+    if arrow.kind is not Arrow.READ:
+        draw_head(canvas, points[-1], curve.tip, colour, gid)
+    if arrow.blocks:
+        draw_bar_across(canvas, points, f"{gid}-blocks")
+    if curve.label:
+        box = {"fc": PAPER, "ec": "none", "pad": 0.6}
+        above = (curve.label[0], curve.label[1] + 0.03)
+        canvas.text(above, arrow.label, 7 if arrow.kind is not Arrow.OVERFLOW else 7.5, colour, bbox=box)
+
+
+def draw_head(canvas: Canvas, before: Point, tip: Point, colour: str, gid: str) -> None:
+    """The head of an arrow, from where its shaft ends to its tip."""
+    across, up = tip[0] - before[0], tip[1] - before[1]
+    length = math.hypot(across, up) or 1.0
+    side = (-up / length * 0.035, across / length * 0.035)
+    corners = [tip, (before[0] + side[0], before[1] + side[1]), (before[0] - side[0], before[1] - side[1])]
+    canvas.patch(matplotlib.patches.Polygon(corners, fc=colour, ec=colour, lw=0.5, zorder=2), f"{gid}-head")
+
+
+def draw_bar_across(canvas: Canvas, points: list[Point], gid: str) -> None:
+    """A short double bar across the begin of an arrow: its source is blocked where the target is full."""
+    (left, low), (right, high) = points[0], points[1]
+    length = math.hypot(right - left, high - low) or 1.0
+    along = ((right - left) / length, (high - low) / length)
+    for far in (0.05, 0.09):
+        centre = (left + along[0] * far, low + along[1] * far)
+        side = (-along[1] * 0.075, along[0] * 0.075)
+        ends = [(centre[0] + side[0], centre[1] + side[1]), (centre[0] - side[0], centre[1] - side[1])]
+        canvas.line(ends, gid, style.VERMILION, 1.4)
+
+
+def draw_queue(canvas: Canvas, node: SceneNode, centre: Point) -> None:
+    """A waiting line with its places, then its servers; the name above, the numbers below."""
+    queue = node.queue
+    assert queue is not None
+    left, low = centre[0] - 0.68, centre[1] - 0.15
+    server_room = 0.36 if queue.is_served else 0.0
+    draw_line(canvas, queue, node.key, (left, low), 1.36 - server_room)
+    if queue.is_served:
+        draw_servers(canvas, queue, node.key, (left + 1.36 - server_room / 2, centre[1]))
+    name, size = style.fitted(queue.name, 98, 8.5)
+    canvas.text((centre[0], centre[1] + 0.28), name, size, weight="bold")
+    servers = f", {queue.servers} servers" if queue.servers > 1 else ""
+    canvas.text((centre[0], centre[1] - 0.31), f"capacity {queue.capacity}{servers}", 6.5, style.GREY)
+
+
+def draw_line(canvas: Canvas, queue: QueueBox, key: str, corner: Point, width: float) -> None:
+    """The waiting line: open where customers come, closed at the servers, with places while there are few."""
+    (left, low), high = corner, corner[1] + 0.3
+    canvas.patch(matplotlib.patches.Rectangle(corner, width, 0.3, fc="#EEF3F8", ec="none", zorder=3), f"queue-{key}")
+    canvas.axes.add_line(
+        matplotlib.lines.Line2D(
+            [left, left + width, left + width, left], [high, high, low, low], color=INK, lw=1.1, zorder=4
+        )
+    )
+    waiting = queue.capacity - (queue.servers if queue.is_served else 0)
+    places = min(waiting, MOST_PLACES)
+    cell = width / (MOST_PLACES + 1)
+    for place in range(1, places + 1):
+        across = left + width - place * cell
+        canvas.axes.add_line(matplotlib.lines.Line2D([across, across], [low, high], color=INK, lw=0.6, zorder=4))
+    if waiting > MOST_PLACES:
+        canvas.text((left + cell / 2, corner[1] + 0.15), "…", 7)
+
+
+def draw_servers(canvas: Canvas, queue: QueueBox, key: str, centre: Point) -> None:
+    """A circle for each server while they are few, else one with their number."""
+    few = queue.servers <= MOST_SERVERS
+    count = queue.servers if few else 1
+    radius = {1: 0.16, 2: 0.1, 3: 0.08}[count]
+    for place in range(count):
+        up = centre[1] + ((count - 1) / 2 - place) * 2.2 * radius
+        circle = matplotlib.patches.Circle((centre[0], up), radius, fc=PAPER, ec=INK, lw=1.1, zorder=4)
+        canvas.patch(circle, f"server-{key}-{place}")
+    if not few:
+        canvas.text(centre, f"×{queue.servers}", 6.5)
+
+
+def draw_point(canvas: Canvas, node: SceneNode, centre: Point) -> None:
+    """A point outside: filled where customers come from, a ring where they leave."""
+    fill = INK if node.kind is Node.SOURCE else PAPER
+    circle = matplotlib.patches.Circle(centre, 0.045, fc=fill, ec=INK, lw=0.9, zorder=4)
+    canvas.patch(circle, f"{node.kind.value}-{node.key}")
+
+
+def draw_loss(canvas: Canvas, node: SceneNode, centre: Point) -> None:
+    """A cross: customers are lost here."""
+    for turn in (1, -1):
+        ends = [(centre[0] - 0.05, centre[1] - 0.05 * turn), (centre[0] + 0.05, centre[1] + 0.05 * turn)]
+        canvas.line(ends, f"loss-{node.key}", style.VERMILION, 1.4)
+
+
+def draw_bar(canvas: Canvas, node: SceneNode, centre: Point) -> None:
+    """The bar of a fork or join."""
+    bar = matplotlib.patches.Rectangle((centre[0] - 0.035, centre[1] - 0.31), 0.07, 0.62, fc=INK, ec=INK, zorder=4)
+    canvas.patch(bar, f"bar-{node.key}")
+
+
+def draw_choice(canvas: Canvas, node: SceneNode, centre: Point) -> None:
+    """The diamond of a choice by an index."""
+    across, up = centre
+    corners = [(across - 0.17, up), (across, up + 0.17), (across + 0.17, up), (across, up - 0.17)]
+    canvas.patch(matplotlib.patches.Polygon(corners, fc="#FFF7DC", ec=INK, lw=1.0, zorder=4), f"choice-{node.key}")
+    canvas.text(centre, "min", 6)
+
+
+def draw_guard(canvas: Canvas, node: SceneNode, centre: Point) -> None:
+    """The box of a guarded event, with its guards and changes."""
+    width, height = size_of(node)
+    corner = (centre[0] - width / 2, centre[1] - height / 2)
+    box = matplotlib.patches.FancyBboxPatch(
+        (corner[0] + 0.04, corner[1] + 0.04),
+        width - 0.08,
+        height - 0.08,
+        boxstyle="round,pad=0.04",
+        fc="#EAF6F1",
+        ec=style.GREEN,
+        lw=1.0,
+        zorder=4,
+    )
+    canvas.patch(box, f"guard-{node.key}")
+    for row, line in enumerate(node.lines):
+        up = centre[1] + (len(node.lines) - 1) * 0.075 - row * 0.15
+        canvas.text((centre[0], up), line, 7, weight="bold" if row == 0 else "normal")
+
+
+DRAW = {
+    Node.QUEUE: draw_queue,
+    Node.SOURCE: draw_point,
+    Node.SINK: draw_point,
+    Node.LOSS: draw_loss,
+    Node.BAR: draw_bar,
+    Node.CHOICE: draw_choice,
+    Node.GUARD: draw_guard,
+}
+Note = tuple["Arrow | None", str]
+
+
+def notes_of(picture: NetworkPicture, scene: Scene) -> list[Note]:
+    """The lines below the picture: what its arrows mean, and the tables of choices by an index."""
+    notes: list[Note] = []
+    if picture.with_legend:
+        kinds = {arrow.kind for arrow in scene.arrows}
+        notes += [(kind, text) for kind, text in MEANINGS.items() if kind in kinds]
+        if any(arrow.blocks for arrow in scene.arrows):
+            notes.append((None, "‖ at an arrow's begin: the server is blocked while the target is full"))
+        notes.append((None, "numbers at names are rates, of one server where there are more"))
+    if picture.with_tables:
+        for event in picture.net.table["event"]:
+            if event["kind"] == "index":
+                rows = zip(event["to"], event["table"])
+                notes += [(None, f"{event['name']}, index of {name}: {shortened(row)}") for name, row in rows]
+    return notes
+
+
+def shortened(row: list[int]) -> str:
+    """A row of a table, cut in the middle where it is long."""
+    numbers = [str(number) for number in row]
+    return ", ".join(numbers if len(numbers) <= 14 else [*numbers[:10], "…", *numbers[-3:]])
+
+
+def draw_note(canvas: Canvas, place: Point, kind: Arrow | None, text: str) -> None:
+    """A line below the picture, with a piece of the arrow that it explains."""
+    if kind is not None:
+        sample = matplotlib.lines.Line2D(
+            [place[0], place[0] + 0.3],
+            [place[1]] * 2,
+            color=COLOURS[kind],
+            ls=DASHES[kind],
+            lw=1.5 if kind is Arrow.MOVE else 0.9,
+        )
+        canvas.axes.add_line(sample)
+    canvas.axes.text(
+        place[0] + (0.38 if kind else 0),
+        place[1],
+        style.printable(text, 120),
+        fontsize=7,
+        color=INK,
+        va="center",
+        parse_math=False,
+    )

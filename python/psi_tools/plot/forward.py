@@ -1,0 +1,132 @@
+"""Forward runs of one queue: where they end after some steps from each number of customers, and
+where they are when all have met, beside the law that a sample has.
+
+All of it is computed from the steps of the chain, as a word chooses an event: its number modulo the
+least power of two that isn't below the sum of the rates; nothing is sampled here.
+"""
+
+import dataclasses
+from collections.abc import Sequence
+from typing import Any
+
+import numpy
+
+from psi_tools.arguments import NUMBER
+from psi_tools.draw.program import Program
+from psi_tools.errors import require
+from psi_tools.model.moves import rule_of
+from psi_tools.model.networks import Network, Table, checked
+
+# An array; and the share of the random words that choose an event, with what it makes of each number.
+Numbers = numpy.ndarray[Any, Any]
+Map = tuple[float, Numbers]
+
+STEPS, MOST_STEPS, MOST_PARTS, MOST_PLACES = (8, 32, 128), 2**22, 3, 40
+KINDS = "arrival", "service", "guarded"
+
+
+@dataclasses.dataclass
+class Forward:
+    """What forward runs of a queue come to: `law` is the stationary law, an array by customers;
+    `after` has for each number of steps an array with a row for each beginning and a column for
+    each end; `met` is the law of the first state in which the runs from all states are one."""
+
+    name: str
+    law: numpy.ndarray[Any, Any]
+    after: dict[int, numpy.ndarray[Any, Any]]
+    met: numpy.ndarray[Any, Any]
+
+    def distance(self, steps: int) -> float:
+        """How far the law after so many steps is from the stationary one at most, as half the sum
+        of the differences: no event's probability differs more."""
+        return float(abs(self.after[steps] - self.law).sum(axis=1).max() / 2)
+
+
+def maps_of(net: Network) -> list[Map]:
+    """What each event makes of each number of customers, and its share of the random words; that of idle
+    is among them."""
+    require(len(net.queues) == 1, "forward is told a network of one queue")
+    [capacity] = net.capacities
+    require(capacity <= MOST_PLACES, f"forward is told a queue with room for {MOST_PLACES} at most")
+    numbers, found = numpy.arange(capacity + 1), []
+    for event in net.table["event"]:
+        require(
+            event["kind"] in KINDS and not (event["kind"] == "service" and event.get("to")),
+            f"forward has no event such as {event['name']}; it has {', '.join(KINDS)}",
+        )
+        for server in range(1, net.servers_of(event) + 1):
+            found.append((event["rate"], map_of(event, capacity, numbers, server)))
+    total = sum(rate for rate, _ in found)
+    modulus = 1 << (total - 1).bit_length()
+    found.append((modulus - total, numbers))
+    return [(rate / modulus, after) for rate, after in found]
+
+
+def map_of(event: Table, capacity: int, numbers: Numbers, server: int) -> Numbers:
+    """What an event makes of each number of customers; of a service it is that of this server."""
+    if event["kind"] == "arrival":
+        return numpy.minimum(numbers + 1, capacity)
+    if event["kind"] == "service":
+        return numpy.where(numbers >= server, numbers - 1, numbers)
+    [part] = event["part"]
+    least, most, after = rule_of(part, capacity)
+    return numpy.array([after(number) if least <= number <= most else number for number in numbers])
+
+
+def matrix_of(maps: list[Map], count: int) -> Numbers:
+    """The step of the chain on so many states, by the rows."""
+    matrix = numpy.zeros((count, count))
+    for share, after in maps:
+        numpy.add.at(matrix, (numpy.arange(count), after), share)
+    return matrix
+
+
+def stationary(matrix: Numbers) -> Numbers:
+    """The law that a step doesn't change."""
+    count = len(matrix)
+    lines = numpy.vstack([matrix.T - numpy.eye(count), numpy.ones(count)])
+    law: Numbers
+    law, _, rank, _ = numpy.linalg.lstsq(lines, numpy.append(numpy.zeros(count), 1), rcond=None)
+    require(rank == count, "the network has several laws that a step doesn't change")
+    return law
+
+
+def met_of(maps: list[Map], count: int) -> Numbers:
+    """The law of the state in which the runs from all states are one for the first time: of the
+    pairs of the least and the greatest of them, which all others stand between."""
+    for _, after in maps:
+        is_monotone = bool((numpy.diff(after) >= 0).all())
+        require(is_monotone, "forward is told a network whose events are all monotone")
+    place = {(low, high): low * count + high for low in range(count) for high in range(count)}
+    step = numpy.zeros((count * count, count * count))
+    for share, after in maps:
+        for (low, high), begin in place.items():
+            step[begin, place[int(after[low]), int(after[high])]] += share
+    apart = [place[pair] for pair in place if pair[0] < pair[1]]
+    ends = [place[number, number] for number in range(count)]
+    lines = numpy.eye(len(apart)) - step[numpy.ix_(apart, apart)]
+    require(numpy.linalg.matrix_rank(lines) == len(apart), "not all states meet")
+    shares = numpy.linalg.solve(lines, step[numpy.ix_(apart, ends)])
+    found: Numbers = shares[apart.index(place[0, count - 1])]
+    return found
+
+
+def numbers_of(words: Sequence[str]) -> list[int]:
+    """The numbers of steps that the arguments name."""
+    for word in words:
+        require(
+            bool(NUMBER.fullmatch(word)) and len(word) < 9 and 0 < int(word) <= MOST_STEPS,
+            f"{word} isn't a number of steps from 1 to {MOST_STEPS}",
+        )
+    require(len(words) <= MOST_PARTS, f"forward is told at most {MOST_PARTS} numbers of steps")
+    return sorted({int(word) for word in words}) or [*STEPS]
+
+
+def forward_of(program: str | None, path: str, words: Sequence[str]) -> Forward:
+    """The forward runs of a file that psi takes, for numbers of steps that are words."""
+    steps = numbers_of(words)
+    net = checked(Program(program), path)
+    maps = maps_of(net)
+    matrix = matrix_of(maps, net.capacities[0] + 1)
+    after = {number: numpy.linalg.matrix_power(matrix, number) for number in steps}
+    return Forward(net.queues[0], stationary(matrix), after, met_of(maps, len(matrix)))

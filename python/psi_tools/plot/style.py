@@ -1,0 +1,217 @@
+"""What the pictures share: colours, the form of numbers and titles, and how one is saved."""
+
+import contextlib
+import functools
+import io
+import logging
+import math
+import os
+import pathlib
+import re
+import textwrap
+import warnings
+from collections.abc import Callable, Iterator
+from typing import Any, ParamSpec, TypeVar
+
+from psi_tools import errors
+
+Arguments = ParamSpec("Arguments")
+Drawn = TypeVar("Drawn")
+Figure = Any  # matplotlib has no types of its own yet.
+
+
+@contextlib.contextmanager
+def quiet() -> Iterator[None]:
+    """Keeps matplotlib quiet: that a font is looked for, or lacks a character, is no news. In
+    the end warnings and logs are as they were."""
+    logger = logging.getLogger("matplotlib")
+    level = logger.level
+    logger.setLevel(logging.ERROR)
+    try:
+        with warnings.catch_warnings():
+            warnings.simplefilter("ignore")
+            yield
+    finally:
+        logger.setLevel(level)
+
+
+with quiet():
+    import matplotlib
+    import matplotlib.figure
+    import matplotlib.font_manager
+    import matplotlib.textpath
+    import matplotlib.ticker
+# Eight colours that those who don't see all colours can tell apart (Okabe and Ito 2008).
+BLACK, ORANGE, SKY, GREEN = "#000000", "#E69F00", "#56B4E9", "#009E73"
+YELLOW, BLUE, VERMILION, PURPLE = "#F0E442", "#0072B2", "#D55E00", "#CC79A7"
+GREY = "#666666"
+# The width of a page between its margins, in inches.
+WIDTH = 7.2
+DOTS_PER_INCH = 150
+# The size of letters, in points, that can just be read in print.
+SMALLEST, MEASURE = 4.5, matplotlib.textpath.text_to_path
+SUPERSCRIPT = str.maketrans("0123456789", "⁰¹²³⁴⁵⁶⁷⁸⁹")
+# Whole numbers are at steps of 1, 2 or 5, times a power of ten.
+STEPS = [1, 2, 5, 10]
+# Where a clip path of an SVG is named.
+CLIP = re.compile(rb'(<clipPath id="|url\(#)(p[0-9a-f]{10})(?=["\)])')
+STYLE = {
+    "font.family": "DejaVu Sans",
+    "font.size": 8,
+    "axes.titlesize": 8,
+    "axes.labelsize": 8,
+    "xtick.labelsize": 7,
+    "ytick.labelsize": 7,
+    "legend.fontsize": 7.5,
+    "legend.frameon": False,
+    "axes.spines.top": False,
+    "axes.spines.right": False,
+    "axes.linewidth": 0.6,
+    "xtick.major.width": 0.6,
+    "ytick.major.width": 0.6,
+    "figure.constrained_layout.use": True,
+    "savefig.dpi": DOTS_PER_INCH,
+    "svg.hashsalt": "psi-plot",
+    "path.simplify": True,
+}
+
+
+def styled(draw: Callable[Arguments, Drawn]) -> Callable[Arguments, Drawn]:
+    """Makes a function draw in the style of the pictures: what matplotlib is set to, and what is
+    told of warnings, is for its caller as it was before."""
+
+    @functools.wraps(draw)
+    def drawn(*words: Arguments.args, **named: Arguments.kwargs) -> Drawn:
+        with quiet(), matplotlib.rc_context():
+            matplotlib.rcdefaults()
+            matplotlib.rcParams.update(STYLE)
+            return draw(*words, **named)
+
+    return drawn
+
+
+def new_figure(height: float, title: str) -> Figure:
+    """An empty figure of a page's width, with a title, for a function that is `styled`."""
+    figure = matplotlib.figure.Figure(figsize=(WIDTH, height))
+    lines = textwrap.wrap(printable(title, 200), 80)
+    figure.suptitle("\n".join(lines), fontsize=10, weight="bold", parse_math=False)
+    return figure
+
+
+def head(axes: Any, text: str, handles: list[Any], labels: list[str], columns: int) -> None:
+    """What stands below the title, in axes of its own: what it tells, and a legend."""
+    axes.axis("off")
+    axes.set_title("\n".join(textwrap.wrap(text, 96)), pad=3, parse_math=False)
+    # A label that begins with '_' would be left out.
+    labels = [" " * label.startswith("_") + label for label in labels]
+    legend = axes.legend(handles, labels, loc="center", ncol=columns, borderpad=0, borderaxespad=0)
+    for label in legend.get_texts():
+        label.set_parse_math(False)
+
+
+def columns_of(labels: list[str]) -> int:
+    """In how many columns of a legend such labels stand."""
+    longest = max(map(len, labels))
+    return 1 if longest > 44 else 2 if longest > 32 else 3
+
+
+def power_of_two(power: int) -> str:
+    """Two to a power."""
+    return f"2{raised(power)}"
+
+
+@styled
+def laid_out(figure: Figure) -> Figure:
+    """The same figure with all of its ticks made in this style, for a caller with another one."""
+    figure.draw_without_rendering()
+    return figure
+
+
+@styled
+def saved(figure: Figure, form: str) -> bytes:
+    """The bytes of the picture, the same ones for the same figure."""
+    undated = {"svg": {"Date": None}, "pdf": {"CreationDate": None}, "png": {}}[form]
+    room = io.BytesIO()
+    figure.savefig(room, format=form, metadata=undated)
+    return clips_numbered(room.getvalue()) if form == "svg" else room.getvalue()
+
+
+def clips_numbered(drawn: bytes) -> bytes:
+    """The same SVG, its clip paths numbered as they come: some of the names that matplotlib gives
+    them are made of places in memory."""
+    names: dict[bytes, bytes] = {}
+
+    def named(found: re.Match[bytes]) -> bytes:
+        return bytes(found[1]) + names.setdefault(found[2], b"clip%d" % len(names))
+
+    return CLIP.sub(named, drawn)
+
+
+def printable(text: str, most: int = 60) -> str:
+    """A text as it may stand in a picture: of signs that can be printed, and not too long."""
+    text = errors.printable(text)
+    return text if len(text) <= most else text[: most // 2] + ".." + text[-most // 2 + 2 :]
+
+
+def fitted(name: str, points: float, size: float) -> tuple[str, float]:
+    """A name, and the size at which it isn't wider than so many points; it is cut where that would
+    be too small to read."""
+    font = matplotlib.font_manager.FontProperties(size=size)
+    for most in (60, 24, 16, 10):
+        text = printable(name, most)
+        width, _, _ = MEASURE.get_text_width_height_descent(text, font, False)
+        if width * SMALLEST <= points * size:
+            break
+    return text, min(size, size * points / max(width, 1))
+
+
+def stem(path: str | os.PathLike[str]) -> str:
+    """The name of a file without its folder and its ending."""
+    return printable(pathlib.Path(path).stem, 40)
+
+
+def whole(number: int) -> str:
+    """A whole number, its digits in groups of three; a great one as a power."""
+    sign, size = "−" * (number < 0), abs(number)
+    return f"{sign}{size:,}" if size < 10**7 else sign + power(f"{size:.2e}")
+
+
+def power(text: str) -> str:
+    """A number in Python's form with an exponent, as a product."""
+    digits, exponent = text.split("e")
+    return f"{digits.rstrip('0').rstrip('.')}·10{raised(int(exponent))}"
+
+
+def mean(number: float) -> str:
+    """A mean, with three places while it isn't great."""
+    sign, size = "−" * (number < 0), abs(number)
+    if size >= 10**7:
+        return sign + power(f"{size:.2e}")
+    return f"{sign}{size:,.3f}" if size < 1000 else f"{sign}{size:,.0f}"
+
+
+def ten_to(number: float) -> str:
+    """A power of ten, written as one."""
+    return "1" if number == 1 else f"10{raised(round(math.log10(number)))}"
+
+
+def raised(exponent: int) -> str:
+    """An exponent, as it is written."""
+    return str(exponent).translate(SUPERSCRIPT)
+
+
+def label_counts(axes: Any, most: float) -> None:
+    """Ticks of a logarithmic axis from 1 on: powers of ten, with 2 and 5 between while there are
+    few."""
+    digits = int(math.log10(most)) if most >= 1 else 0
+    if most <= 5:
+        ticks: list[float] = [*range(1, 6)]
+    elif digits <= 2:
+        ticks = [base * 10**k for k in range(digits + 1) for base in (1, 2, 5)]
+    else:
+        step = -(-digits // 5)
+        ticks = [10.0**k for k in range(0, digits + 1, step)]
+    axes.yaxis.set_major_locator(matplotlib.ticker.FixedLocator([t for t in ticks if t <= most]))
+    axes.yaxis.set_minor_locator(matplotlib.ticker.NullLocator())
+    message = whole if digits <= 5 else ten_to
+    axes.yaxis.set_major_formatter(lambda count, _: message(round(count)))

@@ -1,0 +1,1 @@
+"""Statistics of samples: intervals, guaranteed intervals, batches, distributions, mean values."""

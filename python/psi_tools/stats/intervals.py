@@ -1,0 +1,481 @@
+"""Confidence intervals of means, shares, differences and quantiles over independent samples.
+
+Statistics in Python, and no promise of psi: an interval of 95 % holds what it is of in some 95 % of
+all repetitions, as far as the streams are independent. Three functions serve the three kinds of
+rows, each with an estimate, a lower and an upper end:
+
+- `share_of`: values 0 and 1, by their count (Clopper and Pearson 1934);
+- `mean_of_values` and `mean_of_batches`: bounded values, by how many samples have each of them, or
+  by the sums of batches;
+- `difference_of_batches`: two designs under common random numbers.
+
+An interval of a mean reckons with a sample that did not come. Where a rare value is large, most
+sets of samples lack it, and Student's t alone would be far too narrow. So a row has a `Span`: what
+its values may be at all, and how far the value that did not come may lie from those that did.
+"""
+
+import contextlib
+import dataclasses
+import functools
+import importlib
+import math
+import threading
+from collections.abc import Callable, Sequence
+from typing import Any
+
+# So many batches are asked for at least, and what an interval holds of all repetitions.
+LEAST_BATCHES, LEVEL = 20, 0.95
+# Steps of a bisection and of a false position, and of the rule by which the exponential part is
+# integrated, and how near a probability has to be met.
+HALVINGS, STEPS, NODES, NEAR = 60, 40, 64, 2e-6
+# A mean is carried by few samples where its sum is that of fewer than so many of equal size.
+FEW = 30
+# Both halves of an interval are equal for a reader where they differ by less than this share.
+EVEN = 0.1
+
+
+@functools.cache
+def special() -> Any:
+    """The functions of scipy, which take a while to be read: only where an interval is wanted."""
+    return importlib.import_module("scipy.special")
+
+
+def read_ahead() -> None:
+    """Imports scipy while samples are drawn. A fault is reported where it is needed."""
+
+    def read() -> None:
+        with contextlib.suppress(Exception):
+            special()
+
+    threading.Thread(target=read).start()
+
+
+@dataclasses.dataclass(frozen=True)
+class Mean:
+    """A mean with half the width of its interval, in the unit of the values; none where there are
+    no values, or only one batch with some. The ends are there where the mean isn't the middle."""
+
+    mean: float | None
+    half: float | None
+    ends: tuple[float, float] | None = None
+
+    @property
+    def low(self) -> float | None:
+        """The lower end."""
+        if self.ends is not None:
+            return self.ends[0]
+        return None if self.half is None or self.mean is None else self.mean - self.half
+
+    @property
+    def high(self) -> float | None:
+        """The upper end."""
+        if self.ends is not None:
+            return self.ends[1]
+        return None if self.half is None or self.mean is None else self.mean + self.half
+
+    def holds(self, value: float) -> bool:
+        """Whether a value is in the interval."""
+        low, high = self.low, self.high
+        return low is not None and high is not None and low <= value <= high
+
+    @property
+    def is_even(self) -> bool:
+        """Whether the mean is the middle of the interval, as far as a reader sees."""
+        if not self.half or self.mean is None or self.ends is None:
+            return self.half is not None
+        return abs((self.ends[1] - self.mean) - (self.mean - self.ends[0])) <= EVEN * self.half
+
+
+NO_MEAN = Mean(None, None)
+
+
+def between(mean: float, low: float, high: float) -> Mean:
+    """A mean with the two ends of its interval."""
+    return Mean(mean, (high - low) / 2, (low, high))
+
+
+@dataclasses.dataclass(frozen=True)
+class Span:
+    """The values of a row: `least` and `greatest` are the ends of what it may have at all, none
+    where that isn't known; `low` and `high` are the ends of what a sample is reckoned with that
+    did not come. `two` says that it has no other values than the least and the greatest."""
+
+    least: int | None
+    greatest: int | None
+    low: int
+    high: int
+    two: bool = False
+
+    @property
+    def ends(self) -> tuple[int, int]:
+        """The least and the greatest value of a row of which both are known."""
+        assert self.least is not None and self.greatest is not None
+        return self.least, self.greatest
+
+    def less(self, other: "Span") -> "Span":
+        """The span of the difference of two rows."""
+        least = None if self.least is None or other.greatest is None else self.least - other.greatest
+        greatest = None if self.greatest is None or other.least is None else self.greatest - other.least
+        return Span(least, greatest, self.low - other.high, self.high - other.low)
+
+    def clipped(self, value: float) -> float:
+        """The nearest value that the row's mean may have."""
+        value = value if self.least is None else max(value, self.least)
+        return value if self.greatest is None else min(value, self.greatest)
+
+
+ZERO_ONE = Span(0, 1, 0, 1, True)
+
+
+def student(degrees: int, level: float = LEVEL) -> float:
+    """How many standard deviations wide half of an interval is by Student's t."""
+    return float(special().stdtrit(degrees, (1 + level) / 2))
+
+
+def bisected(is_below: Callable[[float], bool], low: float, high: float) -> float:
+    """Where a condition that holds from `low` on ends, up to `high`."""
+    for _ in range(HALVINGS):
+        middle = (low + high) / 2
+        if is_below(middle):
+            low = middle
+        else:
+            high = middle
+    return (low + high) / 2
+
+
+def crossing(rise: Callable[[float], float], low: float, high: float) -> float:
+    """Where a rising function is 0, between a place where it is below and one where it is above, by
+    false position (Illinois)."""
+    below, above = rise(low), rise(high)
+    for _ in range(STEPS):
+        middle = (low * above - high * below) / (above - below)
+        value = rise(middle)
+        if abs(value) < NEAR:
+            break
+        if value > 0:
+            high, above, below = middle, value, below / 2
+        else:
+            low, below, above = middle, value, above / 2
+    return middle
+
+
+def student_and_unseen(degrees: int, ratio: float, level: float = LEVEL) -> float:
+    """The quantile of Student's t plus `ratio` times an exponential variable of mean 1: how far an
+    end is from the mean, in standard errors, where the value that did not come would add `ratio`
+    of them, had it come once. For a ratio of 0 it is Student's t; for rare values 0 and 1 the end
+    is close to that of Clopper and Pearson."""
+    share = (1 + level) / 2
+    middle = float(special().stdtrit(degrees, share))
+    if ratio <= 0:
+        return middle
+    import numpy
+
+    # The substitution u = v^2 has most nodes where the exponential variable, -log u, is large.
+    places = (numpy.arange(NODES) + 0.5) / NODES
+    parts, weights = -2 * ratio * numpy.log(places), 2 * places / NODES
+    stdtr = special().stdtr
+
+    def rise(x: float) -> float:
+        return float(weights @ stdtr(degrees, x - parts)) - share
+
+    return crossing(rise, middle - 1e-6, 2 * middle - ratio * math.log((1 - share) / 4))
+
+
+@dataclasses.dataclass(frozen=True)
+class Spread:
+    """The mean of samples in batches, its standard error, and how many batches and samples there
+    are."""
+
+    mean: float
+    error: float | None
+    batches: int
+    many: int
+
+
+def spread_of(sums: Sequence[int], counts: Sequence[int]) -> Spread | None:
+    """The mean of samples in batches, from the sum of each batch and how many samples it has.
+
+    The batches may differ in size: with m the mean of all, the sum of n (m_i - m)^2 over k batches,
+    divided by k - 1, has the variance of one sample as its mean. Sums are whole numbers of any
+    size, so nothing is lost of them before the deviations are known."""
+    pairs = [(total, count) for total, count in zip(sums, counts) if count]
+    if not pairs:
+        return None
+    whole, many = sum(total for total, _ in pairs), sum(count for _, count in pairs)
+    if len(pairs) < 2:
+        return Spread(whole / many, None, 1, many)
+    squares = sum(count * ((total * many - whole * count) / (count * many)) ** 2 for total, count in pairs)
+    error = math.sqrt(squares / (len(pairs) - 1) / many)
+    return Spread(whole / many, error, len(pairs), many)
+
+
+def end_of_batches(spread: Spread, far: float | None, level: float = LEVEL) -> float:
+    """How far an end of the interval of a mean over batches is from the mean. `far` is the value on
+    that side which a sample is reckoned with that did not come; none reckons with no such."""
+    unseen = 0.0 if far is None else abs(far - spread.mean) / spread.many
+    if not spread.error:
+        # All batches are alike: what didn't come in any sample comes in so few of all.
+        return -math.log((1 - level) / 2) * unseen
+    return spread.error * student_and_unseen(spread.batches - 1, unseen / spread.error, level)
+
+
+def filled(sums: Sequence[int], counts: Sequence[int], lost: Sequence[int] | None, value: int | None) -> Spread | None:
+    """The batches, in which each stream that isn't coupled counts with a value."""
+    if lost is None or not any(lost):
+        return spread_of(sums, counts)
+    if value is None:
+        return None
+    sums = [total + number * value for total, number in zip(sums, lost)]
+    return spread_of(sums, [count + number for count, number in zip(counts, lost)])
+
+
+def mean_of_batches(
+    sums: Sequence[int],
+    counts: Sequence[int],
+    level: float = LEVEL,
+    span: Span | None = None,
+    lost: Sequence[int] | None = None,
+) -> Mean:
+    """The mean of a row over samples in batches: `sums` has the sum of each batch, `counts` how
+    many samples of it are coupled, and `lost` how many aren't. Without a span the interval is that
+    of Student's t alone; with one, each end also reckons with a value that did not come. What isn't
+    coupled counts as the least of the span below and as the greatest above, and where the span
+    doesn't know them there is no interval. The estimate is over what is coupled."""
+    whole = spread_of(sums, counts)
+    if whole is None:
+        return NO_MEAN
+    ends = (span.least, span.greatest) if span else (None, None)
+    below, above = (filled(sums, counts, lost, end) for end in ends)
+    if below is None or above is None or below.error is None or above.error is None:
+        return Mean(whole.mean, None)
+    if span is None:
+        return Mean(whole.mean, end_of_batches(whole, None, level))
+    low = below.mean - end_of_batches(below, min(span.low, below.mean), level)
+    high = above.mean + end_of_batches(above, max(span.high, above.mean), level)
+    return between(whole.mean, span.clipped(low), span.clipped(high))
+
+
+def mean_of_two(
+    sums: Sequence[int], counts: Sequence[int], span: Span, lost: Sequence[int] | None = None, level: float = LEVEL
+) -> Mean:
+    """The mean of a row that has two values alone, those of its span: a share, and exact."""
+    least, greatest = span.ends
+    width, many, unknown = greatest - least, sum(counts), sum(lost or ())
+    if not width or not many:
+        return Mean(least, 0.0) if many else NO_MEAN
+    ends = probability((sum(sums) - many * least) // width, many + unknown, unknown, level)
+    low, high = (least + width * end for end in ends)
+    return between(sum(sums) / many, low, high)
+
+
+def difference_of_batches(
+    sums: Sequence[int],
+    others: Sequence[int],
+    counts: Sequence[int],
+    other_counts: Sequence[int],
+    level: float = LEVEL,
+    spans: tuple[Span, Span] | None = None,
+    lost: tuple[Sequence[int], Sequence[int]] | None = None,
+) -> Mean:
+    """The mean of the first samples less that of the others, where both have the same batches of
+    the same streams, under common random numbers: the differences of the batches are the values, so
+    what both have in common doesn't widen the interval. `spans` are those of both rows, `lost` how
+    many streams of each batch aren't coupled. Where both rows have the same two values, as 0 and 1,
+    the interval also holds that of the joint counts, as far as the batches show them."""
+    one, other = spread_of(sums, counts), spread_of(others, other_counts)
+    if one is None or other is None:
+        return NO_MEAN
+    gap = one.mean - other.mean
+    mine, theirs = lost or ([0] * len(sums), [0] * len(sums))
+    if spans is None:
+        if any(mine) or any(theirs) or [*counts] != [*other_counts]:
+            return Mean(gap, None)
+        found = mean_of_batches([x - y for x, y in zip(sums, others)], counts, level)
+        return Mean(gap, found.half)
+    ends = [end for span in spans for end in (span.least, span.greatest)]
+    if (any(mine) or any(theirs)) and None in ends:
+        return Mean(gap, None)
+    values = (spans[0].least, spans[1].greatest), (spans[0].greatest, spans[1].least)
+    low, high = (difference_end(sums, others, counts, mine, theirs, each) for each in values)
+    if low is None or high is None or low.error is None:
+        return Mean(gap, None)
+    both = spans[0].less(spans[1])
+    lower = low.mean - end_of_batches(low, min(both.low, low.mean), level)
+    upper = high.mean + end_of_batches(high, max(both.high, high.mean), level)
+    if spans[0].two and spans[1].two and ends[:2] == ends[2:] and not any([*mine, *theirs]):
+        least, greatest = spans[0].ends
+        # Of a width of 0 both rows are one number.
+        width = (greatest - least) or 1
+        pairs = difference_of_pairs(*pairs_of(sums, others, counts, width), level).ends
+        if pairs is not None:
+            lower, upper = min(lower, width * pairs[0]), max(upper, width * pairs[1])
+    return between(gap, both.clipped(lower), both.clipped(upper))
+
+
+def difference_end(
+    sums: Sequence[int],
+    others: Sequence[int],
+    counts: Sequence[int],
+    mine: Sequence[int],
+    theirs: Sequence[int],
+    values: tuple[int | None, int | None],
+) -> Spread | None:
+    """The differences of the batches, in which what isn't coupled counts with these values."""
+    value, other_value = (0 if value is None else value for value in values)
+    gaps = [x + number * value - y - other * other_value for x, y, number, other in zip(sums, others, mine, theirs)]
+    return spread_of(gaps, [count + number for count, number in zip(counts, mine)])
+
+
+def pairs_of(sums: Sequence[int], others: Sequence[int], counts: Sequence[int], width: int = 1) -> tuple[int, int, int]:
+    """Of how many streams two rows of the same two values differ by their width and by less it, as
+    far as the sums of the batches show it, and how many streams there are."""
+    gaps = [(one - other) // width for one, other in zip(sums, others)]
+    plus, minus = (sum(max(0, sign * gap) for gap in gaps) for sign in (1, -1))
+    return plus, minus, sum(counts)
+
+
+def difference_of_pairs(plus: int, minus: int, many: int, level: float = LEVEL) -> Mean:
+    """The difference of two rows of 0 and 1 by the joint counts: of `many` streams the rows differ
+    by 1 in `plus`, by -1 in `minus`, and in no other."""
+    counts = [(-1, minus), (0, many - plus - minus), (1, plus)]
+    return mean_of_values(counts, Span(-1, 1, -1, 1), level=level)
+
+
+def mean_of_values(counts: Sequence[tuple[float, int]], span: Span, unknown: int = 0, level: float = LEVEL) -> Mean:
+    """The mean of a row by its values: `counts` has pairs of a value and how many samples have it,
+    `unknown` is of how many streams it isn't known, which count as the least of the span below and
+    as the greatest above.
+
+    An end is a quantile of the mean under random weights of the samples, each of an exponential
+    variable, among which the end of the span is one more sample (Gaffke 2005; Learned-Miller and
+    Thomas 2020). For values 0 and 1 that is the interval of Clopper and Pearson."""
+    counts = [(value, count) for value, count in counts if count]
+    known = sum(count for _, count in counts)
+    if not known:
+        return NO_MEAN
+    mean = sum(value * count for value, count in counts) / known
+    if unknown and (span.least is None or span.greatest is None):
+        return Mean(mean, None)
+    tail = (1 - level) / 2
+    least, greatest = span.ends if unknown else (0, 0)
+    low = -upper_end([(-x, n) for x, n in [*counts, (least, unknown)] if n], -span.low, tail)
+    high = upper_end([(x, n) for x, n in [*counts, (greatest, unknown)] if n], span.high, tail)
+    # Adding 0 makes -0.0 a plain zero.
+    return between(mean, span.clipped(low) + 0.0, span.clipped(high) + 0.0)
+
+
+def upper_end(counts: Sequence[tuple[float, int]], far: float, tail: float) -> float:
+    """The upper end of a mean by its values, with `far` as one more sample.
+
+    With w the values less t and G independent gamma variables of the counts as shapes, it is the t
+    at which the sum of w G is negative with probability 1 - tail: found by the saddlepoint of that
+    sum (Lugannani and Rice 1980), which the parameter x gives for a t that is explicit."""
+    import numpy
+
+    far = max(far, *(value for value, _ in counts))
+    values, shapes = numpy.array([*counts, (far, 1)], float).T
+    centre = (values * shapes).sum() / shapes.sum()
+    values, scale = values - centre, abs(values - centre).max()
+    if scale == 0:
+        return float(centre)
+    values = values / scale
+    x = bisected(lambda x: chance_below(values, shapes, x)[1] < 1 - tail, 0.0, 1 / values.max())
+    return float(centre + scale * chance_below(values, shapes, x)[0])
+
+
+def chance_below(values: Any, shapes: Any, x: float) -> tuple[float, float]:
+    """For values whose weighted mean is 0: the t that belongs to the parameter x, and the
+    probability that the randomly weighted mean is at most t."""
+    import numpy
+
+    weights = shapes / (1 - x * values)
+    t = (weights * values).sum() / weights.sum()
+    s = x / (1 - x * t)
+    rest = 1 - s * (values - t)
+    if rest.min() <= 0 or s <= 0:
+        return t, 1.0 if s > 0 else 0.5
+    root = math.sqrt(max(0.0, 2 * (shapes * numpy.log(rest)).sum()))
+    other = s * math.sqrt((shapes * ((values - t) / rest) ** 2).sum())
+    if root < 1e-6 or other <= 0:
+        return t, 0.5
+    return t, float(special().ndtr(root + math.log(other / root) / root))
+
+
+def carriers(mean: float, error: float | None, many: int, base: float) -> float:
+    """How many samples of equal size would have the sum of a row above its least value, `base`, and
+    the same variance: few where a few samples carry the sum."""
+    if not error:
+        return float(many)
+    share = (mean - base) ** 2
+    return many * share / (share + error**2 * many)
+
+
+def carried_by_few(name: str, number: float, many: int) -> str | None:
+    """The line that tells of a mean that few samples carry; none where many do."""
+    if number >= FEW:
+        return None
+    return (
+        f"few samples carry the mean of {name}: as if {max(1, round(number))} of {many:,} had the "
+        "whole sum; more streams make its interval narrower"
+    )
+
+
+def probability(count: int, many: int, unknown: int = 0, level: float = LEVEL) -> tuple[float, float]:
+    """The ends of an interval of a probability: `count` of `many` independent samples have it, and
+    of `unknown` more of the many it isn't known (Clopper and Pearson 1934). It holds the
+    probability at least so often as the level says, whatever the unknown ones are."""
+    tail = (1 - level) / 2
+    low = special().betaincinv(count, many - count + 1, tail) if count else 0.0
+    most = count + unknown
+    high = special().betaincinv(most + 1, many - most, 1 - tail) if most < many else 1.0
+    return float(low), float(high)
+
+
+def share_of(count: int, many: int, unknown: int = 0, level: float = LEVEL) -> Mean:
+    """The share that `count` of `many` independent samples are, with the ends of its interval; of
+    `unknown` of the many it isn't known whether they are, and the estimate is over the others."""
+    if many <= unknown:
+        return NO_MEAN
+    return between(count / (many - unknown), *probability(count, many, unknown, level))
+
+
+def ranks(share: float, many: int, level: float = LEVEL) -> tuple[int, int]:
+    """The ranks, counted from 1, of the two ordered samples between which a quantile is: 0 and
+    many + 1 stand for the ends of the range. The number of samples below it is binomial."""
+    tail = (1 - level) / 2
+    return least_rank(share, many, tail), least_rank(share, many, 1 - tail) + 1
+
+
+def least_rank(share: float, many: int, tail: float) -> int:
+    """The least number that a binomial one passes with a probability of at most 1 - tail."""
+    low, high = -1, many
+    while high - low > 1:
+        middle = (low + high) // 2
+        if special().bdtr(middle, many, share) >= tail:
+            high = middle
+        else:
+            low = middle
+    return high
+
+
+def quantile(
+    values: Sequence[tuple[int, int]], share: float, unknown: int = 0, level: float = LEVEL
+) -> tuple[int | None, int | None, int | None]:
+    """A quantile with its ends: the least value that at least this share of all samples doesn't
+    pass. `values` are pairs of a value and how many samples have it, in their order; of `unknown`
+    more it isn't known, so the lower end takes them for the least, and the upper for the greatest.
+    An end is none where the samples don't tell it."""
+    known = sum(count for _, count in values)
+    low, high = ranks(share, known + unknown, level)
+    middle = value_at(values, max(1, math.ceil(round(share * known, 9))))
+    return middle, value_at(values, low - unknown), value_at(values, high)
+
+
+def value_at(values: Sequence[tuple[int, int]], rank: int) -> int | None:
+    """The value of a rank, none where there isn't one."""
+    passed = 0
+    for value, count in values:
+        passed += count
+        if 1 <= rank <= passed:
+            return value
+    return None

@@ -1,0 +1,72 @@
+"""mean_values.py NET TOTAL [COUNT [PSI]]
+
+Prints how many customers each queue of a closed network holds on average, when there are TOTAL in
+all, by mean value analysis (Reiser and Lavenberg 1980): a line `NAME MEAN` for each queue. With
+COUNT the mean over so many samples stands behind it, with half its interval of some 95 %: those of
+the streams from 0 on and the seed 0, as `PSI closed` prints them; PSI is crates/psi/out/psi where
+it isn't given.
+
+The network is one of single servers, all of whose events are services with one queue to go to, and
+a customer who finds that full stays. Its law is of product form (Gordon and Newell 1967) where
+nobody ever does: so each queue has room for all TOTAL, and every queue can be reached from every
+other.
+"""
+
+import fractions
+from collections.abc import Sequence
+from typing import Any
+
+from psi_tools.errors import PsiError
+from psi_tools.model.networks import Table
+
+Rates = Sequence[Sequence[Any]]
+
+MOST_TOTAL = 256
+APART = "not every queue can be reached from every other"
+
+
+def rates_of(net: Table, total: int) -> list[list[int]]:
+    """The rate from each queue to each other, as rows, by the numbers of the queues."""
+    place = {queue["name"]: i for i, queue in enumerate(net["queue"])}
+    for queue in net["queue"]:
+        if queue.get("servers", 1) > 1 or queue["capacity"] < total:
+            raise PsiError(f"{queue['name']} has several servers, or no room for all")
+    rows = [[0] * len(place) for _ in place]
+    for event in net["event"]:
+        to = event.get("to", [])
+        if event["kind"] != "service" or len(to) != 1 or event.get("full") != "stay":
+            raise PsiError(f"{event['name']} doesn't move a customer who stays where there is no room")
+        rows[place[event["from"]]][place[to[0]]] += event["rate"]
+    return rows
+
+
+def flows_of(rows: Rates) -> list[fractions.Fraction]:
+    """How many customers come to each queue for each that comes to the first: the balance of all
+    the others, solved by elimination."""
+    count = len(rows)
+    if not all(map(sum, rows)):
+        raise PsiError(APART)
+    share = [[fractions.Fraction(rate, sum(row)) for rate in row] for row in rows]
+    others = range(1, count)
+    lines = [[share[i][j] - (i == j) for i in others] + [-share[0][j]] for j in others]
+    for i in range(count - 1):
+        pivot = next((k for k in range(i, count - 1) if lines[k][i]), None)
+        if pivot is None:
+            raise PsiError(APART)
+        lines[i], lines[pivot] = lines[pivot], lines[i]
+        lines[i] = [value / lines[i][i] for value in lines[i]]
+        for k in range(count - 1):
+            if k != i:
+                lines[k] = [a - lines[k][i] * b for a, b in zip(lines[k], lines[i])]
+    return [fractions.Fraction(1), *(line[-1] for line in lines)]
+
+
+def means_of(rows: Rates, total: int) -> list[float]:
+    """The mean number of customers in each queue, from one customer in all up to the total."""
+    demands = [float(flow / sum(row)) for flow, row in zip(flows_of(rows), rows)]
+    means = [0.0] * len(rows)
+    for customers in range(1, total + 1):
+        # A customer finds what there is on average with one customer less.
+        times = [demand * (1 + mean) for demand, mean in zip(demands, means)]
+        means = [customers * time / sum(times) for time in times]
+    return means

@@ -1,0 +1,39 @@
+"""Numbers and intervals as text: as many places as half of an interval has a meaning for."""
+
+import math
+
+from psi_tools.stats.intervals import Mean
+
+
+def figures(number: float | None, half: float | None = None) -> str:
+    """A number with as many places as half of its interval has a meaning for: two of its own."""
+    if number is None:
+        return "-"
+    if not half:
+        return f"{number:.4g}" if number != int(number) else str(int(number))
+    places = max(0, 1 - math.floor(math.log10(half)))
+    return f"{number:.{min(places, 12)}f}"
+
+
+def half_shown(mean: Mean) -> str:
+    """Half of an interval as text, where the mean is its middle; else its ends say more."""
+    if mean.half is None or not mean.is_even:
+        return "-"
+    return f"± {figures(mean.half, mean.half)}"
+
+
+def ends_shown(mean: Mean) -> tuple[str, str]:
+    """The two ends of an interval as texts."""
+    if mean.half is None:
+        return "-", "-"
+    return figures(mean.low, mean.half), figures(mean.high, mean.half)
+
+
+def with_interval(mean: Mean) -> str:
+    """A mean with its interval: half of it where the mean is its middle, and else both ends."""
+    if mean.half is None:
+        return figures(mean.mean)
+    shown = figures(mean.mean, mean.half)
+    if mean.is_even:
+        return f"{shown} {half_shown(mean)}"
+    return "{} ({} to {})".format(shown, *ends_shown(mean))

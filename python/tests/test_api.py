@@ -1,0 +1,167 @@
+"""The module psi as a package: its page, its docstrings and their examples, its results and its exceptions."""
+
+import doctest
+import inspect
+import pathlib
+import pickle
+import subprocess
+import sys
+import warnings
+
+import api_page
+import psi as module
+import pytest
+from conftest import ALONE, HERE, TOP
+from psi_tools.errors import PsiError
+from psi_tools.io.terminal import Bar
+
+CALLS = [name for name in module.__all__ if inspect.isfunction(getattr(module, name))]
+
+
+def desk():
+    net = module.Network().queue("desk", capacity=10)
+    net.event("come", "arrival", rate=4, to=["desk"])
+    return net.event("serve", "service", rate=5, source="desk")
+
+
+@pytest.mark.skipif(ALONE, reason="the page stands in docs/")
+def test_the_page_is_made_of_the_docstrings():
+    """`python3 api_page.py ../docs/API.md` writes it again."""
+    assert (TOP / "docs/API.md").read_text() == api_page.page()
+
+
+@pytest.mark.parametrize("name", CALLS)
+def test_each_argument_is_documented(name):
+    call = getattr(module, name)
+    sections = api_page.SECTION.split(inspect.getdoc(call))
+    text = dict(zip(sections[1::2], sections[2::2]))
+    known = [entry.partition(" : ")[0] for entry, _ in api_page.entries_of(text["Parameters"])]
+    assert known == list(inspect.signature(call).parameters)
+    assert {"Returns", "Examples"} <= {*text}
+    assert text["Examples"].count(">>>") > 1
+
+
+@pytest.mark.parametrize("name", [*CALLS, "Network", "Program"])
+def test_the_examples_run(environment, monkeypatch, name):
+    monkeypatch.setenv("PATH", environment["PATH"])
+    runner = doctest.DocTestRunner(optionflags=doctest.REPORT_NDIFF)
+    tests = doctest.DocTestFinder().find(getattr(module, name), name)
+    assert sum(len(test.examples) for test in tests) > 0
+    for test in tests:
+        runner.run(test)
+    assert runner.summarize(verbose=False).failed == 0
+
+
+def test_results_are_tuples_with_names(psi):
+    found = psi.couple(desk(), 0, 0)
+    assert found == (found.horizon, found.state) and type(found.state) is tuple
+    assert psi.replay(desk(), psi.log(desk(), 0, 0)).state == found.state
+    assert f"<td>{found.horizon}</td>" in found._repr_html_()
+    net = desk().reward("busy", "above", ["desk"], level=0)
+    value = psi.reward(net, 0, 0, "busy")
+    assert value.value in (0, 1) and f"<td>{value.value}</td>" in value._repr_html_()
+    exact = psi.exact(desk(), 0, 0, 3)
+    assert "<th>states left of 11</th>" in exact._repr_html_() and exact._repr_html_().count("<tr>") == 5
+
+
+def test_what_is_shown(psi, program):
+    assert repr(desk()) == "<Network: 1 queue, 2 events, 0 rewards>"
+    assert repr(psi.Program(program, 3)) == f"<Program {program}, 3 jobs>"
+
+
+def test_an_exception_has_its_status_line_and_message(psi):
+    net = desk()
+    net.table["event"][0]["to"] = ["dsk"]
+    with pytest.raises(psi.Refused) as fault:
+        psi.samples(net, count=1)
+    error = fault.value
+    assert isinstance(error, psi.PsiError) and error.status == 3
+    assert error.line == f"psi: {error.message}" == "psi: network refused 9 UnknownQueue event 1 to"
+    again = pickle.loads(pickle.dumps(error))
+    assert (type(again), again.status, again.line, str(again)) == (psi.Refused, 3, error.line, error.message)
+
+
+def test_a_program_works_on_after_a_refusal(program):
+    own = module.Program(program, 2)
+    with pytest.raises(module.NotCoupled):
+        short = desk()
+        short.heads["limit"] = 0
+        module.samples(short, count=10, program=own)
+    net = desk()
+    net.table["event"][0]["rate"] = 0
+    for _ in range(2):
+        with pytest.raises(module.Refused):
+            module.samples(net, count=20, program=own)
+    assert module.samples(desk(), count=20, program=own).shape == (20, 1)
+
+
+def test_paths_are_path_like(psi, tmp_path):
+    path = tmp_path / "desk.toml"
+    desk().write(path)
+    assert (psi.samples(path, count=5) == psi.samples(desk(), count=5)).all()
+    assert psi.Network.read(path).queues == ["desk"]
+    assert psi.check(str(path)) == psi.check(path)
+
+
+def test_names_of_the_release_before(program):
+    for old, new in (("Told", "PsiError"), ("WrongArgument", "ArgumentError")):
+        with pytest.warns(DeprecationWarning, match=f"psi.{old} is psi.{new} now"):
+            assert getattr(module, old) is getattr(module, new)
+    with pytest.raises(AttributeError, match="no attribute 'nothing'"):
+        module.nothing
+    with pytest.warns(DeprecationWarning, match="psi.use is gone in the next release"):
+        module.use(program, 2)
+    assert module.samples(desk(), count=3).shape == (3, 1)
+    with pytest.warns(DeprecationWarning), pytest.raises(PsiError, match="there is no program /absent"):
+        module.use("/absent")
+    with pytest.warns(DeprecationWarning):
+        module.use()
+
+
+def test_without_deprecated_names_nothing_is_warned_of(psi):
+    with warnings.catch_warnings():
+        warnings.simplefilter("error")
+        psi.means(desk(), count=400)
+
+
+def test_a_bar_is_shown_for_long_work_alone(monkeypatch, capsys):
+    tqdm = pytest.importorskip("tqdm.auto")
+    made = []
+
+    class Told(tqdm.tqdm):
+        def __init__(self, *args, **named):
+            made.append(self)
+            super().__init__(*args, **{**named, "disable": False})
+
+    monkeypatch.setattr(tqdm, "tqdm", Told)
+    from psi.calls import ProgressBar
+
+    bar = ProgressBar(10, "blocks")
+    bar.show(4)
+    bar.before = 5
+    bar.show(5)
+    assert made[0].n == 10 and made[0].delay == 2 and capsys.readouterr().err == ""
+    bar.end()
+    monkeypatch.setenv("TQDM_DISABLE", "1")
+    silent = ProgressBar(10)
+    silent.show(3)
+    silent.end()
+    assert len(made) == 1 and isinstance(silent, Bar)
+
+
+def test_help_reads_well():
+    """As `python -c "import psi; help(psi.samples)"` prints it."""
+    done = subprocess.run(
+        [sys.executable, "-c", "import psi; help(psi.samples)"],
+        cwd=HERE.parent,
+        capture_output=True,
+        text=True,
+        check=True,
+    )
+    assert "samples(net: " in done.stdout and "Parameters\n    ----------\n" in done.stdout
+    assert "numpy.ndarray of int, shape (count, queues)" in done.stdout
+
+
+def test_types_are_shipped():
+    for package in ("psi", "psi_tools"):
+        assert (pathlib.Path(module.__file__).parent.parent / package / "py.typed").exists()

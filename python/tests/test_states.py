@@ -1,0 +1,205 @@
+"""Tables of samples: psi.states, and what psi.samples and psi.closed take of them, beside psi itself."""
+
+import re
+import shutil
+import subprocess
+import warnings
+
+import pandas
+import pytest
+from conftest import TOP
+
+import psi as module
+from psi_tools.draw.program import companion_of
+from psi_tools.draw.states import rows_of, states_of
+from psi_tools.errors import PsiError
+from psi_tools.model.networks import Network, values_of
+
+EXAMPLES = TOP / "examples"
+LAST = 2**64 - 1
+
+
+def sample_said(program, command, file, seed, stream, *total):
+    """The horizon and the state that psi prints of one stream; none where it isn't coupled."""
+    words = [program, command, file, seed, stream, *total]
+    done = subprocess.run([*map(str, words)], capture_output=True, text=True)
+    found = re.fullmatch(r"met (\d+)\nstate (\S+)\n", done.stdout)
+    if found is None:
+        assert (done.returncode, done.stdout[:18]) == (1, "not coupled within")
+        return None
+    return int(found[1]), [*map(int, found[2].split(","))]
+
+
+def rows_said(program, command, file, seed, streams, *total):
+    """The rows of a table, by what psi prints of each stream and the guide's rules of rewards."""
+    net = Network.read(file)
+    empty = [None] * (1 + len(net.queues) + len(net.rewards))
+    said = [sample_said(program, command, file, seed, stream, *total) for stream in streams]
+    return [[one[0], *one[1], *values_of(net, one[1])] if one else empty for one in said]
+
+
+def rows_in(table):
+    """The rows of a table without their streams, with None for what is missing."""
+    return [[None if value is pandas.NA else int(value) for value in row[1:]] for row in table.itertuples(index=False)]
+
+
+@pytest.mark.parametrize(
+    "name, seed, first, count",
+    (
+        ("tandem-blocking", 3, 5, 30),
+        ("overflow", 0, LAST - 14, 15),
+        ("longest-queue", LAST, 0, 10),
+        ("negative-customers", 7, 2**63 - 5, 10),
+        ("first", 1, 9, 1),
+    ),
+)
+def test_rows_are_what_psi_samples(psi, program, name, seed, first, count):
+    file, streams = EXAMPLES / f"{name}.toml", range(first, first + count)
+    table, net = psi.states(file, seed, first, count), Network.read(file)
+    wanted = rows_said(program, "sample", file, seed, streams)
+    queues, rewards = [f"queue.{queue}" for queue in net.queues], [f"reward.{reward}" for reward in net.rewards]
+    assert [*table.columns] == ["stream", "horizon", *queues, *rewards]
+    assert table["stream"].tolist() == [*streams]
+    assert rows_in(table) == wanted
+    assert psi.samples(file, seed, first, count).tolist() == [row[1 : 1 + len(queues)] for row in wanted]
+
+
+def test_rows_are_what_psi_samples_of_a_closed_network(psi, program):
+    file = EXAMPLES / "central-server.toml"
+    wanted = rows_said(program, "closed", file, 2, range(4, 16), 6)
+    table = psi.states(file, 2, 4, 12, total=6)
+    assert rows_in(table) == wanted
+    assert (table[["queue.cpu", "queue.disk", "queue.drum"]].sum(axis=1) == 6).all()
+    assert psi.closed(file, 6, 2, 4, 12).tolist() == [row[1:4] for row in wanted]
+
+
+def test_a_stream_that_is_not_coupled_keeps_its_row(psi, program):
+    file = EXAMPLES / "short-past.toml"
+    wanted = rows_said(program, "sample", file, 0, range(60))
+    lost = [row[0] is None for row in wanted]
+    assert 0 < sum(lost) < 60
+    with pytest.warns(psi.Uncoupled, match=f"^{sum(lost)} of 60 streams weren't coupled"):
+        table = psi.states(file, count=60)
+    assert rows_in(table) == wanted
+    assert table["stream"].tolist() == [*range(60)]
+    assert [*table["queue.desk"].isna()] == [*table["reward.full"].isna()] == lost
+    assert psi.samples(file, count=60, keep=True)[:, 0].tolist() == [-1 if row[0] is None else row[1] for row in wanted]
+    message = f"not coupled: {sum(lost)} of 60 streams, first {lost.index(True)}; the others alone are biased"
+    with pytest.raises(psi.NotCoupled) as fault:
+        psi.samples(file, count=60)
+    assert (str(fault.value), fault.value.status) == (message, 1)
+    met, unmet = lost.index(False), lost.index(True)
+    with warnings.catch_warnings():
+        warnings.simplefilter("error")
+        assert rows_in(psi.states(file, first=met, count=1)) == [wanted[met]]
+    with pytest.warns(psi.Uncoupled):
+        assert rows_in(psi.states(file, first=unmet, count=1)) == [wanted[unmet]]
+
+
+def test_processes_make_no_difference(program):
+    with pytest.warns(module.Uncoupled):
+        one, four = (
+            module.states(EXAMPLES / "short-past.toml", 1, 3, 333, program=module.Program(program, jobs))
+            for jobs in (1, 4)
+        )
+    pandas.testing.assert_frame_equal(one, four)
+    assert len(one) == 333
+
+
+def test_types_are_as_narrow_as_capacities(psi):
+    net = psi.Network()
+    capacities = {"a": 127, "b": 128, "c": 32_767, "d": 32_768}
+    for name, capacity in capacities.items():
+        net.queue(name, capacity)
+        net.event(f"in-{name}", "arrival", 1, to=[name]).event(f"out-{name}", "service", 2, source=name)
+    for limit in (0, 20):
+        net.heads["limit"] = limit
+        with warnings.catch_warnings():
+            warnings.simplefilter("ignore", psi.Uncoupled)
+            table = psi.states(net, count=2)
+        assert [str(kind) for kind in table.dtypes] == ["uint64", "Int64", "Int8", "Int16", "Int16", "Int32"]
+
+
+def test_what_is_refused(psi, tmp_path):
+    net = psi.Network().queue("a", 0)
+    with pytest.raises(psi.Refused) as fault:
+        psi.states(net, count=1)
+    error = fault.value
+    assert error.status == 3
+    assert error.line == f"psi: {error.message}" == "psi: network refused 6 OutOfRange queue 1 capacity"
+    opened = EXAMPLES / "tandem-blocking.toml"
+    for call in (psi.states, psi.closed):
+        with pytest.raises(psi.Refused) as fault:
+            call(opened, total=3, count=5)
+        assert (fault.value.status, fault.value.line) == (11, "psi: not closed event 0")
+    with pytest.raises(psi.Refused) as fault:
+        psi.states(EXAMPLES / "central-server.toml", total=256, count=5)
+    assert (fault.value.status, str(fault.value)) == (12, "no state with this total")
+    with pytest.raises(psi.PsiError):
+        psi.states(tmp_path / "absent.toml")
+    for words in ({"count": 0}, {"seed": -1}, {"first": LAST, "count": 2}, {"total": 257}):
+        with pytest.raises(psi.ArgumentError):
+            psi.states(opened, **words)
+
+
+def test_the_program_is_looked_for_beside_psi_first(program, tmp_path, monkeypatch):
+    own, link = tmp_path / "own", tmp_path / "link"
+    own.mkdir(), link.mkdir()
+    shutil.copy(program, own / "psi")
+    (link / "psi").symlink_to(own / "psi")
+    monkeypatch.setattr("psi_tools.draw.program.TOP", tmp_path)
+    psi = module.Program(link / "psi")
+    with pytest.raises(PsiError, match="^psi_states isn't built, .*`rt run` in crates/psi_states builds it$"):
+        module.states(EXAMPLES / "first.toml", program=psi)
+    built, dashed, beside = (tmp_path / "crates/psi_states/out/psi_states", own / "psi-states", link / "psi_states")
+    for place in (built, dashed, beside):
+        place.parent.mkdir(parents=True, exist_ok=True)
+        shutil.copy("/bin/true", place)
+        assert companion_of(psi.path, "psi_states") == str(place)
+    with pytest.raises(PsiError, match="^psi_states printed no table"):
+        module.states(EXAMPLES / "first.toml", program=psi)
+
+
+def test_a_text_that_is_no_such_table():
+    net = Network.read(EXAMPLES / "short-past.toml")
+    head = "stream,horizon,queue.desk,reward.full\n"
+    assert rows_of(net, head + "7,64,2,0\n8,,,\n", (7, 2)) == ["64,2,0", None]
+    for text in (
+        "",
+        "7,64,2,0\n8,,,\n",
+        head + "7,64,2,0\n",
+        head + "7,64,2,0\n8,,,",
+        head + "7,64,2,0\n9,,,\n",
+        head + "8,,,\n7,64,2,0\n",
+        head + "7,64,2\n8,,,\n",
+        head + "7,64,2,0\n8,,,\n9,,,\n",
+    ):
+        with pytest.raises(PsiError, match="^psi_states printed no "):
+            rows_of(net, text, (7, 2))
+
+
+def test_a_bar_is_told_of_each_block(program):
+    net, told = Network.read(EXAMPLES / "first.toml"), []
+    rows = states_of(module.Program(program, 2), net, 0, [(0, 3), (3, 2)], done=told.append)
+    assert told == [1, 2]
+    assert len(rows) == 5
+
+
+def test_states_without_psi_states(program, tmp_path, monkeypatch):
+    """Where psi_states is not built, arrays are the same, and a table is refused."""
+    alone = tmp_path / "psi"
+    shutil.copy(program, alone)
+    draws = [
+        lambda one: module.samples(EXAMPLES / "tandem-blocking.toml", count=20, program=one),
+        lambda one: module.closed(EXAMPLES / "central-server.toml", 2, count=20, program=one),
+        lambda one: module.samples(EXAMPLES / "short-past.toml", count=9, keep=True, program=one),
+    ]
+    both = module.Program(program)
+    assert both.has_states()
+    wanted = [draw(both).tolist() for draw in draws]
+    monkeypatch.setattr("psi_tools.draw.program.TOP", tmp_path)
+    lone = module.Program(alone, jobs=2)
+    assert not lone.has_states()
+    assert [draw(lone).tolist() for draw in draws] == wanted
+    with pytest.raises(PsiError, match="psi_states isn't built"):
+        module.states(EXAMPLES / "tandem-blocking.toml", count=2, program=lone)

@@ -1,0 +1,1 @@
+"""Makes a release: the package, the archive, the man pages; and measures limits."""

@@ -1,0 +1,328 @@
+"""/usr/bin/python3 -m release.make_package [PSI [FOLDER]]
+
+Makes of the built program in a folder, the working folder where none is given, and prints their
+paths:
+
+- a Debian package, psi-sampler_VERSION_amd64.deb;
+- an archive for any Linux on x86-64 whose C library, glibc, is of a version that its name has or
+  later, psi-sampler-VERSION-linux-x86-64-glibc-GLIBC.tar.xz;
+- SHA256SUMS of both, for `sha256sum --check`.
+
+PSI is the built program, crates/psi/out/psi where it isn't given; psi_merge and psi_states are packed
+too, as psi-merge and psi-states, where they are built beside it or in their crates. Both have the
+tools psi-many, psi-plot and those of docs/TOOLS.md and what they need, the module psi for Python, man
+pages made by man_pages.py, completion for bash, zsh and fish, the gallery, the documents, and the
+licences. The programs are stripped of their symbols. It wants git, dpkg-deb, strip, and what
+tools/setup installs. What to do with them is said in docs/RELEASING.md. DEBEMAIL is the maintainer's
+address; where it isn't set it is that of the commit.
+
+The version is that of CITATION.cff, with the day and the commit behind it where this isn't tagged
+as `vVERSION`. The same commit and the same program give the same files, byte by byte.
+"""
+
+import email.utils
+import gzip
+import hashlib
+import os
+import pathlib
+import re
+import shutil
+import subprocess
+import sys
+import tempfile
+import time
+
+import tools.packaged  # noqa: F401
+from psi_tools.cli.completion import completion
+from psi_tools.cli.entry import NAMES
+from release import man_pages
+
+TOP = pathlib.Path(__file__).resolve().parent.parent
+# The built program, in a checkout and in the folder of the package's library. What stands on the
+# PATH there is the script tools/command/installed.
+BUILT = "crates/psi/out/psi"
+NAME = "psi-sampler"
+# The other proved programs, each with its crate, that are packed where they are built.
+OTHERS = {"psi-merge": "psi_merge", "psi-states": "psi_states"}
+TOOLS = (
+    "packaged.py",
+    "merge_reports.py",
+    "plotting",
+    "check_log.py",
+    "check_interval.py",
+    "mean_values.py",
+    "command",
+    *(f"psi-{name}" for name in NAMES),
+)
+# The folders of python/ that are packed.
+MODULES = "psi", "psi_tools"
+DOCUMENTS = "README.md", "CITATION.cff", "SECURITY.md", "PERFORMANCE.md", "docs"
+DEPENDS = (
+    "python3 (>= 3.11)",
+    "python3-numpy",
+    "python3-scipy",
+    "python3-pandas",
+    "python3-matplotlib",
+    "parallel",
+    "graphviz",
+)
+CONTROL = """Package: {name}
+Version: {version}
+Architecture: amd64
+Maintainer: {by}
+Installed-Size: {size}
+Depends: {depends}
+Suggests: slurm-client, openssh-client
+Conflicts: psi
+Section: science
+Priority: optional
+Description: perfect samples of finite queueing networks
+ PSI draws independent samples from the stationary distribution of a finite
+ Markovian queueing network. It uses coupling from the past, so there is no
+ warm-up to guess and no initialization bias. Each function of the program is
+ proved to meet its contract.
+ .
+ It models blocking, overflow, index routing, batches, negative customers,
+ forks, joins, resets and closed networks, and writes and checks certificates.
+ psi-many draws many samples on many processors and machines, and psi-plot
+ draws pictures of what was sampled. psi-means, psi-law and psi-sweep print
+ means, distributions and comparisons of designs with confidence intervals;
+ psi-where and psi-why find what is wrong with a network, and psi-new writes
+ one. Python has the module psi.
+"""
+CHANGES = """{name} ({version}) unstable; urgency=medium
+
+  * What changed is in changelog.gz.
+
+ -- {by}  {stamp}
+"""
+# Python keeps there what it has compiled of the tools.
+PRERM = f"""#!/bin/sh
+set -e
+find /usr/lib/{NAME} -type d -name __pycache__ -prune -exec rm -rf {{}} +
+"""
+COPYRIGHT = """Format: https://www.debian.org/doc/packaging-manuals/copyright-format/1.0/
+Upstream-Name: PSI
+
+Files: *
+Copyright: 2026 The PSI authors
+License: Apache-2.0 or Expat
+
+License: Apache-2.0
+ On Debian systems, the full text of the Apache License, Version 2.0 is in
+ /usr/share/common-licenses/Apache-2.0.
+
+License: Expat
+"""
+
+
+def said(*words: str) -> str:
+    """What a command prints, at the top."""
+    return subprocess.check_output(words, cwd=TOP, text=True).strip()
+
+
+def version_of() -> tuple[str, int]:
+    """The version, and the second at which it was committed."""
+    found = re.search(r'^version: "([^"]*)"', (TOP / "CITATION.cff").read_text(), re.M)
+    assert found, "CITATION.cff has no version"
+    version, second = found[1], int(said("git", "log", "-1", "--format=%ct"))
+    if f"v{version}" not in said("git", "tag", "--points-at", "HEAD").split():
+        day = time.strftime("%Y%m%d", time.gmtime(second))
+        version += f"+git{day}.{said('git', 'rev-parse', '--short=7', 'HEAD')}"
+    return version, second
+
+
+def maintainer() -> str:
+    """Who answers for the package: what DEBFULLNAME and DEBEMAIL say, as for Debian's own tools, or
+    else whoever made the commit."""
+    name = os.environ.get("DEBFULLNAME", "The PSI authors")
+    return f"{name} <{os.environ.get('DEBEMAIL') or said('git', 'log', '-1', '--format=%ce')}>"
+
+
+def copy(source: pathlib.Path, target: pathlib.Path, mode: int = 0o644) -> None:
+    target.parent.mkdir(parents=True, exist_ok=True)
+    shutil.copyfile(source, target)
+    target.chmod(mode)
+
+
+def write(target: pathlib.Path, text: str) -> None:
+    target.parent.mkdir(parents=True, exist_ok=True)
+    target.write_text(text)
+
+
+def pack(target: pathlib.Path, text: str) -> None:
+    """Writes a text that is compressed, without a name or a time in it."""
+    target.parent.mkdir(parents=True, exist_ok=True)
+    target.write_bytes(gzip.compress(text.encode(), 9, mtime=0))
+
+
+def link(target: pathlib.Path, path: pathlib.Path) -> None:
+    path.parent.mkdir(parents=True, exist_ok=True)
+    path.symlink_to(os.path.relpath(target, path.parent))
+
+
+def tracked(name: str) -> list[str]:
+    """The files of the repository below a name."""
+    return said("git", "ls-files", name).splitlines()
+
+
+def beside(program: pathlib.Path, crate: str) -> pathlib.Path | None:
+    """The program of a crate, built beside PSI or in its crate, or none."""
+    folder = program.parent
+    places = folder / crate, folder.parent.parent / crate / "out" / crate
+    return next((place for place in places if os.access(place, os.X_OK)), None)
+
+
+def fill_library(root: pathlib.Path, programs: dict[str, pathlib.Path]) -> None:
+    """The tools, and a folder that has what the documents' commands name by a path."""
+    library = root / "usr/lib" / NAME
+    for name in (file for tool in TOOLS for file in tracked(f"tools/{tool}")):
+        is_run = os.access(TOP / name, os.X_OK)
+        copy(TOP / name, library / name, 0o755 if is_run else 0o644)
+    for name in (file for module in MODULES for file in tracked(f"python/{module}")):
+        copy(TOP / name, library / name)
+    for module in MODULES:
+        link(library / "python" / module, root / "usr/lib/python3/dist-packages" / module)
+    for name in NAMES:
+        link(library / f"tools/psi-{name}", root / f"usr/bin/psi-{name}")
+    (library / "tools/command/installed").rename(root / "usr/bin/psi")
+    link(root / "usr/bin/psi", library / "psi")
+    copy(programs["psi"], library / BUILT, 0o755)
+    for name, crate in OTHERS.items():
+        if built := programs.get(name):
+            copy(built, root / "usr/bin" / name, 0o755)
+            link(root / "usr/bin" / name, library / "crates" / crate / "out" / crate)
+    link(root / "usr/share/doc" / NAME / "examples", library / "examples")
+
+
+def fill_documents(root: pathlib.Path, version: str, second: int) -> None:
+    """The documents, the gallery, the licences, man pages and completion."""
+    share, files = root / "usr/share", TOP / "release/package_files"
+    doc, day = share / "doc" / NAME, time.strftime("%Y-%m-%d", time.gmtime(second))
+    for name in (file for document in (*DOCUMENTS, "examples") for file in tracked(document)):
+        copy(TOP / name, doc / name)
+    copy(files / "README.Debian", doc / "README.Debian")
+    pack(doc / "changelog.gz", (TOP / "CHANGELOG.md").read_text())
+    stamp = email.utils.formatdate(second)
+    changes = CHANGES.format(name=NAME, version=version, by=maintainer(), stamp=stamp)
+    pack(doc / "changelog.Debian.gz", changes)
+    mit = (TOP / "LICENSE-MIT").read_text().splitlines()[4:]
+    write(doc / "copyright", COPYRIGHT + "".join(f" {line or '.'}\n" for line in mit))
+    for name, text in man_pages.pages(TOP, day):
+        pack(share / f"man/man{name[-1]}" / f"{name}.gz", text)
+    for file in tracked("release/package_files/lintian-overrides"):
+        copy(TOP / file, share / "lintian/overrides" / NAME)
+    copy(files / "completion.bash", share / "bash-completion/completions/psi")
+    copy(files / "completion.zsh", share / "zsh/vendor-completions/_psi")
+    copy(files / "completion.fish", share / "fish/vendor_completions.d/psi.fish")
+    for name in NAMES:
+        write(share / f"bash-completion/completions/psi-{name}", completion("bash", name))
+        write(share / f"zsh/vendor-completions/_psi-{name}", completion("zsh", name))
+        write(share / f"fish/vendor_completions.d/psi-{name}.fish", completion("fish", name))
+
+
+def glibc_of(program: pathlib.Path) -> str:
+    """The least version of glibc that a program takes."""
+    versions = re.findall(rb"GLIBC_(\d+)\.(\d+)", program.read_bytes())
+    return "{}.{}".format(*max(tuple(map(int, pair)) for pair in versions))
+
+
+def fill_control(root: pathlib.Path, version: str, program: pathlib.Path) -> None:
+    """What dpkg reads: the fields, the digests of all files, and what is done before a removal."""
+    files = sorted(file for file in root.rglob("*") if file.is_file() and not file.is_symlink())
+    size = sum(-(-file.stat().st_size // 1024) for file in files)
+    fields: dict[str, object] = {"name": NAME, "version": version, "size": size, "by": maintainer()}
+    fields["depends"] = ", ".join([f"libc6 (>= {glibc_of(program)})", *DEPENDS])
+    names = [str(file.relative_to(root)) for file in files]
+    sums = subprocess.check_output(["md5sum", *names], cwd=root, text=True)
+    write(root / "DEBIAN/control", CONTROL.format(**fields))
+    write(root / "DEBIAN/md5sums", sums)
+    write(root / "DEBIAN/prerm", PRERM)
+    (root / "DEBIAN/prerm").chmod(0o755)
+
+
+def make_package(
+    room: pathlib.Path, folder: pathlib.Path, programs: dict[str, pathlib.Path], version: str, second: int
+) -> pathlib.Path:
+    """The Debian package."""
+    root, package = room / NAME, folder / f"{NAME}_{version}_amd64.deb"
+    root.mkdir()
+    fill_library(root, programs)
+    fill_documents(root, version, second)
+    fill_control(root, version, programs["psi"])
+    subprocess.run(
+        ["dpkg-deb", "--root-owner-group", "-Zxz", "--build", str(root), str(package)],
+        check=True,
+        stdout=subprocess.DEVNULL,
+        env={**os.environ, "SOURCE_DATE_EPOCH": str(second)},
+    )
+    return package
+
+
+def make_archive(
+    room: pathlib.Path, folder: pathlib.Path, programs: dict[str, pathlib.Path], version: str, second: int
+) -> pathlib.Path:
+    """The archive. Its folder is that of the package without /usr, and has links within it alone."""
+    glibc = glibc_of(programs["psi"])
+    top = f"{NAME}-{version}"
+    archive = folder / f"{top}-linux-x86-64-glibc-{glibc}.tar.xz"
+    usr = room / NAME / "usr"
+    shutil.rmtree(usr / "lib/python3")
+    copy(TOP / "release/package_files/Dockerfile", usr / "Dockerfile")
+    for name in ("README.md", "LICENSE-APACHE", "LICENSE-MIT"):
+        copy(TOP / name, usr / name)
+    link(usr / "share/doc" / NAME / "examples", usr / "examples")
+    usr.rename(room / top)
+    subprocess.run(
+        [
+            "tar",
+            "--sort=name",
+            f"--mtime=@{second}",
+            "--owner=0",
+            "--group=0",
+            "--numeric-owner",
+            "--format=posix",
+            "--pax-option=exthdr.name=%d/PaxHeaders/%f,delete=atime,delete=ctime",
+            "-cJf",
+            str(archive),
+            top,
+        ],
+        cwd=room,
+        check=True,
+    )
+    return archive
+
+
+def stripped(program: pathlib.Path, room: pathlib.Path, name: str) -> pathlib.Path:
+    """A copy of a program without its symbols."""
+    copied = room / name
+    shutil.copyfile(program, copied)
+    copied.chmod(0o755)
+    subprocess.run(["strip", "--strip-all", "-R", ".comment", str(copied)], check=True)
+    return copied
+
+
+def main(words: list[str]) -> int:
+    program = pathlib.Path(words[0] if words else TOP / BUILT).absolute()
+    folder = pathlib.Path(words[1] if len(words) > 1 else ".").resolve()
+    if len(words) > 2 or not os.access(program, os.X_OK) or not folder.is_dir():
+        print("make_package: [PSI [FOLDER]], where PSI is the built program", file=sys.stderr)
+        return 2
+    version, second = version_of()
+    os.umask(0o022)
+    with tempfile.TemporaryDirectory() as name:
+        room = pathlib.Path(name)
+        programs = {"psi": stripped(program, room, "psi")}
+        for other, crate in OTHERS.items():
+            if built := beside(program, crate):
+                programs[other] = stripped(built, room, other)
+        made = [make(room, folder, programs, version, second) for make in (make_package, make_archive)]
+    digests = [hashlib.sha256(file.read_bytes()).hexdigest() for file in made]
+    sums = folder / "SHA256SUMS"
+    write(sums, "".join(f"{digest}  {file.name}\n" for digest, file in zip(digests, made)))
+    print(*made, sums, sep="\n")
+    return 0
+
+
+if __name__ == "__main__":
+    sys.exit(main(sys.argv[1:]))

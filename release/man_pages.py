@@ -1,0 +1,349 @@
+"""/usr/bin/python3 -m release.man_pages FOLDER [DATE]
+
+Makes the man pages of the package, and writes them to a folder; DATE stands at their feet. Those of
+the commands are release/package_files/man/NAME.SECTION.md, written for the package, in which a line
+
+- `@options COMMAND` stands for the options of psi-COMMAND, as its reader of words has them;
+- `@kinds COMMAND` for the kinds of its first word;
+- `@status` for the statuses that the tools share;
+- `@synopsis`, `@commands` and `@statuses` for what `psi --help` says of its commands, and
+  `psi help COMMAND` of each;
+- `@files` for the files of the package.
+
+psi-file(5) is docs/FORMATS.md. There `./psi` is `psi`, the tools have no folder, and other files the
+one in which the package has them.
+
+The form is that of groff's man macros, with tables by tbl. Of Markdown it knows what these files
+have: headings, paragraphs, lists in lists, tables, quotes, blocks of code, and in a text code, bold,
+italics and links. A table of two columns, or for which a page is too narrow, is a list.
+"""
+
+import importlib
+import pathlib
+import re
+import sys
+
+import tools.packaged  # noqa: F401
+from collections.abc import Callable, Iterator
+from typing import Any
+from psi_tools.cli.completion import kinds_of, options_of
+
+TOP = pathlib.Path(__file__).resolve().parent.parent
+ITEM = re.compile(r"( *)(-|\d+\.) +")
+# The name of another page, which isn't broken over two lines.
+PAGE = re.compile(r"psi-[a-z]+\(\d\)")
+INLINE = re.compile(r"`([^`]+)`|\*\*(.+?)\*\*|\*(.+?)\*|!?\[((?:[^\]`]|`[^`]*`)*)\]\(([^)\s]*)\)")
+# So many signs may a table have beside one another.
+MOST_WIDE = 64
+BULLET = "\\(bu"
+SOURCES = TOP / "release/package_files/man"
+LIBRARY, SHARE = "/usr/lib/psi-sampler", "/usr/share/doc/psi-sampler"
+# What `psi --help` prints: a part above the sections, and a section for each command.
+HELP = TOP / "tools/command/help.txt"
+FORMATS = "psi-file", "5", "network files, reports and certificates of psi(1)"
+FILES = f"""`{SHARE}/examples`: the gallery of networks.
+
+`{SHARE}`: README.md, and docs with the guides; docs/TOUR.md is a tour in nine steps.
+"""
+STATUS = """| Status | Means |
+|---|---|
+| 0 | The answer is written. |
+| 1 | None of the streams is coupled, or work failed. |
+| 2 | A word or an input isn't what it should be. |
+| 3, 11, 12 | As psi(1), where that doesn't take the network. |
+| 6 | A file can't be read. |
+| 7 | The answer can't be written, which is looked at before the work. |
+| 8 | There isn't enough memory. |
+| 130 | Ctrl-C ended it. |
+
+Each but 0 has one line on standard error.
+"""
+# What a guide says of the sources alone; each has to stand there once.
+OF_SOURCES = (
+    " It is built by `rt run` in `crates/psi_merge`, as `crates/psi_merge/out/psi_merge`.",
+    " It is built by `rt run` in `crates/psi_states`, as `crates/psi_states/out/psi_states`, and called"
+    " by `tools/psi-states`.",
+)
+# What stands elsewhere in the package.
+PLACES = (
+    ("crates/psi/out/psi", "psi"),
+    ("./psi", "psi"),
+    ("tools/psi-", "psi-"),
+    ("tools/setup", "apt-get"),
+    ("psi_merge FILE", "psi-merge FILE"),
+    ("psi_states NET", "psi-states NET"),
+    ("psi_states ..", "psi-states .."),
+    ("tools/", f"{LIBRARY}/tools/"),
+    ("examples/", f"{SHARE}/examples/"),
+)
+
+
+def escaped(text: str) -> str:
+    """A text in which no sign has a meaning for groff."""
+    text = text.replace("\\", "\\e").replace("-", "\\-").replace("'", "\\(aq").replace("`", "\\(ga")
+    text = text.replace("~", "\\(ti").replace("^", "\\(ha")
+    return "".join(sign if ord(sign) < 128 else f"\\[u{ord(sign):04X}]" for sign in text)
+
+
+def plain(text: str) -> str:
+    """A text in sentences: a hyphen there isn't a sign of code, but for names of other pages."""
+    parts: list[str] = []
+    end = 0
+    for found in PAGE.finditer(text):
+        parts += [escaped(text[end : found.start()]).replace("\\-", "-"), whole(found[0])]
+        end = found.end()
+    return "".join(parts) + escaped(text[end:]).replace("\\-", "-")
+
+
+def whole(code: str) -> str:
+    """Code whose words aren't divided at the end of a line."""
+    return " ".join(f"\\%{escaped(word)}" for word in code.split(" "))
+
+
+def inline(text: str) -> str:
+    """A text with its code, bold words, italics and links."""
+    parts: list[str] = []
+    end = 0
+    for found in INLINE.finditer(text):
+        code, bold, italic, link, target = found.groups()
+        parts.append(plain(text[end : found.start()]))
+        if code is not None:
+            parts.append(f"\\fB{whole(of_package(code))}\\fP")
+        elif bold is not None:
+            parts.append(f"\\fB{inline(bold)}\\fP")
+        elif italic is not None:
+            parts.append(f"\\fI{plain(italic)}\\fP")
+        else:
+            far = f" <{escaped(target)}>" if "://" in target else ""
+            parts.append(inline(of_package(link)) + far)
+        end = found.end()
+    return "".join(parts) + plain(text[end:])
+
+
+def of_package(code: str) -> str:
+    """Code as it is written where the package is installed."""
+    if code in ("psi_merge", "psi_states"):
+        return code.replace("_", "-")
+    for source, place in PLACES:
+        code = code if place in code and source in place else code.replace(source, place)
+    return code
+
+
+def line_of(text: str) -> str:
+    """A line that isn't a request of groff."""
+    return "\\&" + text if text[:1] in (".", "'") else text
+
+
+def blocks_of(lines: list[str]) -> Iterator[tuple[str, Any]]:
+    """The blocks of some lines of Markdown: each is its sort and what it has."""
+    place = 0
+    while place < len(lines):
+        line, begin = lines[place], place
+        item = ITEM.match(line)
+        place += 1
+        if not line.strip():
+            continue
+        if line.startswith("```"):
+            place = lines.index("```", place) + 1
+            yield "code", lines[begin + 1 : place - 1]
+        elif line.startswith("#"):
+            yield "heading", line
+        elif item:
+            width = len(item[0])
+            while place < len(lines) and (lines[place].startswith(" " * width) or not lines[place].strip()):
+                place += 1
+            inner = [line[width:], *(one[width:] for one in lines[begin + 1 : place])]
+            yield "item", (item[2], inner)
+        elif line.startswith(("|", ">")):
+            while place < len(lines) and lines[place].startswith(line[0]):
+                place += 1
+            if line[0] == "|":
+                yield "table", lines[begin:place]
+            else:
+                yield "quote", [one[2:] for one in lines[begin:place]]
+        else:
+            while place < len(lines) and lines[place].strip() and not starts_block(lines[place]):
+                place += 1
+            yield "text", " ".join(one.strip() for one in lines[begin:place])
+
+
+def starts_block(line: str) -> bool:
+    """Whether a line begins a block of its own."""
+    return line.startswith(("```", "#", "|", "> ")) or ITEM.match(line) is not None
+
+
+def cells_of(row: str) -> list[str]:
+    """The cells of a row; a bar in code stays."""
+    return [cell.strip() for cell in re.split(r"(?<!\\)\|", row.strip().strip("|"))]
+
+
+def shown_width(cell: str) -> int:
+    """How wide a cell is on a page."""
+    return len(INLINE.sub(lambda found: next(filter(None, found.groups()), ""), cell))
+
+
+def table(rows: list[str]) -> Iterator[str]:
+    """A table: as one where it fits a page, else as a list of its first column's cells."""
+    head, *cells = [cells_of(row) for row in rows[:1] + rows[2:]]
+    columns = [*zip(head, *cells)]
+    if len(head) > 2 and sum(max(map(shown_width, column)) + 3 for column in columns) <= MOST_WIDE:
+        form = " ".join("l" for _ in head)
+        yield from (".PP", ".TS", "allbox;", form.replace("l", "lb"), form + ".")
+        yield from ("\t".join(map(inline, row)) for row in [head, *cells])
+        yield ".TE"
+        return
+    for name, first, *rest in cells:
+        yield from (".TP", line_of(inline(name)), line_of(inline(first)))
+        for what, cell in zip(head[2:], rest):
+            if cell:
+                yield from (".br", line_of(f"{inline(what)}: {inline(cell)}"))
+
+
+def rendered(lines: list[str]) -> Iterator[str]:
+    """Lines of Markdown as lines of groff."""
+    before = None
+    for sort, found in blocks_of(lines):
+        if sort == "heading":
+            level = len(found) - len(found.lstrip("#"))
+            yield f"{'.SH' if level <= 2 else '.SS'} {inline(found.lstrip('# '))}"
+        elif sort == "text":
+            if before not in (None, "heading"):
+                yield ".PP"
+            yield line_of(inline(found))
+        elif sort == "code":
+            yield from (".RS 4", ".EX") if before == "heading" else (".PP", ".RS 4", ".EX")
+            yield from (line_of(escaped(of_package(line))) for line in found)
+            yield from (".EE", ".RE")
+        elif sort == "table":
+            yield from table(found)
+        elif sort == "quote":
+            yield ".RS 4"
+            yield from rendered(found)
+            yield ".RE"
+        else:
+            mark, inner = found
+            first, *rest = rendered(inner)
+            yield from (f".IP {BULLET if mark == '-' else mark} 4", first)
+            if rest:
+                yield from (".RS 4", *rest, ".RE")
+        before = sort
+
+
+def one_paragraph(text: str) -> str:
+    return " ".join(text.split())
+
+
+def options_text(command: str) -> str:
+    """The options of a command, as a list."""
+    reader = importlib.import_module(f"psi_tools.cli.{command}").parser()
+    lines = ["| Option | Says |", "|---|---|"]
+    for names, metavar, choices, said in options_of(reader):
+        value = "" if metavar is None else f" {'|'.join(choices) if choices else metavar}"
+        said = said.replace(
+            "the built program; crates/psi/out/psi, or psi on the PATH,", "the program psi; that on the PATH"
+        )
+        said = said.replace("merge_reports.py", "a tool of Python").replace(
+            "psi_merge where it is " "built", "psi-merge where it is there"
+        )
+        lines.append(f"| `{', '.join(names)}{value}` | {one_paragraph(said)} |".replace("||", "|"))
+    return "\n".join(line.replace("text|csv|json", "FORMAT").replace("text|json", "FORMAT") for line in lines)
+
+
+def kinds_text(command: str) -> str:
+    """The kinds of a command's first word, as a list."""
+    reader = importlib.import_module(f"psi_tools.cli.{command}").parser()
+    rows = [f"| `{kind}` | {one_paragraph(said)} |" for kind, (_, said) in kinds_of(reader).items()]
+    return "\n".join(["| Kind | Models |", "|---|---|", *rows])
+
+
+def help_block(heading: str) -> list[list[str]]:
+    """The two columns of a block of the help text."""
+    block = HELP.read_text().partition(f"\n{heading}:\n")[2].partition("\n\n")[0]
+    return [re.split("  +", line.strip(), maxsplit=1) for line in block.splitlines()]
+
+
+def synopsis_text() -> str:
+    """The usage lines of psi."""
+    lines = [f"psi {usage}" for usage, _ in help_block("Commands")]
+    return "\n".join(["```", *lines, "psi help [COMMAND]", "psi --help | -h | --version", "```"])
+
+
+def commands_text() -> str:
+    """The help on each command of psi, as a list."""
+    sections = re.split(r"^== (\w+)\n", HELP.read_text(), flags=re.M)
+    said = dict(zip(sections[1::2], sections[2::2]))
+    names = dict.fromkeys(usage.split()[0] for usage, _ in help_block("Commands"))
+    rows = [f"| `{name}` | {one_paragraph(said[name])} |" for name in names]
+    return "\n".join(["| Command | What it does |", "|---|---|", *rows])
+
+
+def statuses_text() -> str:
+    """The statuses of psi, as a list."""
+    rows = [f"| {status} | {said} |" for status, said in help_block("Exit status")]
+    return "\n".join(["| Status | Meaning |", "|---|---|", *rows])
+
+
+def source_of(text: str) -> str:
+    """A page's source with what its lines stand for."""
+    made = {"options": options_text, "kinds": kinds_text}
+    alone: dict[str, Callable[[], str]] = {
+        "files": lambda: FILES,
+        "status": lambda: STATUS,
+        "synopsis": synopsis_text,
+        "commands": commands_text,
+        "statuses": statuses_text,
+    }
+
+    def stands_for(found: re.Match[str]) -> str:
+        name, command = found.groups()
+        return made[name](command) if command else alone[name]()
+
+    return re.sub(r"^@(\w+)(?: (\w+))?$", stands_for, text, flags=re.M)
+
+
+def page(name: str, section: str, about: str, date: str, body: str) -> str:
+    """A page with its head."""
+    head = [
+        "'\\\" t",
+        f'.TH {escaped(name.upper())} {section} "{date}" "PSI" ""',
+        ".nh",
+        ".ad l",
+        ".SH NAME",
+        f"{escaped(name)} \\- {plain(about)}",
+    ]
+    return "\n".join([*head, *rendered(body.split("\n"))]) + "\n"
+
+
+def guide_of(text: str) -> str:
+    """The guide without its title and what it says of the sources."""
+    for said in OF_SOURCES:
+        form = r"\s+".join(map(re.escape, said.split()))
+        text, count = re.subn(r"\s+" + form, "", text)
+        if count != 1:
+            sys.exit(f"man_pages: docs/FORMATS.md doesn't say once:{said}")
+    return text.partition("\n")[2]
+
+
+def pages(top: pathlib.Path, date: str) -> Iterator[tuple[str, str]]:
+    """All pages by their names."""
+    for file in sorted((top / SOURCES.relative_to(TOP)).glob("*.md")):
+        title, _, body = file.read_text().partition("\n")
+        name, about = title.removeprefix("# ").split(": ", 1)
+        section = file.stem.rpartition(".")[2]
+        yield file.stem, page(name, section, about, date, source_of(body))
+    guide = guide_of((top / "docs/FORMATS.md").read_text())
+    name, section, about = FORMATS
+    more = f"\n## FILES\n\n{FILES}\n## SEE ALSO\n\npsi(1), psi-merge(1), psi-where(1)\n"
+    body = "## DESCRIPTION\n\n" + guide + more
+    yield f"{name}.{section}", page(name, section, about, date, body)
+
+
+def main() -> None:
+    folder = pathlib.Path(sys.argv[1])
+    folder.mkdir(parents=True, exist_ok=True)
+    for name, text in pages(TOP, sys.argv[2] if len(sys.argv) > 2 else ""):
+        (folder / name).write_text(text)
+
+
+if __name__ == "__main__":
+    main()

@@ -1,0 +1,1 @@
+"""Tests of the built program, of the tools and of the documents."""

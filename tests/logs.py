@@ -1,0 +1,67 @@
+"""Logs that the program writes, of the gallery's networks and of small generated ones, each changed in
+one place or left as it is. The changes are drawn by their number, so they are always the same.
+"""
+
+import copy
+import pathlib
+import tempfile
+from collections.abc import Iterator
+
+from generate import small_networks
+from generate.small_networks import Dice
+from generate.toml_text import table
+from tests.log_changes import CHANGES, Log, moved_end, too_long, with_key
+from tests.support import EXAMPLES, answer
+
+TRIALS = 6
+# A box that is too narrow tells most: only there it shows whether an end of a hull is reached.
+OTHER_TRIALS, ROUNDS = {moved_end: 120, too_long: 2}, 3
+STREAMS, SMALL_NETWORKS = 20, 40
+SHORTEST, LONGEST = 3, 130
+
+
+def wide_network() -> str:
+    """The file of a network whose 14,641 states are too many for a set, and which are soon one."""
+    text = "version = 2\n"
+    for name in "abcd":
+        text += table("queue", {"name": name, "capacity": 10})
+    for name in "abcd":
+        text += table("event", {"name": f"in-{name}", "kind": "arrival", "rate": 1, "to": [name]})
+        text += table("event", {"name": f"out-{name}", "kind": "service", "rate": 1, "from": name})
+    parts = [{"queue": name, "ceiling": 0} for name in "abcd"]
+    return text + table("event", {"name": "clear", "kind": "guarded", "rate": 1, "part": parts})
+
+
+def networks() -> Iterator[str]:
+    """The files of the networks: the gallery's with sets, and with boxes, and generated ones."""
+    for file in sorted(EXAMPLES.glob("*.toml")):
+        yield from (with_key(file.read_text(), "split", split) for split in (1, 5, 256))
+    yield from (small_networks.network(number) for number in range(SMALL_NETWORKS))
+    yield from (with_key(wide_network(), "split", split) for split in (1, 4096))
+
+
+def written(program: str, number: int, net: str) -> Log | None:
+    """A log that the program writes for a network, neither short nor long; or none."""
+    with tempfile.TemporaryDirectory() as room:
+        pathlib.Path(room, "net.toml").write_text(net)
+        for stream in range(STREAMS):
+            words = [program, "sample", "net.toml", str(number), str(stream), "log"]
+            status, text, fault = answer(words, room)
+            assert status in (0, 1), f"the program writes no log: {fault!r}"
+            if status == 0 and SHORTEST <= text.count(b"\n") - 7 <= LONGEST:
+                return Log(net, text.decode())
+    return None
+
+
+def changed_logs(logs: list[Log]) -> Iterator[tuple[str, str, str]]:
+    """The changed logs, each with the name of the change and its network."""
+    for place, change in enumerate(CHANGES):
+        found = 0
+        for turn, log in enumerate((logs[7 * place :] + logs[: 7 * place]) * ROUNDS):
+            changed = copy.deepcopy(log)
+            text = change(changed, Dice(1000 * place + turn))
+            if text is not None:
+                found += 1
+                yield change.__name__, changed.net, text
+            if found == OTHER_TRIALS.get(change, TRIALS):
+                break

@@ -1,0 +1,297 @@
+"""/usr/bin/python3 -m tests.study_intervals [PSI] [--repetitions N] [--package FOLDER] [--count N] [--least N]
+
+Counts how often the 95 % intervals of the tools hold what they are of, over repetitions with other
+streams: of single rows, of rare and of skewed rewards, of differences under common random numbers,
+and where 27 % of the streams aren't coupled. The values are drawn by numpy from distributions that
+are known, or, where PSI is given, by the built program from networks that are solved. A repetition
+has --count streams, 10,000 where it isn't given, of psi a fifth of that.
+
+`batches` is what psi-means, psi-sweep and psi.means make of the sums of 40 batches, and `values`
+what psi-law makes of single values. For each case a line says how many of all repetitions held, and
+how wide the intervals are in the middle. The exit status is 1 where fewer than --least of 100 held,
+which is 92 where it isn't given.
+--package is the folder of another version of the package, whose intervals are compared so.
+"""
+
+import argparse
+import os
+import pathlib
+import re
+import statistics
+import sys
+
+TOP = pathlib.Path(__file__).resolve().parent.parent
+READER = argparse.ArgumentParser()
+READER.add_argument("psi", nargs="?")
+READER.add_argument("--repetitions", type=int, default=400)
+READER.add_argument("--package", default=str(TOP / "python"))
+READER.add_argument("--count", type=int, default=10_000)
+READER.add_argument("--least", type=float, default=92)
+WORDS = READER.parse_args()
+sys.path[:0] = [WORDS.package, str(TOP / "python/tests")]
+sys.dont_write_bytecode = True
+
+import numpy
+from solving import law_of
+
+from psi_tools.stats import law as laws
+from psi_tools.stats.batches import Batches, Row, batches_of
+from psi_tools.model.designs import aligned, designs_of
+from psi_tools.draw.reports import blocks_of, reports_of
+from psi_tools.stats.intervals import difference_of_batches
+from psi_tools.model.networks import Network
+from psi_tools.draw.program import Program
+
+BATCHES, FEW_BATCHES = 40, 20
+HAS_SPANS = hasattr(Batches, "of_network")
+
+
+def queue_of(load, capacity, reward=None):
+    """The network of a queue in which customers come at rate 60 * load and are served at rate 60,
+    with a reward by its number."""
+    net = Network().queue("q", capacity)
+    net.event("come", "arrival", round(60 * load), to=["q"])
+    net.event("serve", "service", 60, source="q")
+    return net.reward("r", "table", ["q"], table=[reward]) if reward else net
+
+
+def law_of_queue(load, capacity):
+    """The probability of each number of customers."""
+    weights = (round(60 * load) / 60) ** numpy.arange(capacity + 1)
+    return weights / weights.sum()
+
+
+def fours(capacity):
+    return [4**number for number in range(capacity + 1)]
+
+
+def rare(capacity, value):
+    return [0] * capacity + [value]
+
+
+# A name, the load, the capacity, and the reward by the number of customers, none for the number.
+SINGLE = [
+    ("single row, 8 of 10 busy", 0.8, 10, None),
+    ("single row, 5 of 10 busy, 1,000 places", 0.5, 1_000, None),
+    ("rare, 0.001 of 0 and 1", 0.2, 4, rare(4, 1)),
+    ("rare, 0.001 of 0 and 1,000", 0.2, 4, rare(4, 1_000)),
+    ("skewed, 4^n, load 0.5", 0.5, 10, fours(10)),
+    ("skewed, 4^n, load 0.4", 0.4, 10, fours(10)),
+    ("skewed, 4^n, load 0.3", 0.3, 8, fours(8)),
+]
+
+
+class Tally:
+    """How often the intervals of a case held, and how wide they are."""
+
+    def __init__(self, name, wanted):
+        self.name, self.wanted, self.held, self.widths = name, wanted, 0, []
+
+    def take(self, mean):
+        if mean.half is not None:
+            self.held += bool(mean.low <= self.wanted <= mean.high)
+            self.widths.append(mean.high - mean.low)
+        else:
+            self.widths.append(0.0)
+
+    def tell(self):
+        """The line of the case; whether enough of its intervals held."""
+        of_all = 100 * self.held / len(self.widths)
+        width = statistics.median(self.widths)
+        print(f"{of_all:6.2f} of 100  width {width:10.4g}  {self.name}", flush=True)
+        return of_all >= WORDS.least
+
+
+def batches_from(net, columns, lost=None):
+    """Batches with a row for each column of values, which are arrays of batches and samples; where
+    streams aren't coupled, `lost` says which."""
+    known = numpy.ones(columns[0][2].shape, bool) if lost is None else ~lost
+    rows = []
+    for sort, name, values in columns:
+        sums = [int(x) for x in (values * known).sum(axis=1)]
+        seen = values[known]
+        rows.append(Row(sort, name, sums, int(seen.min()), int(seen.max())))
+    met = [int(x) for x in known.sum(axis=1)]
+    found = Batches([known.shape[1]] * known.shape[0], met, [{}] * known.shape[0], rows)
+    return found.of_network(net) if HAS_SPANS else found
+
+
+def law_from(net, name, values, lost=None):
+    """The law that psi-law would have of some values."""
+    numbers, counts = numpy.unique(values if lost is None else values[~lost], return_counts=True)
+    unknown = 0 if lost is None else int(lost.sum())
+    pairs = [(int(number), int(count)) for number, count in zip(numbers, counts)]
+    if not HAS_SPANS:
+        return laws.Law(name, "value", pairs, unknown)
+    from psi_tools.stats.spans import Spans
+
+    spans = Spans(net, {})
+    return laws.Law(name, "value", pairs, unknown, spans_of_name(spans, name))
+
+
+def spans_of_name(spans, name):
+    return spans.of_queue(name) if name == "q" else spans.of_reward(name)
+
+
+def single(draw, name, load, capacity, reward):
+    """The two tallies of a single row."""
+    law = law_of_queue(load, capacity)
+    rewards = numpy.arange(capacity + 1) if reward is None else numpy.array(reward)
+    net, wanted = queue_of(load, capacity, reward), float(law @ rewards)
+    tallies = [Tally(f"{name}: {way}", wanted) for way in ("batches", "values")]
+    shape = BATCHES, WORDS.count // BATCHES
+    for _ in range(WORDS.repetitions):
+        numbers = draw.choice(capacity + 1, shape, p=law)
+        values = rewards[numbers]
+        columns = [("", "q", numbers)] + ([("reward-", "r", values)] if reward else [])
+        batches = batches_from(net, columns)
+        tallies[0].take(batches.mean(batches.rows[-1]))
+        row = "r" if reward else "q"
+        found = law_from(net, row, values)
+        if HAS_SPANS:
+            from psi_tools.stats.spans import Spans
+
+            spans = Spans(net, {"q": (int(numbers.min()), int(numbers.max()))})
+            found.span = spans_of_name(spans, row)
+        tallies[1].take(found.mean())
+    return tallies
+
+
+def difference(draw, name, plus, minus, both):
+    """The tally of a difference of rows of 0 and 1: the chances that the first alone, the other
+    alone, and both are 1."""
+    tally = Tally(f"{name}: batches", plus - minus)
+    shape = BATCHES, WORDS.count // BATCHES
+    net = queue_of(0.2, 4, rare(4, 1))
+    for _ in range(WORDS.repetitions):
+        kind = draw.choice(4, shape, p=[1 - plus - minus - both, plus, minus, both])
+        rows = [(kind == 1) | (kind == 3), (kind == 2) | (kind == 3)]
+        one, other = (batches_from(net, [("", "q", 4 * row), ("reward-", "r", row * 1)]) for row in rows)
+        tally.take(difference_of(one, other))
+    return tally
+
+
+def difference_of(one, other):
+    """The difference of the last rows of two designs, as psi-sweep tells it."""
+    rows = one.rows[-1], other.rows[-1]
+    words = rows[0].sums, rows[1].sums, one.met, other.met, 0.95
+    if HAS_SPANS:
+        more = (one.span(rows[0]), other.span(rows[1])), (one.lost, other.lost)
+        return difference_of_batches(*words, *more)
+    return difference_of_batches(*words)
+
+
+def uncoupled(draw):
+    """The tallies where 27 % aren't coupled, and the more so the more customers there are."""
+    load, capacity = 0.7, 8
+    law, numbers = law_of_queue(load, capacity), numpy.arange(capacity + 1)
+    chance = 0.27 * numbers / (law @ numbers)
+    net, wanted = queue_of(load, capacity), float(law @ numbers)
+    tallies = [Tally(f"27 % uncoupled: {way}", wanted) for way in ("batches", "values")]
+    for _ in range(WORDS.repetitions):
+        values = draw.choice(capacity + 1, (BATCHES, WORDS.count // BATCHES), p=law)
+        lost = draw.random(values.shape) < chance[values]
+        batches = batches_from(net, [("", "q", values)], lost)
+        tallies[0].take(batches.mean(batches.rows[0]))
+        tallies[1].take(law_from(net, "q", values, lost).mean())
+    return tallies
+
+
+def synthetic():
+    """The tallies of all cases whose values numpy draws."""
+    draw = numpy.random.default_rng(51)
+    for case in SINGLE:
+        yield from single(draw, *case)
+    yield difference(draw, "difference of rare rows, one way", 0.0005, 0, 0.001)
+    yield difference(draw, "difference of rare rows, one way, 0.0002", 0.0002, 0, 0.001)
+    yield difference(draw, "difference of rare rows, both ways", 0.0006, 0.0003, 0.0005)
+    yield difference(draw, "difference of rare rows, apart", 0.001, 0.001, 0)
+    yield difference(draw, "difference of common rows, rarely", 0.0005, 0.0002, 0.3)
+    yield from uncoupled(draw)
+
+
+def grouped(reports):
+    """The batches of each repetition, of the reports of all."""
+    for begin in range(0, len(reports), FEW_BATCHES):
+        yield batches_of(reports[begin : begin + FEW_BATCHES])
+
+
+def reports_from(psi, net):
+    """The reports of the streams of all repetitions."""
+    size = WORDS.count // 5 // FEW_BATCHES
+    blocks = blocks_of(0, WORDS.repetitions * FEW_BATCHES * size, size)
+    return reports_of(psi, net.data, 51, blocks)
+
+
+def solved(net):
+    """The mean of the queue of a network, and of each of its rewards."""
+    states, law = law_of(net)
+    numbers = numpy.array([state[0] for state in states])
+    tables = [numpy.array(reward["table"][0]) for reward in net.table["reward"]]
+    return [float(law @ numbers), *(float(law @ table[numbers]) for table in tables)]
+
+
+def with_rewards(load, capacity):
+    """A queue with a rare reward of 0 and 1, one of 0 and 1,000, and a skewed one."""
+    net = queue_of(load, capacity)
+    for name, table in (
+        ("rare, 0 and 1", rare(capacity, 1)),
+        ("skewed, 4^n", fours(capacity)),
+        ("rare, 0 and 1,000", rare(capacity, 1_000)),
+    ):
+        net.reward(re.sub("[^a-z0-9]+", "-", name), "table", ["q"], table=[table])
+    return net
+
+
+def by_psi(path):
+    """The tallies of cases that the built program draws."""
+    psi, net = Program(path), with_rewards(0.25, 5)
+    tallies = [
+        Tally(f"psi, {name}: batches", wanted) for name, wanted in zip(["a single row", *net.rewards], solved(net))
+    ]
+    for batches in grouped(reports_from(psi, net)):
+        batches = batches.of_network(net) if HAS_SPANS else batches
+        for tally, row in zip(tallies, batches.rows):
+            tally.take(batches.mean(row))
+    yield from tallies
+    yield swept(psi)
+    yield cut_short(psi)
+
+
+def swept(psi):
+    """The tally of a difference of two designs, of whether a queue is full, which is rare."""
+    net = queue_of(0.25, 4, rare(4, 1))
+    _, designs, _, _ = designs_of(["come.rate=15,13"], net)
+    wanted = solved(designs[0].net)[1] - solved(designs[1].net)[1]
+    designs, why = aligned(designs)
+    assert why is None
+    tally = Tally("psi, difference of rare rows: batches", wanted)
+    both = [grouped(reports_from(psi, design.net)) for design in designs]
+    for pair in zip(*both):
+        if HAS_SPANS:
+            pair = [own.of_network(design.net) for own, design in zip(pair, designs)]
+        tally.take(difference_of(*pair))
+    return tally
+
+
+def cut_short(psi):
+    """The tally where a limit leaves some of the streams uncoupled."""
+    net = queue_of(0.75, 10)
+    net.heads["limit"] = 6
+    reports = reports_from(psi, net)
+    lost = 1 - sum(report.met for report in reports) / sum(report.samples for report in reports)
+    tally = Tally(f"psi, {100 * lost:.0f} % uncoupled: batches", solved(net)[0])
+    for batches in grouped(reports):
+        batches = batches.of_network(net) if HAS_SPANS else batches
+        tally.take(batches.mean(batches.rows[0]))
+    return tally
+
+
+def main():
+    tallies = by_psi(os.path.abspath(WORDS.psi)) if WORDS.psi else synthetic()
+    held = [tally.tell() for tally in tallies]
+    return 0 if all(held) else 1
+
+
+if __name__ == "__main__":
+    sys.exit(main())

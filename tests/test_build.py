@@ -1,0 +1,210 @@
+"""How `./psi` builds, in seconds and without proving anything: the toolchain's command `rt` is a script
+in a temporary folder on the PATH that notes its calls and answers `version`, `lib` and `run` alone, so
+the build has none of the private names of the toolchain's modules. What is compared:
+
+- the crates that are proved: all that crates.txt has below the program, each after those below it;
+- progress on standard error, and a note where the logic of the toolchain is another one;
+- later builds: none where nothing has changed, and else the changed crate and those above it;
+- the end where a proof fails or is killed;
+- the time left, on machines of other speeds, played through: from a quarter on it is within a third
+  of the truth, or a minute of a machine of the listed speed.
+"""
+
+import os
+import pathlib
+import random
+import re
+import subprocess
+from collections.abc import Callable, Iterable
+
+import pytest
+
+from tests.checkouts import checkout
+from tests.support import TOP, Held
+from tools.build.crates import Crates, crates_below, rows_of
+from tools.build.schedule import Costs, Pace, Schedule
+
+# What stands for `rt`. Its calls come to a file, a line each.
+STAND_IN = """#!/bin/sh
+here=${PWD##*/}
+case $1 in
+version) echo "$RT_KIT" && exit ;;
+lib | run) echo "begin $here $*" >>"$RT_CALLS" ;;
+*) echo "no stand-in for rt $1" >&2 && exit 2 ;;
+esac
+if [ "$here" = "$RT_KILLED" ] && [ ! -e "$RT_CALLS.killed" ]; then
+    : >"$RT_CALLS.killed"
+    kill -9 $$
+fi
+[ "$here" != "$RT_FAILS" ] || exit 1
+made=out/rlib/$here.rlib/format
+[ "$1" = lib ] || made=out/psi
+rm -rf out/rlib
+mkdir -p "${made%/*}"
+echo "$here" >"$made"
+chmod 755 "$made"
+echo "end $here" >>"$RT_CALLS"
+[ "$1" = lib ] || { echo "psi: usage word 1" && exit 2; }
+"""
+# How much the proof of one crate may be off the listed time on a machine, beside its speed.
+LUCK = 0.88, 1.14
+# Machines: how many processors they have, and how much longer they take.
+MACHINES = (2, 0.6), (4, 0.6), (2, 1), (4, 1), (4, 1), (2, 2.5), (4, 2.5), (4, 2.5)
+SHOWN = 200
+KIT = "a-kit logic dac8208d650f15bf"
+
+
+class Trial:
+    """A checkout, in which `./psi --build` is called with a stand-in for `rt`."""
+
+    def __init__(self, room: pathlib.Path) -> None:
+        self.room, self.calls, self.top = room, room / "calls", checkout(room)
+        (room / "bin").mkdir()
+        (room / "bin/rt").write_text(STAND_IN)
+        (room / "bin/rt").chmod(0o755)
+        self.crates = Crates(self.top, "psi")
+
+    def build(self, kit: str = KIT, **more: str) -> tuple[int, str, list[str], list[list[str]]]:
+        """Returns the status, the lines of standard error, and the noted calls of a build."""
+        self.calls.write_text("")
+        path = f"{self.room / 'bin'}:{os.environ['PATH']}"
+        own = {"RT_CALLS": str(self.calls), "RT_KIT": kit, "RT_KILLED": "", "RT_FAILS": ""}
+        environment = {**os.environ, "PATH": path, **own, **more}
+        done = subprocess.run(
+            [str(self.top / "psi"), "--build"],
+            stdin=subprocess.DEVNULL,
+            capture_output=True,
+            text=True,
+            env=environment,
+        )
+        said = [line[:SHOWN] for line in done.stderr.splitlines()]
+        calls = [line.split() for line in self.calls.read_text().splitlines()]
+        return done.returncode, done.stdout, said, calls
+
+
+def begun(calls: list[list[str]]) -> list[str]:
+    """The crates that the calls begin."""
+    return [words[1] for words in calls if words[0] == "begin"]
+
+
+def crates_above(top: pathlib.Path, names: Iterable[str]) -> set[str]:
+    """The crates of a checkout that stand on one of some crates, and these."""
+    uses, found = crates_below(top), {*names}
+    while more := {name for name, used in uses.items() if found & {*used}} - found:
+        found |= more
+    return found
+
+
+def test_rows() -> None:
+    """What crates.txt says, by a text that was read by hand."""
+    text = "# Rows.\nlow:\nmid feature: low libc\n\ntop : mid low # above\n"
+    rows: dict[str, tuple[str, list[str]]] = {"low": ("low:", []), "mid": ("mid feature: low libc", ["low", "libc"])}
+    assert rows_of(text) == {**rows, "top": ("top : mid low", ["mid", "low"])}
+    assert [*rows_of(text)] == ["low", "mid", "top"]
+
+
+def try_first(hold: Held, trial: Trial) -> None:
+    """A build from nothing."""
+    status, out, said, calls = trial.build()
+    hold((status, out) == (0, ""), f"a build ends with {status} {out} {said}")
+    wanted = [name for name in crates_below(trial.top) if "psi" in crates_above(trial.top, [name])]
+    hold(sorted(begun(calls)) == sorted(wanted), f"it proves {begun(calls)}")
+    ended: set[str] = set()
+    for what, name, *_ in calls:
+        if what == "begin":
+            early = {*trial.crates.below(name)} - ended
+            hold(not early, f"{name} is begun before {early} are proved")
+        else:
+            ended.add(name)
+    counts = [int(found[1]) for line in said if (found := re.match(r"psi: (\d+) of \d+ ", line))]
+    hold(counts == sorted(counts) and len(counts) >= len(wanted) // 2, f"progress is {counts}")
+    hold(f"proving {len(wanted)} crates" in " ".join(said), f"it says {said[:3]}")
+    hold(not any("logic" in line for line in said), "it says that the toolchain is another")
+    hold(not (trial.top / "crates/psi/out/lanes").exists(), "it leaves its lanes")
+
+
+def try_later(hold: Held, trial: Trial) -> None:
+    """Builds after the first one."""
+    status, _, said, calls = trial.build()
+    hold((status, said, calls) == (0, [], []), f"a second build does {said} {calls}")
+    source = trial.top / "crates/psi_log_words/src/lib.rt"
+    source.touch()
+    hold(trial.build()[3] == [], "a source that is newer and the same is proved")
+    source.write_text(source.read_text() + "// A change.\n")
+    wanted = crates_above(trial.top, ["psi_log_words"]) & {*trial.crates.names}
+    status, _, said, calls = trial.build()
+    hold({*begun(calls)} == wanted, f"after a change it proves {begun(calls)}, not {wanted}")
+
+
+def try_failures(hold: Held, trial: Trial) -> None:
+    """Proofs that fail, and that something ends."""
+    source = trial.top / "crates/psi_state/src/lib.rt"
+    source.write_text(source.read_text() + "// A change.\n")
+    status, _, said, calls = trial.build(RT_FAILS="psi_event")
+    late = crates_above(trial.top, ["psi_event"]) - {"psi_event"}
+    hold(status == 126 and "the build failed" in said[-1], f"a failure ends with {status} {said}")
+    hold(not late & {*begun(calls)}, f"above a crate that fails it proves {begun(calls)}")
+    status, _, said, calls = trial.build(RT_KILLED="psi_event")
+    again = begun(calls).count("psi_event")
+    hold((status, again) == (0, 2), f"a proof that is killed: {status}, begun {again} times")
+    source.write_text(source.read_text() + "// Another change.\n")
+    status, _, said, calls = trial.build("a-kit logic 0123456789abcdef")
+    hold({*begun(calls)} == {*trial.crates.names}, f"with another toolchain: {begun(calls)}")
+    noted = [line for line in said if "PSI was tried with" in line]
+    hold((status, len(noted)) == (0, 1), f"with another logic it says {said[:3]}")
+
+
+def played(schedule: Schedule, true_seconds: Callable[[str, int], float]) -> tuple[float, list[tuple[float, float]]]:
+    """Plays a build through, and returns its length and, for each moment at which progress is reported,
+    the seconds until then and the time left that would be told."""
+    waiting = [*schedule.crates.names]
+    done: set[str] = set()
+    jobs: dict[str, int] = {}
+    so_far: dict[str, float] = {}
+    told: list[tuple[float, float]] = []
+    pace, clock, tick = Pace(schedule.costs), 0.0, 60
+    while waiting or jobs:
+        while found := schedule.next(waiting, done, jobs):
+            waiting.remove(found[0])
+            jobs[found[0]], so_far[found[0]] = found[1], 0
+        rate = schedule.rate(jobs)
+        rests = {it: (true_seconds(it, jobs[it]) - so_far[it]) / rate for it in jobs}
+        first = min(rests, key=rests.__getitem__)
+        took = min(rests[first], tick)
+        clock += took
+        so_far = {it: so_far[it] + took * rate for it in jobs}
+        if took == rests[first]:
+            pace.add(first, jobs.pop(first), so_far[first])
+            done.add(first)
+        state = {it: (jobs[it], so_far[it]) for it in jobs}
+        told.append((clock, schedule.left(waiting, done, state, pace.value(state))))
+    return clock, told
+
+
+@pytest.mark.slow
+def test_builds(hold: Held, tmp_path: pathlib.Path) -> None:
+    """Builds in one checkout, one after the other."""
+    trial = Trial(tmp_path)
+    for part in (try_first, try_later, try_failures):
+        part(hold, trial)
+
+
+@pytest.mark.parametrize("seed, machine", enumerate(MACHINES))
+def test_time_left(hold: Held, seed: int, machine: tuple[int, float]) -> None:
+    """The time left, where crates take other times than those that are listed."""
+    processors, speed = machine
+    crates = Crates(TOP, "psi")
+    costs = Costs((TOP / "tools/build/seconds.txt").read_text(), lambda name: 500)
+    absent = [name for name in crates.names if name not in costs.listed]
+    hold(len(absent) * 4 < len(crates.names), f"seconds.txt lacks {absent}")
+    luck = random.Random(seed)
+    factor = {name: speed * luck.uniform(*LUCK) for name in crates.names}
+    schedule = Schedule(crates, costs, processors, 16_000)
+    whole, told = played(schedule, lambda name, jobs: factor[name] * costs.seconds(name, jobs))
+    off = [
+        (now, left, whole - now)
+        for now, left in told
+        if now >= whole / 4 and abs(left - (whole - now)) > max((whole - now) / 3, 60 * speed)
+    ]
+    hold(not off, f"{processors} processors, speed {speed}: off at {off[:3]}")
+    hold(whole > 60, f"{whole} s")

@@ -1,0 +1,14 @@
+"""Six runs take the instructions that they took when their bounds were written, within 3 %."""
+
+import sys
+
+import pytest
+
+from tests.support import TOP, answer
+
+
+@pytest.mark.slow
+@pytest.mark.needs("valgrind")
+def test_instructions(program: str) -> None:
+    status, out, err = answer([sys.executable, "bench/instructions.py", program], TOP, seconds=600)
+    assert status == 0, (out + err).decode()

@@ -1,0 +1,106 @@
+"""psi_merge and merge_reports.py beside it: reports that are refused, each by its line (merges.py), and
+some hundred reports that are changed somewhere, of which both have to say the same.
+"""
+
+import pathlib
+import random
+import subprocess
+import sys
+from collections.abc import Mapping, Sequence
+
+import pytest
+
+from tests import merges
+from tests.merges import BASE, SAMPLES, changed
+from tests.support import TOOLS, Held, beside
+
+CHANGED = 400
+# The status, what is printed, and what is said without the program's name.
+Said = tuple[int, bytes, str]
+STATUSES = {"refused": 3, "other": 4, "too": 5, "cannot": 6}
+CASES = merges.all_cases()
+
+
+@pytest.fixture(params=("psi_merge", "merge_reports.py"))
+def merger(request: pytest.FixtureRequest, program: str) -> list[str]:
+    """Each of the two programs."""
+    if request.param == "psi_merge":
+        return [merge_program(program)]
+    return [sys.executable, str(TOOLS / "merge_reports.py")]
+
+
+def merge_program(program: str) -> str:
+    """The path of psi_merge."""
+    found = beside(program, "psi_merge")
+    if found is None:
+        pytest.skip("psi_merge isn't built")
+    return str(found)
+
+
+def said_by(program: Sequence[str], files: Sequence[object]) -> Said:
+    """The status of a merge, what it prints, and what it says without its name."""
+    done = subprocess.run([*program, *map(str, files)], capture_output=True)
+    said = done.stderr.decode(errors="replace")
+    return done.returncode, done.stdout, said.partition(": ")[2].removesuffix("\n")
+
+
+def refusal(said: str, file: pathlib.Path) -> Said:
+    """How a merge ends that is refused so."""
+    return STATUSES[said.split()[0]], b"", f"{said} {file}"
+
+
+def written(folder: pathlib.Path, texts: Mapping[str, str]) -> list[pathlib.Path]:
+    """Files with these texts by their names."""
+    files = [folder / f"{name}.csv" for name in texts]
+    for file, text in zip(files, texts.values()):
+        file.write_bytes(text.encode())
+    return files
+
+
+@pytest.mark.parametrize("name", CASES)
+def test_a_merge(merger: list[str], tmp_path: pathlib.Path, name: str) -> None:
+    """The refusal of the last file, or the report of all, which of one file is its text."""
+    texts, said = CASES[name]
+    files = written(tmp_path, {str(place): text for place, text in enumerate(texts)})
+    status, out, err = said_by(merger, files)
+    if said:
+        assert (status, out, err) == refusal(said, files[-1])
+    else:
+        assert (status, err) == (0, "")
+        assert len(texts) > 1 or out == texts[0].encode()
+
+
+WRONG, OTHER = changed({7: "sum,a,14"}), changed({13: None, 14: None, 15: None})
+# Files, none of which is called `missing`, what is said, and of which of them.
+ORDERS = (
+    ("base missing", "cannot read", "missing"),
+    ("wrong missing", f"{SAMPLES} 7", "wrong"),
+    ("base other missing", "other network line 13", "other"),
+    ("missing wrong", "cannot read", "missing"),
+    ("base missing wrong", "cannot read", "missing"),
+)
+
+
+@pytest.mark.parametrize("names, said, told", ORDERS)
+def test_files_are_read_in_order(merger: list[str], tmp_path: pathlib.Path, names: str, said: str, told: str) -> None:
+    """A file is read only where those before it are accepted and merged."""
+    written(tmp_path, {"base": BASE, "wrong": WRONG, "other": OTHER})
+    files = {name: tmp_path / f"{name}.csv" for name in names.split()}
+    assert said_by(merger, [*files.values()]) == refusal(said, files[told])
+
+
+@pytest.mark.parametrize("words", ([], ["-x"]))
+def test_no_files(merger: list[str], words: list[str]) -> None:
+    assert said_by(merger, words)[:2] == (2, b"")
+
+
+def test_changed_reports(program: str, hold: Held, tmp_path: pathlib.Path) -> None:
+    """Both say the same of changed reports, of which some are merged, and some refused in each way."""
+    psi_merge, chance, kinds = merge_program(program), random.Random(1), set()
+    for _ in range(CHANGED):
+        texts = merges.some_texts(chance)
+        files = written(tmp_path, {str(place): text for place, text in enumerate(texts)})
+        found, wanted = said_by([psi_merge], files), merges.said_in_python(files)
+        kinds.add(found[0])
+        hold(found == wanted, f"{texts}: {found} {wanted}")
+    hold(kinds >= {0, 3, 4, 5}, f"the statuses are {kinds} alone")

@@ -1,0 +1,264 @@
+"""The scripts named psi, `./psi` of a checkout and the one that a release installs:
+
+- `--help`, `-h`, `help`, `help COMMAND` and `--version` answer within a second, where neither the
+  program nor the command `rt` is there, and build nothing; the help has every command and status;
+- all other arguments are the program's: both scripts end as the program itself does, with the same
+  texts;
+- where standard error is a terminal and a file is refused, the file, its line and a sentence follow
+  the program's line; where it is no terminal, nothing does;
+- the installed script takes at most 2 ms of processor time more than the program.
+"""
+
+import os
+import pathlib
+import pty
+import re
+import resource
+import shutil
+import statistics
+import subprocess
+import time
+from collections.abc import Sequence
+
+import pytest
+
+from tests.checkouts import checkout, release
+from tests.support import TOP, Answer, Held
+from tools.command import refusal
+
+COMMANDS = "check", "sample", "report", "trial", "couple", "reward", "exact", "closed", "replay"
+COMPLETIONS = "completion.bash", "completion.zsh", "completion.fish"
+NET = "examples/tandem-blocking.toml"
+# Arguments that are the program's.
+OTHERS: tuple[list[str], ...] = (
+    [],
+    ["nonsense"],
+    [""],
+    ["-"],
+    ["--"],
+    ["-v"],
+    ["--helpme"],
+    ["-help"],
+    ["Help"],
+    ["check"],
+    ["check", "--help"],
+    ["check", NET],
+    ["check", "absent.toml"],
+    ["sample", NET, "0", "x"],
+    ["sample", NET, "0", "0"],
+    ["sample", NET, "0", "0", "log"],
+    ["check", "bad.toml"],
+    ["replay", NET, "bad.log"],
+    ["check", "/dev/stdin"],
+)
+BAD_NET = """version = 1
+[[queue]]
+name = "a"
+capacity = 2
+[[event]]
+kind = "arrival"
+name = "enter"
+rate = 0.5
+to = ["a"]
+"""
+# The log of a network of two queues, which docs/FORMATS.md shows.
+OTHER_LOG = """psi-log 1
+queues 2
+seed 0
+stream 0
+horizon 8
+begin box 0,0 1,1
+step 8 0 box 0,0 1,1
+step 7 2 box 0,0 0,1
+step 6 1 box 0,0 0,1
+step 5 3 box 0,0 0,0
+step 4 0 set 1,1
+step 3 0 set 1,1
+step 2 1 set 1,1
+step 1 2 set 0,1
+end 0,1
+"""
+STOPPED = 2, b"", b"psi: usage word 2\n"
+SECONDS, MOST_MS, ROUNDS, TRIES = 1, 2, 100, 5
+
+
+def ended(words: Sequence[object], folder: pathlib.Path, path: str | None = None) -> tuple[Answer, float]:
+    """The status of a call and both its texts, and how many seconds it took."""
+    begun = time.monotonic()
+    environment = {**os.environ, "PATH": path or os.environ["PATH"]}
+    done = subprocess.run(
+        [str(word) for word in words], cwd=folder, input=b"version = 3\n", capture_output=True, env=environment
+    )
+    return (done.returncode, done.stdout, done.stderr), time.monotonic() - begun
+
+
+def version_of_citation() -> str:
+    """The version that CITATION.cff has."""
+    found = re.search(r'^version: "(.*)"$', (TOP / "CITATION.cff").read_text(), re.M)
+    assert found
+    return found[1]
+
+
+def try_help(hold: Held, script: pathlib.Path, top: pathlib.Path) -> None:
+    """What a script answers itself."""
+    version = version_of_citation()
+    calls = [["--help"], ["-h"], ["help"], ["--version"], *(["help", name] for name in COMMANDS)]
+    answers = {}
+    for words in calls:
+        for _ in range(TRIES):
+            (status, out, error), took = ended([script, *words], top, "/usr/bin:/bin")
+            if took < SECONDS:
+                break
+        answers[" ".join(words)] = out.decode()
+        hold((status, error) == (0, b""), f"{script} {words}: {status} {error!r}")
+        hold(took < SECONDS, f"{script} {words} takes {took:.2f} s")
+    hold(answers["--version"] == f"psi {version}\n", f"the version is {answers['--version']}")
+    hold(answers["-h"] == answers["help"] == answers["--help"], "-h and help differ")
+    for name in COMMANDS:
+        usage = f"  {name} "
+        hold(usage in answers["--help"], f"the help has no command {name}")
+        own = answers[f"help {name}"]
+        hold(own.startswith(f"Usage: psi {name} ") and own.count("\n") > 2, f"no help {name}")
+    statuses = re.findall(r"^  (\d+) +\S", answers["--help"], re.M)
+    hold(statuses == [str(it) for it in range(14)], f"the help has the statuses {statuses}")
+    for words, place in ((["help", "nonsense"], 2), (["help", "check", "x"], 3), (["-h", "x"], 2)):
+        answer = ended([script, *words], top)[0]
+        wanted = 2, b"", b"psi: usage word %d\n" % place
+        hold(answer == wanted, f"{script} {words}: {answer!r}")
+    with open("/dev/full", "wb") as full:
+        status = subprocess.run([script, "--help"], stdout=full).returncode
+    hold(status == 7, f"where the help can't be written the status is {status}")
+
+
+@pytest.fixture(scope="module")
+def unbuilt(tmp_path_factory: pytest.TempPathFactory) -> pathlib.Path:
+    """A checkout in which nothing is built."""
+    return checkout(tmp_path_factory.mktemp("unbuilt"))
+
+
+@pytest.fixture(scope="module")
+def built(tmp_path_factory: pytest.TempPathFactory, program: str) -> pathlib.Path:
+    """A checkout in which the program is built, with files that it refuses."""
+    top = checkout(tmp_path_factory.mktemp("built"))
+    (top / "crates/psi/out").mkdir()
+    shutil.copy(program, top / "crates/psi/out/psi")
+    (top / "bad.toml").write_text(BAD_NET)
+    (top / "bad.log").write_text("psi-log 1\nqueues x\n")
+    (top / "other.log").write_text(OTHER_LOG)
+    return top
+
+
+@pytest.fixture(scope="module")
+def installed(tmp_path_factory: pytest.TempPathFactory, program: str) -> pathlib.Path:
+    """The script of a release."""
+    return release(tmp_path_factory.mktemp("installed"), program)
+
+
+@pytest.fixture(params=("checkout", "release"))
+def script(request: pytest.FixtureRequest, built: pathlib.Path, installed: pathlib.Path) -> pathlib.Path:
+    """Each of the two scripts, with a program that is built."""
+    return built / "psi" if request.param == "checkout" else installed
+
+
+def test_help_of_a_checkout(hold: Held, unbuilt: pathlib.Path) -> None:
+    try_help(hold, unbuilt / "psi", unbuilt)
+    own, first = (ended([unbuilt / it, "--help"], unbuilt)[0] for it in ("psi", "tools/psi-first"))
+    hold(own == first, f"psi-first --help: {first!r}")
+    hold(not (unbuilt / "crates/psi/out").exists(), "the help builds something")
+
+
+def test_help_of_a_release(hold: Held, installed: pathlib.Path, tmp_path: pathlib.Path) -> None:
+    try_help(hold, installed, tmp_path)
+
+
+@pytest.mark.parametrize("words, wanted", ((["--build"], (0, b"", b"")), (["--build", "x"], STOPPED)))
+def test_build_of_what_is_built(built: pathlib.Path, words: list[str], wanted: Answer) -> None:
+    assert ended([built / "psi", *words], built)[0] == wanted
+
+
+@pytest.mark.parametrize("words", OTHERS, ids=" ".join)
+def test_other_words_are_the_programs(
+    script: pathlib.Path, program: str, built: pathlib.Path, words: list[str]
+) -> None:
+    found, wanted = (ended([one, *words], built)[0] for one in (script, program))
+    assert found == wanted
+
+
+def on_terminal(words: Sequence[object], folder: pathlib.Path) -> tuple[int, bytes, list[str]]:
+    """The status of a call whose standard error is a terminal, and both its texts."""
+    own, other = pty.openpty()
+    run = subprocess.Popen(
+        [str(word) for word in words], cwd=folder, stdin=subprocess.PIPE, stdout=subprocess.PIPE, stderr=other
+    )
+    os.close(other)
+    out, said = run.communicate(b"version = 3\n")[0], b""
+    try:
+        while piece := os.read(own, 4096):
+            said += piece
+    except OSError:
+        # So a terminal ends.
+        pass
+    os.close(own)
+    return run.returncode, out, said.decode().replace("\r\n", "\n").splitlines()
+
+
+def test_terminal(hold: Held, script: pathlib.Path, program: str, built: pathlib.Path) -> None:
+    """What follows the line of a refusal on a terminal."""
+    calls = {
+        ("check", "bad.toml"): ("bad.toml:8: rate = 0.5", "Write a whole number"),
+        ("sample", "bad.toml", "0", "0"): ("bad.toml:8: rate = 0.5", "Write a whole number"),
+        ("replay", NET, "bad.log"): ("bad.log:2: queues x", "digits alone"),
+        ("replay", NET, "other.log"): ("other.log:2: queues 2", "another network"),
+    }
+    for words, (place, sentence) in calls.items():
+        status, out, line = ended([program, *words], built)[0]
+        found = on_terminal([script, *words], built)
+        said = found[2]
+        same = (status, out, line.decode().splitlines()) == (*found[:2], said[:1])
+        hold(same, f"{script} {words} on a terminal: {found}, not {status} {line!r}")
+        hold(len(said) > 2 and said[1] == place, f"{words} has no line {place}: {said}")
+        hold(sentence in " ".join(said[2:]), f"{words} doesn't say {sentence}: {said}")
+    # What comes through a pipe can't be read a second time.
+    for others in (["nonsense"], ["check", NET], ["check", "absent.toml"], ["check", "/dev/stdin"]):
+        status, out, line = ended([program, *others], built)[0]
+        wanted = status, out, line.decode().splitlines()
+        found = on_terminal([script, *others], built)
+        hold(found == wanted, f"{script} {others} on a terminal: {found}, not {wanted}")
+
+
+def processor_time(words: Sequence[object], folder: pathlib.Path) -> float:
+    """The processor time of a call, in milliseconds."""
+    before = resource.getrusage(resource.RUSAGE_CHILDREN)
+    ended(words, folder)
+    after = resource.getrusage(resource.RUSAGE_CHILDREN)
+    return (after.ru_utime + after.ru_stime - before.ru_utime - before.ru_stime) * 1000
+
+
+def test_time(installed: pathlib.Path, program: str, tmp_path: pathlib.Path) -> None:
+    """How much longer a call takes by the installed script: the median of differences, in processor
+    time, since other work may run beside; where it is too long it is measured again."""
+    for _ in range(TRIES):
+        calls = [[one, "nonsense"] for one in (installed, program)]
+        took = [[processor_time(call, tmp_path) for call in calls] for _ in range(ROUNDS)]
+        more = statistics.median(one - two for one, two in took)
+        if more <= MOST_MS:
+            break
+    assert more <= MOST_MS
+
+
+def test_texts(hold: Held) -> None:
+    """The words of the help are those that completion and the guides have."""
+    help_text = (TOP / "tools/command/help.txt").read_text()
+    block = help_text.partition("Commands:\n")[2].partition("\n\n")[0]
+    names = [*dict.fromkeys(line.split()[0] for line in block.splitlines())]
+    hold(names == [*COMMANDS], f"the help has the commands {names}")
+    for file in COMPLETIONS:
+        text = (TOP / "release/package_files" / file).read_text()
+        absent = [name for name in COMMANDS if not re.search(rf"\b{name}\b", text)]
+        hold(not absent, f"{file} lacks {absent}")
+    guide = (TOP / "docs/FORMATS.md").read_text()
+    part = guide.partition("### Logs that are refused")[2].partition("### What a checker")[0]
+    refused, rejected = part.split("### Logs that are rejected")
+    for text, known in ((refused, refusal.REFUSED), (rejected, refusal.REJECTED)):
+        causes = {*re.findall(r"\d `(\w+)`", text.partition("A `move` is judged")[0])}
+        hold(causes == {*known}, f"of logs {causes ^ {*known}} differ")
