@@ -15,9 +15,6 @@ use psi_state::State;
 use std::alloc::Global;
 use std::marker::Model;
 
-#[cfg(test)]
-mod tests;
-
 /// Walks paths of networks, one after another, and keeps the sums of the last one.
 ///
 /// It is seen as these sums. What it takes of memory is taken when it is made.
