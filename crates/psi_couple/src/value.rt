@@ -26,7 +26,7 @@ const SHORT: u32 = 64;
 /// run ends have one value of the reward, with that value, in the reward's unit. Every state within the
 /// capacities that starts there or earlier has it at time zero, though these states need not have met, and
 /// every longer run ends with states of this value. `NotAt` comes exactly where there is no such horizon, and
-/// tells the system's limit; then the states of no run of up to so many steps have one value.
+/// has the system's limit; then the states of no run of up to so many steps have one value.
 ///
 /// The reward is one of the system's capacities.
 ///
@@ -37,7 +37,7 @@ const SHORT: u32 = 64;
 /// equal; a set's states are compared one by one.
 ///
 /// The plan's system and its past's words stay as they were. Afterwards [`Plan::advance`] answers `None`
-/// until the next run is begun. The call takes no memory.
+/// until the next run is begun. The call does not allocate.
 pub fn value_horizon<E: EventLaw, P: Past + Drop, F: Follower + Drop>(
     plan: &mut Plan<'_, E, P, F>,
     reward: &Reward,

@@ -9,7 +9,7 @@ use psi_event::EventLaw;
 use psi_state::{Bounds, State};
 
 /// The span of an event: the capacities of the queues that it may change, and none for those that have
-/// as many customers behind it as before, in all states.
+/// as many customers after it as before it, in all states.
 pub(crate) fn span_of<E: EventLaw>(e: &E) -> State
     ensures { IsSpan (E.capacities e.now) (E.function e.now) result }
 {

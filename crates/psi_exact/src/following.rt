@@ -23,14 +23,14 @@ use psi_state::State;
 /// Follows all states through the last 2 to the power `h` steps, with `h` from 0 to 12: the number of
 /// states that are left at each power of two, and the least horizon of any length at which one is left,
 /// with that state (Propp and Wilson 1996). `NotConstant` comes exactly where there is no such horizon,
-/// and tells `h`.
+/// and has `h`.
 ///
 /// The events are put before the map from the last one backwards in time, so each word is read once. What
 /// the first events of the system make of all states is learned before that, as far as there is room, so
 /// that their steps only look up ranks. An idle step changes nothing, and a constant map stays as it is.
 ///
 /// The table is one of the system's capacities; afterwards it has the map of the last 2 to the power `h`
-/// steps. The past's words stay as they were. The call takes no memory.
+/// steps. The past's words stay as they were. The call does not allocate.
 pub fn survey<E: EventLaw, P: Past>(
     system: &System<'_, E>,
     past: &mut P,
@@ -122,7 +122,7 @@ fn told(found: Option<(u32, State)>, exponent: u8) -> Meeting
     }
 }
 
-// Goes on from the map of the last `from` steps to that of the last `to`, and tells the least horizon at
+// Goes on from the map of the last `from` steps to that of the last `to`, and returns the least horizon at
 // which it is constant, if it was found.
 fn follow<E: EventLaw, P: Past>(
     system: &System<'_, E>,

@@ -19,7 +19,7 @@ pub const MOST_STATES: u32 = 65_536;
 pub enum MapRefusal {
     /// There are more than 65,536 states.
     TooManyStates,
-    /// There is no memory for the table.
+    /// An allocation for the table failed.
     OutOfMemory,
 }
 
@@ -61,10 +61,10 @@ impl MapTable {
     ghost use Rattle.psi_exact.specs.Mapping.{map_of, sends, IsMapOf};
     ghost use Rattle.psi_exact.specs.Refusal.{IsMapRefusal};
 
-    /// The table of the map that sends each state to itself. No other call takes memory.
+    /// The table of the map that sends each state to itself. No other call allocates.
     ///
     /// `TooManyStates` is the answer exactly where there are more than 65,536 states within these
-    /// capacities, and `OutOfMemory` where there is no memory for the table; no clause says when that is.
+    /// capacities, and `OutOfMemory` if an allocation fails; no clause says when that is.
     pub fn reserve(alloc: Global, caps: State) -> Result<MapTable, MapRefusal>
         ensures itself { IfOk result (λ table. table ≡ map_of caps (λ x. x)) }
         ensures every { IfOk result (λ table. IsMapOf table (λ x. x)) }

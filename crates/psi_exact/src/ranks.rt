@@ -91,7 +91,7 @@ fn clear(marks: &mut [u16])
     }
 }
 
-/// The one rank that stands at all places, if it does. Most often the last one tells that it doesn't.
+/// The one rank that stands at all places, if it does. Most often the last one shows that it doesn't.
 pub(crate) fn common(ranks: &[u16]) -> Option<u16>
     requires { 1 ≤ length ranks.now }
     ensures { MatchOption result (AreMixed ranks.now) (λ rank. AreAll rank ranks.now) }

@@ -68,7 +68,7 @@ impl Table {
         std::mem::swap(&mut self.ranks, &mut self.spare);
     }
 
-    /// Adds the ranks of what the event makes of each state to those of others, if there is room, and tells
+    /// Adds the ranks of what the event makes of each state to those of others, if there is room, and returns
     /// whether there was. The map stays.
     pub(crate) fn add_images<E: EventLaw>(&mut self, e: &E, images: &mut LearnedImages) -> bool
         requires same_caps { E.capacities e.now ≡ self.old.caps }

@@ -40,7 +40,7 @@ impl Board {
     ///
     /// # Errors
     ///
-    /// `AllocError` where there is no memory for it; no clause says when that is.
+    /// `AllocError` if an allocation fails; no clause says when that is.
     pub fn of<E: RouteLaw>(alloc: Global, event: &E) -> Result<Option<Board>, AllocError>
         ensures { IfOk result (λ found. IfSome found (λ board. IsBoardFor (E.capacities event.now) (E.function event.now) board)) }
     {
@@ -50,7 +50,7 @@ impl Board {
         Board::of_route(alloc, route)
     }
 
-    // The same for a route.
+    // As `of`, of an event that is known to be this route.
     fn of_route(alloc: Global, route: &Route) -> Result<Option<Board>, AllocError>
         ensures { IfOk result (λ found. IfSome found (λ board. IsBoardFor (⟦<Route as EventLaw>⟧.capacities route.now) (⟦<Route as EventLaw>⟧.function route.now) board)) }
     {

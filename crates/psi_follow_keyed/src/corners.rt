@@ -53,7 +53,7 @@ impl<'n, E: RouteLaw> KeyedCorners<'n, E> {
     ///
     /// # Errors
     ///
-    /// `AllocError` where there is no memory for it; no clause says when that is. No other call takes memory.
+    /// `AllocError` if an allocation fails; no clause says when that is. No other call allocates.
     pub fn new(
         alloc: Global,
         course: &Course<'n, E>,

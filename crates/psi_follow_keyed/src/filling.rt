@@ -47,7 +47,7 @@ impl Rows {
     }
 }
 
-// Puts the keys of the target at a place behind the others; false where a value of its table is too great.
+// Puts the keys of the target at a place after the others; false where a value of its table is too great.
 fn push_row(entries: &mut Vec<u32>, route: &Route, place: u8) -> Result<bool, AllocError>
     requires tables { let s = shape_of route.now in 0 < length s.tables }
     requires place { let s = shape_of route.now in place < length s.targets }

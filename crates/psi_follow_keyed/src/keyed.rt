@@ -46,7 +46,7 @@ impl Keyed {
     ///
     /// # Errors
     ///
-    /// `AllocError` where there is no memory for it; no clause says when that is. No other call takes memory.
+    /// `AllocError` if an allocation fails; no clause says when that is. No other call allocates.
     pub fn new<E: RouteLaw>(
         alloc: Global,
         caps: State,
@@ -83,7 +83,7 @@ impl Keyed {
         *high = greatest.state;
     }
 
-    // The same for states with their keys.
+    // As `follow`, on states whose keys are kept beside them.
     #[inline(never)]
     fn advance(&self, numbers: &[u16], low: &mut Marked, high: &mut Marked)
         requires numbers { EachIndex numbers.now (λ i. slice_index numbers.now i < length self.now.steps) }

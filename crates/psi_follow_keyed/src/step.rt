@@ -37,7 +37,7 @@ impl Step {
         Step::leaving_by(route, targets)
     }
 
-    // The same for a route.
+    // As `leaving`, of an event that is known to be this route.
     fn leaving_by(route: &Route, targets: &Queues) -> Option<Step>
         ensures { IfSome result (λ step. IsLeaving (⟦<Route as EventLaw>⟧.capacities route.now) targets.now (⟦<Route as EventLaw>⟧.function route.now) step) }
     {

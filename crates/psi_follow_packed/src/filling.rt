@@ -69,7 +69,7 @@ impl<const K: usize> Packed<K> {
     }
 }
 
-// Fills the places behind the first `count` packed states, up to `whole` in all, with what stands
+// Fills the places after the first `count` packed states, up to `whole` in all, with what stands
 // `count` places before each, and this added.
 #[inline(never)]
 fn repeat_with<const K: usize>(added: &Packed<K>, count: usize, whole: usize, out: &mut [Packed<K>])

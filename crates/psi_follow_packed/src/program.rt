@@ -47,11 +47,11 @@ impl<const K: usize> Drop for Program<K> {
 }
 
 impl<const K: usize> Program<K> {
-    /// The events on states that are packed so; `None` where an event tells no pieces.
+    /// The events on states that are packed so; `None` where an event declares no pieces.
     ///
     /// # Errors
     ///
-    /// `AllocError` where there is no memory for it; no clause says when that is. No other call takes memory.
+    /// `AllocError` if an allocation fails; no clause says when that is. No other call allocates.
     pub fn new<E: PiecewiseLaw>(
         alloc: Global,
         layout: Layout<K>,

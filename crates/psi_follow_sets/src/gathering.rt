@@ -36,7 +36,7 @@ pub(crate) fn gather<const K: usize>(
     count
 }
 
-// Puts the state behind the first ones where it isn't seen to be one of them. Answers how many there are then.
+// Puts the state after the first ones where it isn't seen to be one of them. Answers how many there are then.
 #[inline]
 fn keep<const K: usize>(
     x: &Packed<K>,

@@ -289,7 +289,7 @@ impl<'n, E: EventLaw, P: Past + Drop, F: Follower + Drop> Plan<'n, E, P, F> {
         self.run = Some(Progress { horizon, done: 0 });
     }
 
-    /// Does the next step of the run that was begun, and tells its time, 1 to 2 to the power `limit` steps
+    /// Does the next step of the run that was begun, and returns its time, 1 to 2 to the power `limit` steps
     /// before time zero, and its event's number, which is the number of events where it is idle.
     ///
     /// `None` comes exactly where all steps of the run are done, or no run was begun since the plan was made,

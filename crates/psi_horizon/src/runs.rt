@@ -69,7 +69,7 @@ pub(crate) fn ends<E: EventLaw, P: Past, F: Follower>(
     follower.ends(below)
 }
 
-// Follows the region through the event of a word, and tells the event's number.
+// Follows the region through the event of a word, and returns the event's number.
 #[inline]
 pub(crate) fn follow_word<E: EventLaw>(
     system: &System<'_, E>,

@@ -11,7 +11,7 @@ impl IndexTable {
     /// The first place whose value is at least `bound`, or the number of values where there is none.
     ///
     /// The search begins at the place `near`, from 0 to the number of values; the answer is the same whatever `near`
-    /// is. It takes at most 6 look-ups where the answer is `near` or one of the three places behind it, and else at
+    /// is. It takes at most 6 look-ups where the answer is `near` or one of the three places after it, and else at
     /// most 39.
     pub fn first_at_least_near(&self, near: u16, bound: u64) -> u16
         requires { near ≤ length self.now }

@@ -31,8 +31,8 @@ impl Model for IndexTable {
 impl IndexTable {
     /// The table of these values: 1 to 65,535 of them.
     ///
-    /// `OutOfMemory` is the answer where there is no memory for it, and the values are dropped then; no clause
-    /// says when that is. No other call takes memory.
+    /// Returns `OutOfMemory` if an allocation fails, and drops the values then; no clause
+    /// says when that is. No other call allocates.
     pub fn new(alloc: Global, values: Vec<u32>) -> Result<IndexTable, OutOfMemory>
         requires some { 1 ≤ length values.items }
         requires few { length values.items ≤ 65535 }
@@ -43,7 +43,7 @@ impl IndexTable {
         Ok(IndexTable { kept })
     }
 
-    /// The same table once more: it shares all that this one keeps, so it takes no memory.
+    /// Shares the table: the result has all that this one keeps, so it does not allocate.
     ///
     /// # Errors
     ///

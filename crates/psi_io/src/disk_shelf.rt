@@ -136,7 +136,7 @@ impl<R: Files> Shelf for DiskShelf<'_, R> {
     /// # Errors
     ///
     /// [`ShelfFault::Failed`] where the file can't be opened or read, and
-    /// [`ShelfFault::OutOfMemory`] where there is no memory, also for the consumer. With each of them
+    /// [`ShelfFault::OutOfMemory`] if an allocation fails, also for the consumer. With each of them
     /// the count rises by one.
     fn feed<C: Consumer>(&mut self, name: &str, most: u32, to: &mut C) -> Result<(), ShelfFault>
         requires { most ≤ 2 ^ 30 }
@@ -174,7 +174,7 @@ impl<R: Files> Shelf for DiskShelf<'_, R> {
     /// # Errors
     ///
     /// [`ShelfFault::Failed`] where the file can't be opened or read, and
-    /// [`ShelfFault::OutOfMemory`] where there is no memory. With each of them the count rises by one.
+    /// [`ShelfFault::OutOfMemory`] if an allocation fails. With each of them the count rises by one.
     fn read(&mut self, alloc: Global, name: &str, most: u32) -> Result<Vec<u8>, ShelfFault>
         requires { most ≤ 2 ^ 30 }
         ensures still { OnOk result (self.new.count ≡ self.old.count) }

@@ -31,5 +31,5 @@ pub use shelf::{Shelf, ShelfFault};
 pub use sink::{Sink, SinkFault, write_all};
 pub use std_sink::StdSink;
 
-/// There was no memory: the only way in which a call with this error fails.
+/// An allocation failed: the only way in which a call with this error fails.
 pub use std::alloc::AllocError as OutOfMemory;

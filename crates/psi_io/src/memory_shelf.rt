@@ -73,7 +73,7 @@ impl MemoryShelf {
     ///
     /// # Errors
     ///
-    /// [`OutOfMemory`] where there is no memory for the name or the bytes. The shelf then stays as
+    /// [`OutOfMemory`] if an allocation fails. The shelf then stays as
     /// it was.
     pub fn put(&mut self, name: &str, bytes: &[u8]) -> Result<(), OutOfMemory>
         ensures told { OnOk result (told_of self.new name.now ≡ Some bytes.now) }
@@ -121,7 +121,7 @@ impl Shelf for MemoryShelf {
     ///
     /// [`ShelfFault::Failed`] exactly where the number of the read is in `fails` or the name isn't
     /// there. The count of the name rises by one there, and no other read raises a count.
-    /// [`ShelfFault::OutOfMemory`] where the consumer has no memory for the bytes: such a read has its
+    /// [`ShelfFault::OutOfMemory`] if an allocation of the consumer fails: such a read has its
     /// number, and raises no count.
     fn feed<C: Consumer>(&mut self, name: &str, most: u32, to: &mut C) -> Result<(), ShelfFault>
         requires { most ≤ 2 ^ 30 }
@@ -171,7 +171,7 @@ impl Shelf for MemoryShelf {
     ///
     /// [`ShelfFault::Failed`] exactly where the number of the read is in `fails` or the name isn't
     /// there. The count of the name rises by one there, and no other read raises a count.
-    /// [`ShelfFault::OutOfMemory`] where there is no memory for the bytes: such a read has its
+    /// [`ShelfFault::OutOfMemory`] if an allocation fails: such a read has its
     /// number, and raises no count.
     fn read(&mut self, alloc: Global, name: &str, most: u32) -> Result<Vec<u8>, ShelfFault>
         requires { most ≤ 2 ^ 30 }

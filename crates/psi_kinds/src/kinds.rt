@@ -93,7 +93,7 @@ impl Kind {
     ///
     /// # Errors
     ///
-    /// [`OutOfMemory`] where there is no memory for them. The kind may then have other tables.
+    /// [`OutOfMemory`] if an allocation fails. The kind may then have other tables.
     pub fn index(&mut self, alloc: Global) -> Result<(), OutOfMemory>
         ensures { OnOk result (self.new ≡ self.old) }
     {

@@ -28,8 +28,8 @@ use std::alloc::Global;
 /// 1 to its queue's capacity; the parts of a guarded kind may name any.
 ///
 /// The refusals come in this order: `Empty`, `Repeated`, `SelfTarget`, `TableLength`, `SizeRange`. Then,
-/// part by part, come `PartRange`, `Repeated` and `EmptyGuard`. `OutOfMemory` is the answer where there is no
-/// memory for the event; no clause says when that is.
+/// part by part, come `PartRange`, `Repeated` and `EmptyGuard`. `OutOfMemory` is the answer if an allocation
+/// for the event fails; no clause says when that is.
 pub fn lower(alloc: Global, caps: State, kind: &Kind) -> Result<Event, KindRefusal>
     requires caps { AreCapacities caps }
     requires named { IsKindOf caps kind.now }
@@ -51,7 +51,7 @@ pub fn lower(alloc: Global, caps: State, kind: &Kind) -> Result<Event, KindRefus
 ///
 /// # Errors
 ///
-/// [`OutOfMemory`] where there is no memory for the event; no clause says when that is. The kinds without
+/// [`OutOfMemory`] if an allocation fails; no clause says when that is. The kinds without
 /// tables take none.
 pub fn lower_accepted(alloc: Global, caps: State, kind: &Kind) -> Result<Event, OutOfMemory>
     requires caps { AreCapacities caps }

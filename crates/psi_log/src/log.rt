@@ -163,7 +163,7 @@ fn read_lines(
 }
 
 /// The log that a text is. The clauses `found` and `only` say that what is read is the log of that text, and
-/// that the text of each log of at most 33,554,432 bytes is read as that log, unless memory is wanting.
+/// that the text of each log of at most 33,554,432 bytes is read as that log, unless an allocation fails.
 ///
 /// # Errors
 ///

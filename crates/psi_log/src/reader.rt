@@ -16,7 +16,7 @@ use std::alloc::Global;
 use std::marker::Model;
 
 /// A log that is read in one pass. It is seen as its header, the number of steps that are read, the regions before and
-/// after the last one of them, and the text behind it; where no step is read yet, both are the region at which the
+/// after the last one of them, and the text after it; where no step is read yet, both are the region at which the
 /// run begins. It holds these two regions and the words of one line, however many lines the text has.
 #[derive(Drop)]
 pub struct LogReader<'t> {

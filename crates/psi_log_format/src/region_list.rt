@@ -1,4 +1,4 @@
-//! The regions of a log, one behind another.
+//! The regions of a log, one after another.
 
 ghost use Rattle.std.specs.Prelude.{◌≡◌, ◌∷◌, [], ◌++◌, ◌<◌, ◌≤◌, length, take, Some, IfOk, OnOk, OnErr};
 ghost use Rattle.std.specs.List.{slice_get};
@@ -40,7 +40,7 @@ impl Model for RegionList {
     ghost invariant = { λ l. All (IsPlaced l.boxes.items l.states.states) l.places.items };
 }
 
-// The place of a box in a list, behind which it is put where it isn't the last one.
+// The place of a box in a list, after which it is put where it isn't the last one.
 #[tactic(auto, using(crate::proofs::RegionsLemmas::last_place, crate::proofs::RegionsLemmas::next_place))]
 fn box_place(boxes: &mut Vec<Bounds>, bounds: &Bounds) -> Result<usize, AllocError>
     ensures front { take (length boxes.old.items) boxes.new.items ≡ boxes.old.items }
@@ -55,7 +55,7 @@ fn box_place(boxes: &mut Vec<Bounds>, bounds: &Bounds) -> Result<usize, AllocErr
     Ok(count)
 }
 
-// The place of a region, whose box or states are put behind those of the lists.
+// The place of a region, whose box or states are put after those of the lists.
 #[tactic(auto, using(crate::proofs::RegionsLemmas::box_there, crate::proofs::RegionsLemmas::box_placed, crate::proofs::RegionsLemmas::set_there, crate::proofs::RegionsLemmas::set_placed, crate::proofs::RegionsLemmas::front_kept))]
 fn place_of(
     boxes: &mut Vec<Bounds>,
@@ -99,11 +99,11 @@ impl RegionList {
         }
     }
 
-    /// Puts a region behind the others.
+    /// Appends a region.
     ///
     /// # Errors
     ///
-    /// `AllocError` where memory is wanting, and no clause says when that is; the list is then as it was.
+    /// `AllocError` if an allocation fails; no clause says when that is; the list is then as it was.
     pub fn push(&mut self, region: &BorrowedRegion<'_>) -> Result<(), AllocError>
         requires { HasWidth self.old.queues region.now }
         ensures queues { self.new.queues ≡ self.old.queues }

@@ -1,4 +1,4 @@
-//! The words of a region, each behind a space.
+//! The words of a region, each preceded by a space.
 
 ghost use Rattle.std.specs.Prelude.{◌≡◌, ◌∷◌, [], ◌+◌, ◌*◌, ◌<◌, ◌≤◌, length};
 ghost use Rattle.psi_log_format.specs.Log.{in_box, in_set};

@@ -12,7 +12,7 @@ const LEAST: usize = 4;
 ///
 /// # Errors
 ///
-/// `AllocError` where memory is wanting; the elements are as they were in either case.
+/// `AllocError` if an allocation fails; the elements are as they were in either case.
 pub(crate) fn make_room<T>(elements: &mut Vec<T>, count: usize) -> Result<(), AllocError>
     ensures elements { elements.new.items ≡ elements.old.items }
     ensures room { OnOk result (vec_len elements.new + count ≤ vec_capacity elements.new) }

@@ -1,4 +1,4 @@
-//! States one behind another, borrowed from the vector of their numbers.
+//! States one after another, borrowed from the vector of their numbers.
 
 ghost use Rattle.std.specs.Prelude.{◌≡◌, ◌↔◌, IsTrue, MatchOption, ◌+◌, ◌*◌, ◌<◌, ◌≤◌, ℕ, nat_le, length, take, drop, slice_index, Some};
 ghost use Rattle.std.specs.Ordering.{is_lt, nat_cmp};
@@ -10,7 +10,7 @@ ghost use Rattle.psi_log_format.specs.Rows.{rows};
 use psi_state::State;
 use std::marker::Model;
 
-/// States of so many queues, 1 to 32, that stand one behind another in a list of states, borrowed from it. They are
+/// States of so many queues, 1 to 32, that stand one after another in a list of states, borrowed from it. They are
 /// seen as the number of queues and the states.
 #[derive(Drop)]
 pub struct Rows<'l> {
@@ -230,7 +230,7 @@ impl<'l> Rows<'l> {
         self.count
     }
 
-    /// The same states, borrowed once more.
+    /// The same states, by a second borrow of their numbers.
     #[inline]
     pub fn again(&self) -> Rows<'l>
         ensures { result ≡ self.now }
@@ -330,7 +330,7 @@ impl<'l> Rows<'l> {
         x.is_row(self.row(place))
     }
 
-    /// The same of a state that has as many queues.
+    /// As [`is_at`](Rows::is_at), of a state that is known to have as many queues: short rows are compared number by number.
     #[inline]
     pub fn is_there(&self, place: usize, x: &State) -> bool
         requires place { place < length self.now.states }
@@ -344,7 +344,7 @@ impl<'l> Rows<'l> {
         x.is_row(row)
     }
 
-    /// Puts the state at a place, counted from 0, in the place of another.
+    /// Replaces another state by the one at a place, counted from 0.
     #[inline]
     pub fn get_onto(&self, place: usize, x: &mut State)
         requires { place < length self.now.states }

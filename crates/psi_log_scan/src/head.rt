@@ -22,7 +22,7 @@ pub fn has_name(text: &[u8], at: usize, word: &[u8]) -> bool
     are_same(&text[at..at + word.len()], word)
 }
 
-// The number of at most seven digits that stands behind the word of a step, and the place behind it.
+// The number of at most seven digits that stands after the word of a step, and the place after it.
 #[inline]
 fn time_at(text: &[u8]) -> Option<(u32, usize)>
     ensures within { IfSome result (λ read. read.1 ≤ length text.now) }
@@ -45,7 +45,7 @@ fn time_at(text: &[u8]) -> Option<(u32, usize)>
     Some((value, 12))
 }
 
-/// The step whose line begins a text, and the place behind its event.
+/// The step whose line begins a text, and the place after its event.
 #[inline]
 #[tactic(auto, using(crate::proofs::SetLineLemmas::step_stands))]
 pub fn step_at(version: u8, text: &[u8]) -> Option<(Step, usize)>

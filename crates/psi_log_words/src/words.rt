@@ -39,7 +39,7 @@ pub fn line_of(line: u32, text: &[u8]) -> Result<(&[u8], &[u8]), LogError>
     }
 }
 
-// Puts a word behind others, where they aren't 4,101 yet.
+// Puts a word after others, where they aren't 4,101 yet.
 fn keep<'t>(words: &mut Vec<&'t [u8]>, word: &'t [u8]) -> Result<(), AllocError>
     requires { vec_len words.old ≤ 4101 }
     ensures { OnOk result (map (λ word. word.now) words.new.items ≡ take 4101 (map (λ word. word.now) words.old.items ++ word.now ∷ [])) }

@@ -69,15 +69,17 @@ module _ (split : ℕ) (f : Functions) (caps : List ℕ) (events : ℕ → ℕ) 
   text_before h state zero = []
   text_before h state (suc place) = text_before h state place ++ line_at h state place
 
--- the same of a network's runs under these words
+-- `step_line`, of a network's runs under these words
 abbrev pub line_of : {E : Type 0} → (E → List ℕ → List ℕ) → Parts E → (ℕ → ℕ) → ℕ → ℕ → List ℕ
 line_of function system words horizon done =
     step_line system.split (system_functions function system words) system.caps (event_numbers system words) horizon done
 
+-- `line_at`, of a network's runs under these words
 abbrev pub line_in : {E : Type 0} → (E → List ℕ → List ℕ) → Parts E → (ℕ → ℕ) → Header → List ℕ → ℕ → List ℕ
 line_in function system words h state place =
     line_at system.split (system_functions function system words) system.caps (event_numbers system words) h state place
 
+-- `text_before`, of a network's runs under these words
 abbrev pub text_in : {E : Type 0} → (E → List ℕ → List ℕ) → Parts E → (ℕ → ℕ) → Header → List ℕ → ℕ → List ℕ
 text_in function system words h state place =
     text_before system.split (system_functions function system words) system.caps (event_numbers system words) h state place
@@ -87,7 +89,7 @@ abbrev pub IsToldAfter : {E : Type 0} → (E → List ℕ → List ℕ) → Part
 IsToldAfter function system words horizon done told =
     IsTold system.caps (region_after system.split (system_functions function system words) system.caps horizon done) told
 
--- the same of the region of a network's run after so many steps
+-- there is ample room, as `IsAmple` says it, after so many steps of a network's run
 abbrev pub IsAmpleAfter : {E : Type 0} → (E → List ℕ → List ℕ) → Parts E → (ℕ → ℕ) → ℕ → ℕ → ℕ → ℕ → Type 0
 IsAmpleAfter function system words left room horizon done =
     IsAmple system.caps (region_after system.split (system_functions function system words) system.caps horizon done) left room

@@ -22,10 +22,10 @@ use psi_state::{Bounds, State};
 /// bytes, so that it may be written.
 ///
 /// The run is that of the plan's network and words, from the header's horizon, 1 to 2 to the power `limit`
-/// steps before time zero; the header tells version 2. The run is done at most once, and the lengths of its
+/// steps before time zero; the header has version 2. The run is done at most once, and the lengths of its
 /// lines are added up until those that are left surely fit; no line is kept. The plan's network and its past's
-/// words stay as they were. The call takes no memory. What a checker says of the log is told at
-/// [`logs_are_accepted`](crate::logs_are_accepted).
+/// words stay as they were. The call does not allocate.
+/// [`logs_are_accepted`](crate::logs_are_accepted) has what a checker says of the log.
 pub fn log_fits<E: EventLaw, P: Past + Drop, F: Follower + Drop>(
     plan: &mut Plan<'_, E, P, F>,
     header: &Header,
@@ -167,10 +167,10 @@ fn is_ample<E: EventLaw, P: Past + Drop, F: Follower + Drop>(
 /// Writes the log of the run of the header's horizon, with this state at its end, to a sink.
 ///
 /// The run is that of the plan's network and words, from the header's horizon, 1 to 2 to the power `limit`
-/// steps before time zero; the header tells version 2. It is done once, and the lines of some steps at a time are
+/// steps before time zero; the header has version 2. It is done once, and the lines of some steps at a time are
 /// put into the block; a block goes to the sink when it is full, and the last one at the end. What waited in the
-/// block before is let go. The plan's network and its past's words stay as they were. The call takes no
-/// memory. What a checker says of the log is told at [`logs_are_accepted`](crate::logs_are_accepted).
+/// block before is let go. The plan's network and its past's words stay as they were. The call does not
+/// allocate. [`logs_are_accepted`](crate::logs_are_accepted) has what a checker says of the log.
 ///
 /// # Errors
 ///

@@ -45,7 +45,7 @@ use std::alloc::Global;
 /// large.
 ///
 /// A file is needed only where those before it are accepted and merged. Each that is needed is read once, in the order of
-/// the words and up to one byte more than it may have; none is read behind one that is refused or couldn't be read.
+/// the words and up to one byte more than it may have; none is read after one that is refused or couldn't be read.
 /// Where the shelf gives each file that is needed, and out and err take their texts, no count rises, and the status is
 /// neither `ReadFault` nor `WriteFault`.
 pub(crate) fn run<F: Shelf, O: Sink, E: Sink>(
@@ -64,7 +64,7 @@ pub(crate) fn run<F: Shelf, O: Sink, E: Sink>(
     }) result }
 
     // The headline: the reports of lists of samples of one network that a file may describe are merged into the report
-    // of all lists, one behind the other.
+    // of all lists, one after another.
     ensures headline { MergesReports (record {
       words = map string_bytes words.now;
       shelf = record { told = F.told shelf.old; asked_before = F.asked shelf.old; asked_after = F.asked shelf.new; faults_before = F.faults shelf.old; faults_after = F.faults shelf.new };
@@ -79,7 +79,7 @@ pub(crate) fn run<F: Shelf, O: Sink, E: Sink>(
         (record { gave = F.gave shelf.new; out = O.took out.new; err = E.took err.new; tally = record { asked = F.asked shelf.new; files = F.faults shelf.new; out = O.faults out.new; err = E.faults err.new } })
         (status_code result) }
 
-    // Where the shelf gives each file that is needed, and out and err take the reply's texts and the line on memory that ran out, no
+    // Where the shelf gives each file that is needed, and out and err take the reply's texts and the line that reports out of memory, no
     // count of faults rises in this call, and the status is the reply's or `OutOfMemory`.
     ensures spared { (reply : Reply) → reply_to (F.told shelf.old) (map string_bytes words.now) ≡ Some reply
         → AreGiven (F.gives shelf.old) (F.told shelf.old) (map string_bytes words.now)

@@ -22,7 +22,7 @@ pub enum Status {
     /// A text couldn't be written whole. It comes only where the count of out or of err rose, and nothing more is
     /// written to either.
     WriteFault,
-    /// There was not enough memory. It comes only before the first byte is written.
+    /// An allocation failed. It comes only before the first byte is written.
     OutOfMemory,
 }
 

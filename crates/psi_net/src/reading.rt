@@ -189,8 +189,8 @@ fn text_draft(alloc: Global, text: &str) -> Result<Draft, NetError>
 /// `Refused` with the first refusal in the order of the file's judging (see [`NetRefusal`]):
 /// the length and the document; at the top `version`, unknown keys, `limit`, `split`, `queue`, `event`,
 /// `reward`; in an array its tables in order; in a table unknown keys (of an event or a reward after
-/// `kind`), then the keys as listed, and behind those of an event the counts up to it: expanded events,
-/// index values, total rate. `OutOfMemory` where there is no memory.
+/// `kind`), then the keys as listed, and after those of an event the counts up to it: expanded events,
+/// index values, total rate. `OutOfMemory` if an allocation fails.
 #[tactic(auto, unfolding(crate::specs::Reading::network_of))]
 pub fn net_of(alloc: Global, bytes: &[u8]) -> Result<Net, NetError>
     ensures network { IfOk result (λ net. network_of bytes.now ≡ Ok net) }

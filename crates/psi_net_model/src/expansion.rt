@@ -95,12 +95,12 @@ fn at_server(alloc: Global, k: u16, kind: &Kind) -> Result<Kind, OutOfMemory>
     Ok(kind)
 }
 
-/// Puts the event behind the others once for each of the first `servers` servers of its source, in their
+/// Puts the event after the others once for each of the first `servers` servers of its source, in their
 /// order.
 ///
 /// # Errors
 ///
-/// [`OutOfMemory`] where there is no memory for them; some of them may then stand behind the others.
+/// [`OutOfMemory`] if an allocation fails; some of them may then stand after the others.
 #[tactic(auto, using(crate::proofs::CopyLemmas::served_start, crate::proofs::CopyLemmas::served_next))]
 pub fn push_expanded(
     alloc: Global,
@@ -132,7 +132,7 @@ fn index_all(alloc: Global, events: &mut [NamedEvent]) -> Result<(), OutOfMemory
     Ok(())
 }
 
-// The events one behind the other, each once for each server of its source.
+// The events one after another, each once for each server of its source.
 #[tactic(auto, using(crate::proofs::CopyLemmas::expanded_more))]
 fn all_served(
     alloc: Global,
@@ -155,7 +155,7 @@ fn all_served(
 ///
 /// # Errors
 ///
-/// [`OutOfMemory`] where there is no memory for the events.
+/// [`OutOfMemory`] if an allocation fails.
 pub fn expand(alloc: Global, draft: Draft) -> Result<Draft, OutOfMemory>
     requires sources { AreSourced draft.queues.items draft.events.items }
     requires whole { IsWhole draft }

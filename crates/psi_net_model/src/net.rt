@@ -59,7 +59,7 @@ impl Net {
     ///
     /// # Errors
     ///
-    /// [`OutOfMemory`] where there is no memory for what a sample runs.
+    /// [`OutOfMemory`] if an allocation fails.
     #[tactic(auto, using(crate::proofs::QueueLemmas::capacities_kept))]
     pub fn made(alloc: Global, draft: Draft) -> Result<Net, OutOfMemory>
         requires kept { IsNetwork (drafted draft) }

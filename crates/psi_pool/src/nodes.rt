@@ -291,7 +291,7 @@ fn list_ascending(nodes: &mut [Node], out: &mut Vec<State>) -> usize
     aside
 }
 
-// Puts a state behind ascending ones that it is above. The answer is whether it is among them then.
+// Puts a state after ascending ones that it is above. The answer is whether it is among them then.
 #[inline]
 fn extend(out: &mut Vec<State>, x: &State) -> bool
     requires rising { IsRising out.old.items }

@@ -27,8 +27,8 @@ const MERGES: u8 = 3;
 /// A set of at most `most` states, seen as the lexicographically ascending list of them, and the count of the steps
 /// after which nodes are given back.
 ///
-/// All its memory is taken by `reserve`: one vector of nodes, linked by index, the heads of the buckets, and
-/// room for the list of the states. No other call takes memory. The work of a step grows with the number of
+/// `reserve` allocates all its memory: one vector of nodes, linked by index, the heads of the buckets, and
+/// room for the list of the states. No other call allocates. The work of a step grows with the number of
 /// states, not with the room for them: it moves each on. States that became one may stand in several nodes until
 /// the next links, which come after 4 to 1,024 steps: these pass over four buckets for each state, and look for
 /// each among those of its bucket. Where all steps of the count are left, each state stands in one node. The hash is fixed, so a network can be made whose states share one bucket,
@@ -57,7 +57,7 @@ impl Model for Pool {
 impl Pool {
     /// The empty set, with room for `most` states: 1 to 4,096.
     ///
-    /// `OutOfMemory` is the answer where there is no memory for it; no clause says when that is.
+    /// Returns `OutOfMemory` if an allocation fails; no clause says when that is.
     pub fn reserve(alloc: Global, most: u16) -> Result<Pool, OutOfMemory>
         requires least { 1 ≤ most }
         requires most { most ≤ 4096 }
@@ -125,7 +125,7 @@ impl Pool {
         self.table.put(x)
     }
 
-    /// Puts `x` into the set, whether it was there or not: cheaper than `insert`, which tells. There has to be room
+    /// Puts `x` into the set, whether it was there or not: cheaper than `insert`, which answers that. There has to be room
     /// for a state more.
     #[inline]
     pub fn add(&mut self, x: State)

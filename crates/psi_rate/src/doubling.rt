@@ -40,7 +40,7 @@ pub trait Answers {
 /// where none of these has one. The horizons are doubled as those of coupling from the past (Propp and Wilson 1996).
 /// `limit` is at most 22.
 ///
-/// What it stands for is the same afterwards. The call takes no memory but what the answers take.
+/// What it stands for is the same afterwards. The call allocates only what the answers allocate.
 pub fn first_answer<R: Answers>(run: &mut R, limit: u8) -> Option<(u32, R::Answer)>
     requires most { limit ≤ 22 }
     requires allowed { (exponent : ℕ) → exponent ≤ limit → R.Allows (R.standing run.old) (2 ^ exponent) }
@@ -115,7 +115,7 @@ fn first_downwards<R: Answers>(run: &mut R, from: u8, answer: R::Answer) -> (u32
     (1 << least, answer)
 }
 
-/// The first answer of runs that answer the state with which they end, told as an outcome.
+/// The first answer of runs that answer the state with which they end, as an outcome.
 pub fn outcome_of(limit: u8, found: Option<(u32, State)>) -> Outcome
     ensures { result ≡ outcome_of limit found }
 {

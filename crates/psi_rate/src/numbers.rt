@@ -18,7 +18,7 @@ const WINDOW: u32 = 256;
 /// The numbers of the events of the places from 0 on, as far as they reach, without those that are idle. They are
 /// kept from run to run, so that each word is picked once: a run over them is the run over all places.
 ///
-/// Only `reserve` takes memory: the lists stand on heaps of their own, which have room for them and no more.
+/// Only `reserve` allocates: the lists stand on heaps of their own, which have room for them and no more.
 #[derive(Drop)]
 pub struct Numbers {
     list: Vec<u16, LocalHeap>,
@@ -29,10 +29,10 @@ pub struct Numbers {
 }
 
 impl Numbers {
-    /// Room for the numbers of so many places, of 2 bytes each, and 4 bytes more for each 1,024th place and for some
+    /// Reserves space for the numbers of `most` places, of 2 bytes each, and 4 bytes more for each 1,024th place and for some
     /// before these; none is kept yet.
     ///
-    /// `AllocError` is the answer where there is no memory for it; no clause says when that is.
+    /// Returns `AllocError` if an allocation fails; no clause says when that is.
     pub fn reserve(alloc: Global, most: u32) -> Result<Numbers, AllocError>
         ensures { IfOk result (λ numbers. (rates : List ℕ) (words : ℕ → ℕ) → KeepsNumbers rates words most numbers) }
     {
@@ -197,7 +197,7 @@ fn keep_window<P: Past>(
     let _kept = list.extend_from_slice(&numbers[..count]);
 }
 
-// Puts the numbers of the places of a window to the front of the list, and tells how many they are.
+// Puts the numbers of the places of a window to the front of the list, and returns how many they are.
 fn pick_window<P: Past>(
     wheel: &Wheel,
     past: &mut P,

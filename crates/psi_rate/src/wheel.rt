@@ -19,7 +19,7 @@ pub enum RateRefusal {
         /// The place, counted from 0.
         at: u16,
     },
-    /// There is no memory for the wheel.
+    /// An allocation for the wheel failed.
     OutOfMemory,
 }
 
@@ -107,7 +107,7 @@ impl Wheel {
     }
 
     /// Puts the numbers of the events of these words, without those of idle, to the front of a list that is no shorter,
-    /// in their order, and tells how many they are.
+    /// in their order, and returns how many they are.
     pub fn pick_all(&self, words: &[u32], numbers: &mut [u16]) -> usize
         requires { length words.now ≤ length numbers.old }
         ensures numbers { take result numbers.new ≡ numbers_below self.now (slice_index words.now) (length words.now) }

@@ -15,7 +15,7 @@ use std::marker::Model;
 
 /// A follower of a monotone network: by the least and the greatest state, through the events themselves.
 ///
-/// It is seen as the network that it stands for. No call takes memory.
+/// It is seen as the network that it stands for. No call allocates.
 #[derive(Drop)]
 pub struct Corners<'n, E: EventLaw> {
     course: Course<'n, E>,

@@ -11,7 +11,7 @@ use std::marker::Model;
 /// What the runs of a network go through: its capacities, its events and its split number, the number of states up to which a
 /// region is followed state by state.
 ///
-/// It is seen as these three. No call takes memory.
+/// It is seen as these three. No call allocates.
 #[derive(Drop)]
 pub struct Course<'n, E: EventLaw> {
     caps: State,
@@ -45,7 +45,7 @@ impl<'n, E: EventLaw> Course<'n, E> {
         }
     }
 
-    /// The same course once more.
+    /// A copy of the course. It borrows the same events.
     pub fn again(&self) -> Course<'n, E>
         ensures { result ≡ self.now }
     {

@@ -21,7 +21,7 @@ use std::marker::Model;
 /// it is split.
 ///
 /// It is seen as its split number, whether it is split, and the ascending list of its states, of which
-/// there is at least one. Only `reserve` takes memory.
+/// there is at least one. Only `reserve` allocates.
 #[derive(Drop)]
 pub struct Region {
     split: u16,
@@ -44,10 +44,10 @@ impl Model for Region {
 }
 
 impl Region {
-    /// Takes the room for a region that is split as soon as it has at most `split` states, 1 to 4,096. It is
+    /// Allocates room for a region that is split as soon as it has at most `split` states, 1 to 4,096. It is
     /// the box of one queue with capacity 1, unsplit.
     ///
-    /// `OutOfMemory` is the answer where there is no memory for it; no clause says when that is.
+    /// Returns `OutOfMemory` if an allocation fails; no clause says when that is.
     pub fn reserve(alloc: Global, split: u16) -> Result<Region, OutOfMemory>
         requires some { 1 ≤ split }
         requires few { split ≤ 4096 }

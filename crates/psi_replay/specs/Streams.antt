@@ -24,7 +24,7 @@ pub record IsJudged (caps : List ℕ) (past : Seeded) (judged : Result (Unit {0}
   pub queues : OnOk judged (c.header.queues ≡ length caps)
   pub within : OnOk judged (is_within caps c.region ≡ true)
 
--- the same of a progress
+-- `IsJudged`, of a progress that has begun
 abbrev pub IsSound : List ℕ → Progress → Type 0
 IsSound caps Unread = Unit {0}
 IsSound caps (Begun reading) = IsJudged caps reading.past reading.judged reading.cursor

@@ -15,7 +15,7 @@ use psi_region::covers_image;
 use psi_state::{Bounds, State};
 
 // Whether a region holds what the event makes of a state. The images of states that follow one another mostly do so
-// too, so each is looked for at the place `next` behind the last one.
+// too, so each is looked for at the place `next` after the last one.
 #[inline]
 fn holds_image<E: EventLaw>(
     event: &E,

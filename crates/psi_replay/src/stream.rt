@@ -26,9 +26,9 @@ const BATCH: usize = 32_768;
 // pieces have them.
 const TRIES: u8 = 64;
 
-/// The replay of a log whose text comes piece by piece: as [`replay_text`](crate::replay_text) of the pieces, one behind
+/// The replay of a log whose text comes piece by piece: as [`replay_text`](crate::replay_text) of the pieces, one after
 /// another. Whole lines are read and judged as they come, and what is kept is what is left over, up to the next line feed,
-/// with two regions and the words of one line. From a line on that isn't read, because it is refused or memory is wanting,
+/// with two regions and the words of one line. From a line on that isn't read, because it is refused or an allocation fails,
 /// the text is held up to its end, once.
 ///
 /// It is seen as the network, and the text that it took.
@@ -108,7 +108,7 @@ fn read_on<E: EventLaw>(
 }
 
 impl<'s, 'n, E: EventLaw> StreamReplay<'s, 'n, E> {
-    /// The replay of the empty text. It takes no memory yet.
+    /// The replay of the empty text. It does not allocate yet.
     pub fn new(alloc: Global, system: &'s System<'n, E>) -> Self
         ensures { result ≡ record { system = system.now; taken = [] } }
     {
@@ -149,7 +149,7 @@ impl<'s, 'n, E: EventLaw> StreamReplay<'s, 'n, E> {
         Ok(())
     }
 
-    // Reads and judges the lines that are pending, behind which so many bytes stand.
+    // Reads and judges the lines that are pending, after which so many bytes stand.
     fn read_lines(&mut self, behind: usize) -> Result<(), AllocError>
         ensures { self.new ≡ self.old }
     {
@@ -194,7 +194,7 @@ impl<'s, 'n, E: EventLaw> Consumer for StreamReplay<'s, 'n, E> {
     ///
     /// # Errors
     ///
-    /// [`OutOfMemory`] where there is no memory for the piece, or for what is left over behind its lines; no clause says
+    /// [`OutOfMemory`] if an allocation for the piece, or for what is left over after its lines, fails; no clause says
     /// when.
     fn take(&mut self, piece: &[u8]) -> Result<(), OutOfMemory> {
         self.keep(piece)?;

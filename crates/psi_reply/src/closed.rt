@@ -33,7 +33,7 @@ fn room(net: &Net) -> u32
 }
 
 /// The moves that the events are, in their order. Where there are none, the work ends the same for every number of
-/// customers and whatever is asked: an event isn't a move, or there was not enough memory.
+/// customers and whatever is asked: an event isn't a move, or an allocation failed.
 pub fn moves_of<'w>(alloc: Global, net: &Net) -> Result<Vec<Move>, Ending<'w>>
     ensures moves { IfOk result (λ moves. AreMovesOf net.now.events moves.items) }
     ensures none { IfErr result (λ ending. (reply : Reply) → EndsWith (ending_of ending) (moves_reply (first_other net.now) reply)) }
@@ -148,7 +148,7 @@ fn work_on_moves<'w>(
 /// The work for `closed`: the sample that a seed and a stream draw of the closed network among its states with `total`
 /// customers, 0 to 256; status `Done` where it is met, `NotCoupled` where it isn't met within the network's limit.
 /// `NotClosed` tells the first event that isn't a move of one customer, counted from 0; `NoSuchTotal` that each is one
-/// and the queues hold fewer customers; else memory is wanting.
+/// and the queues hold fewer customers; else an allocation failed.
 pub fn closed_ending<'w>(alloc: Global, net: &Net, seed: u64, stream: u64, total: u16) -> Ending<'w>
     requires { total ≤ 256 }
     ensures { EndsWith (ending_of result) (closed_reply net.now seed stream total (first_other net.now)) }

@@ -1,4 +1,4 @@
-//! The lines of err. Each is built on the stack, so that it takes no memory and is written as one piece.
+//! The lines of err. Each is built on the stack, so that it does not allocate and is written as one piece.
 
 ghost use Rattle.std.specs.Prelude.{◌≡◌, ℕ, List, ◌+◌, ◌≤◌, ◌++◌, [], length};
 ghost use Rattle.psi_command.specs.Command.{net_file, log_file};
@@ -75,7 +75,7 @@ pub fn no_total_line() -> Line
     fixed_line(b"psi: no state with this total\n")
 }
 
-/// The line where memory ran out.
+/// The line that reports out of memory.
 pub fn memory_line() -> Line
     ensures { result.items ≡ memory_line }
 {

@@ -73,7 +73,7 @@ fn push_region(text: &mut Vec<u8>, region: &Coupled) -> Result<(), AllocError>
 /// left and with that state, or with the greatest horizon where there is none; and a line with the least
 /// horizon whose region run ends with one state, or that there is none.
 ///
-/// The exponent of a greatest horizon is at most 12. The error comes where there is no memory for the text.
+/// The exponent of a greatest horizon is at most 12. The error comes if an allocation fails.
 #[tactic(auto, unfolding(crate::specs::Surveys::survey_text))]
 pub fn survey_text(
     alloc: Global,

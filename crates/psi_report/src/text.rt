@@ -19,7 +19,7 @@ impl Report {
     ///
     /// # Errors
     ///
-    /// [`OutOfMemory`] where there is no memory for the text.
+    /// [`OutOfMemory`] if an allocation fails.
     pub fn text(&self, alloc: Global) -> Result<Vec<u8>, OutOfMemory>
         ensures { IfOk result (λ text. text.items ≡ text_of self.now) }
     {

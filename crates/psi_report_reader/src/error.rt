@@ -40,7 +40,7 @@ pub enum MergeError {
     /// They aren't of one network: its queues or its rewards are others.
     OtherNetwork {
         /// The line of the second report, counted from 1, of the first sum that isn't of the queue or the reward of
-        /// the first report's sum at its place; the line behind the last where a sum is missing.
+        /// the first report's sum at its place; the line after the last where a sum is missing.
         line: u64,
     },
     /// A number of the report of both would be greater than a report may tell.

@@ -37,7 +37,7 @@ fn is_next(last: Option<u64>, left: u64, count: &HorizonCount) -> bool
         && count.count <= left
 }
 
-// The first place of a count that may not come; the place behind all where some of the samples that are met are left.
+// The first place of a count that may not come; the place after all where some of the samples that are met are left.
 fn horizons_flaw(counts: &[HorizonCount], met: u64) -> Option<usize>
     ensures { result ≡ horizons_flaw 0 None met counts.now }
 {
@@ -65,8 +65,8 @@ pub(crate) fn line_at(first: u64, place: usize) -> u64
 ///
 /// It is line 3 where more samples are met than there are; else that of the first horizon that isn't a power of two
 /// of at most 2^22, that isn't above the one before it, that no sample has, or that more samples have than are left
-/// of those that are met, or the line behind the horizons where some are left; else that of the first figure that
-/// may not stand there, or the line behind the last where figures are missing. The figures are, of 1 to 32 queues
+/// of those that are met, or the line after the horizons where some are left; else that of the first figure that
+/// may not stand there, or the line after the last where figures are missing. The figures are, of 1 to 32 queues
 /// and then of at most 64 rewards, the sum, and where samples are met the least and the greatest value of the same
 /// name. A sum may not stand there where a queue, or a reward, before it has its name; where no sample is met and
 /// it isn't 0; or where a least and a greatest value that may stand there follow, and it isn't the sum of so many

@@ -28,7 +28,7 @@ pub fn reports_are_short()
 {}
 
 /// The reports of two lists of samples of one network, less than 2^32 together, whose values have 64 bits, are merged
-/// into the report of both lists, one behind the other; and so are those of less than 2^64 samples together of a
+/// into the report of both lists, one after another; and so are those of less than 2^64 samples together of a
 /// network that a file may describe.
 pub fn reports_are_merged()
     ensures measured { ReportsAreMerged }
@@ -70,7 +70,7 @@ pub fn rows_stand_on_lines()
     ensures { RowsStandOnLines }
 {}
 
-/// The line that [`flaw_of`](crate::flaw_of) answers is wrong whatever stands behind it: no samples of a
+/// The line that [`flaw_of`](crate::flaw_of) answers is wrong whatever follows it: no samples of a
 /// network that a file may describe have a report with the lines up to it, and where it has a sum, with two more, which
 /// may have its extremes.
 pub fn wrong_lines_are_none()
@@ -83,7 +83,7 @@ pub fn networks_are_told()
     ensures { NetworksAreTold }
 {}
 
-/// The line of `OtherNetwork` is of another network whatever stands behind it: where the first report is of samples of a
+/// The line of `OtherNetwork` is of another network whatever follows it: where the first report is of samples of a
 /// network, no samples of this network have a report with the second one's lines up to it.
 pub fn other_lines_are_none()
     ensures { OtherLinesAreNone }

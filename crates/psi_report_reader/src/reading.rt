@@ -52,8 +52,8 @@ fn read_lines(alloc: Global, lines: &[&[u8]]) -> Result<Report, ReadError>
 /// [`ReadError::Refused`] with the first line that isn't a row of a report: three fields between commas, of which the
 /// first is one of a report's items and the others are the numbers or the names that a row of it has; or with line 0
 /// where each line is such a row, but the rows don't stand in a report's order, a number isn't written as a decimal
-/// number is, or the numbers of samples don't add up. [`ReadError::OutOfMemory`] where there is no memory for the report
-/// or for its text, which is compared with this one.
+/// number is, or the numbers of samples don't add up. [`ReadError::OutOfMemory`] if an allocation fails,
+/// for the report or for its text, which is compared with this one.
 #[tactic(auto, unfolding(crate::specs::Reading::read))]
 pub fn read(alloc: Global, text: &[u8]) -> Result<Report, ReadError>
     ensures reading { Gives result (read text.now) }

@@ -68,7 +68,7 @@ use std::alloc::Global;
 /// | `ReadFault` | the shelf's count of NET rose in this call | err: `psi: cannot read network` |
 /// | `ReadFault` | the shelf's count of LOG rose in this call, and the network is accepted | err: `psi: cannot read log` |
 /// | `WriteFault` | the count of out or of err rose in this call | a prefix of the text |
-/// | `OutOfMemory` | there was not enough memory | err: `psi: out of memory` |
+/// | `OutOfMemory` | an allocation failed | err: `psi: out of memory` |
 /// | `UnknownReward` | the network has no reward NAME | err: `psi: unknown reward` |
 /// | `TooManyStates` | the words are `exact`, and the network has more than 65,536 states | err: `psi: too many states` |
 /// | `NotClosed` | the words are `closed`, and the network isn't closed: its event E, counted from 0, is the first that doesn't move one customer from a queue to another | err: `psi: not closed event E` |
@@ -124,7 +124,7 @@ use std::alloc::Global;
 /// whole. A log that this call writes is accepted with the sample's T and S. It is written in pieces as its
 /// lines come, after the run was done once to see how long it is.
 ///
-/// All memory is taken before the first byte is written. Words that aren't a command take none.
+/// All allocations come before the first byte is written. Arguments that aren't a command allocate nothing.
 ///
 /// NET is read once, up to 1,048,576 bytes, and then LOG once, up to 33,554,432, where the network is accepted. No
 /// other file is read, and none for `trial` and for words that aren't a command.
@@ -167,7 +167,7 @@ pub fn run<F: Shelf, O: Sink, E: Sink>(
     ensures means { (command : Command) → command_of (map string_bytes words.now) ≡ Ok command → IsReplied result
         → Means command (F.told shelf.old) (O.held out.old) (O.held out.new) result }
 
-    // Where the shelf gives each file that the words name, and out and err take the reply's texts and the line on memory that ran out,
+    // Where the shelf gives each file that the words name, and out and err take the reply's texts and the line that reports out of memory,
     // no count of faults rises in this call, and the status is the reply's or `OutOfMemory`.
     ensures spared { (reply : Reply) → reply_to (command_of (map string_bytes words.now)) (F.told shelf.old) ≡ Some reply
         → AreGiven (F.gives shelf.old) (command_of (map string_bytes words.now))

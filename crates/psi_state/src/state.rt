@@ -219,7 +219,7 @@ impl State {
         quad_of(&self.values, i)
     }
 
-    /// The numbers, one for each queue, and zeros behind them.
+    /// The numbers, one for each queue, and zeros after them.
     #[inline]
     pub(crate) fn padded(&self) -> [u16; 32]
         ensures { (i : ℕ) → slice_index result i ≡ slice_index self.now i }

@@ -96,7 +96,7 @@ impl Case {
     ///
     /// # Errors
     ///
-    /// Where there isn't enough memory for the shelf and the sinks.
+    /// If an allocation for the shelf or the sinks fails.
     pub(crate) fn agrees(&self, alloc: Global) -> anyhow::Result<bool> {
         let mut shelf = self.shelf(alloc)?;
         let mut out = self.sink(alloc, self.out.len())?;

@@ -26,7 +26,7 @@
 //! | `check.cases`, `sample.cases`, `report.cases`, `trial.cases`, `couple.cases`, `reward.cases`, `log.cases`, `replay.cases`, `exact.cases`, `closed.cases`, `refuse.cases`, `words.cases`, `read.cases` | random networks, whole and broken, logs, written, changed and broken, words, and files that aren't there | by an independent program (`generate/cases_from_json.py`) |
 //!
 //! It ends with 0 where all agree, with 1 where a case differs, and with 2 where a case file can't
-//! be read or there isn't enough memory, which a line on standard error tells.
+//! be read or an allocation fails, which a line on standard error reports.
 #![tactic(auto)]
 
 mod case;
@@ -70,7 +70,7 @@ fn is_named(names: &[u8], name: &str) -> bool {
         .any(|line| line == name.as_bytes())
 }
 
-// Makes the call of a case under each fault, and tells how many differ.
+// Makes the call of a case under each fault, and returns how many differ.
 fn try_case_faults(
     rt: &(impl Print + Alloc<A = Global>),
     case: Case,

@@ -145,7 +145,7 @@ impl Tally {
     ///
     /// # Errors
     ///
-    /// [`OutOfMemory`] where there is no memory for the report.
+    /// [`OutOfMemory`] if an allocation fails.
     pub fn report(&self, alloc: Global, net: &Net) -> Result<Report, OutOfMemory>
         requires { (outcomes : List Outcome) × StandsFor self.now net.now outcomes }
         ensures { (outcomes : List Outcome) → StandsFor self.now net.now outcomes → IfOk result (λ report. report ≡ contents_of net.now outcomes) }
@@ -165,7 +165,7 @@ impl Tally {
     ///
     /// # Errors
     ///
-    /// [`OutOfMemory`] where there is no memory for the report or for its text.
+    /// [`OutOfMemory`] if an allocation fails.
     pub fn text(&self, alloc: Global, net: &Net) -> Result<Vec<u8>, OutOfMemory>
         requires { (outcomes : List Outcome) × StandsFor self.now net.now outcomes }
         ensures { (outcomes : List Outcome) → StandsFor self.now net.now outcomes → IfOk result (λ text. text.items ≡ report_text net.now outcomes) }
