@@ -26,7 +26,7 @@ const SHORT: u32 = 64;
 /// run ends have one value of the reward, with that value, in the reward's unit. Every state within the
 /// capacities that starts there or earlier has it at time zero, though these states need not have met, and
 /// every longer run ends with states of this value. `NotAt` comes exactly where there is no such horizon, and
-/// has the system's limit; then the states of no run of up to so many steps have one value.
+/// has the system's limit; then no run of up to 2 to the power `limit` steps ends with states of one value.
 ///
 /// The reward is one of the system's capacities.
 ///

@@ -42,7 +42,7 @@ impl Model for Sides {
 }
 
 impl Sides {
-    /// Any side for each of so many queues, at most 32.
+    /// `Any` for each of `queues` queues, at most 32.
     pub fn any(queues: u8) -> Sides
         requires { queues ≤ 32 }
         ensures { result ≡ replicate queues Any }

@@ -34,7 +34,7 @@ fn spanned<E: EventLaw>(e: &E, place: u8) -> u16
     0
 }
 
-// Whether the event leaves so many customers in the queue, whatever the other queues hold.
+// Whether the event leaves the queue at this place with `number` customers, whatever the other queues hold.
 fn stays<E: EventLaw>(e: &E, place: u8, number: u16) -> bool
     requires place { place < length (E.capacities e.now) }
     requires number { number ≤ slice_index (E.capacities e.now) place }

@@ -55,7 +55,7 @@ pub fn survey<E: EventLaw, P: Past>(
     follow_all(system, past, &mut table.table, &table.images, h)
 }
 
-// Learns the first events of the system, at most so many, as far as there is room.
+// Learns the first events of the system, at most `most`, as far as there is space.
 fn learn<E: EventLaw>(
     system: &System<'_, E>,
     table: &mut Table,

@@ -13,7 +13,7 @@ use std::alloc::{AllocError, Global};
 /// How many ranks are compared before it is asked whether all were the same.
 pub(crate) const STRETCH: usize = 512;
 
-/// A list of so many zeros.
+/// Returns a list of `count` zeros.
 pub(crate) fn zeroed(alloc: Global, count: u32) -> Result<Vec<u16>, AllocError>
     ensures { IfOk result (λ ranks. length ranks.items ≡ count) }
 {

@@ -9,7 +9,7 @@ use crate::alike::{moves_alike, span_of};
 use psi_event::EventLaw;
 use psi_state::{Bounds, State};
 
-// An event is applied to the states of its span alone where all are at least so many times as many.
+// An event is applied to the states of its span alone where there are at least this many times as many states in all.
 const LEAST_SAVED: u32 = 8;
 
 /// Writes at the rank of each state the rank of what the event makes of it, where it changes few queues

@@ -39,7 +39,7 @@ impl Table {
     ghost use Rattle.psi_exact.specs.TableKept.{AreRanks};
     ghost use Rattle.psi_exact.specs.ImagesKept.{AreImages, IsSameImages, IsOneMore};
 
-    /// The table of the map that sends each of all states, so many, to itself.
+    /// Makes the table of the map that sends each of all states to itself; `states` is their number.
     pub(crate) fn reserve(alloc: Global, caps: State, states: u32) -> Result<Table, AllocError>
         requires all { states ≡ length (all_states caps) }
         requires few { states ≤ 65536 }

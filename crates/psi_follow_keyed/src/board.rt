@@ -86,7 +86,7 @@ impl Board {
         self.targets.get(place)
     }
 
-    /// The key of the target at a place with so many customers.
+    /// Returns the key of the target at a place where it holds `held` customers.
     #[inline]
     pub fn key(&self, place: u8, held: u16) -> u32
         requires place { place < length self.now.targets }

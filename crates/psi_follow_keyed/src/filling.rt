@@ -36,7 +36,7 @@ impl Rows {
         Ok(Some(Rows { bases, entries }))
     }
 
-    /// The key of the target at a place with so many customers.
+    /// Returns the key of the target at a place where it holds `held` customers.
     #[inline]
     pub fn at(&self, place: u8, held: u16) -> u32
         requires place { place < 32 }

@@ -60,7 +60,7 @@ impl Marked {
         }
     }
 
-    // A customer leaves a queue that holds at least so many.
+    // A customer leaves the queue where it holds at least `least`.
     #[inline]
     fn leave(&mut self, board: &Board, queue: u8, least: u16, place: u8)
         requires ranked { AreRanked board.now }

@@ -13,7 +13,7 @@ use psi_state::Queues;
 pub(crate) enum Step {
     /// Nothing changes.
     Still,
-    /// A customer leaves a queue that holds at least so many.
+    /// A customer leaves a queue that holds at least `least`.
     Leave {
         /// The queue, counted from 0.
         queue: u8,

@@ -148,7 +148,7 @@ impl<const K: usize> PackedEvent<K> {
     }
 
     // As the one above, for the first piece, by the lowered offsets: with these none of the guards that it looks at is to be up, so one
-    // comparison tells it for all words.
+    // comparison decides it for all words.
     #[inline]
     fn none_up(&self, x: &PackedPair<K>) -> Pair
         requires low { IsLowered K (moving_by low_word self.now) }

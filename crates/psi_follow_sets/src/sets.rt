@@ -185,8 +185,8 @@ fn coalescence_of_few<const K: usize, E: EventLaw>(
     machine.set.meeting(&machine.program, numbers, &bounds)
 }
 
-// Whether the events of the numbers, the last first, are seen to make different states of the two corners of a box of so many
-// states. It isn't looked at where the numbers are so many that its set may be followed for less.
+// Whether the events of the numbers, the last first, are seen to make different states of the two corners of a box of `count`
+// states. It isn't tried where there are so many numbers that to follow the set may cost less.
 fn have_corners_parted<const K: usize>(
     program: &Program<K>,
     numbers: &[u16],
@@ -206,7 +206,7 @@ fn have_corners_parted<const K: usize>(
 }
 
 // The one state that the events of the numbers make of all states of a box, where its tight boxes come to a single state within
-// so many numbers, the last first. `None` decides nothing: its states may coalesce all the same.
+// `tries` numbers, the last first. `None` decides nothing: its states may coalesce all the same.
 fn meeting_of_box<const K: usize, E: EventLaw>(
     machine: &Machine<K>,
     course: &Course<'_, E>,

@@ -19,8 +19,8 @@ use std::{fs, io};
 /// The most bytes that one turn of a read asks for.
 const CHUNK: usize = 8192;
 
-/// A shelf over the files of the system, opened through the runtime that it is lent. It tells
-/// nothing of what they hold, and is seen as the reads that it was asked for, the answers that it
+/// A shelf over the files of the system, opened through the runtime that it is lent. Its `told` has
+/// nothing, and it is seen as the reads that it was asked for, the answers that it
 /// gave, and its count of faults: one number for all names, which stands still at the greatest u64.
 #[derive(Drop)]
 pub struct DiskShelf<'r, R: Files> {

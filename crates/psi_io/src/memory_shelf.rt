@@ -14,8 +14,8 @@ use crate::shelf::{Shelf, ShelfFault};
 use std::alloc::Global;
 use std::marker::Model;
 
-/// A shelf of files in memory, whose reads fail where they are told to. It tells the bytes that
-/// were last put under a name, and nothing of a name that isn't there.
+/// A shelf of files in memory, whose reads fail where it was set so. Its `told` has the bytes that
+/// were last put under a name, and nothing under a name that isn't there.
 ///
 /// Reads are numbered from 1, in the order in which they were asked for. All names that aren't there
 /// share one count of faults, and a name that is first put begins with it. The number of a read and

@@ -10,7 +10,7 @@ use std::alloc::Global;
 use std::marker::Model;
 
 /// A sink in memory, with a room that is reserved when it is made, which takes a bounded number of
-/// bytes in a write and fails at chosen writes. It tells what it holds.
+/// bytes in a write and fails at chosen writes. Its `held` has what it holds.
 ///
 /// Writes are numbered from 1. The number of a write and the count of faults stand still at the
 /// greatest u64.

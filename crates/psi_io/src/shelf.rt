@@ -28,12 +28,12 @@ impl From<AllocError> for ShelfFault {
 
 /// Files, each under a name.
 ///
-/// Five meanings belong to a shelf. `told` gives the bytes under a name, where the shelf tells
-/// them: a shelf over real files tells none, and no call changes what a shelf tells. `asked` lists
+/// Five meanings belong to a shelf. `told` gives the bytes under a name, where the model has
+/// them: a shelf over real files has none there, and no call changes `told`. `asked` lists
 /// the reads that the shelf was asked for since it was made, oldest first, whatever came of them.
 /// `gave` lists the answers of the reads that succeeded, oldest first: the name, the bound, and the
 /// bytes that were returned or that the consumer took. A read that fails adds nothing. Every shelf has
-/// it, whatever it tells of its files.
+/// it, whatever `told` has of its files.
 /// `faults` is the count of faults of a name, which never falls. `gives` says of a name that no
 /// read of it is to fail, now or later: no count rises there. A shelf over real files says it of
 /// no name.

@@ -74,7 +74,7 @@ impl RegionSlot<'_> {
     }
 }
 
-// Makes a region the box that the changes make of another which stand in a text from a place on, and answers the place
+// Makes a region the box that the changes make of another which stand in a text from a place on, and returns the place
 // after them. A box that stood there is written over in its place.
 fn changes_onto(
     queues: u8,
@@ -130,7 +130,7 @@ fn move_onto(
 }
 
 // Reads into a slot the set of one state that stands after an event as it is to be, by the line of another slot's
-// region where that is such a set too, and answers the place after its line.
+// region where that is such a set too, and returns the place after its line.
 fn like_onto<'t>(
     queues: u8,
     from: &RegionSlot<'t>,

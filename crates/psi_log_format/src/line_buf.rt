@@ -40,7 +40,7 @@ impl Model for LineBuf {
     ghost invariant = { λ b. (800000 ≤ vec_capacity b.bytes) × (b.len ≤ vec_len b.bytes) × AreDigits b.table.items };
 }
 
-// Lets a vector have at least so many bytes, for which it has the capacity.
+// Lengthens a vector to at least `count` bytes, for which it has the capacity.
 #[inline]
 fn lengthen(bytes: &mut Vec<u8>, count: usize)
     requires { count ≤ vec_capacity bytes.old }

@@ -12,7 +12,7 @@ use psi_state::Bounds;
 pub enum ListedRegion {
     /// The states between two corners.
     Box(Bounds),
-    /// So many states of the list, from a place on.
+    /// `count` states of the list, from the place `first` on.
     Set { first: usize, count: u16 },
 }
 

@@ -11,14 +11,14 @@ use psi_state::Bounds;
 use std::alloc::{AllocError, Global};
 use std::marker::Model;
 
-// A region by its place: a box in a list of boxes, or so many states of a list, from a place on.
+// A region by its place: a box in a list of boxes, or `count` states of a list, from the place `first` on.
 #[derive(Clone, Copy, Debug)]
 enum Place {
     Box { place: usize },
     Set { first: usize, count: usize },
 }
 
-/// A list of regions, whose states are of so many queues, 1 to 32; it is seen as the number of queues and the regions.
+/// A list of regions, whose states all have the same number of queues, 1 to 32; it is seen as the number of queues and the regions.
 /// A region takes 24 bytes, and 132 more where it is a box, and another one than the last box before it, or two for
 /// each number of its states; of each the list has room for up to an eighth more.
 #[derive(Drop)]
@@ -86,7 +86,7 @@ fn place_of(
 }
 
 impl RegionList {
-    /// The list of no regions, for states of so many queues, 1 to 32. It does not allocate yet.
+    /// Makes the empty list, for states of `queues` queues, 1 to 32. It does not allocate yet.
     pub fn new(alloc: Global, queues: u8) -> RegionList
         requires some { 1 ≤ queues }
         requires few { queues ≤ 32 }

@@ -7,7 +7,7 @@ use std::alloc::AllocError;
 // How many elements a list that grows gets room for at least.
 const LEAST: usize = 4;
 
-/// Makes room for so many more elements. Where there isn't enough, the list grows by an eighth at least: of a long
+/// Makes space for `count` more elements. Where there isn't enough, the list grows by an eighth at least: of a long
 /// list that doubles up to half might stay unused.
 ///
 /// # Errors

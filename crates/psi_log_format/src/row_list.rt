@@ -10,7 +10,7 @@ ghost use Rattle.psi_log_format.specs.Rows.{rows};
 use psi_state::State;
 use std::marker::Model;
 
-/// States of so many queues, 1 to 32, that stand one after another in a list of states, borrowed from it. They are
+/// States, all with the same number of queues, 1 to 32, that stand one after another in a list of states, borrowed from it. They are
 /// seen as the number of queues and the states.
 #[derive(Drop)]
 pub struct Rows<'l> {
@@ -198,7 +198,7 @@ fn put_few(row: &[u16], x: &mut State)
 }
 
 impl<'l> Rows<'l> {
-    // So many states, whose numbers these are.
+    // `count` states, whose numbers these are.
     pub(crate) fn new(queues: u8, count: usize, numbers: &'l [u16]) -> Rows<'l>
         requires some { 1 ≤ queues }
         requires few { queues ≤ 32 }
@@ -242,7 +242,7 @@ impl<'l> Rows<'l> {
         }
     }
 
-    /// So many of the states, from a place on; places are counted from 0.
+    /// Returns `count` of the states, from the place `first` on; places are counted from 0.
     #[tactic(auto, using(crate::proofs::RowsLemmas::length_rows, crate::proofs::RowsLemmas::rows_part, crate::proofs::RowsLemmas::rows_until))]
     pub fn part(&self, first: usize, count: usize) -> Rows<'l>
         requires { first + count ≤ length self.now.states }

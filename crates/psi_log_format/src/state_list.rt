@@ -13,7 +13,7 @@ use psi_state::State;
 use std::alloc::{AllocError, Global};
 use std::marker::Model;
 
-/// A list of states of so many queues, 1 to 32; it is seen as the number of queues and the states. It takes two bytes
+/// A list of states, all with the same number of queues, 1 to 32; it is seen as the number of queues and the states. It takes two bytes
 /// for each queue of each state, and keeps no memory for a state by itself.
 #[derive(Drop)]
 pub struct StateList {
@@ -57,7 +57,7 @@ fn push_all(numbers: &mut Vec<u16>, row: &[u16]) -> Result<(), AllocError>
 }
 
 impl StateList {
-    /// The list of no states, for states of so many queues, 1 to 32. It does not allocate yet.
+    /// Makes the empty list, for states of `queues` queues, 1 to 32. It does not allocate yet.
     pub fn new(alloc: Global, queues: u8) -> StateList
         requires some { 1 ≤ queues }
         requires few { queues ≤ 32 }
@@ -122,7 +122,7 @@ impl StateList {
         Ok(())
     }
 
-    /// Puts so many states after the others as [`StateList::push`] does, by their numbers, which stand one after
+    /// Appends `count` states as [`StateList::push`] does, by their numbers, which stand one after
     /// another. It is quicker than to put each there by itself.
     ///
     /// # Errors
@@ -140,7 +140,7 @@ impl StateList {
         Ok(())
     }
 
-    /// Puts states of as many queues after the others as [`StateList::push`] does.
+    /// Appends states of as many queues as [`StateList::push`] does.
     ///
     /// # Errors
     ///

@@ -24,7 +24,7 @@ fn bytes_of(n: u16) -> usize
     2 + (n >= 10) as usize
 }
 
-// The queue, from one on, up to which the numbers of a row take at most so many bytes, each with the comma after it,
+// The queue, from one on, up to which the numbers of a row take at most `room` bytes, each with the comma after it,
 // and how many bytes they take. It isn't after the last queue.
 #[inline]
 fn pass(row: &[u16], from: usize, room: usize) -> (usize, usize)
@@ -48,7 +48,7 @@ fn pass(row: &[u16], from: usize, room: usize) -> (usize, usize)
 }
 
 // Reads the number of a queue that stands at a place with a comma after it, or with a line feed where it is the last
-// one, and answers the place after that. The other numbers stay.
+// one, and returns the place after that. The other numbers stay.
 #[inline]
 fn read_number(text: &[u8], at: usize, queue: usize, row: &mut [u16]) -> Option<usize>
     requires queue { queue < length row.old }
@@ -68,8 +68,8 @@ fn read_number(text: &[u8], at: usize, queue: usize, row: &mut [u16]) -> Option<
     Some(end + 1)
 }
 
-// Reads the numbers that stand in a text from a place on, up to a line feed, and answers the place after it. The row
-// has those of another line, which a word tells with its line feed.
+// Reads the numbers that stand in a text from a place on, up to a line feed, and returns the place after it. The row
+// has those of another line, whose word, with its line feed, is `word`.
 fn read_like(text: &[u8], at: usize, word: &[u8], row: &mut [u16]) -> Option<usize>
     requires some { 1 ≤ length row.old }
     requires few { length row.old ≤ 32 }

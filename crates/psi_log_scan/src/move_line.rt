@@ -38,7 +38,7 @@ fn change_at(text: &[u8], at: usize, queues: u8) -> Option<(Change, usize)>
 }
 
 /// Makes of a box the one that the changes make of another which stand in a text from a place on, each preceded by a space,
-/// and answers the place after them. Where nothing is given, nothing is said of the box.
+/// and returns the place after them. Where nothing is given, nothing is said of the box.
 pub fn read_changes_onto(
     text: &[u8],
     at: usize,

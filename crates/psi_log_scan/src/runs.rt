@@ -60,7 +60,7 @@ fn padded(row: &[u16]) -> [u16; 32]
     numbers
 }
 
-// So many places that count, and others after them that don't.
+// `len` places that count, and others after them that don't.
 #[inline]
 fn all_until(len: usize) -> [bool; 128]
     requires { len ≤ 128 }
@@ -73,7 +73,7 @@ fn all_until(len: usize) -> [bool; 128]
     same
 }
 
-// For each of so many places whether it is before a number's digits or after them.
+// For each of `len` places whether it is before a number's digits or after them.
 #[inline]
 fn around(from: usize, until: usize, len: usize) -> [bool; 128]
     requires within { until ≤ len }
@@ -154,7 +154,7 @@ fn is_alike(text: &[u8], at: usize, run: &Run) -> bool
     true
 }
 
-// The number of so many digits that stands at a place.
+// The number of `width` digits that stands at a place.
 #[inline(never)]
 fn long_number(text: &[u8], at: usize, width: usize) -> Option<u16>
     requires { at + width ≤ length text.now }
@@ -233,7 +233,7 @@ fn eight(row: &[u16; 32]) -> [u16; 8]
     numbers
 }
 
-// Puts the first of these numbers after so many others. They are copied to a variable first, and as many at once as
+// Puts the first `count` of these numbers after `filled` others. They are copied to a variable first, and as many at once as
 // the compiler knows of: it asks then neither whether both overlap nor how many they are.
 #[inline]
 fn put_first(numbers: &mut [u16; 160], filled: usize, row: &[u16; 32], count: usize)
@@ -274,7 +274,7 @@ fn make_way(
     Ok(())
 }
 
-/// Puts the states of a run, at most so many, which stand in a text from a place on, each preceded by a space, after those
+/// Appends the states of a run, at most `most`, which stand in a text from a place on, each preceded by a space, to those
 /// of the list, the last of which has these numbers; and gives the place after them. They are put onto the list by
 /// as many as an array of numbers holds.
 #[inline(never)]

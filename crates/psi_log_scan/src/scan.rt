@@ -145,7 +145,7 @@ pub(crate) fn small_with_comma(text: &[u8], at: usize, last: usize) -> Option<(u
     any_with_comma(text, at)
 }
 
-/// Reads the numbers of a row that stand at a place, joined by commas, and answers the place after them. Where nothing
+/// Reads the numbers of a row that stand at a place, joined by commas, and returns the place after them. Where nothing
 /// is given, nothing is said of the row.
 #[inline(never)]
 pub(crate) fn read_row(text: &[u8], at: usize, row: &mut [u16]) -> Option<usize>

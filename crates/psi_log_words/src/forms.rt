@@ -22,7 +22,7 @@ pub enum Given<'w> {
     Move(&'w Bounds, &'w [&'w [u8]]),
 }
 
-// Whether each word has so many pieces.
+// Whether each word has `count` pieces.
 #[tactic(auto, using(crate::proofs::TurnLemmas::shaped_turn, crate::proofs::TurnLemmas::shaped_fails, crate::proofs::TurnLemmas::shaped_ends))]
 fn are_shaped(count: usize, words: &[&[u8]]) -> bool
     ensures { result ≡ list_all (has_pieces count) (map (λ word. word.now) words.now) }

@@ -95,7 +95,7 @@ fn commas(word: &[u8]) -> usize
     count
 }
 
-/// Whether the word has so many pieces.
+/// Returns whether the word has `count` pieces, which commas separate.
 #[tactic(auto, using(crate::proofs::ValueLemmas::pieces_count))]
 pub fn has_pieces(count: usize, word: &[u8]) -> bool
     ensures { result ≡ has_pieces count word.now }

@@ -20,7 +20,7 @@ const MANY: usize = 8_192;
 
 /// Appends what stands at a place of the log of the header's run to the lines that are held: the header's lines at 0,
 /// the line of the begin at 1, those of the steps, and after them that of the end. The run goes on by the step.
-/// Behind those that are held only the line of a step is put; they have at most 8,192 bytes then.
+/// Only the line of a step is appended to others; these have at most 8,192 bytes then.
 ///
 /// `told` is the box of the region before the step, where it isn't split, and that of the region after it then.
 pub(crate) fn next_line<E: EventLaw, P: Past + Drop, F: Follower + Drop>(

@@ -82,7 +82,7 @@ fn surely_fits<E: EventLaw, P: Past + Drop, F: Follower + Drop>(
     is_roomy(plan, left, room) || is_ample(plan, told, left, room)
 }
 
-// Whether the lines of so many steps, and the last line, surely fit in the room, whatever regions these have. It is
+// Whether the lines of `left` steps, and the last line, surely fit in `room` bytes, whatever regions these have. It is
 // asked at each 64th step, and answered by the queues, the digits of the capacities and the split number.
 fn is_roomy<E: EventLaw, P: Past + Drop, F: Follower + Drop>(
     plan: &Plan<'_, E, P, F>,
@@ -100,7 +100,7 @@ fn is_roomy<E: EventLaw, P: Past + Drop, F: Follower + Drop>(
     left as usize * width as usize + 200 <= room
 }
 
-// The number of bytes that a step's line has at most, with so many queues, digits of a capacity, and states of a set.
+// The number of bytes that a step's line has at most, with these numbers of queues, of digits of a capacity and of states of a set.
 fn width_of(queues: u8, digits: u8, split: u16) -> u32
     requires queues { queues ≤ 32 }
     requires digits { digits ≤ 5 }

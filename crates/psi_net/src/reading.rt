@@ -151,7 +151,7 @@ fn text_draft(alloc: Global, text: &str) -> Result<Draft, NetError>
 /// |---|---|---|
 /// | `version` | 1 or 2 | required |
 /// | `limit` | 0 to 20, in version 2 to 22: horizons are at most 2 to the power `limit` steps | 18 |
-/// | `split` | 1 to 4,096: regions of at most so many states are followed state by state | 256 |
+/// | `split` | 1 to 4,096: regions of at most this number of states are followed state by state | 256 |
 /// | `queue` | array of 1 to 32 tables | required |
 /// | `event` | array of 1 to 1,024 tables | required |
 /// | `reward` | array of at most 64 tables | empty |

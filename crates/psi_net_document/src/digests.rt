@@ -1,4 +1,4 @@
-//! Numbers by which most texts are told apart at once.
+//! Numbers by which most texts are distinguished at once.
 
 ghost use Rattle.std.specs.Prelude.{◌+◌, ◌<◌, ◌≤◌, length};
 

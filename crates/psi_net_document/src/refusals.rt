@@ -56,7 +56,7 @@ pub struct NetRefusal {
     pub key: Option<Name>,
 }
 
-/// Why a value of a file is refused; [`NetRefusal`] tells what each cause is.
+/// Why a value of a file is refused; [`NetRefusal`] has what each cause is.
 #[derive(Clone, Copy, Debug)]
 pub enum Cause {
     /// The file has too many bytes: 0.

@@ -95,7 +95,7 @@ fn at_server(alloc: Global, k: u16, kind: &Kind) -> Result<Kind, OutOfMemory>
     Ok(kind)
 }
 
-/// Puts the event after the others once for each of the first `servers` servers of its source, in their
+/// Appends the event once for each of the first `servers` servers of its source, in their
 /// order.
 ///
 /// # Errors

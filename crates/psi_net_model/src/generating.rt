@@ -175,7 +175,7 @@ fn negative_event(last: u8) -> NamedEvent
     }
 }
 
-// Puts an event after the others, expanded over the servers of its source.
+// Appends an event, expanded over the servers of its source.
 fn push_event(
     alloc: Global,
     queues: &[Queue],
@@ -189,7 +189,7 @@ fn push_event(
     push_expanded(alloc, events, event, servers)
 }
 
-// Puts the services of so many queues after the other events.
+// Appends the services of `count` queues to the events.
 #[tactic(auto, using(crate::proofs::MakingLemmas::none_passing, crate::proofs::MakingLemmas::passing_more))]
 fn push_passing(
     alloc: Global,
@@ -208,7 +208,7 @@ fn push_passing(
     Ok(())
 }
 
-// Puts the events of an odd number after the others.
+// Appends the events of an odd number.
 #[tactic(auto, using(crate::proofs::MakingLemmas::odd_more, crate::proofs::MakingLemmas::even_more))]
 fn push_odd(
     alloc: Global,
@@ -242,7 +242,7 @@ fn all_events(alloc: Global, number: u16, queues: &[Queue]) -> Result<Vec<NamedE
     Ok(events)
 }
 
-// The first so many queues.
+// The first `count` queues.
 #[tactic(auto, using(crate::proofs::MakingLemmas::numbers_next, crate::proofs::MakingLemmas::numbers_room))]
 fn first_queues(count: u8) -> Queues
     requires { count ≤ 32 }
@@ -255,7 +255,7 @@ fn first_queues(count: u8) -> Queues
     queues
 }
 
-// So many weights of 1.
+// `count` weights of 1.
 fn ones(alloc: Global, count: u8) -> Result<Numbers, OutOfMemory>
     ensures { IfOk result (λ weights. weights ≡ replicate count (pos 1)) }
 {

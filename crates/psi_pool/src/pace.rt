@@ -50,7 +50,7 @@ impl Pace {
         self.left = self.left.min(self.every.saturating_sub(1));
     }
 
-    /// Counts a step, and answers whether repeats are to be taken out after it.
+    /// Counts a step, and returns whether repeats are to be taken out after it.
     #[inline]
     pub fn is_due(&mut self) -> bool
         ensures counted { self.new ≡ record { every = self.old.every; left = self.old.left - 1 } }

@@ -112,7 +112,7 @@ impl Pool {
         self.table.has(x)
     }
 
-    /// Puts `x` into the set, and answers whether it was not there. There has to be room for it, or it is
+    /// Puts `x` into the set, and returns whether it was not there. There has to be room for it, or it is
     /// there already.
     pub fn insert(&mut self, x: State) -> bool
         requires room { (length self.old.states < self.old.most) ⊎ In x self.old.states }
@@ -125,7 +125,7 @@ impl Pool {
         self.table.put(x)
     }
 
-    /// Puts `x` into the set, whether it was there or not: cheaper than `insert`, which answers that. There has to be room
+    /// Puts `x` into the set, whether it was there or not: cheaper than `insert`, which returns which. There has to be space
     /// for a state more.
     #[inline]
     pub fn add(&mut self, x: State)

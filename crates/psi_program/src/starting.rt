@@ -24,8 +24,8 @@ const NO_WORDS: u8 = 13;
 pub trait Program {
     ghost is_run: { Self → Run → Type 0 } = { λ _ _. Unit {0} };
 
-    /// Does what the words ask for, over a shelf of files and two sinks, and answers the exit status. What crosses these
-    /// in the call is a run of the program, whatever the shelf and the sinks tell.
+    /// Does what the words ask for, over a shelf of files and two sinks, and returns the exit status. What crosses these
+    /// in the call is a run of the program, whatever the models of the shelf and the sinks have.
     fn run<F: Shelf, O: Sink, E: Sink>(
         &self,
         alloc: Global,

@@ -155,7 +155,7 @@ fn keep_places<P: Past>(
     }
 }
 
-// How many numbers there are before `end`, where so many are before `first`.
+// How many numbers there are before `end`, where `before` are before `first`.
 fn count_places<P: Past>(wheel: &Wheel, past: &mut P, before: usize, first: u32, end: u32) -> usize
     requires longer { first ≤ end }
     requires before { before ≡ length (numbers_below wheel.now (P.words past.old) first) }

@@ -23,7 +23,7 @@ pub enum Cause {
     SplitTooLarge,
     /// 7: the last region has more than one state.
     NotSingle,
-    /// 8: the state of the last region isn't the one that the last line tells.
+    /// 8: the state of the last region isn't the one on the last line.
     WrongState,
 }
 

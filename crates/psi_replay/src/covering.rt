@@ -60,7 +60,7 @@ fn covers_box<E: EventLaw>(event: &E, before: &Bounds, after: &BorrowedRegion<'_
     }
 }
 
-// As `covers_box`, where both are boxes: the corners tell it.
+// As `covers_box`, where both are boxes: the corners decide it.
 fn box_covers_box<E: EventLaw>(event: &E, before: &Bounds, after: &Bounds) -> bool
     requires before { IsBelow before.now.hi (E.capacities event.now) }
     requires within { is_within (E.capacities event.now) (in_box after.now) ≡ true }

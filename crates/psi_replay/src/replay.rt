@@ -22,7 +22,7 @@ use psi_past::{Past, SeedPast, Windowed};
 use psi_rate::System;
 use std::alloc::Global;
 
-// The line of the step of a log after so many others.
+// The line of the step of a log after `done` others.
 fn line_in(log: &Log, done: u32) -> StepLine<'_>
     requires { done < log.now.header.horizon }
     ensures line { result.line ≡ 7 + done }
@@ -78,7 +78,7 @@ fn judge_steps<E: EventLaw, P: Past>(
 /// | 5 | `Header`: the horizon is above 2 to the power of the network's limit |
 /// | 6, where the run begins | `OutsideBox`: a state of the region has more customers than a queue has room for. `NotCovered`: the region isn't all states |
 /// | 6 + i, the i-th step | `StepNumber`: its number isn't the horizon less i, plus 1. `WrongEvent`: its event isn't that of its time's word. `OutsideBox`, as above. `SplitTooLarge`: the region is a set, and the one before a box of more than 4,096 states. `NotCovered`: what the event makes of a state of the region before isn't in the region |
-/// | the last | `NotSingle`: the last region has more than one state. `WrongState`: its state isn't the one told |
+/// | the last | `NotSingle`: the last region has more than one state. `WrongState`: its state isn't the one on the line |
 ///
 /// A region may be larger than it needs to be, and a set may be followed by a box. The call does not allocate. A step
 /// from a box to a box costs one envelope (Bušić, Gaujal and Vincent 2008); a step of a set, or from a box of

@@ -69,7 +69,7 @@ fn lines_end(piece: &[u8]) -> usize
     }
 }
 
-// Lets go of the first so many bytes, and moves the others to the front.
+// Removes the first `count` bytes, and moves the others to the front.
 fn drop_front(bytes: &mut Vec<u8>, count: usize)
     requires { count ≤ length bytes.old.items }
     ensures { bytes.new.items ≡ drop count bytes.old.items }
@@ -82,7 +82,7 @@ fn drop_front(bytes: &mut Vec<u8>, count: usize)
     bytes.truncate(len - count);
 }
 
-// Reads and judges the first so many of the bytes that are pending, which end where a line does, and keeps what is left.
+// Reads and judges the first `count` of the bytes that are pending, which end where a line does, and keeps what is left.
 // Whether a line of them wasn't read stands beside.
 fn read_on<E: EventLaw>(
     alloc: Global,
@@ -149,7 +149,7 @@ impl<'s, 'n, E: EventLaw> StreamReplay<'s, 'n, E> {
         Ok(())
     }
 
-    // Reads and judges the lines that are pending, after which so many bytes stand.
+    // Reads and judges the lines that are pending, after which `behind` bytes stand.
     fn read_lines(&mut self, behind: usize) -> Result<(), AllocError>
         ensures { self.new ≡ self.old }
     {

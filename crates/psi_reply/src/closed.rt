@@ -1,4 +1,4 @@
-//! `closed NET SEED STREAM TOTAL`: a sample of a closed network among the states of so many customers.
+//! `closed NET SEED STREAM TOTAL`: a sample of a closed network among the states of TOTAL customers.
 
 ghost use Rattle.std.specs.Prelude.{◌≡◌, ◌<◌, ◌≤◌, ◌↔◌, IsTrue, IfOk, IfErr};
 ghost use Rattle.psi_closed_arcs.specs.Walks.{customers};
@@ -52,7 +52,7 @@ pub fn moves_of<'w>(alloc: Global, net: &Net) -> Result<Vec<Move>, Ending<'w>>
     Ok(moves)
 }
 
-/// Whether the queues can hold so many customers.
+/// Returns whether the queues can hold `total` customers.
 pub fn has_room(net: &Net, total: u16) -> bool
     ensures { IsTrue result ↔ (total ≤ customers (caps_of net.now)) }
 {
@@ -147,7 +147,7 @@ fn work_on_moves<'w>(
 
 /// The work for `closed`: the sample that a seed and a stream draw of the closed network among its states with `total`
 /// customers, 0 to 256; status `Done` where it is met, `NotCoupled` where it isn't met within the network's limit.
-/// `NotClosed` tells the first event that isn't a move of one customer, counted from 0; `NoSuchTotal` that each is one
+/// `NotClosed` has the first event that isn't a move of one customer, counted from 0; `NoSuchTotal` that each is one
 /// and the queues hold fewer customers; else an allocation failed.
 pub fn closed_ending<'w>(alloc: Global, net: &Net, seed: u64, stream: u64, total: u16) -> Ending<'w>
     requires { total ≤ 256 }

@@ -36,7 +36,7 @@ pub fn next_sample<'n>(plan: &mut NetPlan<'n>, net: &Net, seed: u64, stream: u64
     plan.sample()
 }
 
-// The totals of the samples of so many streams; none if an allocation fails. One plan serves all
+// The totals of the samples of `count` streams; none if an allocation fails. One plan serves all
 // streams.
 fn tally_of(alloc: Global, net: &Net, seed: u64, first: u64, count: u32) -> Option<Tally>
     requires few { count ≤ 65536 }

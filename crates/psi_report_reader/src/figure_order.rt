@@ -148,7 +148,7 @@ fn may_stand(met: u64, before: &[Figure], last: &Figure, figure: &Figure, behind
     }
 }
 
-/// The first place of a figure that may not stand there, where so many samples are met; the place after all where
+/// The first place of a figure that may not stand there, where `met` samples are met; the place after all where
 /// figures may not end so.
 pub(crate) fn figures_flaw(figures: &[Figure], met: u64) -> Option<usize>
     ensures { result ≡ figures_flaw met figures.now }

@@ -69,9 +69,9 @@ pub(crate) fn line_at(first: u64, place: usize) -> u64
 /// may not stand there, or the line after the last where figures are missing. The figures are, of 1 to 32 queues
 /// and then of at most 64 rewards, the sum, and where samples are met the least and the greatest value of the same
 /// name. A sum may not stand there where a queue, or a reward, before it has its name; where no sample is met and
-/// it isn't 0; or where a least and a greatest value that may stand there follow, and it isn't the sum of so many
-/// values with these: it is at least that of one greatest value and else least ones, and at most that of one least
-/// value and else greatest ones. The least and the greatest of a queue are 0 to 65,535, those of a reward have a
+/// it isn't 0; or where a least and a greatest value that may stand there follow, and it isn't the sum of as many
+/// values with these as samples are met. Such a sum is at least that of one greatest value and else least ones, and at
+/// most that of one least value and else greatest ones. The least and the greatest of a queue are 0 to 65,535, those of a reward have a
 /// magnitude of at most 2,097,120,000,000,000, and the greatest isn't below the least. Where each queue's greatest
 /// is its least, the samples that are met are one state, and the first reward's greatest may not stand there that
 /// isn't its least.

@@ -15,7 +15,7 @@ pub fn text_is_read()
     ensures again { TextIsRead }
 {}
 
-/// The report of less than 2^32 samples of a network, whose values have 64 bits, is read as what it tells; and so is
+/// The report of less than 2^32 samples of a network, whose values have 64 bits, is read as its contents; and so is
 /// that of less than 2^64 samples of a network that a file may describe.
 pub fn report_is_read()
     ensures measured { ReportIsRead }
@@ -65,7 +65,7 @@ pub fn reports_show_networks()
     ensures { ReportsShowNetworks }
 {}
 
-/// The lines that are told of horizons, figures and sums are those on which their rows stand.
+/// The lines that refusals name for horizons, figures and sums are those on which their rows stand.
 pub fn rows_stand_on_lines()
     ensures { RowsStandOnLines }
 {}
@@ -90,7 +90,7 @@ pub fn other_lines_are_none()
 {}
 
 /// What [`merged`](crate::merged) gives of two reports is a report, whose text is read as it; and two that
-/// show the same queues and rewards are merged wherever what they tell together is one: `TooLarge` is the answer exactly
+/// show the same queues and rewards are merged wherever their contents together are one: `TooLarge` is the answer exactly
 /// where it would have a count of 2^64 or more, or a figure whose magnitude is 10^37 or more.
 pub fn merged_are_reports()
     ensures told { MergedIsReport }

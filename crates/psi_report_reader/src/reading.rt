@@ -17,7 +17,7 @@ fn lines_of(alloc: Global, text: &[u8]) -> Result<Vec<&[u8]>, AllocError>
     text.split(|byte| *byte == b'\n').collect(alloc)
 }
 
-// A report that tells nothing yet.
+// A report without contents yet.
 fn blank(alloc: Global) -> Report
     ensures { result ≡ blank }
 {
@@ -29,7 +29,7 @@ fn blank(alloc: Global) -> Report
     }
 }
 
-// What lines tell one after another.
+// The contents of lines, one after another.
 #[tactic(auto, using(crate::proofs::LineLemmas::lines_end))]
 fn read_lines(alloc: Global, lines: &[&[u8]]) -> Result<Report, ReadError>
     ensures { Gives result (read_lines 1 blank (map (λ line. line.now) lines.now)) }

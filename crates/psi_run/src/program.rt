@@ -24,7 +24,7 @@ use psi_io::{Shelf, Sink};
 use psi_reply::Ending;
 use std::alloc::Global;
 
-/// Does what the words after the program's name ask for, and answers how it ended.
+/// Does what the words after the program's name ask for, and returns how it ended.
 ///
 /// | Words | What it does |
 /// |---|---|
@@ -58,7 +58,7 @@ use std::alloc::Global;
 /// | `Done` | the log is accepted | out: `accepted T`, `state S` |
 /// | `NotCoupled` | the sample isn't met, or there is no least horizon, within N = 2 to the power `limit` steps | out: `not coupled within N` |
 /// | `NotCoupled` | the reward hasn't one value within N steps | out: `reward not coupled within N` |
-/// | `NotCoupled` | not all states have met within M steps | out: the same lines, with `not constant within M` in the place of `constant T S` |
+/// | `NotCoupled` | not all states have met within M steps | out: the same lines, with `not constant within M` instead of `constant T S` |
 /// | `NotCoupled` | the sample of the closed network isn't met within N steps | out: `not coupled within N` |
 /// | `Usage` | the words aren't a command | err: `psi: usage word N` |
 /// | `NetRefused` | the network file is refused | err: `psi: network refused CODE NAME SECTION NUMBER KEY` |
@@ -100,13 +100,13 @@ use std::alloc::Global;
 /// 1, 2, 4, .., N: T is the least of them at which all states of the region have one value, V. In either
 /// case every longer run ends with that state, or with states of that value.
 ///
-/// `exact` follows each state by itself, so it tells what regions of states lose. N is the number of all
+/// `exact` follows each state by itself, so it shows what regions of states lose. N is the number of all
 /// states, then for each T the number of states in which they are after the last T steps. In `constant T S`,
 /// T is the least from 1 to M, a power of two or not, such that all states that start T steps before time
 /// zero have met, and S is the state in which they met; every state that starts there or earlier is in S at
 /// time zero. In `region T`, T is the least from 1 to M such that the region run of T ends with one state.
 /// Where there is such a T, all states have met by then, and in a monotone network the two horizons are one.
-/// M stands in the place of the network's greatest horizon, which `exact` doesn't ask for.
+/// M replaces the network's greatest horizon, which `exact` doesn't ask for.
 ///
 /// A network is closed where each event, after the expansion over servers, is a service with one target at
 /// which a customer stays where the target is full: then no step changes the number of all customers. Its
@@ -146,7 +146,7 @@ pub fn run<F: Shelf, O: Sink, E: Sink>(
       err = record { before = E.held err.old; after = E.held err.new; took_before = E.took err.old; took_after = E.took err.new; faults_before = E.faults err.old; faults_after = E.faults err.new };
     }) result }
 
-    // The headline: where the words are those of a sample, the shelf tells a file that reads as a network, no count of faults rose
+    // The headline: where the words are those of a sample, the shelf's model has a file that reads as a network, no count of faults rose
     // in this call and memory didn't run out, what is printed is a sample of the network.
     ensures headline { (name : List ℕ) (seed stream : ℕ) (bytes : List ℕ) (net : Network)
         → map string_bytes words.now ≡ codes "sample" ∷ name ∷ decimal seed ∷ decimal stream ∷ [] → seed < 2 ^ 64 → stream < 2 ^ 64
@@ -157,7 +157,7 @@ pub fn run<F: Shelf, O: Sink, E: Sink>(
         → IsSampled (O.held out.old) (O.held out.new) result net seed stream }
 
     // What crossed the edges is a run of the program: the same over the bytes that were read and accepted, whatever the
-    // shelf and the sinks tell.
+    // models of the shelf and the sinks have.
     ensures edge { HasRun IsRunOf (map string_bytes words.now)
         (record { gave = F.gave shelf.old; out = O.took out.old; err = E.took err.old; tally = record { asked = F.asked shelf.old; files = F.faults shelf.old; out = O.faults out.old; err = E.faults err.old } })
         (record { gave = F.gave shelf.new; out = O.took out.new; err = E.took err.new; tally = record { asked = F.asked shelf.new; files = F.faults shelf.new; out = O.faults out.new; err = E.faults err.new } })

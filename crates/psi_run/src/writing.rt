@@ -47,7 +47,7 @@ fn text_of<'t>(ending: &'t Ending<'_>, line: &'t Line) -> Text<'t>
     }
 }
 
-/// Writes the text of an ending to out, or its line to err, and answers the status of the call: that of the
+/// Writes the text of an ending to out, or its line to err, and returns the status of the call: that of the
 /// ending, or `WriteFault` where the text couldn't be written whole. It does not allocate.
 pub(crate) fn finish<O: Sink, E: Sink>(ending: &Ending<'_>, out: &mut O, err: &mut E) -> Status
     ensures { IsFinished faults (λ end. end ≡ ending_of ending.now) (O.takes out.old) (E.takes err.old)

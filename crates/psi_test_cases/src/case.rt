@@ -90,7 +90,7 @@ impl Case {
             .context("no memory for a sink")
     }
 
-    /// Makes the call, and answers whether it does what it must: the status and both texts are
+    /// Makes the call, and returns whether it does what it must: the status and both texts are
     /// those that are wanted, and where the status says that a write failed, one write did, and
     /// elsewhere none.
     ///

@@ -65,7 +65,7 @@ fn write_run<L: EventLaw, P: Past + Drop, F: Follower + Drop, O: Sink, E: Sink>(
     }
 }
 
-// The log of a sample of the network, written, or what is told in its place.
+// The log of a sample of the network, written, or the reply instead of it.
 fn write_sample<O: Sink, E: Sink>(
     alloc: Global,
     net: &Net,

@@ -141,7 +141,7 @@ queues = [\"a\"]
 table = [[0, 10, -5]]
 ";
 
-// What is told of three samples: one with a customer, met within 4 steps, one that isn't met, and one
+// The report of three samples: one with a customer, met within 4 steps, one that isn't met, and one
 // with two customers, met within one step.
 const TWO_MET: &[u8] = b"item,name,value
 samples,-,3
