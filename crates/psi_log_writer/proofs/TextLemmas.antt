@@ -113,7 +113,7 @@ module _ (split : ℕ) (f : ℕ → List ℕ → List ℕ) (caps : List ℕ) (ev
       let later = text_before-later h state place (h.horizon + 3 - place) in
       (later.0, later.1 ∙ text_before-whole h state (h.horizon + 3 - place + place) version (omega arith))
 
-  -- what is put behind nothing stands alone
+  -- what is put after nothing stands alone
   alone : (old new text : List ℕ) → length old ≤ 0 → new ≡ text → new ≡ old ++ text
   alone [] new text none is = is
   alone (x ∷ xs) new text none is = absurd (omega arith)

@@ -16,7 +16,7 @@ abbrev pub box_words : Option Corners → Corners → List (List ℕ)
 box_words None to = region_words (in_box to)
 box_words (Some from) to = move_words from to
 
--- how many bytes of lines may be held where what stands at a place is put behind them: only the line of a step is put behind others
+-- how many bytes of lines may be held where what stands at a place is put after them: only the line of a step is put after others
 abbrev pub most_held : ℕ → ℕ → ℕ
 most_held horizon zero = 0
 most_held horizon (suc zero) = 0
@@ -58,7 +58,7 @@ module _ (split : ℕ) (f : Functions) (caps : List ℕ) (events : ℕ → ℕ) 
       header_text h ++ begin_text (region_of (start caps))
       ++ entries_text h.version (region_of (start caps)) (map (entry_after split f caps events h.horizon) (numbers_from 0 done))
 
-  -- what stands at a place of a log: the lines of the header at 0, that of the begin at 1, those of the steps, and behind them that of the end
+  -- what stands at a place of a log: the lines of the header at 0, that of the begin at 1, those of the steps, and after them that of the end
   unfoldable pub line_at : Header → List ℕ → ℕ → List ℕ
   line_at h state zero = header_text h
   line_at h state (suc zero) = begin_text (region_of (start caps))
