@@ -14,7 +14,7 @@ use psi_past::Past;
 use psi_region::Follower;
 use psi_state::{Outcome, State};
 
-/// The least horizon from 1 to 2 to the power `limit` whose region run ends with one state, with that
+/// Returns the least horizon from 1 to 2 to the power `limit` whose region run ends with one state, with that
 /// state, which is within the capacities. Every state that starts there or earlier is in it at time zero
 /// (Propp and Wilson 1996), and every longer run ends with it alone. `NotAt` comes exactly where no such run
 /// ends with one state, and returns the system's limit.

@@ -22,7 +22,7 @@ use psi_state::{Bounds, State};
 // Runs of fewer steps cost next to nothing.
 const SHORT: u32 = 64;
 
-/// The least horizon among 1, 2, 4, .., 2 to the power `limit` at which all states with which the region
+/// Returns the least horizon among 1, 2, 4, .., 2 to the power `limit` at which all states with which the region
 /// run ends have one value of the reward, with that value, in the reward's unit. Every state within the
 /// capacities that starts there or earlier has it at time zero, though these states need not have met, and
 /// every longer run ends with states of this value. `NotAt` comes exactly where there is no such horizon, and

@@ -35,8 +35,8 @@ impl Model for Board {
 }
 
 impl Board {
-    /// The board of an event's targets; `None` where the event isn't a route by which customers from outside join, one
-    /// at a time, the target with the least key, or where a value of a table is above 2^27 - 2.
+    /// Returns the board of an event's targets; `None` where the event isn't a route by which customers from outside
+    /// join, one at a time, the target with the least key, or where a value of a table is above 2^27 - 2.
     ///
     /// # Errors
     ///
@@ -67,7 +67,7 @@ impl Board {
         }))
     }
 
-    /// The targets, in their order.
+    /// Returns the targets, in their order.
     ///
     /// Its second clause is how a caller learns what every board keeps.
     pub fn targets(&self) -> Queues
@@ -77,7 +77,7 @@ impl Board {
         self.targets
     }
 
-    /// The queue of the target at a place.
+    /// Returns the queue of the target at a place.
     #[inline]
     pub fn queue(&self, place: u8) -> u8
         requires { place < length self.now.targets }

@@ -49,7 +49,8 @@ impl<'n, E: EventLaw> Drop for KeyedCorners<'n, E> {
 }
 
 impl<'n, E: RouteLaw> KeyedCorners<'n, E> {
-    /// A follower of this network, whose events are monotone; `None` where they are none of those that `Keyed` takes.
+    /// Returns a follower of this network, whose events are monotone; `None` where they are none of those that `Keyed`
+    /// takes.
     ///
     /// # Errors
     ///

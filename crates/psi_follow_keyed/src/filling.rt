@@ -20,7 +20,7 @@ pub(crate) struct Rows {
 }
 
 impl Rows {
-    /// The keys of a route's targets; `None` where a value of a table is above 2^27 - 2.
+    /// Returns the keys of a route's targets; `None` where a value of a table is above 2^27 - 2.
     pub fn of(alloc: Global, route: &Route) -> Result<Option<Rows>, AllocError>
         requires { let s = shape_of route.now in 0 < length s.tables }
         ensures { let s = shape_of route.now in IfOk result (λ found. IfSome found (λ rows. AreRowsOf s (length s.targets) rows.bases rows.entries.items)) }

@@ -37,9 +37,9 @@ impl Drop for Keyed {
 }
 
 impl Keyed {
-    /// The network of these events, which are for these capacities; `None` where it is none of those: one event is a
-    /// route by which customers from outside join, one at a time, the target with the least key, where no key's value
-    /// is above 2^27 - 2, and each other event is a route without a target.
+    /// Returns the network of these events, which are for these capacities; `None` where it is none of those: one event
+    /// is a route by which customers from outside join, one at a time, the target with the least key, where no key's
+    /// value is above 2^27 - 2, and each other event is a route without a target.
     ///
     /// It takes 4 bytes for each target and each number of customers from 0 to its capacity, or up to twice that, and 8 bytes for
     /// each event.

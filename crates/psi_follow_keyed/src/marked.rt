@@ -20,7 +20,7 @@ pub(crate) struct Marked {
 }
 
 impl Marked {
-    /// A state with its keys.
+    /// Returns a state with its keys.
     pub fn of(board: &Board, state: &State) -> Marked
         requires { IsBelow state.now board.now.caps }
         ensures state { result.state ≡ state.now }

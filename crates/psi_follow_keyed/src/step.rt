@@ -27,7 +27,7 @@ pub(crate) enum Step {
 }
 
 impl Step {
-    /// The step of an event by which customers leave; `None` where the event isn't a route without targets.
+    /// Returns the step of an event by which customers leave; `None` where the event isn't a route without targets.
     pub fn leaving<E: RouteLaw>(event: &E, targets: &Queues) -> Option<Step>
         ensures { IfSome result (λ step. IsLeaving (E.capacities event.now) targets.now (E.function event.now) step) }
     {

@@ -48,8 +48,8 @@ impl<'n, const K: usize, E: EventLaw> Drop for PackedCorners<'n, K, E> {
 }
 
 impl<'n, const K: usize, E: PiecewiseLaw> PackedCorners<'n, K, E> {
-    /// A follower of this network, whose events are monotone; `None` where its states don't fit `K` words, or an event declares
-    /// no pieces.
+    /// Returns a follower of this network, whose events are monotone; `None` where its states don't fit `K` words, or
+    /// an event declares no pieces.
     ///
     /// # Errors
     ///

@@ -18,7 +18,7 @@ use psi_event::{Piecewise, PiecewiseLaw, Side};
 use psi_state::State;
 
 impl<const K: usize> Program<K> {
-    /// The event on packed corners, where it is one of single customers and declares its pieces.
+    /// Returns the event on packed corners, where it is one of single customers and declares its pieces.
     pub fn unit_event<E: PiecewiseLaw>(&self, event: &E) -> Option<UnitEvent<K>>
         requires { E.capacities event.now ≡ self.now.packing.caps }
         ensures { IfSome result (λ unit. IsUnitFor K self.now.packing (E.function event.now) (unit_masks unit)) }

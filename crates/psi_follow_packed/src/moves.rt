@@ -71,7 +71,7 @@ impl<const K: usize> Masks<K> {
 }
 
 impl<const K: usize> PackedEvent<K> {
-    /// The event of these pieces, on states that are packed so.
+    /// Returns the event of these pieces, on states that are packed so.
     pub fn of(layout: &Layout<K>, pieces: &Piecewise) -> PackedEvent<K>
         requires { IsPiecewise layout.now.caps pieces.now }
         ensures pieces { IsMoveOf K layout.now pieces.now (moving_by low_word result) }

@@ -6,7 +6,8 @@ ghost use Rattle.psi_follow_sets.specs.HalvesKept.{halves, words_of_first, AreAl
 
 use psi_follow_packed::{Packed, PackedPair};
 
-/// Puts the packed states of the pairs one after another, those that are seen to be there already left out. Returns how many there are.
+/// Puts the packed states of the pairs one after another, those that are seen to be there already left out. Returns how
+/// many there are.
 ///
 /// The place of a state is looked up in `seen` by its hash (Knuth, The Art of Computer Programming, volume 3, section 6.4).
 /// What stands there may be of a former list, or of another state: then a repeat stays, and the set is the same.

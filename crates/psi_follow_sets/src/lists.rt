@@ -31,8 +31,8 @@ pub(crate) struct Lists<const K: usize> {
 }
 
 impl<const K: usize> Lists<K> {
-    /// Reserves space for `most` states, 1 to 4,096. `AllocError` if an allocation fails, or where a state has more than
-    /// 32 words, as no packed state has.
+    /// Reserves space for `most` states, 1 to 4,096. `AllocError` if an allocation fails, or where a state has more
+    /// than 32 words, as no packed state has.
     pub(crate) fn reserve(alloc: Global, most: u16) -> Result<Lists<K>, AllocError>
         requires least { 1 ≤ most }
         requires most { most ≤ 4096 }

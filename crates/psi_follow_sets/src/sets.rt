@@ -80,8 +80,8 @@ impl<'n, const K: usize, E: EventLaw> Drop for PackedSets<'n, K, E> {
 }
 
 impl<'n, const K: usize, E: PiecewiseLaw> PackedSets<'n, K, E> {
-    /// A follower of this network; `None` where its states don't fit `K` words, or an event declares no pieces. It allocates
-    /// room for the events on packed states and for a set of the split number of these.
+    /// Returns a follower of this network; `None` where its states don't fit `K` words, or an event declares no pieces.
+    /// It allocates room for the events on packed states and for a set of the split number of these.
     ///
     /// # Errors
     ///
@@ -113,7 +113,8 @@ impl<'n, const K: usize, E: EventLaw> Follower for PackedSets<'n, K, E> {
     }
 }
 
-// The events on states that are packed so, where each declares its pieces, and room for a set of the split number of states.
+// The events on states that are packed so, where each declares its pieces, and room for a set of the split number of
+// states.
 fn machine_of<const K: usize, E: PiecewiseLaw>(
     alloc: Global,
     layout: Layout<K>,
@@ -157,8 +158,9 @@ fn packed_ending<const K: usize, E: EventLaw>(
     coalescence_of_few(machine, course, &numbers[..left], &corners)
 }
 
-// The one state that the events of the numbers make of all states of a box, the last first, if they make one of them and they
-// are few: they don't where the two corners don't; else the box is followed, and where that decides nothing each of its states.
+// The one state that the events of the numbers make of all states of a box, the last first, if they make one of them
+// and they are few: they don't where the two corners don't; else the box is followed, and where that decides nothing
+// each of its states.
 fn coalescence_of_few<const K: usize, E: EventLaw>(
     machine: &mut Machine<K>,
     course: &Course<'_, E>,
@@ -185,8 +187,8 @@ fn coalescence_of_few<const K: usize, E: EventLaw>(
     machine.set.meeting(&machine.program, numbers, &bounds)
 }
 
-// Whether the events of the numbers, the last first, are seen to make different states of the two corners of a box of `count`
-// states. It isn't tried where there are so many numbers that to follow the set may cost less.
+// Whether the events of the numbers, the last first, are seen to make different states of the two corners of a box of
+// `count` states. It isn't tried where there are so many numbers that to follow the set may cost less.
 fn have_corners_parted<const K: usize>(
     program: &Program<K>,
     numbers: &[u16],

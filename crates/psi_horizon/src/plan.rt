@@ -127,7 +127,7 @@ impl<'n, E: EventLaw, P: Past + Drop, F: Follower + Drop> Plan<'n, E, P, F> {
         })
     }
 
-    /// The sample: the least horizon among 1, 2, 4, .., 2 to the power `limit` whose region run ends with one
+    /// Returns the sample: the least horizon among 1, 2, 4, .., 2 to the power `limit` whose region run ends with one
     /// state, with that state, which is within the capacities. Every state that starts there or earlier is in
     /// it at time zero. It isn't met exactly where none of these runs ends with one state.
     ///
@@ -185,7 +185,7 @@ impl<'n, E: EventLaw, P: Past + Drop, F: Follower + Drop> Plan<'n, E, P, F> {
         }
     }
 
-    /// The one state with which the region run of this horizon, 1 to 2 to the power `limit` steps, ends;
+    /// Returns the one state with which the region run of this horizon, 1 to 2 to the power `limit` steps, ends;
     /// `None` exactly where it ends with more. The state is within the capacities.
     ///
     /// Afterwards no run is begun.
@@ -209,9 +209,10 @@ impl<'n, E: EventLaw, P: Past + Drop, F: Follower + Drop> Plan<'n, E, P, F> {
         )
     }
 
-    /// The least and the greatest state with which the region run of this horizon, 1 to 2 to the power `limit` steps, ends,
-    /// where the plan's follower finds them as fast as it finds an ending: the run ends with both, and its other states lie
-    /// between them. `None` is an answer at any time; no clause says when it comes. The states are within the capacities.
+    /// Returns the least and the greatest state with which the region run of this horizon, 1 to 2 to the power `limit`
+    /// steps, ends, where the plan's follower finds them as fast as it finds an ending: the run ends with both, and its
+    /// other states lie between them. `None` is an answer at any time; no clause says when it comes. The states are
+    /// within the capacities.
     ///
     /// Afterwards no run is begun.
     pub fn ends(&mut self, horizon: u32) -> Option<Bounds>
@@ -234,7 +235,7 @@ impl<'n, E: EventLaw, P: Past + Drop, F: Follower + Drop> Plan<'n, E, P, F> {
         )
     }
 
-    /// The exponent of the greatest horizon, 0 to 22.
+    /// Returns the exponent of the greatest horizon, 0 to 22.
     ///
     /// Its last clause is how a caller learns what every plan keeps: its network's parts fit each other.
     pub fn limit(&self) -> u8
@@ -247,14 +248,14 @@ impl<'n, E: EventLaw, P: Past + Drop, F: Follower + Drop> Plan<'n, E, P, F> {
         self.system.limit()
     }
 
-    /// The capacities of the network, in customers.
+    /// Returns the capacities of the network, in customers.
     pub fn caps(&self) -> State
         ensures { result ≡ self.now.system.caps }
     {
         self.system.caps()
     }
 
-    /// The number of states up to which a region is followed state by state, 1 to 4,096.
+    /// Returns the number of states up to which a region is followed state by state, 1 to 4,096.
     pub fn split(&self) -> u16
         ensures value { result ≡ self.now.system.split }
         ensures some { 1 ≤ result }
@@ -320,7 +321,7 @@ impl<'n, E: EventLaw, P: Past + Drop, F: Follower + Drop> Plan<'n, E, P, F> {
         Some(Step { number, event })
     }
 
-    /// The state of the run's region after the steps that are done, where it has exactly one; `None`
+    /// Returns the state of the run's region after the steps that are done, where it has exactly one; `None`
     /// exactly where it has more. A run was begun. The state is within the capacities.
     pub fn single(&self) -> Option<State>
         requires { IsSome self.now.run }
@@ -335,7 +336,7 @@ impl<'n, E: EventLaw, P: Past + Drop, F: Follower + Drop> Plan<'n, E, P, F> {
         self.region.single()
     }
 
-    /// The box of the run's region after the steps that are done, exactly where it isn't split. A run was
+    /// Returns the box of the run's region after the steps that are done, exactly where it isn't split. A run was
     /// begun. The box is within the capacities.
     pub fn bounds(&self) -> Option<Bounds>
         requires { IsSome self.now.run }
@@ -349,7 +350,7 @@ impl<'n, E: EventLaw, P: Past + Drop, F: Follower + Drop> Plan<'n, E, P, F> {
         self.region.bounds()
     }
 
-    /// The states of the run's region after the steps that are done, in ascending, that is lexicographic,
+    /// Returns the states of the run's region after the steps that are done, in ascending, that is lexicographic,
     /// order: at least one, at most the split number, all within the capacities. A run was begun, and its
     /// region is split. The run stays as it was.
     pub fn states(&mut self) -> &[State]

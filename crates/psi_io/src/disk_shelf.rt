@@ -39,7 +39,7 @@ impl<'r, R: Files> Model for DiskShelf<'r, R> {
 }
 
 impl<'r, R: Files> DiskShelf<'r, R> {
-    /// A shelf over the files of this runtime, with no read and no fault yet.
+    /// Returns a shelf over the files of this runtime, with no read and no fault yet.
     pub fn new(rt: &'r R) -> DiskShelf<'r, R>
         ensures asked { result.asked ≡ [] }
         ensures gave { result.gave ≡ [] }

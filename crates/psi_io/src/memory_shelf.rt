@@ -50,7 +50,7 @@ impl Model for MemoryShelf {
 }
 
 impl MemoryShelf {
-    /// A shelf without files. The reads whose numbers are in `fails` fail.
+    /// Returns a shelf without files. The reads whose numbers are in `fails` fail.
     pub fn new(alloc: Global, fails: Vec<u64>) -> MemoryShelf
         ensures files { result.files ≡ [] }
         ensures absent { result.absent ≡ 0 }

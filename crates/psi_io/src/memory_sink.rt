@@ -43,7 +43,7 @@ impl Model for MemorySink {
 }
 
 impl MemorySink {
-    /// An empty sink with room for `room` bytes, which it reserves. A write takes at most `most`
+    /// Returns an empty sink with room for `room` bytes, which it reserves. A write takes at most `most`
     /// bytes, and the writes whose numbers are in `fails` fail.
     ///
     /// # Errors
@@ -74,14 +74,14 @@ impl MemorySink {
         })
     }
 
-    /// What the sink holds: the bytes that it took since it was made.
+    /// Returns what the sink holds: the bytes that it took since it was made.
     pub fn bytes(&self) -> &[u8]
         ensures { result.now ≡ self.now.bytes }
     {
         self.bytes.as_slice()
     }
 
-    /// The number of its writes that failed.
+    /// Returns the number of its writes that failed.
     pub fn count(&self) -> u64
         ensures { result ≡ self.now.count }
     {

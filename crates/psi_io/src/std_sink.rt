@@ -30,7 +30,7 @@ impl<W: Write> Model for StdSink<W> {
 }
 
 impl<W: Write> StdSink<W> {
-    /// A sink over this writer, with no byte and no fault yet.
+    /// Returns a sink over this writer, with no byte and no fault yet.
     pub fn new(writer: W) -> StdSink<W>
         ensures writer { result.writer ≡ writer }
         ensures took { result.took ≡ [] }

@@ -21,7 +21,7 @@ use psi_route::{Full, Route, Source};
 use psi_state::{Queues, State};
 use std::alloc::Global;
 
-/// The event of a kind in a network of these capacities: it does to every state what the kind does.
+/// Returns the event of a kind in a network of these capacities: it does to every state what the kind does.
 ///
 /// `caps` are capacities, 1 to 32 queues with room for 1 to 65,535 customers each. Every queue and source
 /// that the kind names is one of these queues, and the number of customers from which a source serves is from
@@ -45,7 +45,7 @@ pub fn lower(alloc: Global, caps: State, kind: &Kind) -> Result<Event, KindRefus
     }
 }
 
-/// The event of a kind that isn't refused in a network of these capacities: what [`lower`] answers for it.
+/// Returns the event of a kind that isn't refused in a network of these capacities: what [`lower`] answers for it.
 ///
 /// `caps` and the kind are such as `lower` takes, and [`refusal_of`](crate::refusal_of) gives no refusal.
 ///

@@ -61,14 +61,14 @@ impl Tables {
         Ok(())
     }
 
-    /// The number of tables in the list.
+    /// Returns the number of tables in the list.
     pub fn len(&self) -> usize
         ensures { result ≡ length self.now }
     {
         self.rows.len()
     }
 
-    /// The values of table `i`; tables are counted from 0.
+    /// Returns the values of table `i`; tables are counted from 0.
     pub fn row(&self, i: usize) -> &[u32]
         requires { i < length self.now }
         ensures { result.now ≡ slice_index_or self.now i [] }
@@ -92,7 +92,7 @@ impl Tables {
         Ok(())
     }
 
-    /// A copy of the tables. Those whose least and greatest values are kept are shared, so only the list of the
+    /// Returns a copy of the tables. Those whose least and greatest values are kept are shared, so only the list of the
     /// tables is allocated for them.
     ///
     /// # Errors

@@ -55,7 +55,7 @@ fn lengthen(bytes: &mut Vec<u8>, count: usize)
 }
 
 impl LineBuf {
-    /// An empty buffer, with room for 800,000 bytes.
+    /// Returns an empty buffer, with room for 800,000 bytes.
     ///
     /// Returns `OutOfMemory` if an allocation fails; no clause says when that is.
     pub fn reserve(alloc: Global) -> Result<LineBuf, OutOfMemory>
@@ -159,7 +159,7 @@ impl LineBuf {
         self.len = put_end(&mut self.bytes, 0, &self.table, x);
     }
 
-    /// The bytes that it holds.
+    /// Returns the bytes that it holds.
     pub fn bytes(&self) -> &[u8]
         ensures { result.now ≡ self.now }
     {

@@ -18,9 +18,9 @@ enum Place {
     Set { first: usize, count: usize },
 }
 
-/// A list of regions, whose states all have the same number of queues, 1 to 32; it is seen as the number of queues and the regions.
-/// A region takes 24 bytes, and 132 more where it is a box, and another one than the last box before it, or two for
-/// each number of its states; of each the list has room for up to an eighth more.
+/// A list of regions, whose states all have the same number of queues, 1 to 32; it is seen as the number of queues and
+/// the regions. A region takes 24 bytes, and 132 more where it is a box, and another one than the last box before it,
+/// or two for each number of its states; of each the list has room for up to an eighth more.
 #[derive(Drop)]
 pub struct RegionList {
     places: Vec<Place>,
@@ -116,7 +116,7 @@ impl RegionList {
         Ok(())
     }
 
-    /// The region at a place, counted from 0, borrowed. Nothing is copied.
+    /// Returns the region at a place, counted from 0, borrowed. Nothing is copied.
     #[tactic(auto, using(crate::proofs::RegionsLemmas::region_there, crate::proofs::RegionsLemmas::is_there))]
     pub fn get(&self, i: usize) -> BorrowedRegion<'_>
         requires { i < length self.now.regions }

@@ -13,8 +13,8 @@ use psi_state::State;
 use std::alloc::{AllocError, Global};
 use std::marker::Model;
 
-/// A list of states, all with the same number of queues, 1 to 32; it is seen as the number of queues and the states. It takes two bytes
-/// for each queue of each state, and keeps no memory for a state by itself.
+/// A list of states, all with the same number of queues, 1 to 32; it is seen as the number of queues and the states. It
+/// takes two bytes for each queue of each state, and keeps no memory for a state by itself.
 #[derive(Drop)]
 pub struct StateList {
     queues: u8,
@@ -70,7 +70,7 @@ impl StateList {
         }
     }
 
-    /// The number of states. It takes the same time whatever that number is.
+    /// Returns the number of states. It takes the same time whatever that number is.
     #[tactic(auto, using(crate::proofs::RowsLemmas::length_rows))]
     pub fn len(&self) -> usize
         ensures { result ≡ length self.now.states }
@@ -162,7 +162,7 @@ impl StateList {
         Rows::new(self.queues, self.count, self.numbers.as_slice())
     }
 
-    /// The state at a place, counted from 0. It takes time for the state's queues, wherever it stands.
+    /// Returns the state at a place, counted from 0. It takes time for the state's queues, wherever it stands.
     pub fn get(&self, place: usize) -> State
         requires { place < length self.now.states }
         ensures { slice_get self.now.states place ≡ Some result }
@@ -170,8 +170,8 @@ impl StateList {
         self.all().get(place)
     }
 
-    /// Whether the state at a place, counted from 0, is lexicographically below the next one: below it in the first
-    /// queue in which the two differ. Neither is copied.
+    /// Returns whether the state at a place, counted from 0, is lexicographically below the next one: below it in the
+    /// first queue in which the two differ. Neither is copied.
     #[inline]
     pub fn is_below_next(&self, place: usize) -> bool
         requires { place + 1 < length self.now.states }
@@ -180,8 +180,8 @@ impl StateList {
         self.all().is_below_next(place)
     }
 
-    /// Whether the state at a place, counted from 0, is componentwise at most another: it has as many queues, and in
-    /// each at most as many customers. It isn't copied.
+    /// Returns whether the state at a place, counted from 0, is componentwise at most another: it has as many queues,
+    /// and in each at most as many customers. It isn't copied.
     pub fn leq(&self, place: usize, most: &State) -> bool
         requires { place < length self.now.states }
         ensures { MatchOption (slice_get self.now.states place) ⊥ (λ x. IsTrue result ↔ IsBelow x most.now) }

@@ -99,8 +99,8 @@ fn read_like(text: &[u8], at: usize, word: &[u8], row: &mut [u16]) -> Option<usi
     None
 }
 
-/// The set of one state whose words stand in a text after an event, as they are to be; the row has the numbers of
-/// another such set, and has its own from then on. Where nothing is given, nothing is said of the line.
+/// Returns the set of one state whose words stand in a text after an event, as they are to be; the row has the numbers
+/// of another such set, and has its own from then on. Where nothing is given, nothing is said of the line.
 pub fn read_like_set<'t>(
     text: &'t [u8],
     at: usize,

@@ -233,8 +233,8 @@ fn eight(row: &[u16; 32]) -> [u16; 8]
     numbers
 }
 
-// Puts the first `count` of these numbers after `filled` others. They are copied to a variable first, and as many at once as
-// the compiler knows of: it asks then neither whether both overlap nor how many they are.
+// Puts the first `count` of these numbers after `filled` others. They are copied to a variable first, and as many at
+// once as the compiler knows of: it asks then neither whether both overlap nor how many they are.
 #[inline]
 fn put_first(numbers: &mut [u16; 160], filled: usize, row: &[u16; 32], count: usize)
     requires room { filled + 32 ≤ 160 }
@@ -274,9 +274,9 @@ fn make_way(
     Ok(())
 }
 
-/// Appends the states of a run, at most `most`, which stand in a text from a place on, each preceded by a space, to those
-/// of the list, the last of which has these numbers; and gives the place after them. They are put onto the list by
-/// as many as an array of numbers holds.
+/// Appends the states of a run, at most `most`, which stand in a text from a place on, each preceded by a space, to
+/// those of the list, the last of which has these numbers; and gives the place after them. They are put onto the list
+/// by as many as an array of numbers holds.
 #[inline(never)]
 pub(crate) fn read_run(
     text: &[u8],

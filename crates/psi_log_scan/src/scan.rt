@@ -5,7 +5,7 @@ ghost use Rattle.std.specs.Prelude.{◌≡◌, ℕ, ◌∷◌, [], ◌+◌, ◌<
 ghost use Rattle.psi_log_format.specs.Text.{numbers_text};
 ghost use Rattle.psi_log_scan.specs.Scanned.{Stands, with_comma, with_commas};
 
-/// Whether a byte stands at a place.
+/// Returns whether a byte stands at a place.
 #[inline]
 #[tactic(auto, using(crate::proofs::ScanLemmas::byte_stands))]
 pub fn has_byte(text: &[u8], at: usize, byte: u8) -> bool
@@ -15,7 +15,7 @@ pub fn has_byte(text: &[u8], at: usize, byte: u8) -> bool
     at < text.len() && text[at] == byte
 }
 
-/// Whether a word stands at a place.
+/// Returns whether a word stands at a place.
 pub fn has_word(text: &[u8], at: usize, word: &[u8]) -> bool
     ensures within { IsTrue result → at + length word.now ≤ length text.now }
     ensures there { IsTrue result → Stands text.now at (at + length word.now) word.now }

@@ -22,7 +22,7 @@ pub struct LastSet<'t> {
     pub count: u16,
 }
 
-/// The set whose words stand in a text after an event, as they are to be; its states are put after those of the
+/// Returns the set whose words stand in a text after an event, as they are to be; its states are put after those of the
 /// list. Where nothing is given, nothing is said of the line.
 pub fn read_new_set<'t>(
     queues: u8,

@@ -82,7 +82,7 @@ fn move_form<'w>(line: u32, from: &'w Bounds, words: &'w [&'w [u8]]) -> Result<G
     }
 }
 
-/// The form of a region's words. Where a box before them is given, a box has to be written by what changed
+/// Returns the form of a region's words. Where a box before them is given, a box has to be written by what changed
 /// from it.
 ///
 /// # Errors

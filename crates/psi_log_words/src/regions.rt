@@ -16,7 +16,7 @@ use crate::refusals::{Cause, LogError};
 use psi_log_format::{ListedRegion, StateList};
 use psi_state::{Bounds, State};
 
-/// The numbers of a state, of a word that has one piece for each queue.
+/// Returns the numbers of a state, of a word that has one piece for each queue.
 ///
 /// # Errors
 ///
@@ -139,7 +139,7 @@ fn read_set(
     })
 }
 
-/// The region of words in their form; the states of a set are put after those of the list.
+/// Returns the region of words in their form; the states of a set are put after those of the list.
 ///
 /// # Errors
 ///

@@ -31,7 +31,7 @@ impl Model for Block {
 }
 
 impl Block {
-    /// An empty block, with its room of 65,536 bytes.
+    /// Returns an empty block, with its room of 65,536 bytes.
     ///
     /// Returns `OutOfMemory` if an allocation fails; no clause says when that is.
     pub fn reserve(alloc: Global) -> Result<Block, OutOfMemory>

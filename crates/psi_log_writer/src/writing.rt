@@ -18,7 +18,7 @@ use psi_past::Past;
 use psi_region::Follower;
 use psi_state::{Bounds, State};
 
-/// Whether the log of the run of the header's horizon, with this state at its end, has at most 33,554,432
+/// Returns whether the log of the run of the header's horizon, with this state at its end, has at most 33,554,432
 /// bytes, so that it may be written.
 ///
 /// The run is that of the plan's network and words, from the header's horizon, 1 to 2 to the power `limit`
@@ -100,7 +100,8 @@ fn is_roomy<E: EventLaw, P: Past + Drop, F: Follower + Drop>(
     left as usize * width as usize + 200 <= room
 }
 
-// The number of bytes that a step's line has at most, with these numbers of queues, of digits of a capacity and of states of a set.
+// The number of bytes that a step's line has at most, with these numbers of queues, of digits of a capacity and of
+// states of a set.
 fn width_of(queues: u8, digits: u8, split: u16) -> u32
     requires queues { queues ≤ 32 }
     requires digits { digits ≤ 5 }

@@ -35,14 +35,14 @@ use std::alloc::Global;
 ///
 /// FILE is the word that names the first file for which there is no report of all. L is the first line of it that is
 /// wrong, counted from 1, or 0 for the text as a whole; of another network, the line of the first sum that isn't of the
-/// queue or the reward of the first file's sum at its place; where a number would be too large, the line of that number.
-/// CAUSE and NAME are `0 TooLong`, `1 Row` where a line is no row of a report, `2 Text` where each line is a row but the
-/// text isn't that of the report that they make up, and `3 Samples` where the rows aren't those of samples of a network:
-/// horizons are powers of two of at most 2^22 that ascend, their counts are those of the samples that are met, there
-/// are 1 to 32 queues and at most 64 rewards, of which no two of a kind have one name, queues hold 0 to 65,535
-/// customers, rewards come to a magnitude of at most 2,097,120,000,000,000, and each sum is one that as many values as
-/// samples are met may have, with this least and this greatest. A count of 2^64 or more, or a sum whose magnitude is 10^37 or more, is too
-/// large.
+/// queue or the reward of the first file's sum at its place; where a number would be too large, the line of that
+/// number. CAUSE and NAME are `0 TooLong`, `1 Row` where a line is no row of a report, `2 Text` where each line is a
+/// row but the text isn't that of the report that they make up, and `3 Samples` where the rows aren't those of samples
+/// of a network: horizons are powers of two of at most 2^22 that ascend, their counts are those of the samples that are
+/// met, there are 1 to 32 queues and at most 64 rewards, of which no two of a kind have one name, queues hold 0 to
+/// 65,535 customers, rewards come to a magnitude of at most 2,097,120,000,000,000, and each sum is one that as many
+/// values as samples are met may have, with this least and this greatest. A count of 2^64 or more, or a sum whose
+/// magnitude is 10^37 or more, is too large.
 ///
 /// A file is needed only where those before it are accepted and merged. Each that is needed is read once, in the order of
 /// the words and up to one byte more than it may have; none is read after one that is refused or couldn't be read.
@@ -79,8 +79,8 @@ pub(crate) fn run<F: Shelf, O: Sink, E: Sink>(
         (record { gave = F.gave shelf.new; out = O.took out.new; err = E.took err.new; tally = record { asked = F.asked shelf.new; files = F.faults shelf.new; out = O.faults out.new; err = E.faults err.new } })
         (status_code result) }
 
-    // Where the shelf gives each file that is needed, and out and err take the reply's texts and the line that reports out of memory, no
-    // count of faults rises in this call, and the status is the reply's or `OutOfMemory`.
+    // Where the shelf gives each file that is needed, and out and err take the reply's texts and the line that reports
+    // out of memory, no count of faults rises in this call, and the status is the reply's or `OutOfMemory`.
     ensures spared { (reply : Reply) → reply_to (F.told shelf.old) (map string_bytes words.now) ≡ Some reply
         → AreGiven (F.gives shelf.old) (F.told shelf.old) (map string_bytes words.now)
         → AreTaken (O.takes out.old) (E.takes err.old) (map string_bytes words.now) reply

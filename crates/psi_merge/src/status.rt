@@ -14,8 +14,8 @@ pub enum Status {
     Refused,
     /// A report is of another network than the first; the line printed has the line that differs and its name.
     OtherNetwork,
-    /// With a report a count or a sum would be greater than a report may have; the line printed has the line of that number and
-    /// its name.
+    /// With a report a count or a sum would be greater than a report may have; the line printed has the line of that
+    /// number and its name.
     TooLarge,
     /// A file couldn't be read; the line printed has its name. It comes only where the shelf's count of that name rose.
     ReadFault,
@@ -27,7 +27,7 @@ pub enum Status {
 }
 
 impl Status {
-    /// The exit status of the program: 0, or 2 to 8 in the order of the variants.
+    /// Returns the exit status of the program: 0, or 2 to 8 in the order of the variants.
     pub fn code(&self) -> u8
         ensures { result ≡ status_code self.now }
     {

@@ -145,7 +145,7 @@ fn text_draft(alloc: Global, text: &str) -> Result<Draft, NetError>
     }
 }
 
-/// The network of a file's bytes: a TOML 1.1 document of at most 1,048,576 bytes.
+/// Returns the network of a file's bytes: a TOML 1.1 document of at most 1,048,576 bytes.
 ///
 /// | Key at the top | Value | Default |
 /// |---|---|---|

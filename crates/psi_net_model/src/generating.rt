@@ -299,7 +299,7 @@ fn all_rewards(alloc: Global, number: u16, caps: State) -> Result<Vec<RewardEntr
     Ok(rewards)
 }
 
-/// The network of a number: a large valid network, for trials.
+/// Returns the network of a number: a large valid network, for trials.
 ///
 /// It has `q`, 4 plus the number modulo 13, queues `q1`, `q2`, .., of which the i-th, i from 1, has
 /// capacity 8 plus `5 i + number` modulo 25, in customers, and 1 plus `i + number` modulo 3 servers. Its

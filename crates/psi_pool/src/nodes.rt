@@ -224,9 +224,9 @@ fn link_all(nodes: &mut [Node], heads: &mut [u16]) -> usize
     left
 }
 
-/// Lists the states of the first `len` nodes in ascending order where the nodes are in it, and returns 0 then. Else some
-/// states aren't listed, and the answer is how many nodes have one of these: the listed ones and these are put into the
-/// first nodes, in their order where these are ascending by themselves.
+/// Lists the states of the first `len` nodes in ascending order where the nodes are in it, and returns 0 then. Else
+/// some states aren't listed, and the answer is how many nodes have one of these: the listed ones and these are put
+/// into the first nodes, in their order where these are ascending by themselves.
 pub(crate) fn list_first(nodes: &mut [Node], len: usize, out: &mut Vec<State>) -> usize
     requires len { len ≤ length nodes.old }
     requires room { len ≤ vec_capacity out.old }

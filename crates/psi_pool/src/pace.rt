@@ -32,7 +32,7 @@ impl Model for Pace {
 }
 
 impl Pace {
-    /// The pace of a list whose first step is to come: repeats are taken out after 4 steps.
+    /// Returns the pace of a list whose first step is to come: repeats are taken out after 4 steps.
     pub fn start() -> Pace
         ensures { result ≡ counts_of 4 }
     {

@@ -24,8 +24,8 @@ const NO_WORDS: u8 = 13;
 pub trait Program {
     ghost is_run: { Self → Run → Type 0 } = { λ _ _. Unit {0} };
 
-    /// Does what the words ask for, over a shelf of files and two sinks, and returns the exit status. What crosses these
-    /// in the call is a run of the program, whatever the models of the shelf and the sinks have.
+    /// Does what the words ask for, over a shelf of files and two sinks, and returns the exit status. What crosses
+    /// these in the call is a run of the program, whatever the models of the shelf and the sinks have.
     fn run<F: Shelf, O: Sink, E: Sink>(
         &self,
         alloc: Global,
@@ -51,8 +51,8 @@ fn words<R: Env + Alloc<A = Global>>(rt: &R) -> io::Result<Vec<String>> {
 
 /// Runs a program once, over the words of the system, a shelf and two sinks.
 ///
-/// The exit status is 8 if an allocation for the arguments fails, and 13 where the system can't give them; the shelf and
-/// the sinks are then left alone. Otherwise what crosses the shelf and the sinks is a run of the program.
+/// The exit status is 8 if an allocation for the arguments fails, and 13 where the system can't give them; the shelf
+/// and the sinks are then left alone. Otherwise what crosses the shelf and the sinks is a run of the program.
 pub fn start<P: Program, R: Env + Alloc<A = Global>, F: Shelf, O: Sink, E: Sink>(
     program: &P,
     rt: &R,

@@ -29,8 +29,8 @@ pub struct Numbers {
 }
 
 impl Numbers {
-    /// Reserves space for the numbers of `most` places, of 2 bytes each, and 4 bytes more for each 1,024th place and for some
-    /// before these; none is kept yet.
+    /// Reserves space for the numbers of `most` places, of 2 bytes each, and 4 bytes more for each 1,024th place and
+    /// for some before these; none is kept yet.
     ///
     /// Returns `AllocError` if an allocation fails; no clause says when that is.
     pub fn reserve(alloc: Global, most: u32) -> Result<Numbers, AllocError>
@@ -77,9 +77,9 @@ impl Numbers {
         }
     }
 
-    /// The numbers of the places below a horizon that they reach, from place 0 on. Where they reach further, and it is
-    /// neither a power of two from 64 on nor a multiple of 1,024, the words of less than 1,024 places are drawn again
-    /// to see how many numbers these are.
+    /// Returns the numbers of the places below a horizon that they reach, from place 0 on. Where they reach further,
+    /// and it is neither a power of two from 64 on nor a multiple of 1,024, the words of less than 1,024 places are
+    /// drawn again to see how many numbers these are.
     pub fn below<P: Past>(&self, wheel: &Wheel, past: &mut P, horizon: u32) -> &[u16]
         requires kept { KeepsNumbers wheel.now (P.words past.old) horizon self.now }
         requires reached { Reaches self.now horizon }

@@ -38,7 +38,7 @@ pub trait Follower {
     }
 }
 
-/// The state that two states are, exactly where they are one.
+/// Returns the state that two states are, exactly where they are one.
 pub fn one_of(first: State, second: State) -> Option<State>
     ensures { IsOne first second result }
 {

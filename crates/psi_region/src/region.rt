@@ -108,7 +108,7 @@ impl Region {
         self.settle();
     }
 
-    /// The state of the region where it has exactly one, and `None` exactly where it has more.
+    /// Returns the state of the region where it has exactly one, and `None` exactly where it has more.
     pub fn single(&self) -> Option<State>
         ensures value { result ≡ single self.now.area.states }
         ensures more { result ≡ None → 2 ≤ length self.now.area.states }
@@ -124,7 +124,7 @@ impl Region {
         }
     }
 
-    /// The box, exactly where the region isn't split.
+    /// Returns the box, exactly where the region isn't split.
     pub fn bounds(&self) -> Option<Bounds>
         ensures shown { ShowsBox self.now.area result }
         ensures ordered { IfSome result (λ b. IsBelow b.lo b.hi) }
@@ -137,7 +137,7 @@ impl Region {
         Some(self.bounds)
     }
 
-    /// The states of a split region in ascending, that is lexicographic, order: at least one, and at most
+    /// Returns the states of a split region in ascending, that is lexicographic, order: at least one, and at most
     /// the split number. The region stays as it was.
     pub fn states(&mut self) -> &[State]
         requires { self.old.area.is_split ≡ true }

@@ -37,7 +37,7 @@ pub(crate) struct Rejection {
 }
 
 impl Cause {
-    /// The number of the cause, 1 to 8.
+    /// Returns the number of the cause, 1 to 8.
     pub fn code(self) -> u8
         ensures { result ≡ code_of self }
     {

@@ -64,7 +64,7 @@ fn judge_steps<E: EventLaw, P: Past>(
     judged
 }
 
-/// The verdict on a log of a network: accepted where it breaks no rule, whoever wrote it, and rejected else, at
+/// Returns the verdict on a log of a network: accepted where it breaks no rule, whoever wrote it, and rejected else, at
 /// the first line that breaks one.
 ///
 /// The events of the steps are those of the words of the header's seed and stream. Where the log is accepted,
@@ -100,8 +100,8 @@ pub fn verdict<E: EventLaw>(system: &System<'_, E>, log: &Log) -> Verdict
     verdict_from(&header, &end, last)
 }
 
-/// The verdict of a network on the log that a text is: what [`verdict`] gives on the log that `psi_log::read_log`
-/// reads.
+/// Returns the verdict of a network on the log that a text is: what [`verdict`] gives on the log that
+/// `psi_log::read_log` reads.
 ///
 /// The text is read and judged in one pass, line by line. Where a line breaks a rule, the lines after it are still
 /// read, since one that is refused comes first. At any time two regions are held, and the words of one line.

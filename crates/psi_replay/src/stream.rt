@@ -27,9 +27,9 @@ const BATCH: usize = 32_768;
 const TRIES: u8 = 64;
 
 /// The replay of a log whose text comes piece by piece: as [`replay_text`](crate::replay_text) of the pieces, one after
-/// another. Whole lines are read and judged as they come, and what is kept is what is left over, up to the next line feed,
-/// with two regions and the words of one line. From a line on that isn't read, because it is refused or an allocation fails,
-/// the text is held up to its end, once.
+/// another. Whole lines are read and judged as they come, and what is kept is what is left over, up to the next line
+/// feed, with two regions and the words of one line. From a line on that isn't read, because it is refused or an
+/// allocation fails, the text is held up to its end, once.
 ///
 /// It is seen as the network, and the text that it took.
 #[derive(Drop)]
@@ -82,8 +82,8 @@ fn drop_front(bytes: &mut Vec<u8>, count: usize)
     bytes.truncate(len - count);
 }
 
-// Reads and judges the first `count` of the bytes that are pending, which end where a line does, and keeps what is left.
-// Whether a line of them wasn't read stands beside.
+// Reads and judges the first `count` of the bytes that are pending, which end where a line does, and keeps what is
+// left. Whether a line of them wasn't read stands beside.
 fn read_on<E: EventLaw>(
     alloc: Global,
     system: &System<'_, E>,
@@ -108,7 +108,7 @@ fn read_on<E: EventLaw>(
 }
 
 impl<'s, 'n, E: EventLaw> StreamReplay<'s, 'n, E> {
-    /// The replay of the empty text. It does not allocate yet.
+    /// Returns the replay of the empty text. It does not allocate yet.
     pub fn new(alloc: Global, system: &'s System<'n, E>) -> Self
         ensures { result ≡ record { system = system.now; taken = [] } }
     {
@@ -123,7 +123,8 @@ impl<'s, 'n, E: EventLaw> StreamReplay<'s, 'n, E> {
         }
     }
 
-    /// The verdict on the log that the text is which was taken: what [`replay_text`](crate::replay_text) gives on it.
+    /// Returns the verdict on the log that the text is which was taken: what [`replay_text`](crate::replay_text) gives
+    /// on it.
     ///
     /// # Errors
     ///

@@ -142,7 +142,7 @@ fn check_text(alloc: Global, net: &Net) -> Result<Vec<u8>, AllocError>
     Ok(text)
 }
 
-/// The work for `check`: the description of the network, with the mark of each event; status `Done`, or
+/// Does the work for `check`: the description of the network, with the mark of each event; status `Done`, or
 /// `OutOfMemory`.
 pub fn check_ending<'w>(alloc: Global, net: &Net) -> Ending<'w>
     ensures reply { EndsWith (ending_of result) (text_reply Done (check_text net.now)) }

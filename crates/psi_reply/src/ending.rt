@@ -67,7 +67,7 @@ impl<'w> Ending<'w> {
         }
     }
 
-    /// The status of the call, once the text of the ending is written whole.
+    /// Returns the status of the call, once the text of the ending is written whole.
     pub fn status(&self) -> Status
         ensures { result ≡ (ending_reply (ending_of self.now)).status }
     {

@@ -43,7 +43,7 @@ fn text_of(alloc: Global, number: u16) -> Option<Vec<u8>>
     trial_text(alloc, &net, number)
 }
 
-/// The work for `trial`: a network is made from the number, and four samples of it are drawn and counted; status
+/// Does the work for `trial`: a network is made from the number, and four samples of it are drawn and counted; status
 /// `Done`, or `OutOfMemory`. No file is read.
 pub fn trial_ending<'w>(alloc: Global, number: u16) -> Ending<'w>
     ensures reply { let net = generated_network number in EndsWith (ending_of result) (text_reply Done (trial_text number net (samples_of net number 0 4))) }

@@ -42,7 +42,7 @@ impl Model for Tally {
 }
 
 impl Tally {
-    /// The totals of no sample.
+    /// Returns the totals of no sample.
     ///
     /// # Errors
     ///

@@ -18,9 +18,9 @@ pub fn reports_are_read_back()
     ensures merged { ReportsAreMerged }
 {}
 
-/// What [`run`](psi_run::run) prints where its words are a report of the network in a file is read as the contents for the
-/// samples that the seed and the streams draw, no line of it is wrong, and it has at most 32,768 bytes; and what it prints
-/// of streams, and of those after them, is merged into what it prints of all of them.
+/// What [`run`](psi_run::run) prints where its words are a report of the network in a file is read as the contents for
+/// the samples that the seed and the streams draw, no line of it is wrong, and it has at most 32,768 bytes; and what it
+/// prints of streams, and of those after them, is merged into what it prints of all of them.
 pub fn printed_reports_are_read_back()
     ensures read { PrintedReportsAreRead }
     ensures merged { PrintedReportsAreMerged }

@@ -89,9 +89,9 @@ pub fn other_lines_are_none()
     ensures { OtherLinesAreNone }
 {}
 
-/// What [`merged`](crate::merged) gives of two reports is a report, whose text is read as it; and two that
-/// show the same queues and rewards are merged wherever their contents together are one: `TooLarge` is the answer exactly
-/// where it would have a count of 2^64 or more, or a figure whose magnitude is 10^37 or more.
+/// What [`merged`](crate::merged) gives of two reports is a report, whose text is read as it; and two that show the
+/// same queues and rewards are merged wherever their contents together are one: `TooLarge` is the answer exactly where
+/// it would have a count of 2^64 or more, or a figure whose magnitude is 10^37 or more.
 pub fn merged_are_reports()
     ensures told { MergedIsReport }
     ensures whole { FittingAreMerged }

@@ -106,7 +106,7 @@ fn joined(report: Report, other: Report) -> Result<Report, MergeError>
     }
 }
 
-/// The report of the samples of a report and of those of another, of the same network.
+/// Returns the report of the samples of a report and of those of another, of the same network.
 ///
 /// # Errors
 ///

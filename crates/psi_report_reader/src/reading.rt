@@ -45,7 +45,7 @@ fn read_lines(alloc: Global, lines: &[&[u8]]) -> Result<Report, ReadError>
     Ok(report)
 }
 
-/// The report whose text this is.
+/// Returns the report whose text this is.
 ///
 /// # Errors
 ///

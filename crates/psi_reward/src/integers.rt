@@ -21,7 +21,7 @@ impl Model for Numbers {
 }
 
 impl Numbers {
-    /// The list of no number. It keeps the allocator, and does not allocate yet.
+    /// Returns the list of no number. It keeps the allocator, and does not allocate yet.
     pub fn new(alloc: Global) -> Numbers
         ensures { result ≡ [] }
     {

@@ -22,7 +22,7 @@ impl Model for Grid {
 }
 
 impl Grid {
-    /// The list of no row. It keeps the allocator, and does not allocate yet.
+    /// Returns the list of no row. It keeps the allocator, and does not allocate yet.
     pub fn new(alloc: Global) -> Grid
         ensures { result ≡ [] }
     {

@@ -8,7 +8,7 @@ use crate::parts::Source;
 use psi_index::IndexTable;
 use psi_state::{Queues, State};
 
-/// Whether the source is one of the targets: customers would leave and join one queue.
+/// Returns whether the source is one of the targets: customers would leave and join one queue.
 ///
 /// It is `false` without a source.
 pub fn is_self_target(source: Option<Source>, targets: &Queues) -> bool

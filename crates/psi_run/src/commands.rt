@@ -36,7 +36,8 @@ pub(crate) fn perform<F: Shelf, O: Sink, E: Sink>(
     err: &mut E,
 ) -> Status
     requires { AsksInRange request }
-    // The work has an ending, with the reads that it names; where the shelf gives each file that is named, no read failed.
+    // The work has an ending, with the reads that it names; where the shelf gives each file that is named, no read
+    // failed.
     ensures finished { let command = Ok (requested request.entry) in
         let seen : ShelfCall = record { gave_before = F.gave shelf.old; gave_after = F.gave shelf.new; asked_before = F.asked shelf.old; asked_after = F.asked shelf.new; faults_before = F.faults shelf.old; faults_after = F.faults shelf.new } in
         IsFinished faults (λ ending. IsEndingOf seen command ending × (AreGiven (F.gives shelf.old) command → HasRead ending))

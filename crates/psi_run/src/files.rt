@@ -16,7 +16,7 @@ use psi_net_document::MOST_NET_BYTES;
 use psi_reply::Ending;
 use std::alloc::Global;
 
-/// The network in the file of this name. Where there is none, the work ends the same whichever command
+/// Returns the network in the file of this name. Where there is none, the work ends the same whichever command
 /// names the file: it is refused, a read of it failed in this call, or an allocation failed.
 pub fn network_at<'w, F: Shelf>(
     alloc: Global,

@@ -146,8 +146,8 @@ pub fn run<F: Shelf, O: Sink, E: Sink>(
       err = record { before = E.held err.old; after = E.held err.new; took_before = E.took err.old; took_after = E.took err.new; faults_before = E.faults err.old; faults_after = E.faults err.new };
     }) result }
 
-    // The headline: where the words are those of a sample, the shelf's model has a file that reads as a network, no count of faults rose
-    // in this call and memory didn't run out, what is printed is a sample of the network.
+    // The headline: where the words are those of a sample, the shelf's model has a file that reads as a network, no
+    // count of faults rose in this call and memory didn't run out, what is printed is a sample of the network.
     ensures headline { (name : List ℕ) (seed stream : ℕ) (bytes : List ℕ) (net : Network)
         → map string_bytes words.now ≡ codes "sample" ∷ name ∷ decimal seed ∷ decimal stream ∷ [] → seed < 2 ^ 64 → stream < 2 ^ 64
         → F.told shelf.old name ≡ Some bytes → network_of bytes ≡ Ok net
@@ -167,8 +167,8 @@ pub fn run<F: Shelf, O: Sink, E: Sink>(
     ensures means { (command : Command) → command_of (map string_bytes words.now) ≡ Ok command → IsReplied result
         → Means command (F.told shelf.old) (O.held out.old) (O.held out.new) result }
 
-    // Where the shelf gives each file that the words name, and out and err take the reply's texts and the line that reports out of memory,
-    // no count of faults rises in this call, and the status is the reply's or `OutOfMemory`.
+    // Where the shelf gives each file that the words name, and out and err take the reply's texts and the line that
+    // reports out of memory, no count of faults rises in this call, and the status is the reply's or `OutOfMemory`.
     ensures spared { (reply : Reply) → reply_to (command_of (map string_bytes words.now)) (F.told shelf.old) ≡ Some reply
         → AreGiven (F.gives shelf.old) (command_of (map string_bytes words.now))
         → AreTaken (O.takes out.old) (E.takes err.old) (command_of (map string_bytes words.now)) reply

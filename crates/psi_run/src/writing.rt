@@ -15,7 +15,7 @@ use psi_reply::{
     too_many_line, unknown_line, usage_line,
 };
 
-/// The line for err of an ending; none where a text is printed.
+/// Returns the line for err of an ending; none where a text is printed.
 pub fn line_of(ending: &Ending<'_>) -> Line
     ensures { result.items ≡ (ending_reply (ending_of ending.now)).err }
 {

@@ -35,7 +35,7 @@ impl Model for States {
 }
 
 impl Bounds {
-    /// The states of the box in lexicographic order, from the lower corner to the upper one.
+    /// Returns the states of the box in lexicographic order, from the lower corner to the upper one.
     ///
     /// Its second clause says that an iterator of this type gives the list that it is seen as.
     pub fn states(&self) -> States

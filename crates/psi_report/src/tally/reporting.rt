@@ -138,7 +138,7 @@ fn push_rewards(
 }
 
 impl Tally {
-    /// The report of the samples: the numbers of samples and of those that are met; for each horizon that some
+    /// Returns the report of the samples: the numbers of samples and of those that are met; for each horizon that some
     /// sample has, ascending, how many have it; for each queue the sum of its customers over the samples that are
     /// met, and, where one is met, the least and the greatest number of them; and for each reward likewise the sum,
     /// the least and the greatest of its values.
@@ -161,7 +161,7 @@ impl Tally {
         })
     }
 
-    /// The text of the report of the samples.
+    /// Returns the text of the report of the samples.
     ///
     /// # Errors
     ///
