@@ -64,7 +64,7 @@ impl<'n, E: EventLaw, P: Past + Drop, F: Follower + Drop> Model for Plan<'n, E, 
     ghost view = { λ p. record { system = p.system; past = p.past; run = running_of p.run } };
 
     ghost invariant = { λ p.
-        IsPlan (map E.function p.system.events) (system_functions E.function p.system (P.words p.past)) (P.words p.past) p.system p.region
+        IsPlan E.capacities (map E.function p.system.events) (system_functions E.function p.system (P.words p.past)) (P.words p.past) p.system p.region
         p.numbers (F.stands_for p.follower) p.run };
 }
 
@@ -113,6 +113,8 @@ impl<'n, E: EventLaw, P: Past + Drop, F: Follower + Drop> Plan<'n, E, P, F> {
         requires { F.stands_for follower ≡ network_of E.function system }
         ensures { IfOk result (λ plan. plan ≡ record { system = system.entry; past = past; run = None }) }
     {
+        // Called for its clause: the parts fit each other.
+        let _caps = system.caps();
         let most = 1 << system.limit();
         let region = Region::reserve(alloc, system.split())?;
         let numbers = Numbers::reserve(alloc, most)?;
@@ -243,8 +245,6 @@ impl<'n, E: EventLaw, P: Past + Drop, F: Follower + Drop> Plan<'n, E, P, F> {
         ensures bound { result ≤ 22 }
         ensures fit { IsSystem E.capacities self.now.system }
     {
-        // Called for its clause: the parts fit each other.
-        let _caps = self.system.caps();
         self.system.limit()
     }
 
@@ -309,8 +309,6 @@ impl<'n, E: EventLaw, P: Past + Drop, F: Follower + Drop> Plan<'n, E, P, F> {
         if progress.done == progress.horizon {
             return None;
         }
-        // Called for its clause: the events fit the capacities.
-        let _caps = self.system.caps();
         let number = progress.horizon - progress.done;
         let word = self.past.word(number - 1);
         let event = follow_word(&self.system, word, &mut self.region);
@@ -331,8 +329,6 @@ impl<'n, E: EventLaw, P: Past + Drop, F: Follower + Drop> Plan<'n, E, P, F> {
             result ≡ None → IfSome self.now.run (λ r. 2 ≤ length (region_after self.now.system.split f self.now.system.caps r.horizon r.done).states) }
         ensures within { IfSome result (λ s. IsBelow s self.now.system.caps) }
     {
-        // Called for its clause: the events fit the capacities.
-        let _caps = self.system.caps();
         self.region.single()
     }
 
@@ -345,8 +341,6 @@ impl<'n, E: EventLaw, P: Past + Drop, F: Follower + Drop> Plan<'n, E, P, F> {
         ensures shown { let f = system_functions E.function self.now.system (P.words self.now.past) in
             IfSome self.now.run (λ r. ShowsBox (region_after self.now.system.split f self.now.system.caps r.horizon r.done) result) }
     {
-        // Called for its clause: the events fit the capacities.
-        let _caps = self.system.caps();
         self.region.bounds()
     }
 
@@ -365,8 +359,6 @@ impl<'n, E: EventLaw, P: Past + Drop, F: Follower + Drop> Plan<'n, E, P, F> {
         ensures few { length result.now ≤ self.old.system.split }
         ensures* same { sem 𝓛 (follows_so (the_row (record { mir = named 0; lft = [] }) E.row P.row F.row E.EventLaw P.Past F.Follower) (the_row (record { mir = named 0; lft = [] }) E.row P.row F.row E.EventLaw P.Past F.Follower) self.entry.ghost_name none (λ _ _. ⊤) (λ v. v ≡ self.old)) }
     {
-        // Called for its clause: the events fit the capacities.
-        let _caps = self.system.caps();
         self.region.states()
     }
 }
