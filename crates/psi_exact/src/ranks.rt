@@ -34,8 +34,8 @@ pub(crate) fn number(ranks: &mut [u16])
     }
 }
 
-/// Writes the table of the map that sends each state to where a table sends what the event makes of it.
-pub(crate) fn write_older<E: EventLaw>(e: &E, ranks: &[u16], next: &mut [u16])
+/// Writes the table of a map after an event: each state is sent to where the old table sends what the event makes of it.
+pub(crate) fn write_composed<E: EventLaw>(e: &E, ranks: &[u16], next: &mut [u16])
     requires few { length (all_states (E.capacities e.now)) ≤ 65536 }
     requires own { AreRanks (E.capacities e.now) ranks.now }
     requires room { length next.old ≡ length (all_states (E.capacities e.now)) }

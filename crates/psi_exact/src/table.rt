@@ -7,7 +7,7 @@ ghost use Rattle.psi_state.specs.Sets.{image, single};
 
 use crate::images::write_images;
 use crate::learned::LearnedImages;
-use crate::ranks::{common, count_distinct, look_up_all, number, write_older, zeroed};
+use crate::ranks::{common, count_distinct, look_up_all, number, write_composed, zeroed};
 use psi_event::EventLaw;
 use psi_state::{Bounds, State};
 use std::alloc::{AllocError, Global};
@@ -64,7 +64,7 @@ impl Table {
         requires { E.capacities e.now ≡ self.old.caps }
         ensures { self.new ≡ map_of self.old.caps (λ x. sends self.old (E.function e.now x)) }
     {
-        write_older(e, self.ranks.as_slice(), self.spare.as_mut_slice());
+        write_composed(e, self.ranks.as_slice(), self.spare.as_mut_slice());
         std::mem::swap(&mut self.ranks, &mut self.spare);
     }
 
